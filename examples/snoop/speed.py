@@ -5,16 +5,17 @@
 
 The packets of a link are repeated up to a btsnoop file of LIMIT octets, 60 million where none is given,
 once with data of 1,000 octets and once with data of 20. tshark and `decode --snoop` show that file,
-`decode` the same packets as a stream, and `decode --tagged` the same packets as a capture of host a; the
-shortest of three runs of each is taken.
+`decode` the same packets as a stream, and `decode --tagged` the same packets as a capture of host a. What is
+taken is processor time, of user and system together, so that other work on the machine counts for little; of
+three runs of each the shortest counts.
 """
 
 import os
+import resource
 import struct
 import subprocess
 import sys
 import tempfile
-import time
 
 HEADER = b"btsnoop\0" + struct.pack(">II", 1, 1002)
 FIRST_TIME = 0x00E03AB44A676000
@@ -77,13 +78,14 @@ def capture_of(link):
 
 
 def seconds(command, name):
-    """The shortest of three runs on the file."""
+    """The processor time of the shortest of three runs on the file."""
     times = []
     for _ in range(3):
         with open(name, "rb") as file, open(os.devnull, "wb") as sink:
-            begun = time.monotonic()
+            before = resource.getrusage(resource.RUSAGE_CHILDREN)
             subprocess.run(command, stdin=file, stdout=sink, stderr=subprocess.DEVNULL, check=True)
-            times.append(time.monotonic() - begun)
+            after = resource.getrusage(resource.RUSAGE_CHILDREN)
+            times.append(after.ru_utime - before.ru_utime + after.ru_stime - before.ru_stime)
     return min(times)
 
 

@@ -1,6 +1,6 @@
 -- Two new hosts are where a world begins.
 use Rattle.std.proofs.Common.{◌≡◌, ◌≤◌, ℕ, Bool, true, false, Option, None, arith, List, [], ◌∷◌, length, refl, sym, ap, ap₂, subst, true≢false, ◌∙◌}
-use Rattle.bt_base.specs.Objects.{Contents}
+use Rattle.bt_base.specs.Objects.{Object, Contents}
 use Rattle.bt_base.specs.declared.settings.Settings.{Settings}
 use Rattle.push_terms.specs.declared.word.Side.{Side}
 use Rattle.push_terms.specs.declared.word.Side.TheVariants.{A, B}
@@ -72,18 +72,18 @@ new_reached {S} {T} profile_a profile_b size count names first_a first_b sized c
 
 -- ---- a client and a server
 
-pub hosts_reached : {P Q : Type 0} (content : Q → Option Contents) (a b : Settings) (size count : ℕ) (names : List (List ℕ)) (shelf : P) (inbox : Q) (rest_a rest_b : List Circumstance) → IsSize size → IsCount count → length names ≤ 64
-    → IsReached noted_client_machine noted_server_machine (moment (first_scene size count names) (answering rest_a (playing client_noting shelf (pushed.new_stack a))) (answering rest_b (playing (server_noting content) inbox (served.new_stack b))))
-hosts_reached content a b size count names shelf inbox rest_a rest_b sized counted few =
-    new_reached noted_client noted_server size count names (set_host client_noting shelf (pushed.new_stack a) rest_a) (set_host (server_noting content) inbox (served.new_stack b) rest_b) sized counted few refl
+pub hosts_reached : {P Q : Type 0} (holds : P → Option (List Object)) (content : Q → Option Contents) (a b : Settings) (size count : ℕ) (names : List (List ℕ)) (shelf : P) (inbox : Q) (rest_a rest_b : List Circumstance) → IsSize size → IsCount count → length names ≤ 64
+    → IsReached noted_client_machine noted_server_machine (moment (first_scene size count names) (answering rest_a (playing (client_noting holds) shelf (pushed.new_stack a))) (answering rest_b (playing (server_noting content) inbox (served.new_stack b))))
+hosts_reached holds content a b size count names shelf inbox rest_a rest_b sized counted few =
+    new_reached noted_client noted_server size count names (set_host (client_noting holds) shelf (pushed.new_stack a) rest_a) (set_host (server_noting content) inbox (served.new_stack b) rest_b) sized counted few refl
 
-pub client_sound : {P : Type 0} (settings : Settings) (shelf : P) → PushesSoundly (record { framing = fresh_framing; stack = pushed.new_stack settings; refusal = None }) shelf
-client_sound settings shelf = (
+pub client_sound : {P : Type 0} (holds : P → Option (List Object)) (settings : Settings) (shelf : P) → PushesSoundly holds (record { framing = fresh_framing; stack = pushed.new_stack settings; refusal = None }) shelf
+client_sound holds settings shelf = (
   refl,
   (record { works = refl; called = refl; psm = refl; endpoints = tt }, refl),
   record {
-    is_seen = λ rest. new_seen noted_client A (set_host client_noting shelf (pushed.new_stack settings) rest);
-    rests = λ rest. new_rests (noted_client settings) A (standing client_noting shelf (pushed.new_stack settings) rest) refl refl;
+    is_seen = λ rest. new_seen noted_client A (set_host (client_noting holds) shelf (pushed.new_stack settings) rest);
+    rests = λ rest. new_rests (noted_client settings) A (standing (client_noting holds) shelf (pushed.new_stack settings) rest) refl refl;
   },
 )
 

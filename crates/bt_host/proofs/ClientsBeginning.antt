@@ -25,12 +25,15 @@ use Rattle.world_model.specs.Machines.{Opening}
 use Rattle.host_model.specs.Circumstances.{Circumstance, Size, parts_in}
 use Rattle.host_model.specs.Clients as model
 use Rattle.host_model.specs.Clients.{ClientProfile, calls, after_call}
-use Rattle.host_model.specs.Shelves.{name_for}
+use Rattle.host_model.specs.Shelves.{name_for, size_if, is_short}
+use Rattle.shelf_model.specs.Held.{held_by}
 use Rattle.host_model.proofs.Shelves.{name_stays, size_stays}
 use Rattle.bt_host.specs.Calls.{Does}
 use Rattle.bt_host.specs.Pushing.{pushing, Pushes, IsDue, IsOf, is_failure, AreOf}
 use Rattle.bt_host.specs.PushingLaws.{Answers, joins}
+use Rattle.bt_host.specs.Shelving.{Shelved, with_pushing, told_shelved, shelved_by}
 use Rattle.bt_host.proofs.Clients.{ended_is, over_if}
+use Rattle.bt_host.proofs.Shelving.{size_held}
 
 -- ---- its link is asked for
 
@@ -194,16 +197,20 @@ module _ {P : Type 0} (content : P → Option (List Object)) (faults shortages :
   pub begin_does : (end new : ClientProfile) (mid after : Client) (name : List ℕ) (first second last : P) → length (units_in name) ≤ 100 → end.client.failed ≡ false
       → (b : Begins end.client mid name (content first) (faults first) (faults second) (shortages first) (shortages second)) → content second ≡ content first → after ≡ push.ended mid → new ≡ calls (opening end after)
       → Answers content faults shortages second [] last
-      → Does (Answers content faults shortages) (λ rest. model.told rest (Opening name) (pushing end rest)) (pushing new) first last
+      → Does (Answers content faults shortages) (λ rest. told_shelved rest (Opening name) (shelved_by content end first rest)) (shelved_by content new last) first last
   begin_does end new mid after name first second last few works b stays is new_is behind = record {
     used = Size b.size ∷ [];
     answered = (joins content faults shortages).then first second last (Size b.size ∷ []) []
         (size_answered end.client mid name (content first) (content second) (faults first) (faults second) (shortages first) (shortages second) works b stays) behind;
     does = λ rest.
         let client_is : model.ended (begins b.size name end.client) ≡ after = ap model.ended (sym b.client) ∙ ended_is mid ∙ sym is in
-        ap (λ (s : Result ℕ PortFault). model.opens s (name_for name) (record end { parts = parts_in rest })) (size_stays b.size name few)
+        let begun : model.told (held_by (content first) (Opening name) (Size b.size ∷ rest)) (Opening name) (pushing end (Size b.size ∷ rest)) ≡ pushing new rest =
+        ap (λ (s : Result ℕ PortFault). model.opens (size_if (is_short name) s) (name_for name) (record end { parts = parts_in rest })) (size_held (content first) name b.size rest (b.told works))
+        ∙ ap (λ (s : Result ℕ PortFault). model.opens s (name_for name) (record end { parts = parts_in rest })) (size_stays b.size name few)
         ∙ ap (λ (n : List ℕ). model.opens b.size n (record end { parts = parts_in rest })) (name_stays name few)
         ∙ ap (λ (c : Client). calls (record (opening end c) { parts = parts_in rest })) client_is
         ∙ after_with (steps after []).step (steps after []).client (opening end after) (parts_in rest)
-        ∙ ap (λ (e : ClientProfile). record e { parts = parts_in rest }) (sym new_is);
+        ∙ ap (λ (e : ClientProfile). record e { parts = parts_in rest }) (sym new_is) in
+        ap (λ (p : ClientProfile). with_pushing p (shelved_by content end first rest)) begun
+        ∙ ap (λ (c : Option (List Object)). let one : Shelved = record { pushing = pushing new rest; shelf = c } in one) (sym (behind.content_stays ∙ stays));
   }

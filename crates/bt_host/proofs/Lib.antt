@@ -13,6 +13,7 @@ pub mod PieceReading
 pub mod Feeding
 pub mod ToldNews
 pub mod Clients
+pub mod Shelving
 pub mod ClientsBeginning
 pub mod ClientsCalls
 pub mod Striving

@@ -4,13 +4,13 @@ use Rattle.std.specs.Prelude.{IfOk}
 use Rattle.bt_base.specs.declared.settings.Settings.{Settings}
 use Rattle.channel_model.specs.Value.{Channels}
 use Rattle.host_model.specs.Circumstances.{Circumstance}
-use Rattle.host_model.specs.Clients.{ClientProfile}
 use Rattle.host_model.specs.Profiles.{Stride}
 use Rattle.world_model.specs.Machines.{News}
 use Rattle.bt_host.specs.Calls.{Does}
 use Rattle.bt_host.specs.Noting.{Noted, with_end, noting_by, stride_noted}
 use Rattle.bt_host.specs.NotedHosts.{noted_client}
-use Rattle.bt_host.specs.PushingLaws.{told_alone}
+use Rattle.bt_host.specs.Shelving.{Shelved}
+use Rattle.bt_host.specs.ShelvingLaws.{shelf_told_alone}
 use Rattle.bt_host.specs.Uppers.{IsAside}
 use Rattle.bt_host.proofs.Calling.{does_map}
 
@@ -20,8 +20,8 @@ by_ok (Ok x) one makes = makes x one
 by_ok (Err e) one makes = tt
 
 -- what a client is told of links and its timer does not hang on what its shelf is to answer
-pub noted_told_alone : (settings : Settings) (all : List Circumstance) (news : News) (noted : Noted ClientProfile) → IsAside news → (noted_client settings).told all news noted ≡ (noted_client settings).told [] news noted
-noted_told_alone settings all news noted aside = ap (λ (p : ClientProfile). with_end p noted) (told_alone settings all news noted.end aside)
+pub noted_told_alone : (settings : Settings) (all : List Circumstance) (news : News) (noted : Noted Shelved) → IsAside news → (noted_client settings).told all news noted ≡ (noted_client settings).told [] news noted
+noted_told_alone settings all news noted aside = ap (λ (p : Shelved). with_end p noted) (shelf_told_alone settings all news noted.end aside)
 
 module _ {E S P : Type 0} (Answers : P → List Circumstance → P → Type 0) (pushing : E → P → List Circumstance → S) where
   -- it is called, and what was noted stays

@@ -10,7 +10,9 @@ pub mod EndpointLists
 pub mod Shells
 pub mod Newness
 pub mod Pushing
+pub mod Shelving
 pub mod PushingLaws
+pub mod ShelvingLaws
 pub mod NotedHosts
 pub mod Playing
 pub mod Stopping

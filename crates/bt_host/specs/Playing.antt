@@ -1,6 +1,6 @@
 -- A host as a world plays it (this project's own).
 use Rattle.std.specs.Prelude.{◌≡◌, Bool, List, Option, None}
-use Rattle.bt_base.specs.Objects.{Contents}
+use Rattle.bt_base.specs.Objects.{Object, Contents}
 use Rattle.push_terms.specs.declared.word.Side.{Side}
 use Rattle.push_terms.specs.declared.word.Side.TheVariants.{A, B}
 use Rattle.radio_air.specs.Controllers.{address}
@@ -34,8 +34,8 @@ pub record IsPlayed {E S P : Type 0} (profile : Settings → Profile S) (side : 
 
 -- A client refused nothing, needs no more of its shelf, pages device b, and is played; a server refused nothing, its inbox has an object
 -- pending exactly where one is under way, and it is played.
-abbrev pub PushesSoundly : {P : Type 0} → Shelled (Noted ClientProfile) → P → Type 0
-PushesSoundly host shelf = (host.refusal ≡ None) × (Pushes host.stack.upper.end.end × (host.stack.paged ≡ address B)) × IsPlayed noted_client A client_noting host.stack shelf
+abbrev pub PushesSoundly : {P : Type 0} → (P → Option (List Object)) → Shelled (Noted ClientProfile) → P → Type 0
+PushesSoundly content host shelf = (host.refusal ≡ None) × (Pushes host.stack.upper.end.end × (host.stack.paged ≡ address B)) × IsPlayed noted_client A (client_noting content) host.stack shelf
 
 abbrev pub ServesSoundly : {P : Type 0} → (P → Option Contents) → (P → Bool) → Shelled (Noted Served) → P → Type 0
 ServesSoundly content pending host inbox = (host.refusal ≡ None) × Works host.stack.upper.end.end (pending inbox) × IsPlayed noted_server B (server_noting content) host.stack inbox

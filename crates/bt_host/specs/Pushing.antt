@@ -80,9 +80,6 @@ pub record AreOf (content content' : Option (List Object)) (faults faults' short
 abbrev pub Lacks : {P : Type 0} → (P → ℕ) → P → P → Type 0
 Lacks shortages first last = HasRisen (shortages first) (shortages last) × (shortages first ≤ shortages last)
 
-abbrev pub pushed_by : {P : Type 0} → ClientProfile → P → List Circumstance → ClientProfile
-pushed_by end port rest = pushing end rest
-
 -- what stands above the line before anything happened
 abbrev pub new_stack : Settings → Stacked (Noted ClientProfile)
 new_stack settings = record {

@@ -15,8 +15,9 @@ ghost use Rattle.host_model.specs.Clients.{client_profile, is_at_end, unlinked, 
 ghost use Rattle.push_model.specs.Client.{is_idle, may_cancel};
 ghost use Rattle.push_model.specs.Events.{armed};
 ghost use Rattle.bt_host.specs.Calls.{Does};
-ghost use Rattle.bt_host.specs.Pushing.{pushing, HasCid, Pushes, IsDue, AreOf};
+ghost use Rattle.bt_host.specs.Pushing.{HasCid, Pushes, IsDue, AreOf};
 ghost use Rattle.bt_host.specs.PushingLaws.{Answers};
+ghost use Rattle.bt_host.specs.Shelving.{shelved_by, told_shelved};
 
 use crate::end::End;
 use crate::endpoints::Endpoints;
@@ -299,7 +300,7 @@ impl ClientEnd {
     pub(crate) fn begin<F: Shelf>(&mut self, name: &str, shelf: &mut F) -> Result<(), NoMemory>
         requires few { length (units_in name.now) ≤ 100 }
         requires sound { Pushes self.old }
-        ensures does { OnOk result (Does (Answers F.content F.faults F.shortages) (λ rest. told rest (Opening name.now) (pushing self.old rest)) (pushing self.new) shelf.old shelf.new) }
+        ensures does { OnOk result (Does (Answers F.content F.faults F.shortages) (λ rest. told_shelved rest (Opening name.now) (shelved_by F.content self.old shelf.old rest)) (shelved_by F.content self.new shelf.new) shelf.old shelf.new) }
         ensures sound { OnOk result (Pushes self.new) }
         ensures lacked { OnErr result (HasRisen (F.shortages shelf.old) (F.shortages shelf.new) × (F.shortages shelf.old ≤ F.shortages shelf.new)) }
     {
@@ -345,18 +346,19 @@ impl ClientEnd {
 impl<F: Shelf> End<F> for ClientEnd {
     ghost use Rattle.std.specs.Prelude.{◌≡◌, ◌≤◌, Bool, false, refl};
     ghost use Rattle.bt_base.specs.Counts.{HasRisen};
-    ghost use Rattle.host_model.specs.Clients.{ClientProfile, client_profile};
-    ghost use Rattle.bt_host.specs.NotedHosts.{credits_of_client};
-    ghost use Rattle.bt_host.specs.Pushing.{pushing, Pushes};
-    ghost use Rattle.bt_host.specs.PushingLaws.{Answers, joins, lacks, told_alone};
+    ghost use Rattle.bt_host.specs.NotedHosts.{credits_of_shelved};
+    ghost use Rattle.bt_host.specs.Pushing.{Pushes};
+    ghost use Rattle.bt_host.specs.PushingLaws.{Answers, joins, lacks};
+    ghost use Rattle.bt_host.specs.Shelving.{Shelved, shelf_profile, shelved_by};
+    ghost use Rattle.bt_host.specs.ShelvingLaws.{shelf_told_alone};
 
-    ghost State = { ClientProfile };
+    ghost State = { Shelved };
 
-    ghost profile = { client_profile };
+    ghost profile = { shelf_profile };
 
     ghost is_server = { false };
 
-    ghost pushing = { λ end shelf rest. pushing end rest };
+    ghost pushing = { shelved_by F.content };
 
     ghost is_sound = { λ end shelf. Pushes end };
 
@@ -419,7 +421,7 @@ impl<F: Shelf> End<F> for ClientEnd {
         self.client.armed()
     }
 
-    ghost credits_in = { credits_of_client };
+    ghost credits_in = { credits_of_shelved };
 
     fn credits(&self) -> u16 {
         self.client.credits()
@@ -431,7 +433,7 @@ impl<F: Shelf> End<F> for ClientEnd {
 
     ghost policy_is = { λ settings. refl };
 
-    ghost told_alone = { told_alone };
+    ghost told_alone = { shelf_told_alone };
 
     ghost given_once = { λ end port settings rest. refl };
 }

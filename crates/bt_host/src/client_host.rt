@@ -97,8 +97,8 @@ impl ClientHost {
     /// host stays as it is.
     pub fn feed<F: Shelf>(&mut self, piece: &[u8], shelf: &mut F) -> Result<(), FeedRefusal>
         requires works { self.old.refusal ≡ None → Pushes self.old.stack.upper.end.end }
-        ensures feeds { Feeds (noted_client (settings_of self.old)) (Answers F.content F.faults F.shortages) (Lacks F.shortages) client_noting piece.now self.old self.new shelf.old shelf.new result }
-        ensures rests { OnOk result (ComesToRest noted_client client_noting self.old self.new shelf.new) }
+        ensures feeds { Feeds (noted_client (settings_of self.old)) (Answers F.content F.faults F.shortages) (Lacks F.shortages) (client_noting F.content) piece.now self.old self.new shelf.old shelf.new result }
+        ensures rests { OnOk result (ComesToRest noted_client (client_noting F.content) self.old self.new shelf.new) }
         ensures works { OnOk result (Pushes self.new.stack.upper.end.end) }
     {
         if let Some(refusal) = self.refusal {
@@ -114,8 +114,8 @@ impl ClientHost {
     pub fn on_timer<F: Shelf>(&mut self, shelf: &mut F) -> Result<(), NoMemory>
         requires sound { self.old.refusal ≡ None }
         requires works { Pushes self.old.stack.upper.end.end }
-        ensures hears { OnOk result (HearsNews (noted_client (settings_of self.old)) (Answers F.content F.faults F.shortages) client_noting TimerFired (moment_of self.old shelf.old) (moment_of self.new shelf.new)) }
-        ensures rests { OnOk result (ComesToRest noted_client client_noting self.old self.new shelf.new) }
+        ensures hears { OnOk result (HearsNews (noted_client (settings_of self.old)) (Answers F.content F.faults F.shortages) (client_noting F.content) TimerFired (moment_of self.old shelf.old) (moment_of self.new shelf.new)) }
+        ensures rests { OnOk result (ComesToRest noted_client (client_noting F.content) self.old self.new shelf.new) }
         ensures stays { OnOk result (self.new ≡ record self.old { stack = self.new.stack }) }
         ensures works { OnOk result (Pushes self.new.stack.upper.end.end) }
         ensures lacked { OnErr result (Lacks F.shortages shelf.old shelf.new) }
@@ -133,8 +133,8 @@ impl ClientHost {
         requires works { Pushes self.old.stack.upper.end.end }
         requires idle { is_idle self.old.stack.upper.end.end.client ≡ true }
         requires few { length (units_in name.now) ≤ 100 }
-        ensures hears { OnOk result (HearsNews (noted_client (settings_of self.old)) (Answers F.content F.faults F.shortages) client_noting (Opening name.now) (moment_of self.old shelf.old) (moment_of self.new shelf.new)) }
-        ensures rests { OnOk result (ComesToRest noted_client client_noting self.old self.new shelf.new) }
+        ensures hears { OnOk result (HearsNews (noted_client (settings_of self.old)) (Answers F.content F.faults F.shortages) (client_noting F.content) (Opening name.now) (moment_of self.old shelf.old) (moment_of self.new shelf.new)) }
+        ensures rests { OnOk result (ComesToRest noted_client (client_noting F.content) self.old self.new shelf.new) }
         ensures stays { OnOk result (self.new ≡ record self.old { stack = self.new.stack }) }
         ensures works { OnOk result (Pushes self.new.stack.upper.end.end) }
         ensures lacked { OnErr result (Lacks F.shortages shelf.old shelf.new) }
@@ -149,8 +149,8 @@ impl ClientHost {
         requires sound { self.old.refusal ≡ None }
         requires works { Pushes self.old.stack.upper.end.end }
         requires may { may_cancel self.old.stack.upper.end.end.client ≡ true }
-        ensures hears { OnOk result (HearsNews (noted_client (settings_of self.old)) (Answers F.content F.faults F.shortages) client_noting Cancelled (moment_of self.old shelf.old) (moment_of self.new shelf.new)) }
-        ensures rests { OnOk result (ComesToRest noted_client client_noting self.old self.new shelf.new) }
+        ensures hears { OnOk result (HearsNews (noted_client (settings_of self.old)) (Answers F.content F.faults F.shortages) (client_noting F.content) Cancelled (moment_of self.old shelf.old) (moment_of self.new shelf.new)) }
+        ensures rests { OnOk result (ComesToRest noted_client (client_noting F.content) self.old self.new shelf.new) }
         ensures stays { OnOk result (self.new ≡ record self.old { stack = self.new.stack }) }
         ensures works { OnOk result (Pushes self.new.stack.upper.end.end) }
         ensures lacked { OnErr result (Lacks F.shortages shelf.old shelf.new) }
@@ -171,8 +171,8 @@ impl ClientHost {
     pub fn put_out<F: Shelf>(&mut self, shelf: &mut F) -> Result<(), NoMemory>
         requires sound { self.old.refusal ≡ None }
         requires works { Pushes self.old.stack.upper.end.end }
-        ensures goes { OnOk result (GoesOn (noted_client (settings_of self.old)) (Answers F.content F.faults F.shortages) client_noting (moment_of self.old shelf.old) (moment_of self.new shelf.new)) }
-        ensures rests { OnOk result (ComesToRest noted_client client_noting self.old self.new shelf.new) }
+        ensures goes { OnOk result (GoesOn (noted_client (settings_of self.old)) (Answers F.content F.faults F.shortages) (client_noting F.content) (moment_of self.old shelf.old) (moment_of self.new shelf.new)) }
+        ensures rests { OnOk result (ComesToRest noted_client (client_noting F.content) self.old self.new shelf.new) }
         ensures stays { OnOk result (self.new ≡ record self.old { stack = self.new.stack }) }
         ensures works { OnOk result (Pushes self.new.stack.upper.end.end) }
         ensures lacked { OnErr result (Lacks F.shortages shelf.old shelf.new) }

@@ -10,9 +10,9 @@ use radio_world::{Client, Host, Measured};
 impl<F: Shelf> Host<F> for ClientHost {
     ghost use Rattle.push_terms.specs.declared.word.Side.TheVariants.{A};
     ghost use Rattle.host_model.specs.Circumstances.{Circumstance};
-    ghost use Rattle.host_model.specs.Clients.{ClientProfile};
     ghost use Rattle.host_model.specs.Settings.{SetHost};
     ghost use Rattle.bt_host.specs.Pushing.{Lacks};
+    ghost use Rattle.bt_host.specs.Shelving.{Shelved};
     ghost use Rattle.bt_host.specs.Noting.{Noted};
     ghost use Rattle.bt_host.specs.NotedHosts.{noted_client, noted_client_machine, client_noting};
     ghost use Rattle.bt_host.specs.PushingLaws as laws;
@@ -22,7 +22,7 @@ impl<F: Shelf> Host<F> for ClientHost {
     ghost use Rattle.bt_host.specs.SpeakingLaws.{speaks};
     ghost use Rattle.host_model.specs.Hosts.{most_said};
 
-    ghost State = { SetHost (Noted ClientProfile) };
+    ghost State = { SetHost (Noted Shelved) };
 
     ghost Answer = { Circumstance };
 
@@ -32,11 +32,11 @@ impl<F: Shelf> Host<F> for ClientHost {
 
     ghost side = { A };
 
-    ghost station = { λ host shelf. playing client_noting shelf host.stack };
+    ghost station = { λ host shelf. playing (client_noting F.content) shelf host.stack };
 
     ghost held = { λ host. host.framing.held };
 
-    ghost is_sound = { PushesSoundly };
+    ghost is_sound = { PushesSoundly F.content };
 
     ghost answers = { Answers F.content F.faults F.shortages };
 
@@ -73,9 +73,9 @@ impl<F: Shelf> Host<F> for ClientHost {
 
     ghost joins = { joined (Answers F.content F.faults F.shortages) (laws.joins F.content F.faults F.shortages) };
 
-    ghost speaks = { speaks noted_client client_noting };
+    ghost speaks = { speaks noted_client (client_noting F.content) };
 
-    ghost stops = { λ host shelf is. stops noted_client A client_noting host.stack shelf is.2 };
+    ghost stops = { λ host shelf is. stops noted_client A (client_noting F.content) host.stack shelf is.2 };
 }
 
 impl<F: Shelf> Client<F> for ClientHost {
@@ -101,8 +101,8 @@ impl<F: Shelf> Client<F> for ClientHost {
 }
 
 impl<F: Shelf> Measured<F> for ClientHost {
-    ghost use Rattle.host_model.specs.Clients.{client_profile};
-    ghost use Rattle.bt_host.specs.NotedHosts.{credits_of_client, client_noting};
+    ghost use Rattle.bt_host.specs.Shelving.{shelf_profile};
+    ghost use Rattle.bt_host.specs.NotedHosts.{credits_of_shelved, client_noting};
     ghost use Rattle.std.specs.Prelude.{refl};
     ghost use Rattle.bt_host.specs.NotingLaws.{window_is_noted, credits_are_noted};
 
@@ -118,7 +118,7 @@ impl<F: Shelf> Measured<F> for ClientHost {
         self.stack.upper.end.credits
     }
 
-    ghost frames_noted = { window_is_noted credits_of_client client_profile client_noting (λ host port rest. refl) };
+    ghost frames_noted = { window_is_noted credits_of_shelved shelf_profile (client_noting F.content) (λ host port rest. refl) };
 
-    ghost credits_noted = { credits_are_noted credits_of_client client_profile client_noting (λ host port rest. refl) };
+    ghost credits_noted = { credits_are_noted credits_of_shelved shelf_profile (client_noting F.content) (λ host port rest. refl) };
 }

@@ -25,7 +25,7 @@ impl Noting<ClientEnd> {
     fn begin<F: Shelf>(&mut self, name: &str, shelf: &mut F) -> Result<(), NoMemory>
         requires few { length (units_in name.now) ≤ 100 }
         requires sound { Pushes self.old.end }
-        ensures does { OnOk result ((settings : Settings) → Does (Answers F.content F.faults F.shortages) (λ rest. (noted_client settings).told rest (Opening name.now) (client_noting self.old shelf.old rest)) (client_noting self.new shelf.new) shelf.old shelf.new) }
+        ensures does { OnOk result ((settings : Settings) → Does (Answers F.content F.faults F.shortages) (λ rest. (noted_client settings).told rest (Opening name.now) (client_noting F.content self.old shelf.old rest)) (client_noting F.content self.new shelf.new) shelf.old shelf.new) }
         ensures sound { OnOk result (Pushes self.new.end) }
         ensures lacked { OnErr result (Lacks F.shortages shelf.old shelf.new) }
     {
@@ -48,7 +48,7 @@ impl Upper<Noting<ClientEnd>> {
         requires few { length (units_in name.now) ≤ 100 }
         requires sound { Pushes self.old.end.end }
         requires of { IsOf false self.old }
-        ensures does { OnOk result (Does (Answers F.content F.faults F.shortages) (λ rest. hear (noted_client self.old.machine.settings) rest (Opening name.now) (asking client_noting shelf.old self.old rest)) (asking client_noting shelf.new self.new) shelf.old shelf.new) }
+        ensures does { OnOk result (Does (Answers F.content F.faults F.shortages) (λ rest. hear (noted_client self.old.machine.settings) rest (Opening name.now) (asking (client_noting F.content) shelf.old self.old rest)) (asking (client_noting F.content) shelf.new self.new) shelf.old shelf.new) }
         ensures machine { self.new.machine ≡ with_channels self.old.machine self.new.machine.channels }
         ensures told { OnOk result (self.new.machine.channels.events ≡ []) }
         ensures sound { OnOk result (Pushes self.new.end.end) }
@@ -64,7 +64,7 @@ impl Upper<Noting<ClientEnd>> {
     fn cancel<F: Shelf>(&mut self, shelf: &mut F) -> Result<(), NoMemory>
         requires sound { Pushes self.old.end.end }
         requires of { IsOf false self.old }
-        ensures does { OnOk result (Does (Answers F.content F.faults F.shortages) (λ rest. hear (noted_client self.old.machine.settings) rest Cancelled (asking client_noting shelf.old self.old rest)) (asking client_noting shelf.new self.new) shelf.old shelf.new) }
+        ensures does { OnOk result (Does (Answers F.content F.faults F.shortages) (λ rest. hear (noted_client self.old.machine.settings) rest Cancelled (asking (client_noting F.content) shelf.old self.old rest)) (asking (client_noting F.content) shelf.new self.new) shelf.old shelf.new) }
         ensures machine { self.new.machine ≡ with_channels self.old.machine self.new.machine.channels }
         ensures told { OnOk result (self.new.machine.channels.events ≡ []) }
         ensures sound { OnOk result (Pushes self.new.end.end) }
@@ -83,10 +83,10 @@ impl Stack<Noting<ClientEnd>> {
         requires few { length (units_in name.now) ≤ 100 }
         requires sound { Pushes self.old.upper.end.end }
         requires of { IsOf false self.old.upper }
-        ensures hears { OnOk result (HearsNews (noted_client self.old.upper.machine.settings) (Answers F.content F.faults F.shortages) client_noting (Opening name.now) (record { stack = self.old; port = shelf.old }) (record { stack = self.new; port = shelf.new })) }
+        ensures hears { OnOk result (HearsNews (noted_client self.old.upper.machine.settings) (Answers F.content F.faults F.shortages) (client_noting F.content) (Opening name.now) (record { stack = self.old; port = shelf.old }) (record { stack = self.new; port = shelf.new })) }
         ensures machine { self.new.upper.machine ≡ with_channels self.old.upper.machine self.new.upper.machine.channels }
         ensures paged { self.new.paged ≡ self.old.paged }
-        ensures rests { OnOk result (IsResting (noted_client self.old.upper.machine.settings) client_noting (record { stack = self.new; port = shelf.new })) }
+        ensures rests { OnOk result (IsResting (noted_client self.old.upper.machine.settings) (client_noting F.content) (record { stack = self.new; port = shelf.new })) }
         ensures of { OnOk result (IsOf false self.new.upper) }
         ensures sound { OnOk result (Pushes self.new.upper.end.end) }
         ensures lacked { OnErr result (Lacks F.shortages shelf.old shelf.new) }
@@ -100,10 +100,10 @@ impl Stack<Noting<ClientEnd>> {
     pub(crate) fn cancel<F: Shelf>(&mut self, shelf: &mut F) -> Result<(), NoMemory>
         requires sound { Pushes self.old.upper.end.end }
         requires of { IsOf false self.old.upper }
-        ensures hears { OnOk result (HearsNews (noted_client self.old.upper.machine.settings) (Answers F.content F.faults F.shortages) client_noting Cancelled (record { stack = self.old; port = shelf.old }) (record { stack = self.new; port = shelf.new })) }
+        ensures hears { OnOk result (HearsNews (noted_client self.old.upper.machine.settings) (Answers F.content F.faults F.shortages) (client_noting F.content) Cancelled (record { stack = self.old; port = shelf.old }) (record { stack = self.new; port = shelf.new })) }
         ensures machine { self.new.upper.machine ≡ with_channels self.old.upper.machine self.new.upper.machine.channels }
         ensures paged { self.new.paged ≡ self.old.paged }
-        ensures rests { OnOk result (IsResting (noted_client self.old.upper.machine.settings) client_noting (record { stack = self.new; port = shelf.new })) }
+        ensures rests { OnOk result (IsResting (noted_client self.old.upper.machine.settings) (client_noting F.content) (record { stack = self.new; port = shelf.new })) }
         ensures of { OnOk result (IsOf false self.new.upper) }
         ensures sound { OnOk result (Pushes self.new.upper.end.end) }
         ensures lacked { OnErr result (Lacks F.shortages shelf.old shelf.new) }

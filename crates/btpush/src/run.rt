@@ -1,21 +1,25 @@
 //! The top call: what the program does, over ports.
 
-ghost use Rattle.std.specs.Prelude.{◌≡◌, ◌≤◌, ◌⊎◌, ℕ, Option, false, [], map, string_bytes, IfSome, None};
+ghost use Rattle.std.specs.Prelude.{◌≡◌, ◌≤◌, ℕ, Option, false, [], map, string_bytes, IfSome, None};
 ghost use Rattle.bt_base.specs.Counts.{HasRisen};
+ghost use Rattle.btpush_forms.specs.Doing.{WiresOver};
+ghost use Rattle.btpush_forms.specs.Ports.{written};
 ghost use Rattle.btpush_forms.specs.Run.{Decodes, RefusesWords, HasCauses, HasEnded};
-ghost use Rattle.small_push.specs.Plays.{stocked};
-ghost use Rattle.small_push.specs.Pushing.{Pushes};
-ghost use Rattle.btpush_forms.specs.Words.{AskForNone, AskForTrace};
+ghost use Rattle.btpush_forms.specs.Words.{AskForTrace, AskToMake};
 ghost use Rattle.btpush_forms.specs.Snooping.{Snoops};
-ghost use Rattle.btpush_forms.specs.Carrying.{Wires, IsWell};
-ghost use Rattle.command_words.specs.Forms.{AsksFor};
-ghost use Rattle.receiving.specs.Receiving.{Receives, IsUntouched, AnyShort};
-ghost use Rattle.three_wire.specs.Carrying.{AnyRose, WriteRose, IsWholeInput};
+ghost use Rattle.btpush_forms.specs.Carrying.{IsWell};
+ghost use Rattle.btpush.specs.Ports.{PushesOver, LacksSo};
+ghost use Rattle.command_words.specs.Forms.{AsksFor, AsksForNone};
+ghost use Rattle.making.specs.Making.{Makes};
+ghost use Rattle.object_push.specs.Ports.{ports_of};
+ghost use Rattle.receiving.specs.Receiving.{Receives};
+ghost use Rattle.three_wire.specs.Carrying.{WriteRose, IsWholeInput};
 ghost use Rattle.h4_view.specs.View.{IsAnswered};
 
 use bt_base::{Inbox, Shelf, Sink, Source};
 use btpush_forms::{Hosted, Status, Viewing, run_alone};
 use command_words::Form;
+use making::make;
 use push_terms::Side;
 use receiving::receive;
 use small_push::push;
@@ -33,8 +37,10 @@ use std::alloc::Global;
 /// capture to the sink as a btsnoop file, and where the source is no capture the trace gets the line
 /// that tells where and why. `wire` carries the packets of the source over a three-wire line to
 /// the sink, and the trace gets an entry for each packet on the line; `wire --number N` loses some by
-/// the draws of N. Any other words are `BadWords`, and the sink gets a line on the usage. No object may
-/// be pending in the inbox.
+/// the draws of N. `make --number N` runs the scenario that is made from N, over ports in memory: the
+/// trace gets the capture and the sink the summary, and the source, the shelf and the inbox are not
+/// touched. Any other words are `BadWords`, and the sink gets a line on the usage. No object may be
+/// pending in the inbox.
 pub fn run<S: Source, K: Sink, T: Sink, F: Shelf, B: Inbox>(
     alloc: Global,
     words: &Vec<String>,
@@ -51,22 +57,24 @@ pub fn run<S: Source, K: Sink, T: Sink, F: Shelf, B: Inbox>(
     ensures decode_snoop { AsksFor (map string_bytes words.now.items) Form.DecodeSnoop → IfSome (S.content source.old) (λ input. Decodes Viewing.Snoop input (S.content source.new) (K.content sink.old) (K.content sink.new) result) }
     // `push` runs the scenario that the input is, or tells why it is none. Where it stops short, the whole entries in the
     // trace are those of a run so far: both hosts kept within the buffers, and the air to the script.
-    ensures push { AsksFor (map string_bytes words.now.items) Form.Push → IfSome (S.content source.old) (λ input. Pushes input (stocked (F.content shelf.old) (F.faults shelf.old) (F.absences shelf.old) (B.content inbox.old) (B.faults inbox.old) (B.shortages inbox.old)) (stocked (F.content shelf.new) (F.faults shelf.new) (F.absences shelf.new) (B.content inbox.new) (B.faults inbox.new) (B.shortages inbox.new)) (S.content source.new) (K.content sink.old) (K.content sink.new) (T.content trace.old) (T.content trace.new) (HasRisen (T.faults trace.old) (T.faults trace.new)) ((trace.new ≡ trace.old) × (shelf.new ≡ shelf.old) × (inbox.new ≡ inbox.old)) result) }
+    ensures push { AsksFor (map string_bytes words.now.items) Form.Push → IfSome (S.content source.old) (λ input. let at = ports_of K.Sink T.Sink F.Shelf B.Inbox in PushesOver input (S.content source.new) (at sink.old trace.old shelf.old inbox.old) (at sink.new trace.new shelf.new inbox.new) ((trace.new ≡ trace.old) × (shelf.new ≡ shelf.old) × (inbox.new ≡ inbox.old)) result) }
     // `receive` feeds the input to a host: the sink gains what this says, and the inbox what it stores. It wants memory before
     // anything happens, or where a port found none.
     ensures receive { AsksFor (map string_bytes words.now.items) Form.Receive → Receives (S.content source.old) (S.content source.new) (K.content sink.old) (K.content sink.new) (T.content trace.old) (T.content trace.new) (B.content inbox.old) (B.content inbox.new) result }
-    ensures receive_memory { AsksFor (map string_bytes words.now.items) Form.Receive → result ≡ Status.NoMemory → IsUntouched (S.content source.old) (S.content source.new) (K.content sink.old) (K.content sink.new) (T.content trace.old) (T.content trace.new) (B.content inbox.old) (B.content inbox.new) ⊎ AnyShort (S.shortages source.old) (S.shortages source.new) (K.shortages sink.old) (K.shortages sink.new) (T.shortages trace.old) (T.shortages trace.new) (B.shortages inbox.old) (B.shortages inbox.new) }
+    ensures receive_memory { AsksFor (map string_bytes words.now.items) Form.Receive → result ≡ Status.NoMemory → let at = ports_of K.Sink T.Sink F.Shelf B.Inbox in LacksSo (S.content source.old) (S.content source.new) (S.shortages source.old) (S.shortages source.new) (at sink.old trace.old shelf.old inbox.old) (at sink.new trace.new shelf.new inbox.new) }
+    // `make` runs the scenario of the number over ports in memory: the trace gains its capture, and the sink its summary.
+    ensures make { (number : ℕ) → AsksFor (map string_bytes words.now.items) (Form.Make number) → Makes number (written K.Sink sink.old) (written K.Sink sink.new) (written T.Sink trace.old) (written T.Sink trace.new) result }
     // `snoop` writes the packets of a host to the sink as a btsnoop file, or tells where the input is no capture.
     ensures snoop { (side : Side) → AsksFor (map string_bytes words.now.items) (Form.Snoop side) → IfSome (S.content source.old) (λ input. Snoops side input (S.content source.new) (K.content sink.old) (K.content sink.new) (T.content trace.old) (T.content trace.new) result) }
     // `wire` carries the units of the input to the sink, or the units up to where it stops, and the trace tells each packet on
     // the line. Whole units are all carried where no packet is to be lost and no port fails.
-    ensures wire { (number : Option ℕ) → AsksFor (map string_bytes words.now.items) (Form.Wire number) → Wires number (S.content source.old) (K.content sink.old) (K.content sink.new) (T.content trace.old) (T.content trace.new) (AnyRose (K.faults sink.old) (K.faults sink.new) (K.shortages sink.old) (K.shortages sink.new) (T.faults trace.old) (T.faults trace.new) (T.shortages trace.old) (T.shortages trace.new)) result }
+    ensures wire { (number : Option ℕ) → AsksFor (map string_bytes words.now.items) (Form.Wire number) → WiresOver number (S.content source.old) (written K.Sink sink.old) (written K.Sink sink.new) (written T.Sink trace.old) (written T.Sink trace.new) result }
     ensures wire_clean { AsksFor (map string_bytes words.now.items) (Form.Wire None) → IsWholeInput (S.content source.old) → (HasRisen (S.faults source.old) (S.faults source.new) → ⊥) → (WriteRose (K.faults sink.old) (K.faults sink.new) (T.faults trace.old) (T.faults trace.new) → ⊥) → IsWell result }
     // Other words are refused, and no others.
-    ensures words { AskForNone (map string_bytes words.now.items) → RefusesWords (K.content sink.old) (K.content sink.new) result }
-    ensures bad_words { result ≡ Status.BadWords → AskForNone (map string_bytes words.now.items) }
-    // A mode runs to its end only where the input was read to its end, but for a line whose rounds are spent.
-    ensures finish { result ≡ Status.Ok → IfSome (S.content source.new) (λ left. left ≡ []) }
+    ensures words { AsksForNone (map string_bytes words.now.items) → RefusesWords (K.content sink.old) (K.content sink.new) result }
+    ensures bad_words { result ≡ Status.BadWords → AsksForNone (map string_bytes words.now.items) }
+    // A form runs to its end only where the input was read to its end, but for a line whose rounds are spent. `make` reads none.
+    ensures finish { (AskToMake (map string_bytes words.now.items) → ⊥) → result ≡ Status.Ok → IfSome (S.content source.new) (λ left. left ≡ []) }
     ensures finish_push { AsksFor (map string_bytes words.now.items) Form.Push → HasEnded result → IfSome (S.content source.new) (λ left. left ≡ []) }
     // Each fault has its cause.
     ensures causes { HasCauses (S.faults source.old) (S.faults source.new) (K.faults sink.old) (K.faults sink.new) (T.faults trace.old) (T.faults trace.new) result }
@@ -81,7 +89,9 @@ pub fn run<S: Source, K: Sink, T: Sink, F: Shelf, B: Inbox>(
     ensures shelf_content { F.content shelf.new ≡ F.content shelf.old }
     ensures shelf_faults { F.faults shelf.old ≤ F.faults shelf.new }
     ensures inbox_faults { (AsksFor (map string_bytes words.now.items) Form.Receive → ⊥) → B.faults inbox.old ≤ B.faults inbox.new }
-    // Only `push`, `receive`, `snoop` and `wire` touch the trace, only `push` the shelf, and only `push` and `receive` the inbox.
+    // `make` leaves the source alone. Only `push`, `receive`, `make`, `snoop` and `wire` touch the trace, only `push` the shelf, and only
+    // `push` and `receive` the inbox.
+    ensures source { AskToMake (map string_bytes words.now.items) → source.new ≡ source.old }
     ensures trace { (AskForTrace (map string_bytes words.now.items) → ⊥) → trace.new ≡ trace.old }
     ensures shelf { (AsksFor (map string_bytes words.now.items) Form.Push → ⊥) → shelf.new ≡ shelf.old }
     ensures inbox { (AsksFor (map string_bytes words.now.items) Form.Push → ⊥) → (AsksFor (map string_bytes words.now.items) Form.Receive → ⊥) → inbox.new ≡ inbox.old }
@@ -90,5 +100,6 @@ pub fn run<S: Source, K: Sink, T: Sink, F: Shelf, B: Inbox>(
         Ok(status) => status,
         Err(Hosted::Push) => push(alloc, source, sink, trace, shelf, inbox),
         Err(Hosted::Receive) => receive(alloc, source, sink, trace, inbox),
+        Err(Hosted::Make(number)) => make(alloc, number, sink, trace),
     }
 }

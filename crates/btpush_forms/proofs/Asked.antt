@@ -5,7 +5,6 @@ use Rattle.clap.specs.Words.{Text}
 use Rattle.command_words.specs.Forms.{AsksFor, IsAnswered}
 use Rattle.command_words.specs.declared.form.Form.{Form}
 use Rattle.command_words.specs.declared.form.Form.TheVariants as form
-use Rattle.command_words.proofs.Asking.{asks_once}
 use Rattle.push_terms.specs.declared.word.Side.{Side}
 use Rattle.h4_view.specs.declared.refusal.ViewFault.TheVariants as view
 use Rattle.h4_view.specs.View.{OfLines}
@@ -20,9 +19,10 @@ use Rattle.btpush_forms.specs.declared.viewing.Viewing.{Viewing}
 use Rattle.btpush_forms.specs.declared.viewing.Viewing.TheVariants.{Raw, Tagged, Snoop}
 use Rattle.btpush_forms.specs.Carrying.{Wires}
 use Rattle.btpush_forms.specs.Doing.{Does}
+use Rattle.btpush_forms.specs.Ports.{Written}
 use Rattle.btpush_forms.specs.Run.{Decodes}
 use Rattle.btpush_forms.specs.Snooping.{Snoops}
-use Rattle.btpush_forms.specs.Words.{IsBuilt, WritesTrace, AskForNone, AskForTrace, hosted_form}
+use Rattle.btpush_forms.specs.Words.{WritesTrace, AskForTrace, hosted_form}
 use Rattle.btpush_forms.specs.declared.hosted.Hosted.{Hosted}
 use Rattle.btpush_forms.specs.declared.status.Status.{Status}
 
@@ -33,13 +33,6 @@ found given words result form same answer is = subst (λ (ws : List Text). AsksF
 
 pub found_none : {E : Type 0} (given words : List Text) (result : Result (Option Form) E) → given ≡ words → IfOk result (IsAnswered given) → result ≡ Ok None → (form : Form) → AsksFor words form → ⊥
 found_none given words result same answer is form asks = (subst (λ r. IfOk r (IsAnswered given)) is answer) form (subst (λ (ws : List Text). AsksFor ws form) (sym same) asks)
-
--- no form is asked for beside the one that is not built
-pub none_built : (words : List Text) (form : Form) → AsksFor words form → (IsBuilt form → ⊥) → AskForNone words
-none_built words form asks unbuilt other built asks' = unbuilt (subst IsBuilt (sym (asks_once words form other asks asks')) built)
-
-pub is_unbuilt : (words : List Text) (form : Form) → AsksFor words form → AskForNone words → IsBuilt form → ⊥
-is_unbuilt words form asks none built = none form built asks
 
 pub not_written : (words : List Text) (form : Form) → AsksFor words form → (AskForTrace words → ⊥) → WritesTrace form → ⊥
 not_written words form asks none writes = none (form, writes, asks)
@@ -67,12 +60,12 @@ nothing_snooped side (Some input) sink trace = (Err snooped.NoMemory, record { i
 nothing_carried : (number : Option ℕ) (content sink trace : Option (List ℕ)) (Rose : Type 0) → Wires number content sink sink trace trace Rose status.NoMemory
 nothing_carried number content sink trace Rose = record { end = Err fault.NoMemory; carried = trace; carries = carries_nothing number content sink trace Rose; tells = (refl, refl) }
 
-pub nothing_done : (form : Form) (content sink trace : Option (List ℕ)) (Rose : Type 0) → Does form content content sink sink trace trace Rose status.NoMemory
-nothing_done form.Decode content sink trace Rose = nothing_decoded Raw content sink
-nothing_done form.DecodeTagged content sink trace Rose = nothing_decoded Tagged content sink
-nothing_done form.DecodeSnoop content sink trace Rose = nothing_decoded Snoop content sink
-nothing_done (form.Snoop side) content sink trace Rose = nothing_snooped side content sink trace
-nothing_done (form.Wire number) content sink trace Rose = nothing_carried number content sink trace Rose
-nothing_done form.Push content sink trace Rose = tt
-nothing_done form.Receive content sink trace Rose = tt
-nothing_done (form.Make number) content sink trace Rose = tt
+pub nothing_done : (form : Form) (content : Option (List ℕ)) (sink trace : Written) → Does form content content sink sink trace trace status.NoMemory
+nothing_done form.Decode content sink trace = nothing_decoded Raw content sink.content
+nothing_done form.DecodeTagged content sink trace = nothing_decoded Tagged content sink.content
+nothing_done form.DecodeSnoop content sink trace = nothing_decoded Snoop content sink.content
+nothing_done (form.Snoop side) content sink trace = nothing_snooped side content sink.content trace.content
+nothing_done (form.Wire number) content sink trace = nothing_carried number content sink.content trace.content _
+nothing_done form.Push content sink trace = tt
+nothing_done form.Receive content sink trace = tt
+nothing_done (form.Make number) content sink trace = tt

@@ -1,4 +1,5 @@
 pub mod Status
+pub mod Ports
 pub mod Words
 pub mod Refusing
 pub mod Gathering

@@ -1,14 +1,15 @@
 //! What the program does where no host is asked for.
 
-ghost use Rattle.std.specs.Prelude.{◌≡◌, [], map, string_bytes, IfSome, IfOk, IfErr, Ok, Err, None};
+ghost use Rattle.std.specs.Prelude.{◌≡◌, ◌≢◌, [], map, string_bytes, IfSome, IfOk, IfErr, Ok, Err, None};
 ghost use Rattle.bt_base.specs.Counts.{HasRisen};
 ghost use Rattle.h4_view.specs.View.{IsAnswered};
-ghost use Rattle.command_words.specs.Forms.{AsksFor};
-ghost use Rattle.three_wire.specs.Carrying.{AnyRose, WriteRose, IsWholeInput};
+ghost use Rattle.command_words.specs.Forms.{AsksFor, AsksForNone};
+ghost use Rattle.three_wire.specs.Carrying.{WriteRose, IsWholeInput};
 ghost use Rattle.btpush_forms.specs.Carrying.{IsWell};
 ghost use Rattle.btpush_forms.specs.Doing.{Does};
+ghost use Rattle.btpush_forms.specs.Ports.{written};
 ghost use Rattle.btpush_forms.specs.Run.{RefusesWords, HasCauses};
-ghost use Rattle.btpush_forms.specs.Words.{AskForNone, AskForTrace, IsBuilt, WritesTrace, hosted_form};
+ghost use Rattle.btpush_forms.specs.Words.{AskForTrace, WritesTrace, hosted_form};
 
 use crate::carrying::wire;
 use crate::hosted::Hosted;
@@ -28,10 +29,9 @@ fn run_form<S: Source, K: Sink, T: Sink>(
     sink: &mut K,
     trace: &mut T,
 ) -> Result<Status, Hosted>
-    ensures does { IfOk result (Does form (S.content source.old) (S.content source.new) (K.content sink.old) (K.content sink.new) (T.content trace.old) (T.content trace.new) (AnyRose (K.faults sink.old) (K.faults sink.new) (K.shortages sink.old) (K.shortages sink.new) (T.faults trace.old) (T.faults trace.new) (T.shortages trace.old) (T.shortages trace.new))) }
+    ensures does { IfOk result (Does form (S.content source.old) (S.content source.new) (written K.Sink sink.old) (written K.Sink sink.new) (written T.Sink trace.old) (written T.Sink trace.new)) }
     ensures wire_clean { form ≡ Form.Wire None → IsWholeInput (S.content source.old) → (HasRisen (S.faults source.old) (S.faults source.new) → ⊥) → (WriteRose (K.faults sink.old) (K.faults sink.new) (T.faults trace.old) (T.faults trace.new) → ⊥) → IfOk result IsWell }
-    ensures words { (IsBuilt form → ⊥) → IfOk result (RefusesWords (K.content sink.old) (K.content sink.new)) }
-    ensures bad_words { result ≡ Ok Status.BadWords → IsBuilt form → ⊥ }
+    ensures known { result ≢ Ok Status.BadWords }
     ensures finish { result ≡ Ok Status.Ok → IfSome (S.content source.new) (λ left. left ≡ []) }
     ensures causes { IfOk result (HasCauses (S.faults source.old) (S.faults source.new) (K.faults sink.old) (K.faults sink.new) (T.faults trace.old) (T.faults trace.new)) }
     ensures source_short { IfOk result (λ status. IsAnswered (S.shortages source.old) (S.shortages source.new) (status ≡ Status.NoMemory)) }
@@ -50,14 +50,13 @@ fn run_form<S: Source, K: Sink, T: Sink>(
         Form::Wire(number) => Ok(wire(alloc, number, source, sink, trace)),
         Form::Push => Err(Hosted::Push),
         Form::Receive => Err(Hosted::Receive),
-        // This form is not built yet.
-        Form::Make(_) => Ok(refuse_words(sink)),
+        Form::Make(number) => Err(Hosted::Make(number)),
     }
 }
 
 /// Does what these words ask for, where that needs no hosts. The first word is the program's name and
-/// is not looked at. Where they ask for a push, or for a host that receives, that is answered, and then
-/// no port was touched.
+/// is not looked at. Where they ask for a push, for a host that receives or for the scenario of a number,
+/// that is answered, and then no port was touched.
 ///
 /// `decode` shows the packets of the source in the sink, `decode --tagged` the entries of a capture of
 /// two hosts, and `decode --snoop` the records of a btsnoop file. `snoop --side a` or `b` writes the
@@ -73,12 +72,12 @@ pub fn run_alone<S: Source, K: Sink, T: Sink>(
     sink: &mut K,
     trace: &mut T,
 ) -> Result<Status, Hosted>
-    ensures does { (form : Form) → AsksFor (map string_bytes words.now.items) form → IfOk result (Does form (S.content source.old) (S.content source.new) (K.content sink.old) (K.content sink.new) (T.content trace.old) (T.content trace.new) (AnyRose (K.faults sink.old) (K.faults sink.new) (K.shortages sink.old) (K.shortages sink.new) (T.faults trace.old) (T.faults trace.new) (T.shortages trace.old) (T.shortages trace.new))) }
+    ensures does { (form : Form) → AsksFor (map string_bytes words.now.items) form → IfOk result (Does form (S.content source.old) (S.content source.new) (written K.Sink sink.old) (written K.Sink sink.new) (written T.Sink trace.old) (written T.Sink trace.new)) }
     // Whole units are all carried where no packet is to be lost and no port fails.
     ensures wire_clean { AsksFor (map string_bytes words.now.items) (Form.Wire None) → IsWholeInput (S.content source.old) → (HasRisen (S.faults source.old) (S.faults source.new) → ⊥) → (WriteRose (K.faults sink.old) (K.faults sink.new) (T.faults trace.old) (T.faults trace.new) → ⊥) → IfOk result IsWell }
     // Other words are refused, and no others.
-    ensures words { AskForNone (map string_bytes words.now.items) → IfOk result (RefusesWords (K.content sink.old) (K.content sink.new)) }
-    ensures bad_words { result ≡ Ok Status.BadWords → AskForNone (map string_bytes words.now.items) }
+    ensures words { AsksForNone (map string_bytes words.now.items) → IfOk result (RefusesWords (K.content sink.old) (K.content sink.new)) }
+    ensures bad_words { result ≡ Ok Status.BadWords → AsksForNone (map string_bytes words.now.items) }
     // `Ok` comes only where the input was read to its end.
     ensures finish { result ≡ Ok Status.Ok → IfSome (S.content source.new) (λ left. left ≡ []) }
     // Each fault has its cause, and a shortage of memory of a port is answered.

@@ -7,4 +7,6 @@ pub enum Hosted {
     Push,
     /// `receive`.
     Receive,
+    /// `make --number N`.
+    Make(u32),
 }

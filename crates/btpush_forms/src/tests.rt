@@ -1,4 +1,5 @@
 use crate::alone::run_alone;
+use crate::hosted::Hosted;
 use crate::status::Status;
 use bt_base::{MemSink, MemSource};
 use std::test::Fail;
@@ -19,6 +20,9 @@ const TWO_PACKETS: [u8; 11] = [1, 3, 12, 0, 4, 14, 4, 1, 3, 12, 0];
 
 /// A broken start, and synchronous data.
 const DATA: [u8; 12] = [2, 1, 0x20, 2, 0, 9, 9, 3, 5, 0, 1, 7];
+
+/// A connection request, a PDU in one piece.
+const REQUEST: [u8; 17] = [2, 1, 0x20, 12, 0, 8, 0, 1, 0, 2, 1, 4, 0, 1, 0, 0x40, 0];
 
 /// A PDU in one piece, one in two with a piece of another link between them, which has an octet too
 /// many, and one with a command of identifier 0.
@@ -73,7 +77,7 @@ const CARRIED_AGAIN: [u8; 33] = [
     0xC0,
 ];
 
-const ROWS: [Row; 20] = [
+const ROWS: [Row; 22] = [
     Row {
         line: "decode",
         source: &TWO_PACKETS,
@@ -114,6 +118,20 @@ const ROWS: [Row; 20] = [
         source: b"\x02\x01\x20\x02\x00\x09\x09\x03\x05",
         status: Status::InputRefused,
         sink: b"0 acl 2001 2\n  drop ShortStart\nrefused offset 7 Truncated\n",
+        trace: b"",
+    },
+    Row {
+        line: "decode",
+        source: &REQUEST,
+        status: Status::Ok,
+        sink: b"0 acl 2001 12\n  pdu 0001 8\n  sig 02 01 ConnectionRequest 01004000\n",
+        trace: b"",
+    },
+    Row {
+        line: "decode",
+        source: b"\x02\x01\x20\x0C\x00\x08\x00\x01\x00\x02\x01\x04\x00\x01\x00\x40",
+        status: Status::InputRefused,
+        sink: b"refused offset 0 Truncated\n",
         trace: b"",
     },
     Row {
@@ -321,15 +339,18 @@ fn faults_of_ports_have_their_status(rt: HostRuntime) -> Result<(), Fail> {
     Ok(())
 }
 
-/// Lines that are no form of the program, or one that is not built.
-const BAD_LINES: [&str; 10] = [
+/// Lines that are no form of the program.
+const BAD_LINES: [&str; 13] = [
     "",
     "decoder",
     "push --tagged",
     "push --number 1",
     "decode --tagged --snoop",
     "snoop",
-    "make --number 1",
+    "make",
+    "make --number 01",
+    "make --number 4294967296",
+    "make --number 1 --tagged",
     "receive --tagged",
     "wire --tagged",
     "wire --number 01",
@@ -342,10 +363,37 @@ fn other_words_are_refused(rt: HostRuntime) -> Result<(), Fail> {
             line: *line,
             source: &TWO_PACKETS,
             status: Status::BadWords,
-            sink: b"usage: btpush decode|push|receive|make [--tagged] [--number N]\n",
+            sink: b"usage: btpush decode|push|receive|make|snoop|wire [--tagged] [--snoop] [--side S] [--number N]\n",
             trace: b"",
         };
         assert!(rt; holds(&rt, &row, SOUND)?);
+    }
+    Ok(())
+}
+
+/// Lines that need hosts.
+const HOSTED: [(&str, Hosted); 5] = [
+    ("push", Hosted::Push),
+    ("receive", Hosted::Receive),
+    ("make --number 0", Hosted::Make(0)),
+    ("--number=2 make", Hosted::Make(2)),
+    ("make --number 4294967295", Hosted::Make(4_294_967_295)),
+];
+
+/// Whether that line is answered so, with nothing said.
+fn needs(rt: &HostRuntime, line: &str, hosted: Hosted) -> Result<bool, Fail> {
+    let words = words_of(rt, line)?;
+    let mut source = MemSource::new(rt.alloc(), &RESET, 3, &[])?;
+    let mut sink = MemSink::new(rt.alloc(), &[])?;
+    let mut trace = MemSink::new(rt.alloc(), &[])?;
+    let answer = run_alone(rt.alloc(), &words, &mut source, &mut sink, &mut trace);
+    Ok(answer == Err(hosted) && sink.octets().is_empty() && trace.octets().is_empty())
+}
+
+#[test]
+fn what_needs_hosts_is_left(rt: HostRuntime) -> Result<(), Fail> {
+    for (line, hosted) in HOSTED.iter() {
+        assert!(rt; needs(&rt, *line, *hosted)?);
     }
     Ok(())
 }

@@ -8,7 +8,8 @@ use crate::status::Status;
 use bt_base::{PortFault, Sink};
 
 /// The line that tells how the program is used.
-const USAGE: &str = "usage: btpush decode|push|receive|make [--tagged] [--number N]\n";
+const USAGE: &str =
+    "usage: btpush decode|push|receive|make|snoop|wire [--tagged] [--snoop] [--side S] [--number N]\n";
 
 /// Writes how the program is used.
 pub(crate) fn refuse_words<K: Sink>(sink: &mut K) -> Status

@@ -183,7 +183,7 @@ all_inform policy list = (along policy (λ run. InformsLast run.value.memory.inf
 -- a copy that comes in is responded to
 responds_there : (pair : Pair) (coming : List (List ℕ)) → has_room pair.far.run.value ≡ true → InformsLast pair.far.run.value.memory.information → RespondsTo errands.Features coming pair
 responds_there pair [] room informs = tt
-responds_there pair (pdu ∷ coming) room informs = λ command request read is asks.
+responds_there pair (pdu ∷ coming) room informs = λ command request signals read is asks.
     copies-have_responses pair.far.policy pair.far.run.value errands.Features request.identifier command asks (can command.identifier command.content) room
   where
     recalls : (last : Option Remembered) (identifier : ℕ) → InformsLast last → IsRecalledOr errands.Features last identifier (Unit {0})
@@ -210,7 +210,7 @@ responds_there pair (pdu ∷ coming) room informs = λ command request read is a
 -- a response ends the wait
 ends_here : (pair : Pair) (coming : List (List ℕ)) → EndsWait errands.Features coming pair
 ends_here pair [] = tt
-ends_here pair (pdu ∷ coming) = λ command request read is responds. final-responses_end_waits pair.near.policy pair.near.run.value errands.Features request command is responds (final request.identifier command responds)
+ends_here pair (pdu ∷ coming) = λ command request signals read is responds. final-responses_end_waits pair.near.policy pair.near.run.value errands.Features request command is responds (final request.identifier command responds)
   where
     by : (identifier : ℕ) (content : Content) → responds_with errands.Features content ≡ true → IsFinal pair.near.policy identifier content pair.near.run.value
     by identifier (reject reason rest) so = tt

@@ -135,3 +135,7 @@ mod Enquiring
 mod Deciding
 pub mod Exchanged
 pub mod Ready
+mod UnderWay
+mod Recalling
+mod ConnectionsMet
+mod NamedApart

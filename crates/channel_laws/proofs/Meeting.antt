@@ -216,7 +216,7 @@ owner_meets e pair (pdu ∷ coming) is reads ends = not_vain e pair after (λ r 
     by r r' was now same true so =
         let (command, read, responds, signals) = brought (responds_to e r'.identifier) pdu (reads pdu (inl refl)) so in
         let heard = heard_one pair.near.policy pdu command pair.near.run.value signals read in
-        let ended = ends command r read was (subst (λ n. responds_to e n command ≡ true) (sym same) responds) r' (sym (ap (request_of e) heard) ∙ now) in
+        let ended = ends command r signals read was (subst (λ n. responds_to e n command ≡ true) (sym same) responds) r' (sym (ap (request_of e) heard) ∙ now) in
         let never : true ≡ false = sym (ap (λ n. eqb r'.identifier n) same ∙ eqb-same r'.identifier) ∙ ended in absurd cc
     by r r' was now same false so =
         let first : how_many (brings (responds_to e r'.identifier)) pair.near.coming ≡ one_if (brings (responds_to e r'.identifier) pdu) + how_many (brings (responds_to e r'.identifier)) coming = ap (how_many (brings (responds_to e r'.identifier))) is in
@@ -254,7 +254,7 @@ peer_meets e pair (pdu ∷ coming) is known reads responds =
     by : (r : Request) → request_of e pair.far.run.value ≡ Some r → (b : Bool) → brings (asks_for e r.identifier) pdu ≡ b → under_way e r.identifier (turned pair) ≤ under_way e r.identifier (turned (with_near end' pair))
     by r was true so =
         let (command, read, asks, signals) = brought (asks_for e r.identifier) pdu (reads pdu (inl refl)) so in
-        let more = replied r.identifier command asks read signals (reply_to pair.near.policy (Ok command) v) refl (responds command r read was asks) in
+        let more = replied r.identifier command asks read signals (reply_to pair.near.policy (Ok command) v) refl (responds command r signals read was asks) in
         let shift = first r.identifier in
         let one : one_if (brings (asks_for e r.identifier) pdu) ≡ 1 = ap one_if so in
         omega (arith, more, shift, one)

@@ -1,5 +1,6 @@
 -- That a request of a host is responded to, and that the response ends its wait (Core 5.1, Volume 3 Part A, 4.1 to 4.11).
 use Rattle.std.specs.Prelude.{ℕ, ◌≡◌, ◌==◌, false, true, List, [], ◌∷◌, drop, Option, Some, None, Ok}
+use Rattle.acl_fragments.specs.Pieces.{channel_of}
 use Rattle.capture.specs.Histories.{EachAfter}
 use Rattle.l2cap_signal.specs.Commands.{Command}
 use Rattle.l2cap_signal.specs.Reading.{answers}
@@ -25,18 +26,18 @@ IsResponse errand identifier (Some answer) v = (responds_to errand identifier an
 abbrev pub WaitsNoMore : Errand → (identifier : ℕ) → Channels → Type 0
 WaitsNoMore errand identifier v = (request : Request) → request_of errand v ≡ Some request → (request.identifier == identifier) ≡ false
 
--- a copy of a request that waits at the near end comes to the far end, which responds to it
+-- a copy of a request that waits at the near end comes to the far end on the signalling channel, and it responds to it
 abbrev pub RespondsTo : Errand → List (List ℕ) → Pair → Type 0
 RespondsTo errand [] pair = Unit {0}
 RespondsTo errand (pdu ∷ coming) pair =
-    (command : Command) (request : Request) → answers (drop 4 pdu) ≡ Ok command ∷ [] → request_of errand pair.near.run.value ≡ Some request → asks_for errand request.identifier command ≡ true
+    (command : Command) (request : Request) → (channel_of pdu == 0x0001) ≡ true → answers (drop 4 pdu) ≡ Ok command ∷ [] → request_of errand pair.near.run.value ≡ Some request → asks_for errand request.identifier command ≡ true
     → IsResponse errand request.identifier (reply_to pair.far.policy (Ok command) pair.far.run.value) pair.far.run.value
 
--- a response to it comes to the near end, and ends its wait
+-- a response to it comes to the near end so, and ends its wait
 abbrev pub EndsWait : Errand → List (List ℕ) → Pair → Type 0
 EndsWait errand [] pair = Unit {0}
 EndsWait errand (pdu ∷ coming) pair =
-    (command : Command) (request : Request) → answers (drop 4 pdu) ≡ Ok command ∷ [] → request_of errand pair.near.run.value ≡ Some request → responds_to errand request.identifier command ≡ true
+    (command : Command) (request : Request) → (channel_of pdu == 0x0001) ≡ true → answers (drop 4 pdu) ≡ Ok command ∷ [] → request_of errand pair.near.run.value ≡ Some request → responds_to errand request.identifier command ≡ true
     → WaitsNoMore errand request.identifier (hears_command pair.near.policy (Ok command) pair.near.run.value)
 
 -- ---- of both ends

@@ -41,3 +41,4 @@ pub mod Final
 pub mod Responding
 pub mod Decisive
 pub mod Exchanged
+pub mod Connections

@@ -6,6 +6,7 @@ ghost use Rattle.channel_laws.specs.Agreements.{AgreementsAreOnHeard};
 ghost use Rattle.channel_laws.specs.Armed.{ArmedIsWhatWaits};
 ghost use Rattle.channel_laws.specs.Awaited.{FeaturesAreAwaited, OptionsAreAwaited, RequestsAreAwaited};
 ghost use Rattle.channel_laws.specs.CheckWords.{CheckWordsAreRead, CheckWordsAreWished};
+ghost use Rattle.channel_laws.specs.Connections.{ConnectionsAreMet, NamesAreApart};
 ghost use Rattle.channel_laws.specs.Consent.{GrantsAreShown, SuccessesAccept};
 ghost use Rattle.channel_laws.specs.Decisive.{AnswersAreDecisive};
 ghost use Rattle.channel_laws.specs.Endpoints.{EndpointsNameOneChannel};
@@ -267,4 +268,16 @@ pub fn answers_are_decisive()
 /// it, SDU for SDU, both ways in the order in which it happened.
 pub fn exchanged_is_spoken()
     ensures { ExchangedIsSpoken }
+{}
+
+/// Where an answer has room when something comes in, and an end asks for each of its channels with an identifier of its own, each copy of a request
+/// for a channel is responded to, and each response to it ends its wait: so it is given again only behind disturbances.
+pub fn connections_are_met()
+    ensures { ConnectionsAreMet }
+{}
+
+/// A host that asks for one channel after the other, each with an identifier that no request of it for a channel had, asks for no two with one,
+/// however often its timer repeats them.
+pub fn names_are_apart()
+    ensures { NamesAreApart }
 {}

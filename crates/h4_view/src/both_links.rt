@@ -65,16 +65,6 @@ impl BothLinks {
     }
 }
 
-/// The link of a place, a new one where there was none.
-fn both_in(alloc: Global, place: Option<BothLink>) -> BothLink
-    ensures { (past : List SentPiece) → IsBothOf past place → IsBoth past result }
-{
-    match place {
-        Some(link) => link,
-        None => BothLink::new(alloc),
-    }
-}
-
 /// Adds what a piece of a link gives.
 fn push_on_both(
     alloc: Global,
@@ -114,7 +104,7 @@ fn push_on_both(
     Ok(())
 }
 
-/// Adds what a piece gives in the place of its link.
+/// Adds what a piece gives in the place of its link, which is new where there was none. A link stays where it is, since it is large.
 fn push_in_both(
     alloc: Global,
     text: &mut Text,
@@ -128,9 +118,14 @@ fn push_in_both(
         (text.new.items ≡ text.old.items ++ both_text past direction (record { boundary = boundary; octets = octets.now }))
         × IsBothOf (past ++ record { direction = direction; piece = record { boundary = boundary; octets = octets.now } } ∷ []) place.new × AllByRecursion IsSpare spare.new.items) }
 {
-    let mut link = both_in(alloc, place.take());
-    push_on_both(alloc, text, spare, &mut link, direction, boundary, octets)?;
-    *place = Some(link);
+    match place {
+        Some(link) => push_on_both(alloc, text, spare, link, direction, boundary, octets)?,
+        None => {
+            let mut link = BothLink::new(alloc);
+            push_on_both(alloc, text, spare, &mut link, direction, boundary, octets)?;
+            *place = Some(link);
+        }
+    }
     Ok(())
 }
 

@@ -194,17 +194,7 @@ fn push_on_link(
     Ok(())
 }
 
-/// The link of a place, a new one where there was none.
-fn link_in(alloc: Global, place: Option<Link>) -> Link
-    ensures { (past : List Piece) → IsLinkOf past place → IsLink past result }
-{
-    match place {
-        Some(link) => link,
-        None => Link::new(alloc),
-    }
-}
-
-/// Adds what a piece gives in the place of its link.
+/// Adds what a piece gives in the place of its link, which is new where there was none. A link stays where it is, since it is large.
 fn push_in_place(
     alloc: Global,
     text: &mut Text,
@@ -217,9 +207,14 @@ fn push_in_place(
         (text.new.items ≡ text.old.items ++ joined_text past (record { boundary = boundary; octets = octets.now }))
         × IsLinkOf (past ++ record { boundary = boundary; octets = octets.now } ∷ []) place.new × AllByRecursion IsSpare spare.new.items) }
 {
-    let mut link = link_in(alloc, place.take());
-    push_on_link(alloc, text, spare, &mut link, boundary, octets)?;
-    *place = Some(link);
+    match place {
+        Some(link) => push_on_link(alloc, text, spare, link, boundary, octets)?,
+        None => {
+            let mut link = Link::new(alloc);
+            push_on_link(alloc, text, spare, &mut link, boundary, octets)?;
+            *place = Some(link);
+        }
+    }
     Ok(())
 }
 

@@ -4,6 +4,7 @@ use Rattle.std.proofs.Common.{◌≡◌, ℕ, List, [], ◌∷◌, ◌++◌, Boo
 use Rattle.std.specs.Prelude.{option_map}
 use Rattle.std.specs.List.{list_any}
 use Rattle.std.proofs.lemmas.Bool.{eqb-true}
+use Rattle.bt_base.specs.declared.settings.Transport.{Transport}
 use Rattle.capture.specs.Histories.{EachAfter}
 use Rattle.capture.specs.declared.flow.Flow.TheVariants.{Out}
 use Rattle.link_talk.specs.declared.call.Call.{Call}
@@ -19,8 +20,12 @@ use Rattle.channel_laws.specs.Runs.{Occurrence, Comes, Connects, AsksFeatures, D
 use Rattle.channel_laws.specs.Singly.{calls_that_went, IsAgain, AreOneByOne, NoneIsDue, AsksSo, AsksForNoChannel}
 use Rattle.channel_laws.proofs.Inviting.{held_others}
 use Rattle.channel_laws.proofs.OneByOne.{calls-are_one_by_one}
-use Rattle.host_laws.specs.InOrder.{is_beyond, seeks_object}
+use Rattle.host_laws.specs.InOrder.{is_beyond, seeks_object, may_carry}
 use Rattle.host_laws.proofs.Refusing.{OffersNone, value_of, value-more, stays-free, stays-none}
+
+-- a client may name that PSM: service discovery's, or one of packets
+abbrev pub may_name : Transport → ℕ → Bool
+may_name transport psm = eqb psm 0x0001 || may_carry transport psm
 
 -- service discovery alone was asked for
 abbrev pub for_search : ℕ → List Call → Bool

@@ -3,7 +3,6 @@ use Rattle.std.proofs.Common.{◌≡◌, ℕ, Bool, true, false, cond, eqb, ◌|
 use Rattle.std.specs.List.{AllByRecursion, flat_map, list_any}
 use Rattle.std.proofs.lemmas.List.Sums.{fold-append}
 use Rattle.bt_base.specs.declared.settings.Settings.{Settings}
-use Rattle.bt_base.specs.declared.settings.Transport.TheVariants.{L2cap}
 use Rattle.acl_fragments.specs.Pieces.{channel_of}
 use Rattle.capture.specs.Histories.{EachAfter}
 use Rattle.capture.specs.declared.flow.Flow.TheVariants.{Out}
@@ -33,13 +32,13 @@ use Rattle.host_model.specs.Shelves.{size_for, name_for, unused}
 use Rattle.host_laws.specs.Calls.{from_call, values_after}
 use Rattle.host_laws.specs.ClientCalls.{ClientsAskInOrder, ClientsAskOnce}
 use Rattle.host_laws.specs.Feeds.{tidings_by}
-use Rattle.host_laws.specs.InOrder.{seeks_object, may_ask, CallsInOrder}
+use Rattle.host_laws.specs.InOrder.{seeks_object, may_carry, may_ask, CallsInOrder}
 use Rattle.host_laws.specs.Lives.{Span, on_links}
 use Rattle.host_laws.specs.OverLinks.{talk_marks}
 use Rattle.host_laws.proofs.Links.{value_run}
 use Rattle.host_laws.specs.Woven.{Strand, Hearing, Giving, Firing, Telling, Gifting, Learning, Checking, Stepping, IsOnLink, told_next, strand_list, strand_profile, woven_list, woven_profile, Woven, turned, AreWoven, TalksWoven}
 use Rattle.host_laws.proofs.Asking.{send_if, sends_on, closes_on, asked, clients_ask, servers_ask, clients-call}
-use Rattle.host_laws.proofs.AskingOnce.{NoneIsHeld, OneIsHeld, NoneWaits, first-free, first-one, first-none, asks-none, on-free, on-one, on-none, free-none, asks-search, opens-search, searches-seek_none}
+use Rattle.host_laws.proofs.AskingOnce.{may_name, NoneIsHeld, OneIsHeld, NoneWaits, first-free, first-one, first-none, asks-none, on-free, on-one, on-none, free-none, asks-search, opens-search, searches-seek_none}
 use Rattle.host_laws.proofs.Calling.{clients-call_in_order}
 use Rattle.host_laws.proofs.OverLinks.{hosts_talk_woven}
 use Rattle.host_laws.proofs.Refusing.{OffersNone, value_of, value-more}
@@ -57,11 +56,11 @@ values-more own front list = sym (ap (λ run. run.value) (fold-append (run_on ow
 peer_same : (endpoint : ℕ) (v w : Channels) → v.held ≡ w.held → peer_mtu endpoint w ≡ peer_mtu endpoint v
 peer_same endpoint v w same = ap (λ held. peer_mtu endpoint (record no_channels { held = held })) (sym same)
 
-may_by : (one three any : Bool) → three ≡ false → any ≡ false → (one || (not three && not any)) ≡ true
-may_by true three any apart none = refl
-may_by false true any apart none = cc
-may_by false false true apart none = cc
-may_by false false false apart none = refl
+may_by : (one other any : Bool) → (one || other) ≡ true → any ≡ false → (one || (other && not any)) ≡ true
+may_by true other any named none = refl
+may_by false true true named none = cc
+may_by false true false named none = refl
+may_by false false any named none = cc
 
 module _ (settings : Settings) where
   -- ---- where the push stands at a moment on a link
@@ -79,10 +78,10 @@ module _ (settings : Settings) where
   Settled front = NoneWaits (policy settings false) front
 
   abbrev So : List Occurrence → Client → Type 0
-  So front client = Stands (Unheld front) (Single front) (Settled front) client
+  So front client = Stands settings.transport (Unheld front) (Single front) (Settled front) client
 
   abbrev AreAsked : List Occurrence → List Occurrence → Type 0
-  AreAsked front list = EachAfter (λ past one. AsksSo may_ask one (run_of (policy settings false) past)) front list
+  AreAsked front list = EachAfter (λ past one. AsksSo (may_ask settings.transport) one (run_of (policy settings false) past)) front list
 
   offers_none : OffersNone own
   offers_none psm = refl
@@ -112,7 +111,7 @@ module _ (settings : Settings) where
   no_more front client s = record { asked_so = tt; stands = subst (λ l. So l client) (sym (append-nil front)) s }
 
   one_more : (front : List Occurrence) (more : Occurrence) (client : Client) → AsksForNoChannel more → So (front ++ more ∷ []) client → Goes front (more ∷ []) client
-  one_more front more client quiet s = record { asked_so = (asks-none may_ask more (run_of own front) quiet, tt); stands = s }
+  one_more front more client quiet s = record { asked_so = (asks-none (may_ask settings.transport) more (run_of own front) quiet, tt); stands = s }
 
   quiet_more : (front : List Occurrence) (more : Occurrence) (client : Client) → AsksForNoChannel more → So front client → Goes front (more ∷ []) client
   quiet_more front more client quiet s = one_more front more client quiet (quieter front more client quiet s)
@@ -121,7 +120,7 @@ module _ (settings : Settings) where
 
   event_so : (front : List Occurrence) (event : ChannelEvent) (v : Channels) (client : Client) → v.held ≡ (value_of own front).held → So front client → So front (event_heard event v client)
   event_so front event v client same s =
-      event-stands (Unheld front) (Single front) (Settled front) event v (λ endpoint mtu open'. opens-search own front endpoint mtu (peer_same endpoint v (value_of own front) same ∙ open')) client s
+      event-stands settings.transport (Unheld front) (Single front) (Settled front) event v (λ endpoint mtu open'. opens-search own front endpoint mtu (peer_same endpoint v (value_of own front) same ∙ open')) client s
 
   next_so : (front : List Occurrence) (found : List ChannelEvent) (v : Channels) (pushing : ClientProfile) → v.held ≡ (value_of own front).held → So front pushing.client → So front (told_next (client_profile settings) found v pushing).client
   next_so front [] v pushing same s = s
@@ -134,9 +133,9 @@ module _ (settings : Settings) where
 
   handed_so : (front : List Occurrence) (given : Handed) (pushing : ClientProfile) → So front pushing.client → So front (handed (client_profile settings) given pushing).client
   handed_so front Nothing pushing s = s
-  handed_so front (Received endpoint psm sdu) pushing s = receives-stand (Unheld front) (Single front) (Settled front) psm sdu pushing.client s
+  handed_so front (Received endpoint psm sdu) pushing s = receives-stand settings.transport (Unheld front) (Single front) (Settled front) psm sdu pushing.client s
 
-  call_so : (front : List Occurrence) (step : Step) (after : Client) (pushing : ClientProfile) → StandsBehind (Unheld front) (Single front) (Settled front) step after → So front pushing.client → So front (after_call step after pushing).client
+  call_so : (front : List Occurrence) (step : Step) (after : Client) (pushing : ClientProfile) → StandsBehind settings.transport (Unheld front) (Single front) (Settled front) step after → So front pushing.client → So front (after_call step after pushing).client
   call_so front Wait after pushing behind s = s
   call_so front MakeLink after pushing behind s = stepped_so front after behind
   call_so front AskFeatures after pushing behind s = s
@@ -148,19 +147,19 @@ module _ (settings : Settings) where
   call_so front NoMemory after pushing behind s = s
 
   ended_so : (front : List Occurrence) (client : Client) → So front client → So front (ended client)
-  ended_so front client s = ended-stands (Unheld front) (Single front) (Settled front) client s
+  ended_so front client s = ended-stands settings.transport (Unheld front) (Single front) (Settled front) client s
 
   news_so : (front : List Occurrence) (circumstances : List Circumstance) (news : News) (pushing : ClientProfile) → tidings_by news ≡ [] → So front pushing.client → So front (told circumstances news pushing).client
   news_so front circumstances (Linked event) pushing is s = cc
-  news_so front circumstances (Failed status) pushing is s = ended_so front (events.hears_news (events.LinkFailed status) pushing.client) (failed-stands (Unheld front) (Single front) (Settled front) status pushing.client s)
+  news_so front circumstances (Failed status) pushing is s = ended_so front (events.hears_news (events.LinkFailed status) pushing.client) (failed-stands settings.transport (Unheld front) (Single front) (Settled front) status pushing.client s)
   news_so front circumstances (Heard pdu) pushing is s = s
-  news_so front circumstances TimerFired pushing is s = fires-stand (Unheld front) (Single front) (Settled front) pushing.client s
-  news_so front circumstances Cancelled pushing is s = ended_so front (cancelled pushing.client) (cancels-stand (Unheld front) (Single front) (Settled front) pushing.client s)
+  news_so front circumstances TimerFired pushing is s = fires-stand settings.transport (Unheld front) (Single front) (Settled front) pushing.client s
+  news_so front circumstances Cancelled pushing is s = ended_so front (cancelled pushing.client) (cancels-stand settings.transport (Unheld front) (Single front) (Settled front) pushing.client s)
   news_so front circumstances (Opening name) pushing is s =
       let begun : Client = begins (size_for circumstances name) (name_for name) pushing.client in
       let over : ClientProfile = record pushing { client = ended begun; submitted = None; bid = NoBid } in
-      let so = ended_so front begun (begins-stand (Unheld front) (Single front) (Settled front) (size_for circumstances name) (name_for name) pushing.client s) in
-      let one = steps (ended begun) [] in call_so front one.step one.client over (steps-stand (Unheld front) (Single front) (Settled front) (ended begun) [] so) so
+      let so = ended_so front begun (begins-stand settings.transport (Unheld front) (Single front) (Settled front) (size_for circumstances name) (name_for name) pushing.client s) in
+      let one = steps (ended begun) [] in call_so front one.step one.client over (steps-stand settings.transport (Unheld front) (Single front) (Settled front) (ended begun) [] so) so
 
   sent_so : (front : List Occurrence) (found : Option ℕ) (v : Channels) (pushing : ClientProfile) → So front pushing.client → So front (sent_on found v pushing).client
   sent_so front None v pushing s = s
@@ -172,7 +171,7 @@ module _ (settings : Settings) where
 
   -- ---- a step
 
-  opens_so : (front : List Occurrence) (psm : ℕ) (client : Client) → Opens (Unheld front) (Settled front) psm client → Goes front (Connects psm ∷ []) (stepped client)
+  opens_so : (front : List Occurrence) (psm : ℕ) (client : Client) → Opens settings.transport (Unheld front) (Settled front) psm client → Goes front (Connects psm ∷ []) (stepped client)
   opens_so front psm client so = by so.how
     where
       behind : (stage : Stage) → client.stage ≡ stage → At (Unheld (front ++ Connects psm ∷ [])) (Single (front ++ Connects psm ∷ [])) (Settled (front ++ Connects psm ∷ [])) stage client.cause → So (front ++ Connects psm ∷ []) (stepped client)
@@ -182,13 +181,13 @@ module _ (settings : Settings) where
         at = subst (λ (s : Stage). At (Unheld (front ++ Connects psm ∷ [])) (Single (front ++ Connects psm ∷ [])) (Settled (front ++ Connects psm ∷ [])) s client.cause) (sym is) at;
       }
 
-      by : (Unheld front × (psm ≡ 0x0001) × (client.stage ≡ SearchChannel Asked)) ⊎ (Settled front × (eqb psm 0x0003 ≡ false) × (client.stage ≡ ObjectChannel Asked)) → Goes front (Connects psm ∷ []) (stepped client)
+      by : (Unheld front × (psm ≡ 0x0001) × (client.stage ≡ SearchChannel Asked)) ⊎ (Settled front × (may_name settings.transport psm ≡ true) × (client.stage ≡ ObjectChannel Asked)) → Goes front (Connects psm ∷ []) (stepped client)
       by (inl (none, is, stage)) = record {
-        asked_so = ((free-none own front none, ap (λ n. may_ask n (calls_that_went Out (run_of own front).said)) is), tt);
+        asked_so = ((free-none own front none, ap (λ n. may_ask settings.transport n (calls_that_went Out (run_of own front).said)) is), tt);
         stands = behind (SearchChannel Asked) stage (subst (λ n. Single (front ++ Connects n ∷ [])) (sym is) (asks-search own front none));
       }
       by (inr (none, other, stage)) = record {
-        asked_so = ((none.none, may_by (eqb psm 0x0001) (eqb psm 0x0003) (list_any seeks_object (calls_that_went Out (run_of own front).said)) other (searches-seek_none own front none.searches)), tt);
+        asked_so = ((none.none, may_by (eqb psm 0x0001) (may_carry settings.transport psm) (list_any seeks_object (calls_that_went Out (run_of own front).said)) other (searches-seek_none own front none.searches)), tt);
         stands = behind (ObjectChannel Asked) stage tt;
       }
 
@@ -204,7 +203,7 @@ module _ (settings : Settings) where
   closes_so front None client s = no_more front client s
   closes_so front (Some endpoint) client s = quiet_more front (Disconnects endpoint) client tt s
 
-  step_so : (front : List Occurrence) (step : Step) (v : Channels) (after before : ClientProfile) → StandsBehind (Unheld front) (Single front) (Settled front) step after.client → So front before.client
+  step_so : (front : List Occurrence) (step : Step) (v : Channels) (after before : ClientProfile) → StandsBehind settings.transport (Unheld front) (Single front) (Settled front) step after.client → So front before.client
       → Goes front (from_call (asked step v after)) (takes step v after before).profile.client
   step_so front Wait v after before behind s = no_more front after.client behind
   step_so front MakeLink v after before behind s = no_more front before.client s
@@ -233,7 +232,7 @@ module _ (settings : Settings) where
       let one = steps pushing.client (fitted pushing) in
       let after : ClientProfile = record pushing { client = one.client; parts = unused one.left pushing.parts } in
       subst (λ call. Goes front (from_call call) (takes one.step v after pushing).profile.client) (sym (clients-call settings v pushing))
-      (step_so front one.step v after pushing (steps-stand (Unheld front) (Single front) (Settled front) pushing.client (fitted pushing) s) s)
+      (step_so front one.step v after pushing (steps-stand settings.transport (Unheld front) (Single front) (Settled front) pushing.client (fitted pushing) s) s)
 
   weave_so : (weave : List Strand) → AllByRecursion IsOnLink weave → (front : List Occurrence) (v : Channels) (pushing : ClientProfile) → v ≡ value_of own front → So front pushing.client
       → Goes front (woven_list (client_profile settings) (clients_ask settings) weave v pushing) (woven_profile (client_profile settings) (clients_ask settings) weave v pushing).client
@@ -246,42 +245,42 @@ module _ (settings : Settings) where
       let rest = woven_list (client_profile settings) (clients_ask settings) weave w next in
       let later = weave_so weave on.1 (front ++ list) w next (ap (λ (u : Channels). values_after own u list) at ∙ values-more own front list) one.stands in
       record {
-        asked_so = each-both (λ past one. AsksSo may_ask one (run_of own past)) front list rest one.asked_so later.asked_so;
+        asked_so = each-both (λ past one. AsksSo (may_ask settings.transport) one (run_of own past)) front list rest one.asked_so later.asked_so;
         stands = subst (λ l. So l (woven_profile (client_profile settings) (clients_ask settings) weave w next).client) (append_assoc front list rest) later.stands;
       }
 
-  link_so : (list : List Occurrence) (first last : ClientProfile) → Woven (client_profile settings) (clients_ask settings) list first last → So [] first.client → CallsInOrder own list × So [] last.client
+  link_so : (list : List Occurrence) (first last : ClientProfile) → Woven (client_profile settings) (clients_ask settings) list first last → So [] first.client → CallsInOrder settings.transport own list × So [] last.client
   link_so list first last woven s =
       let goes = weave_so woven.weave woven.on_link [] no_channels first refl s in
       let all = woven_list (client_profile settings) (clients_ask settings) woven.weave no_channels first in (
-        subst (CallsInOrder own) (sym woven.list_is) goes.asked_so,
+        subst (CallsInOrder settings.transport own) (sym woven.list_is) goes.asked_so,
         fresh all last.client (subst (λ (p : ClientProfile). So all p.client) (sym woven.last_is) goes.stands),
       )
 
   -- ---- over all links
 
   turned_so : (circumstances : List Circumstance) (event : LinkEvent) (v : Channels) (pushing : ClientProfile) → So [] pushing.client → So [] (turned (client_profile settings) circumstances event v pushing).client
-  turned_so circumstances Up v pushing s = up-stands (Unheld []) (Single []) (Settled []) (first-free own) pushing.client s
+  turned_so circumstances Up v pushing s = up-stands settings.transport (Unheld []) (Single []) (Settled []) (first-free own) pushing.client s
   turned_so circumstances (Down reason) v pushing s =
       let told' = tells_each (client_profile settings) (link_down v).events (link_down v) pushing in
-      ended_so [] (events.hears_news (events.LinkDown reason) told'.client) (down-stands (Unheld []) (Single []) (Settled []) reason told'.client (each_so (link_down v).events (link_down v) pushing refl s))
+      ended_so [] (events.hears_news (events.LinkDown reason) told'.client) (down-stands settings.transport (Unheld []) (Single []) (Settled []) reason told'.client (each_so (link_down v).events (link_down v) pushing refl s))
 
   links_so : (spans : List Span) (now : List Occurrence) (first last : ClientProfile) → AreWoven (client_profile settings) (clients_ask settings) spans now first last → So [] first.client
-      → AllByRecursion (CallsInOrder own) (map (λ (span : Span). span.list) spans ++ now ∷ [])
+      → AllByRecursion (CallsInOrder settings.transport own) (map (λ (span : Span). span.list) spans ++ now ∷ [])
   links_so [] now first last woven s = ((link_so now first last woven s).0, tt)
   links_so (span ∷ spans) now first last (mid, circumstances, woven, later) s =
       let (calls, so) = link_so span.list first mid woven s in
       let v = values_after own no_channels span.list in
       (calls, links_so spans now (turned (client_profile settings) circumstances span.event v mid) last later (turned_so circumstances span.event v mid so))
 
-links_in_order : (settings : Settings) (talk : List Talk) (now : Host ClientProfile) (woven : TalksWoven (client_profile settings) (clients_ask settings) talk now) → settings.transport ≡ L2cap
-    → AllByRecursion (CallsInOrder (policy settings false)) (on_links (client_profile settings) (clients_ask settings) (flat_map talk_marks talk) now woven.so.lives)
-links_in_order settings talk now woven direct = links_so settings woven.so.lives.spans woven.so.lives.now (client_profile settings).first now.profile woven.woven (record { direct = direct; named = refl; at = tt })
+links_in_order : (settings : Settings) (talk : List Talk) (now : Host ClientProfile) (woven : TalksWoven (client_profile settings) (clients_ask settings) talk now)
+    → AllByRecursion (CallsInOrder settings.transport (policy settings false)) (on_links (client_profile settings) (clients_ask settings) (flat_map talk_marks talk) now woven.so.lives)
+links_in_order settings talk now woven = links_so settings woven.so.lives.spans woven.so.lives.now (client_profile settings).first now.profile woven.woven (record { direct = refl; named = refl; at = tt })
 
 pub clients-ask_in_order : ClientsAskInOrder
 clients-ask_in_order = record { asks = record { clients = clients_ask; servers = servers_ask }; in_order = links_in_order }
 
 pub clients-ask_once : ClientsAskOnce
-clients-ask_once settings talk now over direct gentle =
+clients-ask_once settings talk now over gentle =
     let woven = hosts_talk_woven (client_profile settings) (clients_ask settings) talk now over gentle in
-    clients-call_in_order settings (clients_ask settings) talk now woven.so (links_in_order settings talk now woven direct)
+    clients-call_in_order settings (clients_ask settings) talk now woven.so (links_in_order settings talk now woven)

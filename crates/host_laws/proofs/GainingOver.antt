@@ -28,7 +28,7 @@ use Rattle.host_laws.specs.Gaining.{IsNoSdu, StartsBare, OneObjectChannel}
 use Rattle.host_laws.specs.OverLinks.{AreTimely, parts, moved_in, GoesOut, IsTalkOf}
 use Rattle.host_laws.specs.Serving.{served_from}
 use Rattle.host_laws.specs.Spoken.{IsServed}
-use Rattle.host_laws.specs.GainingOver.{IsNoPdu, CarriedOne, CarriesOne, HostsGainOverLinks}
+use Rattle.host_laws.specs.GainingOver.{IsNoPdu, CarriedOne, CarriesOne, HostsReadOverLinks, HostsGainOverLinks}
 use Rattle.host_laws.proofs.Serving.{hosts_gain}
 use Rattle.host_laws.proofs.Gains.{gain, gain-both, objects-are_gained}
 use Rattle.host_laws.proofs.Gaining.{all_served, served_by, NoTurn, no_turns, feeds_same, link_gain, ends_over, event_still}
@@ -180,17 +180,20 @@ module _ (policy : Policy) (party : Party) (states_frame : StatesFrame policy pa
       ∙ (gain-both party.packet [] T (all_served end' ++ R)
       ∙ ap₂ (λ (a b : List Object). a ++ b) ends.gained (ends_over policy party states_frame span.event span.list R told.0 ends.bare ∙ all_gained ends.next spans now talks ends.timely ones.1 one are.1 served.1 told.1 none)))
 
-pub hosts_gain_over_links : HostsGainOverLinks
-hosts_gain_over_links settings before party asks talk now so states_frame packet_is may direct ones one served =
-    let content : Option Contents = Some (record { stored = before; pending = None }) in
+pub hosts_read_over_links : HostsReadOverLinks
+hosts_read_over_links settings content party asks talk now so states_frame packet_is direct ones one served =
     let A = server_profile settings content in
     let lives = so.lives in
     let list = served_from settings content A.first lives.feeds in
     let none : (run_of A.policy lives.now).value.events ≡ [] = ap (λ (v : Channels). v.events) (sym lives.channels_run) ∙ lives.all_told in
-    hosts_gain settings before asks _ now lives may
-    ∙ ap (λ (gained : List Object). Some (before ++ gained))
-    (objects-are_gained settings list direct
+    objects-are_gained settings list direct
     ∙ (ap (λ most. gain most [] list) (sym packet_is)
     ∙ ((feeds_same settings content A.first lives.feeds).gain_is party.packet []
     ∙ (ap (λ (l : List Tiding). gain party.packet [] (all_served l)) lives.tidings_are
-    ∙ all_gained A.policy party states_frame false lives.spans lives.now (parts talk) (subst (λ (m : List Mark). AreTimely false m) (sym lives.marks_are) so.timely) ones one so.talks_are served lives.spans_told none))))
+    ∙ all_gained A.policy party states_frame false lives.spans lives.now (parts talk) (subst (λ (m : List Mark). AreTimely false m) (sym lives.marks_are) so.timely) ones one so.talks_are served lives.spans_told none)))
+
+pub hosts_gain_over_links : HostsGainOverLinks
+hosts_gain_over_links settings before party asks talk now so states_frame packet_is may direct ones one served =
+    hosts_gain settings before asks _ now so.lives may
+    ∙ ap (λ (gained : List Object). Some (before ++ gained))
+    (hosts_read_over_links settings (Some (record { stored = before; pending = None })) party asks talk now so states_frame packet_is direct ones one served)

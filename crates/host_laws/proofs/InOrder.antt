@@ -4,6 +4,7 @@ use Rattle.std.specs.Prelude.{option_map}
 use Rattle.std.specs.List.{AllByRecursion, AllZip, filter_map, flat_map}
 use Rattle.std.proofs.lemmas.Bool.{eqb-true, eq-eqb}
 use Rattle.bt_base.specs.declared.settings.Settings.{Settings}
+use Rattle.bt_base.specs.declared.settings.Transport.TheVariants.{L2cap}
 use Rattle.bt_base.specs.Objects.{Contents}
 use Rattle.link_talk.specs.declared.channel.Channel.{Channel}
 use Rattle.link_talk.specs.Channels.{Entry, reading}
@@ -24,6 +25,7 @@ use Rattle.world_model.specs.Machines.{LinkEvent, Up, Down, News, Linked, Failed
 use Rattle.world_model.specs.Talks.{Talk}
 use Rattle.host_model.specs.Endpoints.{Endpoint, is_of, endpoint_of, takes_sdu}
 use Rattle.host_model.specs.Pdus.{sdu_of}
+use Rattle.host_model.specs.Hosts.{Host}
 use Rattle.host_model.specs.Profiles.{Profile, Stride}
 use Rattle.host_model.specs.Servers.{ServerProfile, is_told, reacts, takes, submits, waiting, server_profile}
 use Rattle.host_laws.specs.Calls.{Call, Connect, AskFeatures, Disconnect, Send, Asks, from_call, values_after, asked}
@@ -31,15 +33,16 @@ use Rattle.host_laws.specs.Feeds.{Feed, Gifts, Learns, Receives, Happens, Sent, 
 use Rattle.host_laws.specs.Gaining.{IsDirect, ClosesItself, OneObjectChannel}
 use Rattle.host_laws.specs.GainingOver.{CarriedOne, CarriesOne}
 use Rattle.host_laws.specs.InOrder.{AsksForOneObject, AsksNoChannels, ServersAskNothing, IsWhole, ServersAreServedInOrder}
-use Rattle.host_laws.specs.Lives.{Span, end_tidings, span_tidings, all_tidings}
+use Rattle.host_laws.specs.Lives.{Mark, Span, Lives, end_tidings, span_tidings, all_tidings}
 use Rattle.host_laws.specs.OneCarrier.{IsFor, CarriesAlone}
-use Rattle.host_laws.specs.OverLinks.{parts, moved_in, IsTalkOf}
+use Rattle.host_laws.specs.OverLinks.{parts, moved_in, talk_marks, IsTalkOf}
 use Rattle.host_laws.specs.Serving.{event_served, news_served, taken_by, lent_by, served_with, served_from}
 use Rattle.host_laws.specs.Spoken.{IsServed}
 use Rattle.host_laws.specs.Told.{IsOfChannel}
 use Rattle.host_laws.proofs.Asking.{sends_on, lent_call, hosts_ask, servers-call}
 use Rattle.host_laws.proofs.Gaining.{found_in}
-use Rattle.host_laws.proofs.Seeking.{IsGranted, IsLinked, all_granted, not_muxed, one_object, is-served}
+use Rattle.host_laws.proofs.AskingOnce.{may_name}
+use Rattle.host_laws.proofs.Seeking.{IsGranted, IsLinked, all_granted, named, carries-one, is-served}
 use Rattle.host_laws.proofs.Silence.{channels-are_named}
 use Rattle.host_laws.proofs.Telling.{events_run}
 
@@ -120,8 +123,16 @@ IsUnmuxed (Brings own psm sdu) = eqb psm 0x0003 ≡ false
 IsUnmuxed (TellsIt event) = Unit {0}
 IsUnmuxed (Turns event) = Unit {0}
 
-module _ (policy : Policy) (list : List Occurrence) (part : List Talk) (is : IsTalkOf policy list part) (none : AllByRecursion AsksForNoChannel list) (sought : AsksForOneObject (moved_in part)) where
-  linked : IsLinked policy list (moved_in part) is.waits
+-- over L2CAP a client names no channel of RFCOMM
+not_muxed : (psm : ℕ) → may_name L2cap psm ≡ true → eqb psm 0x0003 ≡ false
+not_muxed psm named' = by (eqb psm 0x0003) refl
+  where
+    by : (b : Bool) → eqb psm 0x0003 ≡ b → b ≡ false
+    by true is = let never : true ≡ false = sym named' ∙ ap (may_name L2cap) (eqb-true psm 0x0003 is) in cc
+    by false is = refl
+
+module _ (policy : Policy) (list : List Occurrence) (part : List Talk) (is : IsTalkOf policy list part) (none : AllByRecursion AsksForNoChannel list) (sought : AsksForOneObject L2cap (moved_in part)) where
+  linked : IsLinked L2cap policy list (moved_in part) is.waits
   linked = record { none = none; talk_is = is.talk_is; go_out = is.go_out; sought = sought }
 
   abbrev entries : List Entry
@@ -154,7 +165,7 @@ module _ (policy : Policy) (list : List Occurrence) (part : List Talk) (is : IsT
 
   pub one-channel : IsWhole policy list → OneObjectChannel policy list
   one-channel whole =
-      let one = one_object policy list (moved_in part) is.waits linked in
+      let one = carries-one L2cap policy list (moved_in part) is.waits linked in
       record {
         channel = one.channel;
         psm_is = one.psm_is;
@@ -164,7 +175,7 @@ module _ (policy : Policy) (list : List Occurrence) (part : List Talk) (is : IsT
       }
 
   pub part-served : IsServed (moved_in part)
-  part-served = is-served policy list (moved_in part) is.waits linked
+  part-served = is-served L2cap policy list (moved_in part) is.waits linked
 
   -- nothing comes over RFCOMM
   named_direct : (tidings : List Tiding) → AllByRecursion (IsOfChannel entries) tidings → AllByRecursion IsUnmuxed tidings
@@ -174,8 +185,8 @@ module _ (policy : Policy) (list : List Occurrence) (part : List Talk) (is : IsT
       by : (found : Option Entry) → read_at own entries ≡ found → IsOf (channel_by psm own all.0.0) found → eqb psm 0x0003 ≡ false
       by None at none = absurd none
       by (Some entry) at it =
-          let from = found_in own (λ (one : Entry). IsGranted (run_of policy list).said one.channel) entries entry (all_granted policy list (moved_in part) is.waits linked) at in
-          sym (ap (λ (c : Channel). eqb c.psm 0x0003) it) ∙ not_muxed policy list (moved_in part) is.waits linked entry.channel from
+          let from = found_in own (λ (one : Entry). IsGranted (run_of policy list).said one.channel) entries entry (all_granted L2cap policy list (moved_in part) is.waits linked) at in
+          sym (ap (λ (c : Channel). eqb c.psm 0x0003) it) ∙ not_muxed entry.channel.psm (named L2cap policy list (moved_in part) is.waits linked entry.channel from)
   named_direct (TellsIt event ∷ tidings) all = (tt, named_direct tidings all.1)
   named_direct (Turns event ∷ tidings) all = (tt, named_direct tidings all.1)
 
@@ -207,7 +218,7 @@ carried_so policy Up list one = tt
 carried_so policy (Down reason) list one = one
 
 in_order : (policy : Policy) (spans : List Span) (now : List Occurrence) (talks : List (List Talk)) → AllZip (IsTalkOf policy) (map (λ (span : Span). span.list) spans ++ now ∷ []) talks → AllByRecursion (λ (span : Span). AllByRecursion AsksForNoChannel span.list) spans
-    → AllByRecursion AsksForNoChannel now → AllByRecursion (λ part. AsksForOneObject (moved_in part)) talks → AllByRecursion (IsWhole policy) (map (λ (span : Span). span.list) spans ++ now ∷ []) → AreInOrder policy spans now talks
+    → AllByRecursion AsksForNoChannel now → AllByRecursion (λ part. AsksForOneObject L2cap (moved_in part)) talks → AllByRecursion (IsWhole policy) (map (λ (span : Span). span.list) spans ++ now ∷ []) → AreInOrder policy spans now talks
 in_order policy [] now [] are none now_none sought whole = absurd are
 in_order policy [] now (part ∷ []) are none now_none sought whole = record {
   tidings = link-direct policy now part are.0 now_none sought.0;
@@ -348,13 +359,23 @@ feeds_direct settings content serving (feed ∷ feeds) told plain =
     all_both IsDirect (served_with serving feed) (served_from settings content next feeds) (feed_direct serving feed first plain)
     (feeds_direct settings content next feeds (all_right IsUnmuxed (tidings_in feed) (tidings_of feeds) told) (feed_plain settings content serving feed first plain))
 
+-- on none of its links it asks for a channel
+pub record AskNone (spans : List Span) (now : List Occurrence) : Type 0 where
+  pub before : AllByRecursion (λ (span : Span). AllByRecursion AsksForNoChannel span.list) spans
+  pub last : AllByRecursion AsksForNoChannel now
+
+pub links-ask_none : {P : Type 0} (A : Profile P) (asks : Asks A) (marks : List Mark) (now : Host P) (lives : Lives A asks marks now) → AsksNoChannels A asks → AskNone lives.spans lives.now
+links-ask_none A asks marks now lives nothing =
+    let none = subst (AllByRecursion AsksForNoChannel) (sym lives.asked_are) (feeds_none A asks nothing A.first lives.feeds) in
+    let past = flat_map (λ (span : Span). filter_map asked span.list) lives.spans in
+    record { before = spans_none lives.spans (all_left AsksForNoChannel past (filter_map asked lives.now) none); last = list_none lives.now (all_right AsksForNoChannel past (filter_map asked lives.now) none) }
+
 pub servers-are_served_in_order : ServersAreServedInOrder
 servers-are_served_in_order settings content asks talk now so nothing sought whole =
     let A = server_profile settings content in
     let lives = so.lives in
-    let none = subst (AllByRecursion AsksForNoChannel) (sym lives.asked_are) (feeds_none A asks nothing A.first lives.feeds) in
-    let asked_before = flat_map (λ (span : Span). filter_map asked span.list) lives.spans in
-    let order = in_order A.policy lives.spans lives.now (parts talk) so.talks_are (spans_none lives.spans (all_left AsksForNoChannel asked_before (filter_map asked lives.now) none)) (list_none lives.now (all_right AsksForNoChannel asked_before (filter_map asked lives.now) none)) sought whole in
+    let none = links-ask_none A asks (flat_map talk_marks talk) now lives nothing in
+    let order = in_order A.policy lives.spans lives.now (parts talk) so.talks_are none.before none.last sought whole in
     record {
       direct = feeds_direct settings content A.first lives.feeds (subst AllUnmuxed (sym lives.tidings_are) order.tidings) tt;
       carried = order.carried;

@@ -72,11 +72,14 @@ mod Searching
 mod SearchingOn
 mod SearchingTold
 mod SearchingSteps
-mod SearchingWeave
-mod Stepping
+pub mod SearchingWeave
+pub mod Stepping
 mod Past
 mod SearchOrder
 mod SearchKept
 mod SearchCancelled
 mod SearchMemory
-mod SearchHosts
+pub mod OneOnLinks
+pub mod SearchHosts
+pub mod SearchUp
+pub mod SearchSent

@@ -453,3 +453,7 @@ talk-waits policy list calm = (all_seen policy list calm).told
 
 pub own_talk_moves : OwnTalkMoves
 own_talk_moves policy list calm quiet = all_moved (moved list) (run_of policy list).said (run_of policy list).value (all_seen policy list calm) quiet
+
+-- and where nothing waits to be given, no SDU of a channel in basic mode waits
+pub quiet-none_waits : (policy : Policy) (list : List Occurrence) → IsCalm policy no_channels list → IsQuiet (run_of policy list).value → NoPlain (run_of policy list).value
+quiet-none_waits policy list calm quiet = (quiet_so (moved list) (run_of policy list).said (run_of policy list).value (all_seen policy list calm) quiet).plain

@@ -50,6 +50,8 @@ pub record OnSearch (wanted : Policy) (endpoints : List Endpoint) (submitted : O
   pub submits : (own : ℕ) → submitted ≡ Some own → own ≡ one.own
   pub ready : IsReady wanted opens frees one
   pub waits_so : WaitsAt known one.own run.said waits
+  -- where it is open, no step is under way but that of an SDU that it has
+  pub settled : opens ≡ true → submitted ≡ None → frees ≡ true
 
 abbrev pub Only : Run → (Held → Type 0) → Type 0
 Only run P = (one : Held) → run.value.held ≡ one ∷ [] → P one
@@ -61,7 +63,7 @@ IsNamed (Some outcome) psm = Unit {0}
 
 abbrev pub SeeksBy : Policy → Stage → Asking → Option Outcome → (psm : ℕ) → (given : Bool) → List Endpoint → (submitted : Option ℕ) → Run → Type 0
 SeeksBy wanted (SearchChannel Due) query cause psm given endpoints submitted run = (query ≡ begun) × (submitted ≡ None)
-SeeksBy wanted (SearchChannel Asked) query cause psm given endpoints submitted run = (query ≡ begun) × (submitted ≡ None) × Only run (OnSearch wanted endpoints submitted false true true None run)
+SeeksBy wanted (SearchChannel Asked) query cause psm given endpoints submitted run = (query ≡ begun) × (submitted ≡ None) × (given ≡ false) × Only run (OnSearch wanted endpoints submitted false true true None run)
 SeeksBy wanted Search query cause psm given endpoints submitted run = IsAsking query × (one : Held) × (run.value.held ≡ one ∷ []) × OnSearch wanted endpoints submitted true (not given) true (awaited query) run one
 SeeksBy wanted (SearchEnd Due) query cause psm given endpoints submitted run = IsNamed cause psm × Only run (OnSearch wanted endpoints submitted false false (not (is_awaiting query)) None run)
 SeeksBy wanted (SearchEnd Asked) query cause psm given endpoints submitted run = IsNamed cause psm × Only run (λ one. kind one.stage ≡ 2)
@@ -114,6 +116,7 @@ module _ (wanted : Policy) (endpoints : List Endpoint) (submitted : Option ℕ) 
     submits = so.submits;
     ready = ready_less opens frees one so.ready;
     waits_so = λ quiet channel own. so.waits_so refl channel own ∙ none (not_on (is_awaiting query) quiet);
+    settled = λ opened. cc;
   }
 
   ordered : (stage : Stage) (c : Client) (outcome : Outcome) → At stage c → (let d : Client = record c { cause = Some outcome; stage = in_order stage } in Finds d)
@@ -121,7 +124,7 @@ module _ (wanted : Policy) (endpoints : List Endpoint) (submitted : Option ℕ) 
   ordered (Link Due) c outcome so = inl refl
   ordered (Link Asked) c outcome so = inl refl
   ordered (SearchChannel Due) c outcome so = inl refl
-  ordered (SearchChannel Asked) c outcome (new, none, so) = inr (tt, λ one is. ends_one false true None c.query one (λ quiet. refl) (so one is))
+  ordered (SearchChannel Asked) c outcome (new, none, free, so) = inr (tt, λ one is. ends_one false true None c.query one (λ quiet. refl) (so one is))
   ordered Search c outcome (asking, one, is, so) = inr (
     tt,
     λ other also.

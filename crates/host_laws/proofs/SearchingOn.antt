@@ -126,6 +126,7 @@ module _ (settings : Settings) where
         submits = λ own is. so.submits own is ∙ sym same;
         ready = alone-ready wanted list more opens frees one next held_is next_is same none so.ready;
         waits_so = at_more list more known one next waiting uttered held_is psm_is same so.waits_so;
+        settled = so.settled;
       }
     where
       same_psm : (psm : ℕ) → Some psm ≡ Some 0x0001 → psm ≡ 0x0001
@@ -249,9 +250,10 @@ module _ (settings : Settings) where
     pub more_at : (stage : Stage) → c.stage ≡ stage → (stage ≡ Search → ⊥) → ((own : ℕ) → fold waiting_after None (exchanged_in own more run.value) ≡ None) → Clean c run.value → Clean c then.value → At wanted p.endpoints p.submitted run stage c → At wanted p.endpoints p.submitted then stage c
     more_at Search at apart silent clean now so = absurd (apart refl)
     more_at (SearchChannel Due) at apart silent clean now so = so
-    more_at (SearchChannel Asked) at apart silent clean now (new, empty, so) = (
+    more_at (SearchChannel Asked) at apart silent clean now (new, empty, free, so) = (
       new,
       empty,
+      free,
       λ next next_is.
           let (one, one_is) = was_one c run.value then.value next goes (ap is_asking_features at) next_is clean in
           subst (λ w. OnSearch wanted p.endpoints p.submitted false true true w then next) (silent one.own)

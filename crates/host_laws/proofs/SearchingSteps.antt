@@ -116,13 +116,14 @@ module _ (settings : Settings) where
           waits_so = λ now channel own.
               waits_more settings list (Connects 0x0001) channel tt (none_basic settings channel.own v none)
               ∙ ap (fold waiting_after None) (unread-silent channel run.said ((all-sound wanted list).core.read_below channel.own (subst (λ n. v.next ≤ n) (sym own) (omega arith))));
+          settled = λ opened. cc;
         })
 
     pub opens_search : c.stage ≡ SearchChannel Due → G (course.gives (OpenChannel 0x0001) (SearchChannel Asked) c (fitted p))
     opens_search at now =
         let (new, empty) = so_at (SearchChannel Due) at in
         let none = none_held (ap (λ s. in_use s c.psm) at) (ap is_asking_features at) in
-        inr (new, empty, λ one is. opens_one (can_connect v) one none empty is)
+        inr (new, empty, refl, λ one is. opens_one (can_connect v) one none empty is)
 
     -- ---- its request
 
@@ -208,8 +209,9 @@ module _ (settings : Settings) where
         let basic = one_basic settings list one held_is psm_is in
         let request = request_so c.query asks in
         let can = can_send one held_is (one_alive c v one has) basic (subst (λ b. IsReady wanted true (not b) one) free is.ready) in
-        let before : OnSearch wanted p.endpoints p.submitted true false true (awaited c.query) run one = record { endpoint = is.endpoint; submits = is.submits; ready = less_ready (not c.given) one is.ready; waits_so = is.waits_so } in
-        let moved = search_more settings list (Sends one.own req) c p.endpoints p.submitted true false true (awaited c.query) one next goes refl uttered (ap (λ s. in_use s c.psm) at) (ap is_asking_features at) clean later held_is next_is before in
+        let before : OnSearch wanted p.endpoints (Some one.own) true false true (awaited c.query) run one =
+        record { endpoint = is.endpoint; submits = λ own sent. sym (same_some one.own own sent); ready = less_ready (not c.given) one is.ready; waits_so = is.waits_so; settled = λ opened none. cc } in
+        let moved = search_more settings list (Sends one.own req) c p.endpoints (Some one.own) true false true (awaited c.query) one next goes refl uttered (ap (λ s. in_use s c.psm) at) (ap is_asking_features at) clean later held_is next_is before in
         let spoke : fold waiting_after (awaited c.query) (exchanged_in one.own (Sends one.own req) v) ≡ awaited (after_request c.query) =
         ap (λ b. fold waiting_after (awaited c.query) (map (spoken_as Out) (cond b (req ∷ []) []))) (both_on (eqb one.own one.own) (is_free (carrier_at one.own v)) (eqb-same one.own) (ap is_free can.carrier_is))
         ∙ (ap (asked_by (awaited c.query)) request.asks ∙ sym (request_awaited c.query due)) in
@@ -219,9 +221,10 @@ module _ (settings : Settings) where
           next_is,
           record {
             endpoint = moved.endpoint;
-            submits = λ own sent. sym (same_some one.own own sent) ∙ same_some one.own next.own (sym is.endpoint ∙ moved.endpoint);
+            submits = moved.submits;
             ready = moved.ready;
             waits_so = subst (WaitsAt true next.own then.said) spoke moved.waits_so;
+            settled = moved.settled;
           },
         ))
 

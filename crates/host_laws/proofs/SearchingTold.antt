@@ -259,12 +259,13 @@ module _ (settings : Settings) where
       submits = so.submits;
       ready = so.ready;
       waits_so = subst (λ said. WaitsAt known one.own said waiting) (sym (append-nil told_run.said)) so.waits_so;
+      settled = so.settled;
     }
 
     -- nothing is said, and its channels stay as they are
     tells_at : (stage : Stage) → At wanted p.endpoints p.submitted told_run stage tc → At wanted p.endpoints p.submitted told_then stage tc
     tells_at (SearchChannel Due) so = so
-    tells_at (SearchChannel Asked) (new, empty, so) = (new, empty, λ one is. tells_one false true true None one (so one is))
+    tells_at (SearchChannel Asked) (new, empty, free, so) = (new, empty, free, λ one is. tells_one false true true None one (so one is))
     tells_at Search (asking, one, is, so) = (asking, one, is, tells_one true (not tc.given) true (awaited tc.query) one so)
     tells_at (SearchEnd Due) (named, so) = (named, λ one is. tells_one false false (not (is_awaiting tc.query)) None one (so one is))
     tells_at (SearchEnd Asked) so = so
@@ -338,7 +339,7 @@ module _ (settings : Settings) where
       begins_search : (own mtu : ℕ) → peer_mtu own u ≡ Some mtu → tc.stage ≡ SearchChannel Asked → (let d : Client = record tc { stage = Search } in T d)
       begins_search own mtu is at =
           let o = open_one told_run.value own mtu (ap is_asking_features at) clean (sym (ap (λ hs. option_map carrier_mtu (open_carrier (setup_on (find (has_own own) hs)))) seen) ∙ is) in
-          let (new, empty, rest) = of_at wanted p.endpoints p.submitted told_then (SearchChannel Asked) tc at still_of in
+          let (new, empty, free, rest) = of_at wanted p.endpoints p.submitted told_then (SearchChannel Asked) tc at still_of in
           let one = rest o.one o.held_is in
           inr (
             subst IsAsking (sym new) begun_asks,
@@ -349,6 +350,7 @@ module _ (settings : Settings) where
               submits = one.submits;
               ready = ready_open (not tc.given) o one.ready;
               waits_so = subst (λ w. WaitsAt true o.one.own told_then.said w) (sym (ap awaited new)) one.waits_so;
+              settled = λ opened none. ap not free;
             },
           )
 
@@ -547,8 +549,8 @@ module _ (settings : Settings) where
       by (Closing peer request checked) is ready = tt
       by (Crossed peer request) is ready = tt
 
-  done_one : (endpoints : List Endpoint) (submitted : Option ℕ) (opens frees known : Bool) (waiting : Option ℕ) (run : Run) (one : Held) → OnSearch wanted endpoints submitted opens frees known waiting run one → OnSearch wanted endpoints None opens frees known waiting run one
-  done_one endpoints submitted opens frees known waiting run one so = record { endpoint = so.endpoint; submits = λ own is. cc; ready = so.ready; waits_so = so.waits_so }
+  done_one : (endpoints : List Endpoint) (submitted : Option ℕ) (frees known : Bool) (waiting : Option ℕ) (run : Run) (one : Held) → OnSearch wanted endpoints submitted false frees known waiting run one → OnSearch wanted endpoints None false frees known waiting run one
+  done_one endpoints submitted frees known waiting run one so = record { endpoint = so.endpoint; submits = λ own is. cc; ready = so.ready; waits_so = so.waits_so; settled = λ opened. cc }
 
   pub checking : (run : Run) (p : ClientProfile) → Sees p run → Sees (sent_on p.submitted run.value p) run
   checking run p sees = by p.submitted refl
@@ -561,7 +563,7 @@ module _ (settings : Settings) where
 
       done_at : (own : ℕ) → p.submitted ≡ Some own → waits own run.value ≡ false → (stage : Stage) → At wanted p.endpoints p.submitted run stage c → At wanted p.endpoints None run stage done'.client
       done_at own is none (SearchChannel Due) so = (so.0, refl)
-      done_at own is none (SearchChannel Asked) (new, empty, so) = (new, refl, λ one one_is. done_one p.endpoints p.submitted false true true None run one (so one one_is))
+      done_at own is none (SearchChannel Asked) (new, empty, free, so) = (new, refl, refl, λ one one_is. done_one p.endpoints p.submitted true true None run one (so one one_is))
       done_at own is none Search (asking, one, one_is, so) = (
         asking,
         one,
@@ -571,9 +573,10 @@ module _ (settings : Settings) where
           submits = λ other none'. cc;
           ready = free_ready run.value one (not c.given) one_is (ap (λ n. waits n run.value) (sym (so.submits own is)) ∙ none) so.ready;
           waits_so = so.waits_so;
+          settled = λ opened empty. refl;
         },
       )
-      done_at own is none (SearchEnd Due) (named, so) = (named, λ one one_is. done_one p.endpoints p.submitted false false (not (is_awaiting c.query)) None run one (so one one_is))
+      done_at own is none (SearchEnd Due) (named, so) = (named, λ one one_is. done_one p.endpoints p.submitted false (not (is_awaiting c.query)) None run one (so one one_is))
       done_at own is none (SearchEnd Asked) so = so
       done_at own is none (Features point) so = so
       done_at own is none (ObjectChannel point) so = so

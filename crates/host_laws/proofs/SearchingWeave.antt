@@ -315,7 +315,7 @@ module _ (settings : Settings) (party : Party) (list : List Occurrence) (c : Cli
         let mine : waiting_on channel run.said ≡ awaited c.query = is.waits_so refl channel (own ∙ ap (λ (h : Held). h.own) (sym same)) in
         ap (λ s. is_search s && is_awaiting c.query) at ∙ (sym (some_awaited c.query) ∙ (ap is_some (sym mine) ∙ waits))
     said_waits one held_is (SearchChannel Asked) at used channel own waits =
-        let (new, empty, is) = of_at own_policy endpoints submitted run (SearchChannel Asked) c at so in
+        let (new, empty, free, is) = of_at own_policy endpoints submitted run (SearchChannel Asked) c at so in
         let none = (is one held_is).waits_so refl channel own in
         let never : false ≡ true = sym (ap is_some none) ∙ waits in absurd cc
     said_waits one held_is (SearchEnd Due) at used channel own waits =

@@ -1,8 +1,10 @@
--- A link on which the peer asks for one channel of objects has one channel of them.
-use Rattle.std.proofs.Common.{◌≡◌, ℕ, List, [], ◌∷◌, ◌++◌, map, filter, find, fold, Bool, true, false, cond, ◌||◌, ◌&&◌, eqb, not, Option, Some, None, Ok, refl, sym, ap, subst, ◌∙◌, ◌⊎◌, inl, inr, arith, append_assoc, append-nil}
+-- A link on which the peer asks for one channel of packets has one channel of them.
+use Rattle.std.proofs.Common.{◌≡◌, ℕ, List, [], ◌∷◌, ◌++◌, map, filter, find, fold, Bool, true, false, cond, ◌||◌, ◌&&◌, eqb, not, Option, Some, None, Ok, refl, sym, ap, subst, ◌∙◌, ◌⊎◌, inl, inr, append_assoc, append-nil}
 use Rattle.std.specs.Prelude.{IfSome, option_to_list}
 use Rattle.std.specs.List.{AllByRecursion, list_any}
 use Rattle.std.proofs.lemmas.Bool.{eqb-true, eq-eqb}
+use Rattle.bt_base.specs.declared.settings.Transport.{Transport}
+use Rattle.bt_base.specs.declared.settings.Transport.TheVariants.{L2cap, Rfcomm}
 use Rattle.capture.specs.Histories.{EachAfter}
 use Rattle.capture.specs.declared.flow.Flow.{Flow}
 use Rattle.capture.specs.declared.flow.Flow.TheVariants.{Out, Into}
@@ -31,11 +33,13 @@ use Rattle.channel_laws.proofs.Origins.{Asked, Origin, older-origin, made-from}
 use Rattle.channel_laws.proofs.Running.{endpoints-are_new}
 use Rattle.channel_laws.proofs.Saying.{stands-left, stands-right}
 use Rattle.channel_laws.proofs.Singling.{calls-more, grants-are_single}
-use Rattle.host_laws.specs.InOrder.{is_beyond, seeks_object, may_ask, AsksForOneObject}
-use Rattle.host_laws.specs.OneCarrier.{IsFor, CarriesAlone}
+use Rattle.host_laws.specs.InOrder.{is_beyond, seeks_object, may_carry, may_ask, AsksForOneObject}
+use Rattle.host_laws.specs.OneCarrier.{IsAside, IsFor}
+use Rattle.host_laws.specs.OneOnLinks.{packets_psm, CarriesOneOn}
 use Rattle.host_laws.specs.OverLinks.{GoesOut}
 use Rattle.host_laws.specs.Seen.{is_spoken, spoken_of}
 use Rattle.host_laws.specs.Spoken.{AsksForNone, IsApart, GrantsAnew, IsServed}
+use Rattle.host_laws.proofs.AskingOnce.{may_name}
 
 -- ---- requests
 
@@ -49,45 +53,45 @@ any_stands p (x ∷ calls) one (inl same) none = subst (λ c. p c ≡ false) sam
 any_stands p (x ∷ calls) one (inr later) none = any_stands p calls one later (or_false (p x) (list_any p calls) none).1
 
 -- what a request is for, where these come one after the other
-record IsSought (one : Call) : Type 0 where
+record IsSought (T : Transport) (one : Call) : Type 0 where
   wanted : Wanted
   wanted_is : one.wanted ≡ Some wanted
-  direct : eqb wanted.psm 0x0003 ≡ false
+  named : may_name T wanted.psm ≡ true
 
-sought_psm : (psm : ℕ) (before : List Call) → may_ask psm before ≡ true → eqb psm 0x0003 ≡ false
-sought_psm psm before may = by (eqb psm 1) refl (eqb psm 3) refl (list_any seeks_object before) may
+sought_psm : (T : Transport) (psm : ℕ) (before : List Call) → may_ask T psm before ≡ true → may_name T psm ≡ true
+sought_psm T psm before may = by (eqb psm 1) (may_carry T psm) (list_any seeks_object before) may
   where
-    by : (one : Bool) → eqb psm 1 ≡ one → (three : Bool) → eqb psm 3 ≡ three → (any : Bool) → (one || (not three && not any)) ≡ true → three ≡ false
-    by one is_one false is_three any may = refl
-    by true is_one true is_three any may = let same : 1 ≡ 3 = sym (eqb-true psm 1 is_one) ∙ eqb-true psm 3 is_three in absurd (omega (arith, same))
-    by false is_one true is_three any may = cc
+    by : (one other any : Bool) → (one || (other && not any)) ≡ true → (one || other) ≡ true
+    by true other any may = refl
+    by false true any may = refl
+    by false false any may = may
 
-all_sought : (calls : List Call) → AreOneByOne may_ask calls → (one : Call) → StandsIn one calls → IsSought one
-all_sought [] all one stands = absurd stands
-all_sought (x ∷ before) all one stands = by stands all.0 (λ other there. all_sought before all.1 other there)
+all_sought : (T : Transport) (calls : List Call) → AreOneByOne (may_ask T) calls → (one : Call) → StandsIn one calls → IsSought T one
+all_sought T [] all one stands = absurd stands
+all_sought T (x ∷ before) all one stands = by stands all.0 (λ other there. all_sought T before all.1 other there)
   where
-    here : IsAgain x before ⊎ IsFresh may_ask x before → ((other : Call) → StandsIn other before → IsSought other) → IsSought x
+    here : IsAgain x before ⊎ IsFresh (may_ask T) x before → ((other : Call) → StandsIn other before → IsSought T other) → IsSought T x
     here (inl again) later = last before again later
       where
-        last : (list : List Call) → IsAgain x list → ((other : Call) → StandsIn other list → IsSought other) → IsSought x
+        last : (list : List Call) → IsAgain x list → ((other : Call) → StandsIn other list → IsSought T other) → IsSought T x
         last [] never each = absurd never
-        last (y ∷ list) same each = subst IsSought (sym same) (each y (inl refl))
-    here (inr new) later = record { wanted = new.wanted; wanted_is = new.wanted_is; direct = sought_psm new.wanted.psm before new.fits }
+        last (y ∷ list) same each = subst (IsSought T) (sym same) (each y (inl refl))
+    here (inr new) later = record { wanted = new.wanted; wanted_is = new.wanted_is; named = sought_psm T new.wanted.psm before new.fits }
 
-    by : StandsIn one (x ∷ before) → IsAgain x before ⊎ IsFresh may_ask x before → ((other : Call) → StandsIn other before → IsSought other) → IsSought one
-    by (inl same) so later = subst IsSought same (here so later)
+    by : StandsIn one (x ∷ before) → IsAgain x before ⊎ IsFresh (may_ask T) x before → ((other : Call) → StandsIn other before → IsSought T other) → IsSought T one
+    by (inl same) so later = subst (IsSought T) same (here so later)
     by (inr there) so later = later one there
 
 -- two requests that fit each other are one
 abbrev Apart : (p : Call → Call → Bool) → List Call → Type 0
 Apart p calls = (one other : Call) → StandsIn one calls → StandsIn other calls → p one other ≡ true → one.wanted ≡ other.wanted
 
-all_one : (p : Call → Call → Bool) → ((x y : Call) → p x y ≡ true → p y x ≡ true) → ((x y z : Call) → x.wanted ≡ y.wanted → p x z ≡ true → p y z ≡ true)
-    → ((x : Call) (before : List Call) → IsFresh may_ask x before → (y : Call) → StandsIn y before → p x y ≡ true → ⊥) → (calls : List Call) → AreOneByOne may_ask calls → Apart p calls
-all_one p turns alike fresh_apart [] all one other stands there fits = absurd stands
-all_one p turns alike fresh_apart (x ∷ before) all one other stands there fits = by stands there all.0 (all_one p turns alike fresh_apart before all.1)
+all_one : (T : Transport) (p : Call → Call → Bool) → ((x y : Call) → p x y ≡ true → p y x ≡ true) → ((x y z : Call) → x.wanted ≡ y.wanted → p x z ≡ true → p y z ≡ true)
+    → ((x : Call) (before : List Call) → IsFresh (may_ask T) x before → (y : Call) → StandsIn y before → p x y ≡ true → ⊥) → (calls : List Call) → AreOneByOne (may_ask T) calls → Apart p calls
+all_one T p turns alike fresh_apart [] all one other stands there fits = absurd stands
+all_one T p turns alike fresh_apart (x ∷ before) all one other stands there fits = by stands there all.0 (all_one T p turns alike fresh_apart before all.1)
   where
-    first : (y : Call) → StandsIn y before → p x y ≡ true → IsAgain x before ⊎ IsFresh may_ask x before → Apart p before → x.wanted ≡ y.wanted
+    first : (y : Call) → StandsIn y before → p x y ≡ true → IsAgain x before ⊎ IsFresh (may_ask T) x before → Apart p before → x.wanted ≡ y.wanted
     first y in_it fit (inl again) later = last before again in_it later
       where
         last : (list : List Call) → IsAgain x list → StandsIn y list → Apart p list → x.wanted ≡ y.wanted
@@ -95,7 +99,7 @@ all_one p turns alike fresh_apart (x ∷ before) all one other stands there fits
         last (z ∷ list) same within each = let wants : x.wanted ≡ z.wanted = ap (λ (c : Call). c.wanted) same in wants ∙ each z y (inl refl) within (alike x z y wants fit)
     first y in_it fit (inr new) later = absurd (fresh_apart x before new y in_it fit)
 
-    by : StandsIn one (x ∷ before) → StandsIn other (x ∷ before) → IsAgain x before ⊎ IsFresh may_ask x before → Apart p before → one.wanted ≡ other.wanted
+    by : StandsIn one (x ∷ before) → StandsIn other (x ∷ before) → IsAgain x before ⊎ IsFresh (may_ask T) x before → Apart p before → one.wanted ≡ other.wanted
     by (inl same) (inl alike_it) so later = ap (λ (c : Call). c.wanted) (sym same ∙ alike_it)
     by (inl same) (inr in_it) so later = subst (λ (c : Call). c.wanted ≡ other.wanted) same (first other in_it (subst (λ (c : Call). p c other ≡ true) (sym same) fits) so later)
     by (inr in_it) (inl same) so later = sym (subst (λ (c : Call). c.wanted ≡ one.wanted) same (first one in_it (subst (λ (c : Call). p c one ≡ true) (sym same) (turns one other fits)) so later))
@@ -117,21 +121,21 @@ and_both : (a b : Bool) → a ≡ true → b ≡ true → (a && b) ≡ true
 and_both true b one two = two
 and_both false b one two = cc
 
-seekers_apart : (x : Call) (before : List Call) → IsFresh may_ask x before → (y : Call) → StandsIn y before → both_seek x y ≡ true → ⊥
-seekers_apart x before new y in_it fit =
+seekers_apart : (T : Transport) (x : Call) (before : List Call) → IsFresh (may_ask T) x before → (y : Call) → StandsIn y before → both_seek x y ≡ true → ⊥
+seekers_apart T x before new y in_it fit =
     let beyond : not (eqb new.wanted.psm 1) ≡ true = sym (ap is_beyond new.wanted_is) ∙ and_left (seeks_object x) (seeks_object y) fit in
-    by (eqb new.wanted.psm 1) (eqb new.wanted.psm 3) (list_any seeks_object before) refl beyond new.fits
+    by (eqb new.wanted.psm 1) (may_carry T new.wanted.psm) (list_any seeks_object before) refl beyond new.fits
   where
-    by : (one three any : Bool) → list_any seeks_object before ≡ any → not one ≡ true → (one || (not three && not any)) ≡ true → ⊥
-    by true three any is beyond may = cc
-    by false true any is beyond may = cc
-    by false false true is beyond may = cc
-    by false false false is beyond may = let never : true ≡ false = sym (and_right (seeks_object x) (seeks_object y) fit) ∙ any_stands seeks_object before y in_it is in cc
+    by : (one other any : Bool) → list_any seeks_object before ≡ any → not one ≡ true → (one || (other && not any)) ≡ true → ⊥
+    by true other any is beyond may = cc
+    by false false any is beyond may = cc
+    by false true true is beyond may = cc
+    by false true false is beyond may = let never : true ≡ false = sym (and_right (seeks_object x) (seeks_object y) fit) ∙ any_stands seeks_object before y in_it is in cc
 
-one_sought : (calls : List Call) → AreOneByOne may_ask calls → (one other : Call) → StandsIn one calls → StandsIn other calls → seeks_object one ≡ true → seeks_object other ≡ true → one.wanted ≡ other.wanted
-one_sought calls all one other stands there seeks too =
-    all_one both_seek (λ x y is. and_both (seeks_object y) (seeks_object x) (and_right (seeks_object x) (seeks_object y) is) (and_left (seeks_object x) (seeks_object y) is))
-    (λ x y z same is. and_both (seeks_object y) (seeks_object z) (ap is_beyond (sym same) ∙ and_left (seeks_object x) (seeks_object z) is) (and_right (seeks_object x) (seeks_object z) is)) seekers_apart calls all one other stands there
+one_sought : (T : Transport) (calls : List Call) → AreOneByOne (may_ask T) calls → (one other : Call) → StandsIn one calls → StandsIn other calls → seeks_object one ≡ true → seeks_object other ≡ true → one.wanted ≡ other.wanted
+one_sought T calls all one other stands there seeks too =
+    all_one T both_seek (λ x y is. and_both (seeks_object y) (seeks_object x) (and_right (seeks_object x) (seeks_object y) is) (and_left (seeks_object x) (seeks_object y) is))
+    (λ x y z same is. and_both (seeks_object y) (seeks_object z) (ap is_beyond (sym same) ∙ and_left (seeks_object x) (seeks_object z) is) (and_right (seeks_object x) (seeks_object z) is)) (seekers_apart T) calls all one other stands there
     (and_both (seeks_object one) (seeks_object other) seeks too)
 
 -- two that name one endpoint
@@ -142,8 +146,8 @@ names_of (Some wanted) y = names wanted.source y
 abbrev both_name : Call → Call → Bool
 both_name x y = names_of x.wanted y
 
-naming_apart : (x : Call) (before : List Call) → IsFresh may_ask x before → (y : Call) → StandsIn y before → both_name x y ≡ true → ⊥
-naming_apart x before new y in_it fit =
+naming_apart : (T : Transport) (x : Call) (before : List Call) → IsFresh (may_ask T) x before → (y : Call) → StandsIn y before → both_name x y ≡ true → ⊥
+naming_apart T x before new y in_it fit =
     let named : names new.wanted.source y ≡ true = sym (ap (λ w. names_of w y) new.wanted_is) ∙ fit in
     let never : true ≡ false = sym named ∙ any_stands (names new.wanted.source) before y in_it new.unused in cc
 
@@ -157,8 +161,8 @@ naming_turns x y is = by x.wanted y.wanted refl refl is
         let same : other.source ≡ wanted.source = eqb-true other.source wanted.source (sym (ap (has_source wanted.source) there) ∙ is) in
         ap (has_source other.source) at ∙ eq-eqb wanted.source other.source (sym same)
 
-one_named : (calls : List Call) → AreOneByOne may_ask calls → (one other : Call) → StandsIn one calls → StandsIn other calls → both_name one other ≡ true → one.wanted ≡ other.wanted
-one_named calls all one other stands there fits = all_one both_name naming_turns (λ x y z same is. ap (λ w. names_of w z) (sym same) ∙ is) naming_apart calls all one other stands there fits
+one_named : (T : Transport) (calls : List Call) → AreOneByOne (may_ask T) calls → (one other : Call) → StandsIn one calls → StandsIn other calls → both_name one other ≡ true → one.wanted ≡ other.wanted
+one_named T calls all one other stands there fits = all_one T both_name naming_turns (λ x y z same is. ap (λ w. names_of w z) (sym same) ∙ is) (naming_apart T) calls all one other stands there fits
 
 -- ---- talk
 
@@ -252,11 +256,11 @@ granted_from said channel none (identifier, status, inl (granted, asked)) = reco
 granted_from said channel none (identifier, status, inr (granted, asked)) = absurd (subst (StandsIn _) none (call_stands Out identifier channel.psm channel.own said asked))
 
 -- what moved, of what a host said and heard
-pub record IsLinked (policy : Policy) (list : List Occurrence) (moved waits : List Saying) : Type 0 where
+pub record IsLinked (T : Transport) (policy : Policy) (list : List Occurrence) (moved waits : List Saying) : Type 0 where
   pub none : AllByRecursion AsksForNoChannel list
   pub talk_is : spoken_of (run_of policy list).said ≡ moved ++ waits
   pub go_out : AllByRecursion GoesOut waits
-  pub sought : AsksForOneObject moved
+  pub sought : AsksForOneObject T moved
 
 out_call : (saying : Saying) → GoesOut saying → calls_that_went Into (saying ∷ []) ≡ []
 out_call (Command Out answer) out = other-way Into Out refl answer
@@ -272,13 +276,24 @@ none_before : (xs ys : List Call) → xs ++ ys ≡ [] → ys ≡ []
 none_before [] ys is = is
 none_before (x ∷ xs) ys is = cc
 
-module _ (policy : Policy) (list : List Occurrence) (moved waits : List Saying) (link : IsLinked policy list moved waits) where
+-- ---- the PSM of packets
+
+-- another PSM that a client may name has none
+pub aside-of : (T : Transport) (psm : ℕ) → may_name T psm ≡ true → (psm ≡ packets_psm T → ⊥) → IsAside psm
+aside-of L2cap psm named other = (other, λ is. let never : false ≡ true = sym (ap (may_name L2cap) is) ∙ named in cc)
+aside-of Rfcomm psm named other = ((λ is. let never : false ≡ true = sym (ap (may_name Rfcomm) is) ∙ named in cc), other)
+
+seeks_packets : (T : Transport) → not (eqb (packets_psm T) 0x0001) ≡ true
+seeks_packets L2cap = refl
+seeks_packets Rfcomm = refl
+
+module _ (T : Transport) (policy : Policy) (list : List Occurrence) (moved waits : List Saying) (link : IsLinked T policy list moved waits) where
   abbrev pub whole : List Saying
   whole = (run_of policy list).said
 
-  sought_calls : AreOneByOne may_ask (calls_that_went Into whole)
+  sought_calls : AreOneByOne (may_ask T) (calls_that_went Into whole)
   sought_calls =
-      subst (AreOneByOne may_ask) (sym (sym (calls-spoken Into whole) ∙ (ap (calls_that_went Into) link.talk_is ∙ (calls-more Into moved waits ∙ ap (λ (l : List Call). l ++ calls_that_went Into moved) (out-calls waits link.go_out))))) link.sought
+      subst (AreOneByOne (may_ask T)) (sym (sym (calls-spoken Into whole) ∙ (ap (calls_that_went Into) link.talk_is ∙ (calls-more Into moved waits ∙ ap (λ (l : List Call). l ++ calls_that_went Into moved) (out-calls waits link.go_out))))) link.sought
 
   none_out : calls_that_went Out whole ≡ []
   none_out = none-is_called policy list link.none
@@ -296,7 +311,7 @@ module _ (policy : Policy) (list : List Occurrence) (moved waits : List Saying) 
 
   one_endpoint : (one other : Channel) → IsGranted whole one → IsGranted whole other → one.peer ≡ other.peer → one.own ≡ other.own
   one_endpoint one other first second same =
-      grants-are_single policy list may_ask sought_calls first.identifier first.status one.own second.identifier second.status other.own one.peer first.granted (subst (λ n. HasGranted second.identifier second.status other.own n whole) (sym same) second.granted)
+      grants-are_single policy list (may_ask T) sought_calls first.identifier first.status one.own second.identifier second.status other.own one.peer first.granted (subst (λ n. HasGranted second.identifier second.status other.own n whole) (sym same) second.granted)
 
   abbrev call_of : (channel : Channel) (from : IsGranted whole channel) → Call
   call_of channel from = record { flow = Into; identifier = from.identifier; wanted = Some (record { psm = channel.psm; source = channel.peer }) }
@@ -307,28 +322,28 @@ module _ (policy : Policy) (list : List Occurrence) (moved waits : List Saying) 
   some_wanted : (a b : Wanted) → Some a ≡ Some b → a ≡ b
   some_wanted a b is = cc
 
-  -- it is not RFCOMM's
-  pub not_muxed : (channel : Channel) → IsGranted whole channel → eqb channel.psm 0x0003 ≡ false
-  not_muxed channel from =
-      let it = all_sought (calls_that_went Into whole) sought_calls (call_of channel from) (sought_of channel from) in
+  -- it is one that a client may name
+  pub named : (channel : Channel) → IsGranted whole channel → may_name T channel.psm ≡ true
+  named channel from =
+      let it = all_sought T (calls_that_went Into whole) sought_calls (call_of channel from) (sought_of channel from) in
       let mine : Wanted = record { psm = channel.psm; source = channel.peer } in
-      ap (λ (w : Wanted). eqb w.psm 0x0003) (some_wanted mine it.wanted it.wanted_is) ∙ it.direct
+      ap (λ (w : Wanted). may_name T w.psm) (some_wanted mine it.wanted it.wanted_is) ∙ it.named
 
   -- of one endpoint of the peer it is one
   same_psm : (one other : Channel) → IsGranted whole one → IsGranted whole other → one.peer ≡ other.peer → one.psm ≡ other.psm
   same_psm one other first second same =
-      let is = one_named (calls_that_went Into whole) sought_calls (call_of one first) (call_of other second) (sought_of one first) (sought_of other second) (eq-eqb other.peer one.peer (sym same)) in
+      let is = one_named T (calls_that_went Into whole) sought_calls (call_of one first) (call_of other second) (sought_of one first) (sought_of other second) (eq-eqb other.peer one.peer (sym same)) in
       let mine : Wanted = record { psm = one.psm; source = one.peer } in
       let its : Wanted = record { psm = other.psm; source = other.peer } in
       ap (λ (w : Wanted). w.psm) (some_wanted mine its is)
 
-  seeks : (channel : Channel) (from : IsGranted whole channel) → channel.psm ≡ 0x1001 → seeks_object (call_of channel from) ≡ true
-  seeks channel from is = ap (λ n. not (eqb n 0x0001)) is
+  seeks : (channel : Channel) (from : IsGranted whole channel) → channel.psm ≡ packets_psm T → seeks_object (call_of channel from) ≡ true
+  seeks channel from is = ap (λ n. not (eqb n 0x0001)) is ∙ seeks_packets T
 
-  -- of objects there is one
-  same_peer : (one other : Channel) → IsGranted whole one → IsGranted whole other → one.psm ≡ 0x1001 → other.psm ≡ 0x1001 → one.peer ≡ other.peer
+  -- of packets there is one
+  same_peer : (one other : Channel) → IsGranted whole one → IsGranted whole other → one.psm ≡ packets_psm T → other.psm ≡ packets_psm T → one.peer ≡ other.peer
   same_peer one other first second is too =
-      let same = one_sought (calls_that_went Into whole) sought_calls (call_of one first) (call_of other second) (sought_of one first) (sought_of other second) (seeks one first is) (seeks other second too) in
+      let same = one_sought T (calls_that_went Into whole) sought_calls (call_of one first) (call_of other second) (sought_of one first) (sought_of other second) (seeks one first is) (seeks other second too) in
       let mine : Wanted = record { psm = one.psm; source = one.peer } in
       let its : Wanted = record { psm = other.psm; source = other.peer } in
       ap (λ (w : Wanted). w.source) (some_wanted mine its same)
@@ -351,21 +366,21 @@ module _ (policy : Policy) (list : List Occurrence) (moved waits : List Saying) 
   pub all_granted : AllByRecursion (λ (entry : Entry). IsGranted whole entry.channel) (reading whole).entries
   all_granted = entry_granted (reading whole).entries (all-from whole)
 
-  -- ---- the channel of objects
+  -- ---- the channel of packets
 
-  abbrev is_for_objects : Entry → Bool
-  is_for_objects entry = eqb entry.channel.psm 0x1001
+  abbrev is_for_packets : Entry → Bool
+  is_for_packets entry = eqb entry.channel.psm (packets_psm T)
 
   apart_psm : (psm number : ℕ) → eqb psm number ≡ false → psm ≡ number → ⊥
   apart_psm psm number apart same = let never : true ≡ false = sym (eq-eqb psm number same) ∙ apart in cc
 
-  for_found : (found other : Channel) → IsGranted whole found → found.psm ≡ 0x1001 → IsGranted whole other → IsFor found other
+  for_found : (found other : Channel) → IsGranted whole found → found.psm ≡ packets_psm T → IsGranted whole other → IsFor found other
   for_found found other from is it = record {
     same = λ own.
         let own_is = eqb-true other.own found.own own in
         let peer_is = own_peer other found it from own_is in
         same_channel other found own_is peer_is (same_psm other found it from peer_is);
-    aside = λ own. (λ object. by own (one_endpoint other found it from (same_peer other found it from object is)), apart_psm other.psm 0x0003 (not_muxed other it));
+    aside = λ own. aside-of T other.psm (named other it) (λ packets. by own (one_endpoint other found it from (same_peer other found it from packets is)));
   }
     where
       same_channel : (a b : Channel) → a.own ≡ b.own → a.peer ≡ b.peer → a.psm ≡ b.psm → a ≡ b
@@ -375,17 +390,17 @@ module _ (policy : Policy) (list : List Occurrence) (moved waits : List Saying) 
       by apart same = let never : true ≡ false = sym (eq-eqb other.own found.own same) ∙ apart in cc
 
   -- where there is none, none carries packets
-  for_none : (free : ℕ) (entries : List Entry) → AllByRecursion (λ (entry : Entry). IsGranted whole entry.channel) entries → find is_for_objects entries ≡ None → find (is_own free) entries ≡ None
-      → (let channel : Channel = record { psm = 0x1001; own = free; peer = 0 } in AllByRecursion (λ (entry : Entry). IsFor channel entry.channel) entries)
+  for_none : (free : ℕ) (entries : List Entry) → AllByRecursion (λ (entry : Entry). IsGranted whole entry.channel) entries → find is_for_packets entries ≡ None → find (is_own free) entries ≡ None
+      → (let channel : Channel = record { psm = packets_psm T; own = free; peer = 0 } in AllByRecursion (λ (entry : Entry). IsFor channel entry.channel) entries)
   for_none free [] all none unread = tt
   for_none free (entry ∷ entries) all none unread =
-      let objects = not_found is_for_objects entry entries none in
+      let packets = not_found is_for_packets entry entries none in
       let owns = not_found (is_own free) entry entries unread in (
         record {
           same = λ own. let never : true ≡ false = sym own ∙ owns.0 in absurd cc;
-          aside = λ own. (apart_psm entry.channel.psm 0x1001 objects.0, apart_psm entry.channel.psm 0x0003 (not_muxed entry.channel all.0));
+          aside = λ own. aside-of T entry.channel.psm (named entry.channel all.0) (apart_psm entry.channel.psm (packets_psm T) packets.0);
         },
-        for_none free entries all.1 objects.1 owns.1,
+        for_none free entries all.1 packets.1 owns.1,
       )
     where
       not_found : (test : Entry → Bool) (x : Entry) (xs : List Entry) → find test (x ∷ xs) ≡ None → (test x ≡ false) × (find test xs ≡ None)
@@ -395,30 +410,25 @@ module _ (policy : Policy) (list : List Occurrence) (moved waits : List Saying) 
           by true at is = cc
           by false at is = (at, is)
 
-  pub record OneObject : Type 0 where
-    pub channel : Channel
-    pub psm_is : channel.psm ≡ 0x1001
-    pub alone : CarriesAlone channel whole
-
-  found_granted : (entries : List Entry) (found : Entry) → AllByRecursion (λ (entry : Entry). IsGranted whole entry.channel) entries → find is_for_objects entries ≡ Some found → IsGranted whole found.channel × (found.channel.psm ≡ 0x1001)
+  found_granted : (entries : List Entry) (found : Entry) → AllByRecursion (λ (entry : Entry). IsGranted whole entry.channel) entries → find is_for_packets entries ≡ Some found → IsGranted whole found.channel × (found.channel.psm ≡ packets_psm T)
   found_granted [] found all is = cc
-  found_granted (entry ∷ entries) found all is = by (is_for_objects entry) refl is (found_granted entries found all.1)
+  found_granted (entry ∷ entries) found all is = by (is_for_packets entry) refl is (found_granted entries found all.1)
     where
-      by : (b : Bool) → is_for_objects entry ≡ b → cond b (Some entry) (find is_for_objects entries) ≡ Some found → (find is_for_objects entries ≡ Some found → IsGranted whole found.channel × (found.channel.psm ≡ 0x1001)) → IsGranted whole found.channel × (found.channel.psm ≡ 0x1001)
-      by true at is later = let same : entry ≡ found = cc in subst (λ (e : Entry). IsGranted whole e.channel × (e.channel.psm ≡ 0x1001)) same (all.0, eqb-true entry.channel.psm 0x1001 at)
+      by : (b : Bool) → is_for_packets entry ≡ b → cond b (Some entry) (find is_for_packets entries) ≡ Some found → (find is_for_packets entries ≡ Some found → IsGranted whole found.channel × (found.channel.psm ≡ packets_psm T)) → IsGranted whole found.channel × (found.channel.psm ≡ packets_psm T)
+      by true at is later = let same : entry ≡ found = cc in subst (λ (e : Entry). IsGranted whole e.channel × (e.channel.psm ≡ packets_psm T)) same (all.0, eqb-true entry.channel.psm (packets_psm T) at)
       by false at is later = later is
 
-  every : (found : Channel) → IsGranted whole found → found.psm ≡ 0x1001 → (entries : List Entry) → AllByRecursion (λ (entry : Entry). IsGranted whole entry.channel) entries → AllByRecursion (λ (entry : Entry). IsFor found entry.channel) entries
+  every : (found : Channel) → IsGranted whole found → found.psm ≡ packets_psm T → (entries : List Entry) → AllByRecursion (λ (entry : Entry). IsGranted whole entry.channel) entries → AllByRecursion (λ (entry : Entry). IsFor found entry.channel) entries
   every found from is [] all = tt
   every found from is (entry ∷ entries) all = (for_found found entry.channel from is all.0, every found from is entries all.1)
 
-  pub one_object : OneObject
-  one_object = by (find is_for_objects (reading whole).entries) refl
+  pub carries-one : CarriesOneOn (packets_psm T) policy list
+  carries-one = by (find is_for_packets (reading whole).entries) refl
     where
-      by : (found : Option Entry) → find is_for_objects (reading whole).entries ≡ found → OneObject
+      by : (found : Option Entry) → find is_for_packets (reading whole).entries ≡ found → CarriesOneOn (packets_psm T) policy list
       by None none =
           let free = (run_of policy list).value.next in
-          record { channel = record { psm = 0x1001; own = free; peer = 0 }; psm_is = refl; alone = for_none free (reading whole).entries all_granted none (endpoints-are_new policy list).unread }
+          record { channel = record { psm = packets_psm T; own = free; peer = 0 }; psm_is = refl; alone = for_none free (reading whole).entries all_granted none (endpoints-are_new policy list).unread }
       by (Some entry) found =
           let (from, is) = found_granted (reading whole).entries entry all_granted found in
           record { channel = entry.channel; psm_is = is; alone = every entry.channel from is (reading whole).entries all_granted }

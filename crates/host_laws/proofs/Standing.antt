@@ -1,5 +1,5 @@
--- Where the push of a client over L2CAP stands, by what its host holds on its link: nothing at all where `Unheld`, one channel at most where
--- `Single`, and none that is only asked for where `Settled`.
+-- Where the push of a client stands, by what its host holds on its link: nothing at all where `Unheld`, one channel at most where `Single`, and
+-- none that is only asked for where `Settled`.
 use Rattle.std.proofs.Common.{◌≡◌, ℕ, Bool, true, false, eqb, ◌-◌, ◌&&◌, ◌||◌, not, bit_and, is_some, min, nat_lt, List, [], Option, Some, None, Result, Ok, Err, refl, sym, ap, subst, ◌∙◌, ◌⊎◌, inl, inr, if◌then◌else◌}
 use Rattle.std.proofs.lemmas.Bool.{and_parts}
 use Rattle.bt_base.specs.declared.ports.PortFault.{PortFault}
@@ -9,7 +9,7 @@ use Rattle.bt_base.specs.declared.settings.Transport.TheVariants.{L2cap, Rfcomm}
 use Rattle.push_terms.specs.declared.outcome.Outcome.{Outcome}
 use Rattle.push_terms.specs.declared.outcome.Outcome.TheVariants as outcomes
 use Rattle.sdp_elements.specs.declared.target.Target.{Target}
-use Rattle.sdp_elements.specs.Targets.{is_service_psm}
+use Rattle.sdp_elements.specs.Targets.{is_service_psm, is_server_channel}
 use Rattle.sdp_client.specs.declared.reason.Found.{Found}
 use Rattle.sdp_client.specs.declared.reason.Found.TheVariants.{More, Service, NoService, Refused}
 use Rattle.sdp_client.specs.Asking.{is_due, after_resend, after_request, request_octets}
@@ -30,6 +30,7 @@ use Rattle.push_model.specs.Steps.{Part, Step, Wait, MakeLink, AskFeatures, Open
 use Rattle.push_laws.specs.Opening.{way_in}
 use Rattle.push_laws.proofs.Late.{anchor_of, Anchor, IsLate, Late, either, object_late, object_quiet}
 use Rattle.host_model.specs.Clients.{event_heard, opened_by, closed_by, cause_of, after_end, ended}
+use Rattle.host_laws.proofs.AskingOnce.{may_name}
 
 -- ---- where it stands
 
@@ -53,28 +54,28 @@ At Unheld Single Settled (ObjectEnd point) cause = Unit {0}
 At Unheld Single Settled (LinkEnd point) cause = Unit {0}
 At Unheld Single Settled Over cause = Unit {0}
 
--- the channel of its object is not RFCOMM's
-pub record Stands (Unheld Single Settled : Type 0) (client : Client) : Type 0 where
-  pub direct : client.transport ≡ L2cap
-  pub named : eqb client.psm 0x0003 ≡ false
+-- the channel of its object has a PSM for packets over its transport, once one is found
+pub record Stands (T : Transport) (Unheld Single Settled : Type 0) (client : Client) : Type 0 where
+  pub direct : client.transport ≡ T
+  pub named : may_name T client.psm ≡ true
   pub at : At Unheld Single Settled client.stage client.cause
 
 -- a step asks for a channel
-pub record Opening (Unheld Settled : Type 0) (psm : ℕ) (client : Client) : Type 0 where
-  pub direct : client.transport ≡ L2cap
-  pub named : eqb client.psm 0x0003 ≡ false
-  pub how : (Unheld × (psm ≡ 0x0001) × (client.stage ≡ SearchChannel Asked)) ⊎ (Settled × (eqb psm 0x0003 ≡ false) × (client.stage ≡ ObjectChannel Asked))
+pub record Opening (T : Transport) (Unheld Settled : Type 0) (psm : ℕ) (client : Client) : Type 0 where
+  pub direct : client.transport ≡ T
+  pub named : may_name T client.psm ≡ true
+  pub how : (Unheld × (psm ≡ 0x0001) × (client.stage ≡ SearchChannel Asked)) ⊎ (Settled × (may_name T psm ≡ true) × (client.stage ≡ ObjectChannel Asked))
 
-abbrev pub StandsBehind : (Unheld Single Settled : Type 0) → Step → Client → Type 0
-StandsBehind Unheld Single Settled Wait client = Stands Unheld Single Settled client
-StandsBehind Unheld Single Settled MakeLink client = Stands Unheld Single Settled client
-StandsBehind Unheld Single Settled AskFeatures client = Stands Unheld Single Settled client
-StandsBehind Unheld Single Settled (OpenChannel psm) client = Opening Unheld Settled psm client
-StandsBehind Unheld Single Settled (SendSdu psm payload) client = Stands Unheld Single Settled client
-StandsBehind Unheld Single Settled (CloseChannel psm) client = Stands Unheld Single Settled client
-StandsBehind Unheld Single Settled BreakLink client = Stands Unheld Single Settled client
-StandsBehind Unheld Single Settled (Ended outcome) client = Stands Unheld Single Settled client
-StandsBehind Unheld Single Settled NoMemory client = Stands Unheld Single Settled client
+abbrev pub StandsBehind : (T : Transport) (Unheld Single Settled : Type 0) → Step → Client → Type 0
+StandsBehind T Unheld Single Settled Wait client = Stands T Unheld Single Settled client
+StandsBehind T Unheld Single Settled MakeLink client = Stands T Unheld Single Settled client
+StandsBehind T Unheld Single Settled AskFeatures client = Stands T Unheld Single Settled client
+StandsBehind T Unheld Single Settled (OpenChannel psm) client = Opening T Unheld Settled psm client
+StandsBehind T Unheld Single Settled (SendSdu psm payload) client = Stands T Unheld Single Settled client
+StandsBehind T Unheld Single Settled (CloseChannel psm) client = Stands T Unheld Single Settled client
+StandsBehind T Unheld Single Settled BreakLink client = Stands T Unheld Single Settled client
+StandsBehind T Unheld Single Settled (Ended outcome) client = Stands T Unheld Single Settled client
+StandsBehind T Unheld Single Settled NoMemory client = Stands T Unheld Single Settled client
 
 -- where all may be, and where one level leads to another
 pub at-each : (Unheld Single Settled Unheld' Single' Settled' : Type 0) → (Unheld → Unheld') → (Single → Single') → (Settled → Settled') → (stage : Stage) (cause : Option Outcome) → At Unheld Single Settled stage cause → At Unheld' Single' Settled' stage cause
@@ -109,16 +110,17 @@ at-all Unheld Single Settled u o n (ObjectEnd point) cause = tt
 at-all Unheld Single Settled u o n (LinkEnd point) cause = tt
 at-all Unheld Single Settled u o n Over cause = tt
 
-other_psm : (psm : ℕ) → is_service_psm psm ≡ true → eqb psm 0x0003 ≡ false
-other_psm psm is = off (eqb psm 0x0003) (and_parts (not (eqb psm 0x0001)) (not (eqb psm 0x0003)) (and_parts (eqb (bit_and psm 0x0101) 0x0001) (not (eqb psm 0x0001) && not (eqb psm 0x0003)) is).1).1
+-- a service over L2CAP has a PSM of its own
+other_psm : (psm : ℕ) → is_service_psm psm ≡ true → may_name L2cap psm ≡ true
+other_psm psm is = off (eqb psm 0x0001) (not (eqb psm 0x0003)) (and_parts (not (eqb psm 0x0001)) (not (eqb psm 0x0003)) (and_parts (eqb (bit_and psm 0x0101) 0x0001) (not (eqb psm 0x0001) && not (eqb psm 0x0003)) is).1).1
   where
-    off : (b : Bool) → not b ≡ true → b ≡ false
-    off true is = cc
-    off false is = refl
+    off : (a b : Bool) → b ≡ true → (a || b) ≡ true
+    off true b is = refl
+    off false b is = is
 
-module _ (Unheld Single Settled : Type 0) where
+module _ (T : Transport) (Unheld Single Settled : Type 0) where
   abbrev So : Client → Type 0
-  So client = Stands Unheld Single Settled client
+  So client = Stands T Unheld Single Settled client
 
   -- ---- an end
 
@@ -285,21 +287,25 @@ module _ (Unheld Single Settled : Type 0) where
   named_at None none = none
   named_at (Some o) none = tt
 
-  way_stands : (t : Transport) (target : Target) (client : Client) → client.transport ≡ t → Settled → So client → So (events.found_way t target client)
+  way_stands : (t : Transport) (target : Target) (client : Client) → T ≡ t → Settled → So client → So (events.found_way t target client)
   way_stands L2cap target client t none s = by target.l2cap
     where
       kept : (psm : ℕ) (is : Bool) → is_service_psm psm ≡ is → So (events.found_psm (if is then Some psm else None) client)
-      kept psm true is = record { direct = s.direct; named = other_psm psm is; at = named_at client.cause none }
+      kept psm true is = record { direct = s.direct; named = subst (λ way. may_name way psm ≡ true) (sym t) (other_psm psm is); at = named_at client.cause none }
       kept psm false is = ends_stand outcomes.NoService client s
 
       by : (found : Option ℕ) → So (events.found_psm (events.kept_of is_service_psm found) client)
       by None = ends_stand outcomes.NoService client s
       by (Some psm) = kept psm (is_service_psm psm) refl
-  way_stands Rfcomm target client t none s = let never : L2cap ≡ Rfcomm = sym s.direct ∙ t in absurd cc
+  way_stands Rfcomm target client t none s = by (events.kept_of is_server_channel target.rfcomm)
+    where
+      by : (found : Option ℕ) → So (events.found_channel found client)
+      by None = ends_stand outcomes.NoService client s
+      by (Some channel) = record { direct = s.direct; named = subst (λ way. may_name way events.rfcomm_psm ≡ true) (sym t) refl; at = named_at client.cause none }
 
   finds_stand : (found : Found) (client : Client) → Settled → So client → So (events.finds found client)
   finds_stand More client none s = record { direct = s.direct; named = s.named; at = s.at }
-  finds_stand (Service target) client none s = way_stands client.transport target client refl none s
+  finds_stand (Service target) client none s = way_stands client.transport target client (sym s.direct) none s
   finds_stand NoService client none s = ends_stand outcomes.NoService client s
   finds_stand (Refused reason) client none s = ends_if_stand (cause_of_query reason) client s
 
@@ -319,7 +325,7 @@ module _ (Unheld Single Settled : Type 0) where
   -- it stays with its channel
   anchored : (before after : Client) → Late (anchor_of before) after → So before → So after
   anchored before after (late, same) s =
-      record { direct = ap (λ (a : Anchor). a.transport) same ∙ s.direct; named = ap (λ (a : Anchor). eqb a.psm 0x0003) same ∙ s.named; at = late_at after.stage after.cause late }
+      record { direct = ap (λ (a : Anchor). a.transport) same ∙ s.direct; named = ap (λ (a : Anchor). may_name T a.psm) same ∙ s.named; at = late_at after.stage after.cause late }
 
   outside_stands : (t : Transport) (client : Client) → So client → So (events.hears_outside t client)
   outside_stands L2cap client s = ends_stand unawaited_response client s
@@ -364,13 +370,13 @@ module _ (Unheld Single Settled : Type 0) where
   -- ---- steps
 
   abbrev Behind : Stepped → Type 0
-  Behind one = StandsBehind Unheld Single Settled one.step one.client
+  Behind one = StandsBehind T Unheld Single Settled one.step one.client
 
   one_of : (test : Bool) (a b : Stepped) → Behind a → Behind b → Behind (if test then a else b)
   one_of true a b x y = x
   one_of false a b x y = y
 
-  quiet_behind : (step : Step) (client : Client) → way_in step ≡ [] → So client → StandsBehind Unheld Single Settled step client
+  quiet_behind : (step : Step) (client : Client) → way_in step ≡ [] → So client → StandsBehind T Unheld Single Settled step client
   quiet_behind Wait client none s = s
   quiet_behind MakeLink client none s = s
   quiet_behind AskFeatures client none s = s
@@ -414,7 +420,7 @@ module _ (Unheld Single Settled : Type 0) where
       one_of client.failed (record { client = client; step = NoMemory; left = parts }) (if client.given then rests client parts else steps_at client.stage client parts) s
       (one_of client.given (rests client parts) (steps_at client.stage client parts) s (at_behind client.stage client parts refl s.at s))
 
-  end_stands : (step : Step) (after before : Client) → StandsBehind Unheld Single Settled step after → So before → So (after_end step after before)
+  end_stands : (step : Step) (after before : Client) → StandsBehind T Unheld Single Settled step after → So before → So (after_end step after before)
   end_stands Wait after before behind s = s
   end_stands MakeLink after before behind s = s
   end_stands AskFeatures after before behind s = s

@@ -1,9 +1,8 @@
 -- What a client asks for on each of its links: one channel after the other, and one besides that of service discovery (Object Push
 -- Profile 1.2, 4.3 and 5).
-use Rattle.std.specs.Prelude.{◌≡◌, false, List}
+use Rattle.std.specs.Prelude.{false, List}
 use Rattle.std.specs.List.{AllByRecursion, flat_map}
 use Rattle.bt_base.specs.declared.settings.Settings.{Settings}
-use Rattle.bt_base.specs.declared.settings.Transport.TheVariants.{L2cap}
 use Rattle.capture.specs.declared.flow.Flow.TheVariants.{Out}
 use Rattle.channel_model.specs.Policies.{policy}
 use Rattle.channel_laws.specs.Singly.{calls_that_went, AreOneByOne}
@@ -17,13 +16,13 @@ use Rattle.host_laws.specs.Lives.{on_links}
 use Rattle.host_laws.specs.OverLinks.{OverLinks, AreGentleUp, parts, moved_in, talk_marks}
 use Rattle.host_laws.specs.Woven.{TalksWoven}
 
--- Over L2CAP the profile of a client asks so, however its host lived through its talk.
+-- The profile of a client asks so, over either transport, however its host lived through its talk.
 pub record ClientsAskInOrder : Type 0 where
   pub asks : HostsAsk
-  pub in_order : (settings : Settings) (talk : List Talk) (now : Host ClientProfile) (woven : TalksWoven (client_profile settings) (asks.clients settings) talk now) → settings.transport ≡ L2cap
-      → AllByRecursion (CallsInOrder (policy settings false)) (on_links (client_profile settings) (asks.clients settings) (flat_map talk_marks talk) now woven.so.lives)
+  pub in_order : (settings : Settings) (talk : List Talk) (now : Host ClientProfile) (woven : TalksWoven (client_profile settings) (asks.clients settings) talk now)
+      → AllByRecursion (CallsInOrder settings.transport (policy settings false)) (on_links (client_profile settings) (asks.clients settings) (flat_map talk_marks talk) now woven.so.lives)
 
 -- So its requests move on each of its links.
 abbrev pub ClientsAskOnce : Type 0
-ClientsAskOnce = (settings : Settings) (talk : List Talk) (now : Host ClientProfile) (over : OverLinks (upper (client_profile settings)) talk now) → settings.transport ≡ L2cap
-    → AreGentleUp (client_profile settings) false over.acts (first_host (client_profile settings)) → AllByRecursion (λ part. AreOneByOne may_ask (calls_that_went Out (moved_in part))) (parts talk)
+ClientsAskOnce = (settings : Settings) (talk : List Talk) (now : Host ClientProfile) (over : OverLinks (upper (client_profile settings)) talk now)
+    → AreGentleUp (client_profile settings) false over.acts (first_host (client_profile settings)) → AllByRecursion (λ part. AreOneByOne (may_ask settings.transport) (calls_that_went Out (moved_in part))) (parts talk)

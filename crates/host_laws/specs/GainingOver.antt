@@ -11,6 +11,7 @@ use Rattle.channel_model.specs.Policies.{Policy, policy}
 use Rattle.channel_laws.specs.Runs.{Occurrence, Comes, Connects, AsksFeatures, Disconnects, Sends, Gives, Fires, Tells}
 use Rattle.channel_laws.specs.Sdus.{StatesFrame}
 use Rattle.push_model.specs.Client.{own_maximum}
+use Rattle.push_laws.specs.Gains as gains
 use Rattle.push_laws.specs.Occurrences as push
 use Rattle.push_laws.specs.Premises.{AllMayCome}
 use Rattle.push_laws.specs.Laws.{stored_in}
@@ -44,6 +45,16 @@ CarriedOne policy (Down reason) list = OneObjectChannel policy list
 -- the same on the link that there is now, if there is one
 abbrev pub CarriesOne : Policy → List Occurrence → Type 0
 CarriesOne policy list = AllByRecursion IsNoPdu list ⊎ OneObjectChannel policy list
+
+-- What a server heard over its links spells what the PDUs spell that moved on them, link after link, whether or not it heeded all of it: where the host asks
+-- for no channel and its peer gives each endpoint once.
+abbrev pub HostsReadOverLinks : Type 0
+HostsReadOverLinks = (settings : Settings) (content : Option Contents) (party : Party) (asks : Asks (server_profile settings content)) (talk : List Talk) (now : Host ServerProfile) (so : TalksOverLinks (server_profile settings content) asks talk now)
+    → StatesFrame (policy settings true) party → party.packet ≡ own_maximum L2cap settings
+    → AllByRecursion IsDirect (served settings content asks (flat_map talk_marks talk) now so.lives)
+    → AllByRecursion (λ (span : Span). CarriedOne (policy settings true) span.event span.list) so.lives.spans → CarriesOne (policy settings true) so.lives.now
+    → AllByRecursion (λ part. IsServed (moved_in part)) (parts talk)
+    → gains.objects settings (served settings content asks (flat_map talk_marks talk) now so.lives) ≡ flat_map (λ part. objects party (moved_in part)) (parts talk)
 
 -- At each moment of a run of turns the inbox of a host has gained exactly the objects that the PDUs spell which moved on its links, link after
 -- link: where no call of the inbox fails, no request is ignored, the host asks for no channel and its peer gives each endpoint once.

@@ -1,8 +1,10 @@
--- Servers whose client asks for one channel of objects on each link, over L2CAP (Object Push Profile 1.2, 4.3 and 5; Core 5.1, Volume 3
--- Part A, 4.2 and 4.3).
+-- Servers whose client asks for one channel of packets on each link (Object Push Profile 1.2, 4.3 and 5; Core 5.1, Volume 3 Part A, 4.2 and
+-- 4.3; RFCOMM 1.2, 2.1).
 use Rattle.std.specs.Prelude.{ℕ, ◌≡◌, ◌==◌, ◌&&◌, ◌||◌, not, Bool, true, false, List, [], Option, Some, None}
 use Rattle.std.specs.List.{AllByRecursion, flat_map, list_any}
 use Rattle.bt_base.specs.declared.settings.Settings.{Settings}
+use Rattle.bt_base.specs.declared.settings.Transport.{Transport}
+use Rattle.bt_base.specs.declared.settings.Transport.TheVariants.{L2cap, Rfcomm}
 use Rattle.bt_base.specs.Objects.{Contents}
 use Rattle.capture.specs.Histories.{EachAfter}
 use Rattle.capture.specs.declared.flow.Flow.TheVariants.{Out, Into}
@@ -37,12 +39,18 @@ is_beyond (Some wanted) = not (wanted.psm == 0x0001)
 abbrev pub seeks_object : Call → Bool
 seeks_object one = is_beyond one.wanted
 
--- service discovery may be asked for at any time, and one channel besides, which is not RFCOMM's
-abbrev pub may_ask : ℕ → List Call → Bool
-may_ask psm before = (psm == 0x0001) || (not (psm == 0x0003) && not (list_any seeks_object before))
+-- A channel to that PSM may carry packets over the transport: over RFCOMM it is that of the multiplexer, over L2CAP the service names it, and it is
+-- not RFCOMM's.
+abbrev pub may_carry : Transport → ℕ → Bool
+may_carry L2cap psm = not (psm == 0x0003)
+may_carry Rfcomm psm = psm == 0x0003
 
-abbrev pub AsksForOneObject : List Saying → Type 0
-AsksForOneObject moved = AreOneByOne may_ask (calls_that_went Into moved)
+-- service discovery may be asked for at any time, and one channel besides, which may carry packets
+abbrev pub may_ask : Transport → ℕ → List Call → Bool
+may_ask transport psm before = (psm == 0x0001) || (may_carry transport psm && not (list_any seeks_object before))
+
+abbrev pub AsksForOneObject : Transport → List Saying → Type 0
+AsksForOneObject transport moved = AreOneByOne (may_ask transport) (calls_that_went Into moved)
 
 -- ---- what is asked of the host
 
@@ -60,8 +68,8 @@ IsWhole policy list = (channel : Channel) → HandsAllUp policy list channel
 
 -- ---- the law
 
--- Then it asks for no channel, each endpoint of its peer has one of its own, one channel carries packets on each link, and nothing comes over
--- RFCOMM.
+-- Over L2CAP it then asks for no channel, each endpoint of its peer has one of its own, one channel carries packets on each link, and nothing comes
+-- over RFCOMM.
 pub record IsServedInOrder (settings : Settings) (content : Option Contents) (asks : Asks (server_profile settings content)) (talk : List Talk) (now : Host ServerProfile) (so : TalksOverLinks (server_profile settings content) asks talk now) : Type 0 where
   pub direct : AllByRecursion IsDirect (served settings content asks (flat_map talk_marks talk) now so.lives)
   pub carried : AllByRecursion (λ (span : Span). CarriedOne (policy settings true) span.event span.list) so.lives.spans
@@ -70,17 +78,17 @@ pub record IsServedInOrder (settings : Settings) (content : Option Contents) (as
 
 abbrev pub ServersAreServedInOrder : Type 0
 ServersAreServedInOrder = (settings : Settings) (content : Option Contents) (asks : Asks (server_profile settings content)) (talk : List Talk) (now : Host ServerProfile) (so : TalksOverLinks (server_profile settings content) asks talk now)
-    → AsksNoChannels (server_profile settings content) asks → AllByRecursion (λ part. AsksForOneObject (moved_in part)) (parts talk)
+    → AsksNoChannels (server_profile settings content) asks → AllByRecursion (λ part. AsksForOneObject L2cap (moved_in part)) (parts talk)
     → AllByRecursion (IsWhole (policy settings true)) (on_links (server_profile settings content) asks (flat_map talk_marks talk) now so.lives) → IsServedInOrder settings content asks talk now so
 
 -- ---- the client
 
 -- it asks for its next channel when no other one is only asked for, for that of service discovery at any time and for one besides
-abbrev pub CallsInOrder : Policy → List Occurrence → Type 0
-CallsInOrder policy list = EachAfter (λ front one. AsksSo may_ask one (run_of policy front)) [] list
+abbrev pub CallsInOrder : Transport → Policy → List Occurrence → Type 0
+CallsInOrder transport policy list = EachAfter (λ front one. AsksSo (may_ask transport) one (run_of policy front)) [] list
 
 -- Then so its requests move on each link, however often its timer repeats them.
 abbrev pub ClientsCallInOrder : Type 0
 ClientsCallInOrder = (settings : Settings) (asks : Asks (client_profile settings)) (talk : List Talk) (now : Host ClientProfile) (so : TalksOverLinks (client_profile settings) asks talk now)
-    → AllByRecursion (CallsInOrder (policy settings false)) (on_links (client_profile settings) asks (flat_map talk_marks talk) now so.lives)
-    → AllByRecursion (λ part. AreOneByOne may_ask (calls_that_went Out (moved_in part))) (parts talk)
+    → AllByRecursion (CallsInOrder settings.transport (policy settings false)) (on_links (client_profile settings) asks (flat_map talk_marks talk) now so.lives)
+    → AllByRecursion (λ part. AreOneByOne (may_ask settings.transport) (calls_that_went Out (moved_in part))) (parts talk)

@@ -31,3 +31,5 @@ pub mod Answered
 pub mod Gifts
 pub mod Searching
 pub mod SearchOrder
+pub mod OneOnLinks
+pub mod SearchSent

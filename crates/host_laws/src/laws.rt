@@ -8,7 +8,7 @@ ghost use Rattle.host_laws.specs.Calm.{CalmHostsMove, HostsTalkInTurns};
 ghost use Rattle.host_laws.specs.ClientCalls.{ClientsAskInOrder, ClientsAskOnce};
 ghost use Rattle.host_laws.specs.Free.{ClientsFirePlainly, HostsHoldBackNothing, ServersFirePlainly};
 ghost use Rattle.host_laws.specs.Gaining.{HostsGainTalk};
-ghost use Rattle.host_laws.specs.GainingOver.{HostsGainOverLinks};
+ghost use Rattle.host_laws.specs.GainingOver.{HostsGainOverLinks, HostsReadOverLinks};
 ghost use Rattle.host_laws.specs.InOrder.{ClientsCallInOrder, ServersAreServedInOrder, ServersAskNothing};
 ghost use Rattle.host_laws.specs.Fed.{HostsTalkFed};
 ghost use Rattle.host_laws.specs.Keeping.{ClientsKeepOn, LossesAreTold, ServersAwaitNothing, ServersKeepOn, ServersSendAsTheyLend};
@@ -16,11 +16,13 @@ ghost use Rattle.host_laws.specs.Leaving.{LeavesAtLosses};
 ghost use Rattle.host_laws.specs.Lives.{HostsRun};
 ghost use Rattle.host_laws.specs.Memory.{ClientsHaveMemory};
 ghost use Rattle.host_laws.specs.OneCarrier.{OneCarrierGains};
+ghost use Rattle.host_laws.specs.OneOnLinks.{ServersCarryAlone};
 ghost use Rattle.host_laws.specs.Onward.{ClientsGoOnward};
 ghost use Rattle.host_laws.specs.Pushing.{ClientsArePushed, ClientsOpen};
 ghost use Rattle.host_laws.specs.OverLinks.{AllLinksAreActs, HostsTalkOverLinks};
 ghost use Rattle.host_laws.specs.Read.{SaidIsRead};
 ghost use Rattle.host_laws.specs.Searching.{ClientsAwaitServices, HostsAskAsTheyStep};
+ghost use Rattle.host_laws.specs.SearchSent.{SearchesAreSent};
 ghost use Rattle.host_laws.specs.SearchOrder.{CancelsInOrder, ClientsSearchInOrder, ClientsSearchWithMemory, HostsSearchWell, LinksBeginSearches, ProfilesSearchInOrder};
 ghost use Rattle.host_laws.specs.Seen.{OwnTalkMoves};
 ghost use Rattle.host_laws.specs.Serving.{HostsGain, ServersAreServed};
@@ -183,6 +185,12 @@ pub fn objects_move()
     ensures { ObjectsMove }
 {}
 
+/// What a server's host heard over its links spells what the PDUs spell that moved on them, link after link, whether or not its server heeded all
+/// of it: over L2CAP, where the host asks for no channel, one channel alone carries packets on each link, and its peer gives each endpoint once.
+pub fn hosts_read_over_links()
+    ensures { HostsReadOverLinks }
+{}
+
 /// At each moment of a run of turns the inbox of a host has gained exactly the objects that the PDUs spell which moved on its links, link
 /// after link, where one channel carries packets on each link, over L2CAP.
 pub fn hosts_gain_over_links()
@@ -212,8 +220,8 @@ pub fn clients_call_in_order()
     ensures { ClientsCallInOrder }
 {}
 
-/// Over L2CAP a client asks for its next channel when no other one is only asked for: for that of service discovery, and for one besides on
-/// each link, which is not RFCOMM's.
+/// A client asks for its next channel when no other one is only asked for: for that of service discovery, and for one besides on each link. Over
+/// RFCOMM that is the channel of its multiplexer, and over L2CAP it is not RFCOMM's.
 pub fn clients_ask_in_order()
     ensures { ClientsAskInOrder }
 {}
@@ -333,4 +341,15 @@ pub fn hosts_search_well()
 /// A link that comes up for a push begins its search, with a new question, or is left at once.
 pub fn links_begin_searches()
     ensures { LinksBeginSearches }
+{}
+
+/// A server whose client asks on each link for service discovery and for one channel besides: there one channel alone carries packets, over L2CAP
+/// that of objects, over RFCOMM that of the multiplexer.
+pub fn servers_carry_alone()
+    ensures { ServersCarryAlone }
+{}
+
+/// Where the channels of a client have nothing to give, its request for services was sent: none is held back by its channel, and no step of it is under way.
+pub fn searches_are_sent()
+    ensures { SearchesAreSent }
 {}

@@ -77,7 +77,7 @@ set_hears answers news s t is = ap (server_machine.hear (its s.host.profile) new
 set_next : (s t : SetHost ServerProfile) → t ≡ s → server_machine.next t ≡ own_machine.next s
 set_next s t is = ap server_machine.next is ∙ ap (said_with s.settings) (own_next s.settings s.host)
 
-own_alike : AreAlike (λ s t. t ≡ s) own_machine server_machine
+pub own_alike : AreAlike (λ s t. t ≡ s) own_machine server_machine
 own_alike = record {
   hear = λ answers news s t is. (its s.host.profile, set_hears answers news s t is);
   says = λ s t is pdu after same. (after, refl, set_next s t is ∙ same);
@@ -99,7 +99,7 @@ granting_on s pdu after is all =
     let (host, said, same) = said_by s.settings (next (own_profile s.settings) s.host) pdu after is in
     subst IsGranting (sym same) (next_kept (own_profile s.settings) HasGrants (grants_kept s.settings) s.host pdu host said all)
 
-granted_alike : AreAlike (λ s t. (t ≡ s) × IsGranting s) own_machine (granting server_machine)
+pub granted_alike : AreAlike (λ s t. (t ≡ s) × IsGranting s) own_machine (granting server_machine)
 granted_alike = record {
   hear = λ answers news s t so. (its s.host.profile, (granted_hears answers news s t so.0 so.1, hear_kept (own_profile s.settings) HasGrants (grants_kept s.settings) answers news s.host so.1));
   says = λ s t so pdu after same. (after, (refl, granting_on s pdu after same so.1), set_next s t so.0 ∙ same);
@@ -124,7 +124,7 @@ abbrev IsSame : {S : Type 0} → S → S → Type 0
 IsSame s t = t ≡ s
 
 itself : AreAlike (IsSame {S = SetHost ClientProfile}) client_machine client_machine
-itself = same_alike (λ (answers : List Circumstance). answers) client_machine
+itself = same_alike (λ news (answers : List Circumstance). answers) client_machine
 
 -- what happens to such a server happens to that of the scenario
 pub own_runs : OwnRunsAreRuns

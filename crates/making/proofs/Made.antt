@@ -21,7 +21,8 @@ use Rattle.scenario_laws.specs.Outcomes.{outcomes_in}
 use Rattle.btpush_forms.specs.declared.status.Status.{Status}
 use Rattle.btpush_forms.specs.declared.status.Status.TheVariants as status
 use Rattle.btpush_forms.specs.Run.{HasEnded, HasCauses}
-use Rattle.object_push.specs.Ports.{Ports, Written}
+use Rattle.btpush_forms.specs.Ports.{Written}
+use Rattle.object_push.specs.Ports.{Ports}
 use Rattle.object_push.specs.Pushing.{Pushes, NotRead, NotTaken, Taken, IsUnread}
 use Rattle.object_push.specs.Running.{Runs, RanToEnd, RanShort, Reports, status_of}
 use Rattle.making.specs.Counting.{done_lines, octets_counted}
@@ -88,8 +89,8 @@ unfolding with_defaults
 names_are number script e = ap (λ (x : Script). x.names) e
 
 -- each name has its outcome
-pub enough : (scenario : Scenario) (before after : Option Contents) (trace trace' : Option (List ℕ)) (outcomes : List Outcome) (peaks : Peaks) (Never : Type 0) → IsPlayed scenario before after trace trace' outcomes peaks Never → length scenario.names ≤ length outcomes
-enough scenario before after trace trace' outcomes peaks Never played =
+pub enough : (scenario : Scenario) (shelf : Option (List Object)) (before after : Option Contents) (trace trace' : Option (List ℕ)) (outcomes : List Outcome) (peaks : Peaks) (Never : Type 0) → IsPlayed scenario shelf before after trace trace' outcomes peaks Never → length scenario.names ≤ length outcomes
+enough scenario shelf before after trace trace' outcomes peaks Never played =
     let front : List Outcome = outcomes_in played.capture in
     let rest : List Outcome = replicate (length scenario.names - length front) ScriptEnded in
     let all : length outcomes ≡ length (front ++ rest) = ap (λ (os : List Outcome). length os) played.outcomes_are in
@@ -135,7 +136,7 @@ told number trace after end scenario text contents made ended is holds (RanToEnd
     let names : scenario.names ≡ made_names = names_are number (script_of scenario) made in
     let whole : after.sink.content ≡ Some (report_text made_names outcomes kept peaks) =
     whole_report (report_text scenario.names outcomes kept peaks) outcomes (Some []) after.sink.content _ end ended reports ∙ ap (λ (ns : List (List ℕ)). Some (report_text ns outcomes kept peaks)) names in
-    let enough_are : length made_names ≤ length outcomes = subst (λ (ns : List (List ℕ)). length ns ≤ length outcomes) names (enough _ _ _ _ _ outcomes peaks _ played) in
+    let enough_are : length made_names ≤ length outcomes = subst (λ (ns : List (List ℕ)). length ns ≤ length outcomes) names (enough _ _ _ _ _ _ outcomes peaks _ played) in
     record {
       outcomes = outcomes;
       reported = record { ends = ends_so (report_text scenario.names outcomes kept peaks) outcomes (Some []) after.sink.content _ end ended reports; kept = kept; peaks = peaks; played = played; report = whole; pending = contents.pending; inbox = holds };

@@ -7,7 +7,8 @@ use Rattle.push_script.specs.Made.{made_names}
 use Rattle.push_script.specs.Reading.{script_of}
 use Rattle.btpush_forms.specs.declared.status.Status.{Status}
 use Rattle.btpush_forms.specs.declared.status.Status.TheVariants as status
-use Rattle.object_push.specs.Ports.{Written, Ports}
+use Rattle.btpush_forms.specs.Ports.{Written}
+use Rattle.object_push.specs.Ports.{Ports}
 use Rattle.making.specs.Counting.{octets_counted}
 use Rattle.making.specs.Laws.{GoodEndsAreWhole}
 use Rattle.making.specs.Making.{IsRun, IsReported, first_ports, NotMade, Stopped, Told, summary_of}
@@ -21,7 +22,7 @@ Wholly sink sink' = (stored : List Object) × (sink'.content ≡ gained sink.con
 
 all_eight : (number : ℕ) (trace : Written) (after : Ports) (outcomes : List Outcome) (stored : List Object) (ran : IsRun number trace after status.Ok) → IsReported ran.scenario (first_ports number trace) after status.Ok outcomes stored → done_count outcomes made_names ≡ 8
 all_eight number trace after outcomes stored ran reported =
-    let each : length made_names ≤ length outcomes = subst (λ (names : List (List ℕ)). length names ≤ length outcomes) (names_are number (script_of ran.scenario) ran.made) (enough _ _ _ _ _ outcomes _ _ reported.played) in
+    let each : length made_names ≤ length outcomes = subst (λ (names : List (List ℕ)). length names ≤ length outcomes) (names_are number (script_of ran.scenario) ran.made) (enough _ _ _ _ _ _ outcomes _ _ reported.played) in
     all_counted outcomes made_names reported.ends each
 
 told_wholly : (number : ℕ) (sink sink' trace : Written) (after : Ports) (end : Status) (outcomes : List Outcome) (stored : List Object) (ran : IsRun number trace after end) → status.Ok ≡ end → IsReported ran.scenario (first_ports number trace) after end outcomes stored

@@ -7,7 +7,7 @@ use Rattle.push_script.specs.Made.{made_script}
 use Rattle.push_script.specs.Reading.{reading, script_of}
 use Rattle.push_script.specs.Scenarios.{scenario_text}
 use Rattle.btpush_forms.specs.declared.status.Status.TheVariants as status
-use Rattle.object_push.specs.Ports.{Written}
+use Rattle.btpush_forms.specs.Ports.{Written}
 use Rattle.making.specs.Counting.{octets_counted}
 use Rattle.making.specs.Making.{Makes}
 use Rattle.making.specs.Summary.{summary_text}

@@ -14,7 +14,8 @@ use Rattle.scenario_play.specs.Playing.{IsPlayed}
 use Rattle.btpush_forms.specs.declared.status.Status.{Status}
 use Rattle.btpush_forms.specs.declared.status.Status.TheVariants as status
 use Rattle.btpush_forms.specs.Run.{HasEnded}
-use Rattle.object_push.specs.Ports.{Ports, Written}
+use Rattle.btpush_forms.specs.Ports.{Written}
+use Rattle.object_push.specs.Ports.{Ports}
 use Rattle.object_push.specs.Gaining.{InboxNever}
 use Rattle.object_push.specs.Running.{Runs, is_done}
 use Rattle.making.specs.Counting.{octets_counted}
@@ -49,7 +50,7 @@ pub record IsReported (scenario : Scenario) (before after : Ports) (end : Status
   pub ends : EndsSo outcomes end
   pub kept : ℕ
   pub peaks : Peaks
-  pub played : IsPlayed scenario before.inbox.content after.inbox.content before.trace.content after.trace.content outcomes peaks (InboxNever before after)
+  pub played : IsPlayed scenario before.shelf.content before.inbox.content after.inbox.content before.trace.content after.trace.content outcomes peaks (InboxNever before after)
   pub report : after.sink.content ≡ Some (report_text made_names outcomes kept peaks)
   pub pending : Option Object
   pub inbox : after.inbox.content ≡ Some (record { stored = stored; pending = pending })

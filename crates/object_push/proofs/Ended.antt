@@ -2,7 +2,7 @@
 use Rattle.std.proofs.Common.{◌≡◌, ℕ, ◌≤◌, Bool, true, false, cond, List, [], ◌∷◌, ◌++◌, length, Option, unwrap_or, inl, refl, sym, ap, subst, ◌∙◌, arith}
 use Rattle.std.proofs.lemmas.List.{append-nil}
 use Rattle.std.proofs.lemmas.Grind.{flat_map-append}
-use Rattle.bt_base.specs.Objects.{Contents}
+use Rattle.bt_base.specs.Objects.{Object, Contents}
 use Rattle.bt_base.specs.Streams.{gained, GainedFront}
 use Rattle.bt_base.proofs.PortLaws.{gained-gained, front_whole}
 use Rattle.push_script.specs.declared.scenario.Scenario.{Scenario}
@@ -31,9 +31,9 @@ written_behind trace trace' past ends capture is written =
     front_whole (gained trace (capture_octets past)) trace' (capture_octets ends)
     (written ∙ ap (λ (es : List Entry). gained trace (capture_octets es)) is ∙ ap (λ (os : List ℕ). gained trace os) (flat_map-append entry_octets past ends) ∙ sym (gained-gained trace (capture_octets past) (capture_octets ends)))
 
-pub broken_at_end : (scenario : Scenario) (before after : Option Contents) (trace trace' : Option (List ℕ)) (outcomes : List Outcome) (peaks : Peaks) (Lacked Never : Type 0) → IsPlayed scenario before after trace trace' outcomes peaks Never
-    → IsBroken scenario before after trace trace' Lacked Never
-broken_at_end scenario before after trace trace' outcomes peaks Lacked Never played =
+pub broken_at_end : (scenario : Scenario) (shelf : Option (List Object)) (before after : Option Contents) (trace trace' : Option (List ℕ)) (outcomes : List Outcome) (peaks : Peaks) (Lacked Never : Type 0) → IsPlayed scenario shelf before after trace trace' outcomes peaks Never
+    → IsBroken scenario shelf before after trace trace' Lacked Never
+broken_at_end scenario shelf before after trace trace' outcomes peaks Lacked Never played =
     let ran = played.finished.ran in
     record {
       happenings = ran.happenings;
@@ -45,6 +45,7 @@ broken_at_end scenario before after trace trace' outcomes peaks Lacked Never pla
       later = [];
       words_are = sym played.finished.words_are ∙ sym (append-nil (all_words ran.happenings));
       written = written_behind trace trace' (all_entries ran.happenings) ran.ends played.capture ran.capture_is played.written;
+      held = (played.held, played.held);
       granted = λ never. (played.granted never, played.granted never);
       stored = inl played.stored;
     }

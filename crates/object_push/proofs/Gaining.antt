@@ -26,7 +26,7 @@ same_length before gain heard same =
     let both : length (before ++ gain) ≡ length (before ++ heard) = ap length same in
     omega (arith, one, other, both)
 
-counted : (before heard : List Object) (kept : ℕ) (after : Option Contents) → Gains (holding before) kept after → stored_in after ≡ Some (before ++ heard) → kept ≡ min (length heard) most_kept
+pub counted : (before heard : List Object) (kept : ℕ) (after : Option Contents) → Gains (holding before) kept after → stored_in after ≡ Some (before ++ heard) → kept ≡ min (length heard) most_kept
 counted before heard kept None gains stored = absurd cc
 counted before heard kept (Some after) gains stored =
     let same : before ++ gains.gain ≡ before ++ heard = sym gains.stored ∙ cc in
@@ -36,15 +36,15 @@ counted before heard kept (Some after) gains stored =
 pub comes_from : (law : PlaysGain) (scenario : Scenario) (before : List Object) (old new : Ports) (result : Status) → old.inbox.content ≡ holding before → scenario.settings.transport ≡ L2cap → Runs scenario old new result
     → ComesTo law.asks scenario before old new result
 comes_from law scenario before old new result held direct (RanToEnd outcomes kept peaks played gains reports) =
-    let over : IsPlayed scenario (holding before) new.inbox.content old.trace.content new.trace.content outcomes peaks (InboxNever old new) =
-    subst (λ (c : Option Contents). IsPlayed scenario c new.inbox.content old.trace.content new.trace.content outcomes peaks (InboxNever old new)) held played in
-    let so = law.plays scenario before new.inbox.content old.trace.content new.trace.content outcomes peaks old.inbox.faults new.inbox.faults old.inbox.shortages new.inbox.shortages over direct in
+    let over : IsPlayed scenario old.shelf.content (holding before) new.inbox.content old.trace.content new.trace.content outcomes peaks (InboxNever old new) =
+    subst (λ (c : Option Contents). IsPlayed scenario old.shelf.content c new.inbox.content old.trace.content new.trace.content outcomes peaks (InboxNever old new)) held played in
+    let so = law.plays scenario old.shelf.content before new.inbox.content old.trace.content new.trace.content outcomes peaks old.inbox.faults new.inbox.faults old.inbox.shortages new.inbox.shortages over direct in
     let more : Gains (holding before) kept new.inbox.content = subst (λ (c : Option Contents). Gains c kept new.inbox.content) held gains in
-    ToItsEnd outcomes kept peaks over so (λ have. counted before _ kept new.inbox.content more (so.serves have).gained) reports
+    ToItsEnd outcomes kept peaks over so (λ have. counted before _ kept new.inbox.content more (so.gained have)) reports
 comes_from law scenario before old new result held direct (RanShort fault is stops broken grows silent) =
-    let over : IsBroken scenario (holding before) new.inbox.content old.trace.content new.trace.content (HasRisen old.inbox.shortages new.inbox.shortages) (InboxNever old new) =
-    subst (λ (c : Option Contents). IsBroken scenario c new.inbox.content old.trace.content new.trace.content (HasRisen old.inbox.shortages new.inbox.shortages) (InboxNever old new)) held broken in
-    Short fault is stops over (law.breaks scenario before new.inbox.content old.trace.content new.trace.content old.inbox.faults new.inbox.faults old.inbox.shortages new.inbox.shortages over direct) silent
+    let over : IsBroken scenario old.shelf.content (holding before) new.inbox.content old.trace.content new.trace.content (HasRisen old.inbox.shortages new.inbox.shortages) (InboxNever old new) =
+    subst (λ (c : Option Contents). IsBroken scenario old.shelf.content c new.inbox.content old.trace.content new.trace.content (HasRisen old.inbox.shortages new.inbox.shortages) (InboxNever old new)) held broken in
+    Short fault is stops over (law.breaks scenario old.shelf.content before new.inbox.content old.trace.content new.trace.content old.inbox.faults new.inbox.faults old.inbox.shortages new.inbox.shortages over direct) silent
 
 pub runs_gain : RunsGain
 runs_gain = record { asks = plays_gain.asks; gains = comes_from plays_gain }

@@ -6,3 +6,5 @@ pub mod Going
 pub mod Causes
 pub mod Taking
 mod Gaining
+pub mod Keeping
+pub mod Streaming

@@ -5,3 +5,5 @@ pub mod Playing
 pub mod Running
 pub mod Pushing
 pub mod Gaining
+pub mod Keeping
+pub mod Streaming

@@ -4,12 +4,7 @@ use Rattle.bt_base.specs.Objects.{Object, Contents}
 use Rattle.bt_base.specs.declared.ports.Sink as sink
 use Rattle.bt_base.specs.declared.ports.Shelf as shelf
 use Rattle.bt_base.specs.declared.ports.Inbox as inbox
-
--- a sink: what was written to it, where it tells that, and how often it failed and found no memory
-pub record Written : Type 0 where
-  pub content : Option (List ℕ)
-  pub faults : ℕ
-  pub shortages : ℕ
+use Rattle.btpush_forms.specs.Ports.{Written, written}
 
 -- a shelf: its objects, where it tells them, and how often it failed, found no memory, and was asked for what it lacks
 pub record Shelved : Type 0 where
@@ -30,9 +25,6 @@ pub record Ports : Type 0 where
   pub trace : Written
   pub shelf : Shelved
   pub inbox : Kept
-
-abbrev pub written : {K : Type 0} → sink.Ghosts K → K → Written
-written port at = record { content = port.content at; faults = port.faults at; shortages = port.shortages at }
 
 abbrev pub shelved : {F : Type 0} → shelf.Ghosts F → F → Shelved
 shelved port at = record { content = port.content at; faults = port.faults at; shortages = port.shortages at; absences = port.absences at }

@@ -1,10 +1,25 @@
 //! What a scenario that was pushed comes to, as its capture says.
 
 ghost use Rattle.object_push.specs.Gaining.{RunsGain};
+ghost use Rattle.object_push.specs.Keeping.{RunsKeep};
+ghost use Rattle.object_push.specs.Streaming.{RunsStream};
 
 /// What is so of each run of a scenario over L2CAP, over its ports and its capture alone: what the inbox gained and how many objects the report
 /// counts, the accounts of both hosts, the pushes and their outcomes, and that the air obeyed the script; where it stopped short, as far as it
-/// came. The inbox tells what it holds; what is asked of ports and hosts besides is said of each of these.
+/// came. The inbox tells what it holds; what is asked of ports besides is said of each of these.
 pub fn runs_gain()
     ensures { RunsGain }
+{}
+
+/// What is so of each run of a scenario, over L2CAP or over RFCOMM, over its capture alone and whatever its ports answer: the buffers of both
+/// controllers at each moment, the pushes and their outcomes, the windows at its end, and that the air obeyed the script; where it stopped
+/// short, as far as it came.
+pub fn runs_keep()
+    ensures { RunsKeep }
+{}
+
+/// What is so besides of each run of a scenario over RFCOMM that was played to its end, with an inbox that tells what it holds: where its ports
+/// answered, no request was ignored, the inbox gained exactly what the capture spells, and the report counts these objects.
+pub fn runs_stream()
+    ensures { RunsStream }
 {}

@@ -1,19 +1,22 @@
 -- A pair as it is seen from one of its ends, with what is coming into each, and what that end may do.
-use Rattle.std.proofs.Common.{◌≡◌, ℕ, Bool, true, false, eqb, List, [], ◌∷◌, ◌++◌, Option, Some, fold, refl, sym, ap, subst, ◌∙◌, append-nil, append_assoc, if◌then◌else◌}
-use Rattle.std.specs.List.{AllByRecursion, flat_map}
+use Rattle.std.proofs.Common.{◌≡◌, ◌≤◌, ◌+◌, ℕ, Bool, true, false, not, eqb, ◌&&◌, List, [], ◌∷◌, ◌++◌, length, Option, Some, fold, refl, sym, ap, subst, ◌∙◌, append-nil, append_assoc, if◌then◌else◌, arith}
+use Rattle.std.specs.List.{AllByRecursion, flat_map, list_any}
 use Rattle.std.proofs.lemmas.List.Concat.{flat_map-append}
 use Rattle.std.proofs.lemmas.List.Sums.{fold-append}
 use Rattle.acl_fragments.specs.Pieces.{channel_of}
 use Rattle.capture.specs.Histories.{EachAfter}
 use Rattle.capture.proofs.HistoryLaws.{each_after-more}
 use Rattle.channel_model.specs.Policies.{Policy}
+use Rattle.channel_model.specs.Changing.{is_answer, has_room}
 use Rattle.channel_model.specs.Giving.{Given, next_given}
-use Rattle.channel_laws.specs.Runs.{Occurrence, Comes, Gives, Run, new_link, run_on, run_of}
+use Rattle.channel_laws.specs.Adverse.{is_quiet, disturbs, disturbances, IsRoomy}
+use Rattle.channel_laws.specs.Runs.{Occurrence, Comes, Gives, Fires, Run, new_link, run_on, run_of}
 use Rattle.channel_laws.specs.Frames.{IsUttered, IsSpelled}
 use Rattle.channel_laws.specs.Pairs.{End, Pair, new_pair, Happening, Acts, Puts, Takes, Repeats, Loses, Damages, is_alone, occurs, with_near, put, puts, let_go, takes_first, repeats_first, loses_first, damages_first, happens_near, Near, Far, turned, Turn, pair_after, pair_of}
 use Rattle.channel_laws.specs.Ends.{DoesSo, end_at}
 use Rattle.channel_laws.specs.Belonging.{IsRead, IsReadAs}
 use Rattle.channel_laws.specs.Pipes.{IsTakeable, IsAddressed}
+use Rattle.channel_laws.specs.Tries.{one_if, is_firing}
 use Rattle.channel_laws.proofs.Pairing.{end-policy}
 use Rattle.pair_laws.specs.Changes.{IsChange, IsChangeOfFirst, IsChanged}
 use Rattle.pair_laws.specs.Orders.{first_come, given_as, damaged_come, occurs_by, Joint, AtNear, AtFar, near_in, far_in, joints_with, joints_by, joints_from}
@@ -28,6 +31,7 @@ pub record Goes (happening : Happening) (end' : End) : Type 0 where
   pub read : IsRead happening end'
   pub addressed : IsAddressedAt happening end'
   pub changed : IsChanged happening end'
+  pub roomy : IsRoomy happening end'
 
 abbrev pub AllGo : (near far : Policy) → List Turn → Type 0
 AllGo near far turns = EachAfter (λ past turn. Goes turn.happening (end_at turn.side (pair_of near far past))) [] turns
@@ -50,21 +54,22 @@ AllTake near far turns = EachAfter (λ past turn. DoesSo IsTakeable turn.happeni
 -- ---- what is coming
 
 -- the first that is under way is handed over as it is, it is handed over and stays, or it is damaged; the rest comes behind it. Where all
--- comes in whole, it is the first of these.
-pub data Passage (whole : Bool) (end' : End) (pdu : List ℕ) (rest : List (List ℕ)) : Type 0 where
-  Whole : end'.coming ≡ pdu ∷ rest → Passage whole end' pdu rest
-  Again : whole ≡ false → (behind : List (List ℕ)) → end'.coming ≡ pdu ∷ behind → rest ≡ pdu ∷ behind → Passage whole end' pdu rest
-  Other : whole ≡ false → (frame : List ℕ) → end'.coming ≡ frame ∷ rest → IsChange end'.run.value frame pdu → eqb (channel_of pdu) 0x0001 ≡ false → Passage whole end' pdu rest
+-- comes in whole, it is the first of these. The others disturb, which is due once.
+pub data Passage (whole : Bool) (due : ℕ) (end' : End) (pdu : List ℕ) (rest : List (List ℕ)) : Type 0 where
+  Whole : end'.coming ≡ pdu ∷ rest → Passage whole due end' pdu rest
+  Again : whole ≡ false → 1 ≤ due → (behind : List (List ℕ)) → end'.coming ≡ pdu ∷ behind → rest ≡ pdu ∷ behind → Passage whole due end' pdu rest
+  Other : whole ≡ false → 1 ≤ due → (frame : List ℕ) → end'.coming ≡ frame ∷ rest → IsChange end'.run.value frame pdu → eqb (channel_of pdu) 0x0001 ≡ false → Passage whole due end' pdu rest
 
 -- at most one PDU is being handed over
-abbrev pub IsComing : (whole : Bool) → End → (coming rest : List (List ℕ)) → Type 0
-IsComing whole end' [] rest = end'.coming ≡ rest
-IsComing whole end' (pdu ∷ []) rest = Passage whole end' pdu rest
-IsComing whole end' (pdu ∷ other ∷ more) rest = ⊥
+abbrev pub IsComing : (whole : Bool) (due : ℕ) → End → (coming rest : List (List ℕ)) → Type 0
+IsComing whole due end' [] rest = end'.coming ≡ rest
+IsComing whole due end' (pdu ∷ []) rest = Passage whole due end' pdu rest
+IsComing whole due end' (pdu ∷ other ∷ more) rest = ⊥
 
 -- ---- a pair, and what its near end does
 
-pub record PairAt (whole : Bool) (near far : Policy) (one other : List Occurrence) (near_coming near_rest far_coming far_rest : List (List ℕ)) : Type 0 where
+-- its turns disturbed at most so often, with what is due
+pub record PairAt (whole : Bool) (most : ℕ) (near far : Policy) (one other : List Occurrence) (near_coming near_rest far_coming far_rest : List (List ℕ)) : Type 0 where
   pub turns : List Turn
   pub near_is : (pair_of near far turns).near.run ≡ run_of near one
   pub far_is : (pair_of near far turns).far.run ≡ run_of far other
@@ -73,10 +78,14 @@ pub record PairAt (whole : Bool) (near far : Policy) (one other : List Occurrenc
   pub goes : AllGo near far turns
   pub takes : TakesAll near one → TakesAll far other → AllTake near far turns
   pub kept : AllKept whole turns
-  pub near_comes : IsComing whole (pair_of near far turns).near near_coming near_rest
-  pub far_comes : IsComing whole (pair_of near far turns).far far_coming far_rest
+  pub near_due : ℕ
+  pub far_due : ℕ
+  pub near_comes : IsComing whole near_due (pair_of near far turns).near near_coming near_rest
+  pub far_comes : IsComing whole far_due (pair_of near far turns).far far_coming far_rest
+  pub spent : disturbances (new_pair near far) turns + (near_due + far_due) ≤ most
 
-pub record Step (whole : Bool) (mine : Policy) (list later : List Occurrence) (pair : Pair) (coming rest far_coming far_rest : List (List ℕ)) : Type 0 where
+-- what was due before, and how much more is spent
+pub record Step (whole : Bool) (extra before : ℕ) (mine : Policy) (list later : List Occurrence) (pair : Pair) (coming rest far_coming far_rest : List (List ℕ)) : Type 0 where
   pub happening : Happening
   pub next : Pair
   pub is : happens_near happening pair ≡ next
@@ -86,8 +95,11 @@ pub record Step (whole : Bool) (mine : Policy) (list later : List Occurrence) (p
   pub far_run : next.far.run ≡ pair.far.run
   pub takes : TakesAll mine later → TakesAll mine list × DoesSo IsTakeable happening pair.near
   pub kept : IsKept whole happening
-  pub comes : IsComing whole next.near coming rest
-  pub far_comes : IsComing whole next.far far_coming far_rest
+  pub due : ℕ
+  pub far_due : ℕ
+  pub comes : IsComing whole due next.near coming rest
+  pub far_comes : IsComing whole far_due next.far far_coming far_rest
+  pub cost : disturbs happening pair + (due + far_due) ≤ extra + before
 
 -- ---- lists of what happened
 
@@ -115,11 +127,42 @@ kept_more : (whole : Bool) (turns : List Turn) (turn : Turn) → AllKept whole t
 kept_more whole [] turn all here = (here, tt)
 kept_more whole (first ∷ turns) turn all here = (all.0, kept_more whole turns turn all.1 here)
 
-pub new_at : (whole : Bool) (near far : Policy) → PairAt whole near far [] [] [] [] [] []
-new_at whole near far = record { turns = []; near_is = refl; far_is = refl; near_list = refl; far_list = refl; goes = tt; takes = λ mine theirs. tt; kept = tt; near_comes = refl; far_comes = refl }
+-- what disturbs does so whichever end is the near one
+quiet_turned : (pair : Pair) → is_quiet (turned pair) ≡ is_quiet pair
+quiet_turned pair =
+    by (eqb (length pair.near.coming) 0) (eqb (length pair.far.coming) 0) (not (list_any is_answer pair.near.run.value.queue)) (not (list_any is_answer pair.far.run.value.queue))
+  where
+    by : (a b c d : Bool) → ((b && a) && (d && c)) ≡ ((a && b) && (c && d))
+    by true true true true = refl
+    by true true true false = refl
+    by true true false true = refl
+    by true true false false = refl
+    by true false c d = refl
+    by false true c d = refl
+    by false false c d = refl
 
-near_on : (whole : Bool) (near far : Policy) (one later other : List Occurrence) (c r c' r' d s d' s' : List (List ℕ)) (p : PairAt whole near far one other c r c' r') → Step whole near one later (pair_of near far p.turns) d s d' s' → PairAt whole near far later other d s d' s'
-near_on whole near far one later other c r c' r' d s d' s' p step =
+disturbs_turned : (happening : Happening) (pair : Pair) → disturbs happening (turned pair) ≡ disturbs happening pair
+disturbs_turned (Acts occurrence) pair = ap (λ (b : Bool). one_if (is_firing occurrence && not b)) (quiet_turned pair)
+disturbs_turned (Puts pdu) pair = refl
+disturbs_turned Takes pair = refl
+disturbs_turned Repeats pair = refl
+disturbs_turned Loses pair = refl
+disturbs_turned (Damages pdu) pair = refl
+
+disturbances_more : (pair : Pair) (turns : List Turn) (turn : Turn) → disturbances pair (turns ++ turn ∷ []) ≡ disturbances pair turns + disturbs turn.happening (fold pair_after pair turns)
+disturbances_more pair [] turn = omega arith
+disturbances_more pair (first ∷ turns) turn = let later = disturbances_more (pair_after pair first) turns turn in omega (arith, later)
+
+spends : (near far : Policy) (turns : List Turn) (turn : Turn) (most m extra before after : ℕ) → extra + most ≤ m → disturbances (new_pair near far) turns + before ≤ most → disturbs turn.happening (pair_of near far turns) + after ≤ extra + before
+    → disturbances (new_pair near far) (turns ++ turn ∷ []) + after ≤ m
+spends near far turns turn most m extra before after more spent cost = let whole = disturbances_more (new_pair near far) turns turn in omega (arith, more, spent, cost, whole)
+
+pub new_at : (whole : Bool) (most : ℕ) (near far : Policy) → PairAt whole most near far [] [] [] [] [] []
+new_at whole most near far = record { turns = []; near_is = refl; far_is = refl; near_list = refl; far_list = refl; goes = tt; takes = λ mine theirs. tt; kept = tt; near_due = 0; far_due = 0; near_comes = refl; far_comes = refl; spent = omega arith }
+
+near_on : (whole : Bool) (most m extra : ℕ) (near far : Policy) (one later other : List Occurrence) (c r c' r' d s d' s' : List (List ℕ)) (p : PairAt whole most near far one other c r c' r') → extra + most ≤ m → Step whole extra (p.near_due + p.far_due) near one later (pair_of near far p.turns) d s d' s'
+    → PairAt whole m near far later other d s d' s'
+near_on whole most m extra near far one later other c r c' r' d s d' s' p more step =
     let turn : Turn = record { side = Near; happening = step.happening } in
     let after : pair_of near far (p.turns ++ turn ∷ []) ≡ step.next = fold-append pair_after (new_pair near far) p.turns (turn ∷ []) ∙ step.is in
     record {
@@ -131,12 +174,16 @@ near_on whole near far one later other c r c' r' d s d' s' p step =
       goes = each_after-more (λ past turn. Goes turn.happening (end_at turn.side (pair_of near far past))) p.turns turn p.goes step.goes;
       takes = λ mine theirs. let took = step.takes mine in each_after-more (λ past turn. DoesSo IsTakeable turn.happening (end_at turn.side (pair_of near far past))) p.turns turn (p.takes took.0 theirs) took.1;
       kept = kept_more whole p.turns turn p.kept step.kept;
-      near_comes = subst (λ (q : Pair). IsComing whole q.near d s) (sym after) step.comes;
-      far_comes = subst (λ (q : Pair). IsComing whole q.far d' s') (sym after) step.far_comes;
+      near_due = step.due;
+      far_due = step.far_due;
+      near_comes = subst (λ (q : Pair). IsComing whole step.due q.near d s) (sym after) step.comes;
+      far_comes = subst (λ (q : Pair). IsComing whole step.far_due q.far d' s') (sym after) step.far_comes;
+      spent = spends near far p.turns turn most m extra (p.near_due + p.far_due) (step.due + step.far_due) more p.spent step.cost;
     }
 
-far_on : (whole : Bool) (near far : Policy) (one other later : List Occurrence) (c r c' r' d s d' s' : List (List ℕ)) (p : PairAt whole near far one other c r c' r') → Step whole far other later (turned (pair_of near far p.turns)) d' s' d s → PairAt whole near far one later d s d' s'
-far_on whole near far one other later c r c' r' d s d' s' p step =
+far_on : (whole : Bool) (most m extra : ℕ) (near far : Policy) (one other later : List Occurrence) (c r c' r' d s d' s' : List (List ℕ)) (p : PairAt whole most near far one other c r c' r') → extra + most ≤ m → Step whole extra (p.far_due + p.near_due) far other later (turned (pair_of near far p.turns)) d' s' d s
+    → PairAt whole m near far one later d s d' s'
+far_on whole most m extra near far one other later c r c' r' d s d' s' p more step =
     let turn : Turn = record { side = Far; happening = step.happening } in
     let after : pair_of near far (p.turns ++ turn ∷ []) ≡ turned step.next = fold-append pair_after (new_pair near far) p.turns (turn ∷ []) ∙ ap turned step.is in
     record {
@@ -148,49 +195,87 @@ far_on whole near far one other later c r c' r' d s d' s' p step =
       goes = each_after-more (λ past turn. Goes turn.happening (end_at turn.side (pair_of near far past))) p.turns turn p.goes step.goes;
       takes = λ mine theirs. let took = step.takes theirs in each_after-more (λ past turn. DoesSo IsTakeable turn.happening (end_at turn.side (pair_of near far past))) p.turns turn (p.takes mine took.0) took.1;
       kept = kept_more whole p.turns turn p.kept step.kept;
-      near_comes = subst (λ (q : Pair). IsComing whole q.near d s) (sym after) step.far_comes;
-      far_comes = subst (λ (q : Pair). IsComing whole q.far d' s') (sym after) step.comes;
+      near_due = step.far_due;
+      far_due = step.due;
+      near_comes = subst (λ (q : Pair). IsComing whole step.far_due q.near d s) (sym after) step.far_comes;
+      far_comes = subst (λ (q : Pair). IsComing whole step.due q.far d' s') (sym after) step.comes;
+      spent =
+          let same = disturbs_turned step.happening (pair_of near far p.turns) in
+          let so_far = p.spent in
+          let cost = step.cost in
+          spends near far p.turns turn most m extra (p.near_due + p.far_due) (step.far_due + step.due) more so_far (omega (arith, same, cost));
     }
 
 -- ---- from either end
 
--- as the host at one side has it, where all that is under way comes in whole, or maybe not
+-- as the host at one side has it, where all that is under way comes in whole, or maybe not, and so many turns disturb at most
 pub data View : Type 0 where
-  NearBy : (whole : Bool) → View
-  FarBy : (whole : Bool) → View
+  NearBy : (whole : Bool) (most : ℕ) → View
+  FarBy : (whole : Bool) (most : ℕ) → View
 
 abbrev pub whole_of : View → Bool
-whole_of (NearBy whole) = whole
-whole_of (FarBy whole) = whole
+whole_of (NearBy whole most) = whole
+whole_of (FarBy whole most) = whole
+
+abbrev pub most_of : View → ℕ
+most_of (NearBy whole most) = most
+most_of (FarBy whole most) = most
+
+abbrev pub with_most : ℕ → View → View
+with_most m (NearBy whole most) = NearBy whole m
+with_most m (FarBy whole most) = FarBy whole m
 
 abbrev pub PairFrom : View → (mine theirs : Policy) (list other : List Occurrence) (coming rest far_coming far_rest : List (List ℕ)) → Type 0
-PairFrom (NearBy whole) mine theirs list other coming rest far_coming far_rest = PairAt whole mine theirs list other coming rest far_coming far_rest
-PairFrom (FarBy whole) mine theirs list other coming rest far_coming far_rest = PairAt whole theirs mine other list far_coming far_rest coming rest
+PairFrom (NearBy whole most) mine theirs list other coming rest far_coming far_rest = PairAt whole most mine theirs list other coming rest far_coming far_rest
+PairFrom (FarBy whole most) mine theirs list other coming rest far_coming far_rest = PairAt whole most theirs mine other list far_coming far_rest coming rest
+
+richer_at : (whole : Bool) (most m : ℕ) (near far : Policy) (one other : List Occurrence) (c r c' r' : List (List ℕ)) → most ≤ m → PairAt whole most near far one other c r c' r' → PairAt whole m near far one other c r c' r'
+richer_at whole most m near far one other c r c' r' more p =
+    let spent = p.spent in
+    record { turns = p.turns; near_is = p.near_is; far_is = p.far_is; near_list = p.near_list; far_list = p.far_list; goes = p.goes; takes = p.takes; kept = p.kept; near_due = p.near_due; far_due = p.far_due; near_comes = p.near_comes; far_comes = p.far_comes; spent = omega (arith, spent, more) }
+
+-- more may be spent
+pub richer : (side : View) (m : ℕ) (mine theirs : Policy) (list other : List Occurrence) (c r c' r' : List (List ℕ)) → most_of side ≤ m → PairFrom side mine theirs list other c r c' r' → PairFrom (with_most m side) mine theirs list other c r c' r'
+richer (NearBy whole most) m mine theirs list other c r c' r' more p = richer_at whole most m mine theirs list other c r c' r' more p
+richer (FarBy whole most) m mine theirs list other c r c' r' more p = richer_at whole most m theirs mine other list c' r' c r more p
 
 pub record Faced (side : View) (mine theirs : Policy) (list other : List Occurrence) (coming rest far_coming far_rest : List (List ℕ)) : Type 0 where
   pub pair : Pair
   pub policy_is : pair.near.policy ≡ mine
   pub run_is : pair.near.run ≡ run_of mine list
-  pub comes : IsComing (whole_of side) pair.near coming rest
-  pub far_comes : IsComing (whole_of side) pair.far far_coming far_rest
-  pub on : (later : List Occurrence) (d s d' s' : List (List ℕ)) → Step (whole_of side) mine list later pair d s d' s' → PairFrom side mine theirs later other d s d' s'
+  pub far_run_is : pair.far.run ≡ run_of theirs other
+  pub due : ℕ
+  pub far_due : ℕ
+  pub comes : IsComing (whole_of side) due pair.near coming rest
+  pub far_comes : IsComing (whole_of side) far_due pair.far far_coming far_rest
+  pub on : (later : List Occurrence) (d s d' s' : List (List ℕ)) → Step (whole_of side) 0 (due + far_due) mine list later pair d s d' s' → PairFrom side mine theirs later other d s d' s'
+  -- where more is spent
+  pub on_at : (m extra : ℕ) → extra + most_of side ≤ m → (later : List Occurrence) (d s d' s' : List (List ℕ)) → Step (whole_of side) extra (due + far_due) mine list later pair d s d' s' → PairFrom (with_most m side) mine theirs later other d s d' s'
 
 pub faced : (side : View) (mine theirs : Policy) (list other : List Occurrence) (c r c' r' : List (List ℕ)) → PairFrom side mine theirs list other c r c' r' → Faced side mine theirs list other c r c' r'
-faced (NearBy whole) mine theirs list other c r c' r' p = record {
+faced (NearBy whole most) mine theirs list other c r c' r' p = record {
   pair = pair_of mine theirs p.turns;
   policy_is = end-policy mine theirs p.turns Near;
   run_is = p.near_is;
+  far_run_is = p.far_is;
+  due = p.near_due;
+  far_due = p.far_due;
   comes = p.near_comes;
   far_comes = p.far_comes;
-  on = λ later d s d' s' step. near_on whole mine theirs list later other c r c' r' d s d' s' p step;
+  on = λ later d s d' s' step. near_on whole most most 0 mine theirs list later other c r c' r' d s d' s' p (omega arith) step;
+  on_at = λ m extra more later d s d' s' step. near_on whole most m extra mine theirs list later other c r c' r' d s d' s' p more step;
 }
-faced (FarBy whole) mine theirs list other c r c' r' p = record {
+faced (FarBy whole most) mine theirs list other c r c' r' p = record {
   pair = turned (pair_of theirs mine p.turns);
   policy_is = end-policy theirs mine p.turns Far;
   run_is = p.far_is;
+  far_run_is = p.near_is;
+  due = p.far_due;
+  far_due = p.near_due;
   comes = p.far_comes;
   far_comes = p.near_comes;
-  on = λ later d s d' s' step. far_on whole theirs mine other list later c' r' c r d' s' d s p step;
+  on = λ later d s d' s' step. far_on whole most most 0 theirs mine other list later c' r' c r d' s' d s p (omega arith) step;
+  on_at = λ m extra more later d s d' s' step. far_on whole most m extra theirs mine other list later c' r' c r d' s' d s p more step;
 }
 
 -- ---- what an end does
@@ -209,35 +294,85 @@ takes_one mine end' list one run_is all =
     let parts = each_split (λ past more. IsTakeable more (run_of mine past).value) [] list (one ∷ []) all in (parts.0, subst (λ (r : Run). IsTakeable one r.value) (sym run_is) parts.1.0)
 
 -- something more stands behind all that is coming
-put_behind : (whole : Bool) (end' : End) (pdu : List ℕ) (coming rest : List (List ℕ)) → IsComing whole end' coming rest → IsComing whole (let_go (end'.coming ++ pdu ∷ []) end') coming (rest ++ pdu ∷ [])
-put_behind whole end' pdu [] rest comes = ap (λ (l : List (List ℕ)). l ++ pdu ∷ []) comes
-put_behind whole end' pdu (first ∷ other ∷ more) rest comes = absurd comes
-put_behind whole end' pdu (first ∷ []) rest comes = by comes
+put_behind : (whole : Bool) (due : ℕ) (end' : End) (pdu : List ℕ) (coming rest : List (List ℕ)) → IsComing whole due end' coming rest → IsComing whole due (let_go (end'.coming ++ pdu ∷ []) end') coming (rest ++ pdu ∷ [])
+put_behind whole due end' pdu [] rest comes = ap (λ (l : List (List ℕ)). l ++ pdu ∷ []) comes
+put_behind whole due end' pdu (first ∷ other ∷ more) rest comes = absurd comes
+put_behind whole due end' pdu (first ∷ []) rest comes = by comes
   where
-    by : Passage whole end' first rest → Passage whole (let_go (end'.coming ++ pdu ∷ []) end') first (rest ++ pdu ∷ [])
+    by : Passage whole due end' first rest → Passage whole due (let_go (end'.coming ++ pdu ∷ []) end') first (rest ++ pdu ∷ [])
     by (Whole is) = Whole (ap (λ (l : List (List ℕ)). l ++ pdu ∷ []) is)
-    by (Again broken behind is rest_is) = Again broken (behind ++ pdu ∷ []) (ap (λ (l : List (List ℕ)). l ++ pdu ∷ []) is) (ap (λ (l : List (List ℕ)). l ++ pdu ∷ []) rest_is)
-    by (Other broken frame is change apart) = Other broken frame (ap (λ (l : List (List ℕ)). l ++ pdu ∷ []) is) change apart
+    by (Again broken some behind is rest_is) = Again broken some (behind ++ pdu ∷ []) (ap (λ (l : List (List ℕ)). l ++ pdu ∷ []) is) (ap (λ (l : List (List ℕ)). l ++ pdu ∷ []) rest_is)
+    by (Other broken some frame is change apart) = Other broken some frame (ap (λ (l : List (List ℕ)). l ++ pdu ∷ []) is) change apart
 
 module _ (side : View) (mine theirs : Policy) (list other : List Occurrence) (far_coming far_rest : List (List ℕ)) where
-  -- something that its host does alone
-  pub does-alone : (one : Occurrence) (rest : List (List ℕ)) → is_alone one ≡ true → IsUttered one (run_of mine list).value → PairFrom side mine theirs list other [] rest far_coming far_rest → PairFrom side mine theirs (list ++ one ∷ []) other [] rest far_coming far_rest
-  does-alone one rest alone uttered p =
+  -- something that its host does alone, and no firing
+  pub does-alone : (one : Occurrence) (rest : List (List ℕ)) → is_alone one ≡ true → is_firing one ≡ false → IsUttered one (run_of mine list).value → PairFrom side mine theirs list other [] rest far_coming far_rest → PairFrom side mine theirs (list ++ one ∷ []) other [] rest far_coming far_rest
+  does-alone one rest alone plain uttered p =
       let v = faced side mine theirs list other [] rest far_coming far_rest p in
       let pair = v.pair in
       v.on (list ++ one ∷ []) [] rest far_coming far_rest (record {
         happening = Acts one;
         next = with_near (occurs one pair.near) pair;
         is = ap (λ (b : Bool). if b then with_near (occurs one pair.near) pair else pair) alone;
-        goes = record { fair = subst (λ (r : Run). IsUttered one r.value) (sym v.run_is) uttered; read = tt; addressed = tt; changed = tt };
+        goes = record { fair = subst (λ (r : Run). IsUttered one r.value) (sym v.run_is) uttered; read = tt; addressed = tt; changed = tt; roomy = tt };
         run_is = occurs_is mine pair.near list one v.policy_is v.run_is;
         later_is = ap (λ (b : Bool). list ++ (if b then one ∷ [] else [])) (sym alone);
         far_run = refl;
         takes = takes_one mine pair.near list one v.run_is;
         kept = tt;
+        due = v.due;
+        far_due = v.far_due;
         comes = v.comes;
         far_comes = v.far_comes;
+        cost = let none : disturbs (Acts one) pair ≡ 0 = ap (λ (b : Bool). one_if (b && not (is_quiet pair))) plain in omega (arith, none);
       })
+
+  -- nothing is under way to either, and no answer waits
+  abbrev pub IsStill : (rest : List (List ℕ)) → Type 0
+  IsStill rest = (rest ≡ []) × (far_coming ≡ []) × (far_rest ≡ []) × (list_any is_answer (run_of mine list).value.queue ≡ false) × (list_any is_answer (run_of theirs other).value.queue ≡ false)
+
+  still_quiet : (rest : List (List ℕ)) (v : Faced side mine theirs list other [] rest far_coming far_rest) → IsStill rest → is_quiet v.pair ≡ true
+  still_quiet rest v (none, far_none, far_left, silent, far_silent) =
+      let pair = v.pair in
+      let near_is : pair.near.coming ≡ [] = v.comes ∙ none in
+      let far_is : pair.far.coming ≡ [] = far_empty far_coming v.far_comes far_none ∙ far_left in
+      let near_says : list_any is_answer pair.near.run.value.queue ≡ false = ap (λ (r : Run). list_any is_answer r.value.queue) v.run_is ∙ silent in
+      let far_says : list_any is_answer pair.far.run.value.queue ≡ false = ap (λ (r : Run). list_any is_answer r.value.queue) v.far_run_is ∙ far_silent in
+      ap (λ (c : List (List ℕ)). (eqb (length c) 0 && eqb (length pair.far.coming) 0) && (not (list_any is_answer pair.near.run.value.queue) && not (list_any is_answer pair.far.run.value.queue))) near_is
+      ∙ (ap (λ (c : List (List ℕ)). eqb (length c) 0 && (not (list_any is_answer pair.near.run.value.queue) && not (list_any is_answer pair.far.run.value.queue))) far_is
+      ∙ (ap (λ (b : Bool). not b && not (list_any is_answer pair.far.run.value.queue)) near_says ∙ ap not far_says))
+    where
+      far_empty : (coming : List (List ℕ)) → IsComing (whole_of side) v.far_due v.pair.far coming far_rest → coming ≡ [] → v.pair.far.coming ≡ far_rest
+      far_empty [] comes is = comes
+      far_empty (pdu ∷ coming) comes is = cc
+
+  -- its timer fires: that is free where all is still
+  pub fires-it : (free : Bool) (m : ℕ) (rest : List (List ℕ)) → one_if (not free) + most_of side ≤ m → (free ≡ true → IsStill rest) → PairFrom side mine theirs list other [] rest far_coming far_rest → PairFrom (with_most m side) mine theirs (list ++ Fires ∷ []) other [] rest far_coming far_rest
+  fires-it free m rest more still p =
+      let v = faced side mine theirs list other [] rest far_coming far_rest p in
+      let pair = v.pair in
+      v.on_at m (one_if (not free)) more (list ++ Fires ∷ []) [] rest far_coming far_rest (record {
+        happening = Acts Fires;
+        next = with_near (occurs Fires pair.near) pair;
+        is = refl;
+        goes = record { fair = tt; read = tt; addressed = tt; changed = tt; roomy = tt };
+        run_is = occurs_is mine pair.near list Fires v.policy_is v.run_is;
+        later_is = refl;
+        far_run = refl;
+        takes = takes_one mine pair.near list Fires v.run_is;
+        kept = tt;
+        due = v.due;
+        far_due = v.far_due;
+        comes = v.comes;
+        far_comes = v.far_comes;
+        cost = let least = by free (is_quiet pair) (λ on. still_quiet rest v (still on)) in omega (arith, least);
+      })
+    where
+      by : (free quiet : Bool) → (free ≡ true → quiet ≡ true) → one_if (not quiet) ≤ one_if (not free)
+      by false true so = omega arith
+      by false false so = omega arith
+      by true true so = omega arith
+      by true false so = let never : false ≡ true = so refl in cc
 
   -- it gives its next PDU
   pub puts-it : (pdu : List ℕ) (given : Given) (rest : List (List ℕ)) → next_given (run_of mine list).value ≡ Some given → IsSpelled (Some given) pdu → IsReadAs (Some given) pdu → IsAddressed (Some given) pdu → PairFrom side mine theirs list other [] rest far_coming far_rest
@@ -255,38 +390,46 @@ module _ (side : View) (mine theirs : Policy) (list other : List Occurrence) (fa
           read = subst (λ (g : Option Given). IsReadAs g pdu) (sym gives) read;
           addressed = subst (λ (g : Option Given). IsAddressed g pdu) (sym gives) addressed;
           changed = tt;
+          roomy = tt;
         };
         run_is = occurs_is mine pair.near list (Gives pdu) v.policy_is v.run_is;
         later_is = ap (λ (g : Option Given). list ++ given_as g pdu) (sym gives);
         far_run = refl;
         takes = takes_one mine pair.near list (Gives pdu) v.run_is;
         kept = tt;
+        due = v.due;
+        far_due = v.far_due;
         comes = v.comes;
-        far_comes = put_behind (whole_of side) pair.far pdu far_coming far_rest v.far_comes;
+        far_comes = put_behind (whole_of side) v.far_due pair.far pdu far_coming far_rest v.far_comes;
+        cost = omega arith;
       })
 
   -- the first of what is under way to it is lost
-  pub loses-it : (pdu : List ℕ) (rest : List (List ℕ)) → whole_of side ≡ false → PairFrom side mine theirs list other [] (pdu ∷ rest) far_coming far_rest → PairFrom side mine theirs list other [] rest far_coming far_rest
-  loses-it pdu rest broken p =
+  pub loses-it : (pdu : List ℕ) (m : ℕ) (rest : List (List ℕ)) → 1 + most_of side ≤ m → whole_of side ≡ false → PairFrom side mine theirs list other [] (pdu ∷ rest) far_coming far_rest → PairFrom (with_most m side) mine theirs list other [] rest far_coming far_rest
+  loses-it pdu m rest more broken p =
       let v = faced side mine theirs list other [] (pdu ∷ rest) far_coming far_rest p in
       let pair = v.pair in
-      v.on list [] rest far_coming far_rest (record {
+      v.on_at m 1 more list [] rest far_coming far_rest (record {
         happening = Loses;
         next = with_near (let_go rest pair.near) pair;
         is = ap (λ (l : List (List ℕ)). with_near (loses_first l pair.near) pair) v.comes;
-        goes = record { fair = tt; read = tt; addressed = tt; changed = tt };
+        goes = record { fair = tt; read = tt; addressed = tt; changed = tt; roomy = tt };
         run_is = v.run_is;
         later_is = sym (append-nil list);
         far_run = refl;
         takes = λ all. (all, tt);
         kept = broken;
+        due = v.due;
+        far_due = v.far_due;
         comes = refl;
         far_comes = v.far_comes;
+        cost = omega arith;
       })
 
   comes_on : (pdu : List ℕ) (rest : List (List ℕ)) (v : Faced side mine theirs list other (pdu ∷ []) rest far_coming far_rest) (happening : Happening) (end' : End) → happens_near happening v.pair ≡ with_near (occurs (Comes pdu) end') v.pair → end'.run ≡ v.pair.near.run → end'.policy ≡ v.pair.near.policy
-      → end'.coming ≡ rest → occurs_by happening v.pair.near ≡ Comes pdu ∷ [] → Goes happening v.pair.near → DoesSo IsTakeable happening v.pair.near → IsKept (whole_of side) happening → PairFrom side mine theirs (list ++ Comes pdu ∷ []) other [] rest far_coming far_rest
-  comes_on pdu rest v happening end' is run_is policy_is coming_is happens goes takes kept =
+      → end'.coming ≡ rest → occurs_by happening v.pair.near ≡ Comes pdu ∷ [] → Goes happening v.pair.near → DoesSo IsTakeable happening v.pair.near → IsKept (whole_of side) happening → disturbs happening v.pair ≤ v.due
+      → PairFrom side mine theirs (list ++ Comes pdu ∷ []) other [] rest far_coming far_rest
+  comes_on pdu rest v happening end' is run_is policy_is coming_is happens goes takes kept paid =
       let pair = v.pair in
       v.on (list ++ Comes pdu ∷ []) [] rest far_coming far_rest (record {
         happening = happening;
@@ -298,30 +441,39 @@ module _ (side : View) (mine theirs : Policy) (list other : List Occurrence) (fa
         far_run = refl;
         takes = λ all. ((takes_one mine pair.near list (Comes pdu) v.run_is all).0, takes);
         kept = kept;
+        due = 0;
+        far_due = v.far_due;
         comes = coming_is;
         far_comes = v.far_comes;
+        cost = omega (arith, paid);
       })
 
-  passes_in : (pdu : List ℕ) (rest : List (List ℕ)) (v : Faced side mine theirs list other (pdu ∷ []) rest far_coming far_rest) → Passage (whole_of side) v.pair.near pdu rest → PairFrom side mine theirs (list ++ Comes pdu ∷ []) other [] rest far_coming far_rest
-  passes_in pdu rest v (Whole is) =
-      let pair = v.pair in comes_on pdu rest v Takes (let_go rest pair.near) (ap (λ (l : List (List ℕ)). with_near (takes_first l pair.near) pair) is) refl refl refl (ap first_come is) (record { fair = tt; read = tt; addressed = tt; changed = tt }) tt tt
-  passes_in pdu rest v (Again broken behind is rest_is) =
-      let pair = v.pair in comes_on pdu rest v Repeats pair.near (ap (λ (l : List (List ℕ)). with_near (repeats_first l pair.near) pair) is) refl refl (is ∙ sym rest_is) (ap first_come is) (record { fair = tt; read = tt; addressed = tt; changed = tt }) tt broken
-  passes_in pdu rest v (Other broken frame is change apart) =
+  passes_in : (pdu : List ℕ) (rest : List (List ℕ)) (v : Faced side mine theirs list other (pdu ∷ []) rest far_coming far_rest) → has_room v.pair.near.run.value ≡ true → Passage (whole_of side) v.due v.pair.near pdu rest → PairFrom side mine theirs (list ++ Comes pdu ∷ []) other [] rest far_coming far_rest
+  passes_in pdu rest v room (Whole is) =
+      let pair = v.pair in comes_on pdu rest v Takes (let_go rest pair.near) (ap (λ (l : List (List ℕ)). with_near (takes_first l pair.near) pair) is) refl refl refl (ap first_come is) (record { fair = tt; read = tt; addressed = tt; changed = tt; roomy = room }) tt tt (omega arith)
+  passes_in pdu rest v room (Again broken some behind is rest_is) =
+      let pair = v.pair in comes_on pdu rest v Repeats pair.near (ap (λ (l : List (List ℕ)). with_near (repeats_first l pair.near) pair) is) refl refl (is ∙ sym rest_is) (ap first_come is) (record { fair = tt; read = tt; addressed = tt; changed = tt; roomy = tt }) tt broken some
+  passes_in pdu rest v room (Other broken some frame is change apart) =
       let pair = v.pair in
       comes_on pdu rest v (Damages pdu) (let_go rest pair.near)
       (ap (λ (l : List (List ℕ)). with_near (damages_first pdu l pair.near) pair) is
       ∙ ap (λ (b : Bool). with_near (if b then occurs (Comes pdu) (let_go rest pair.near) else let_go rest pair.near) pair) change.checked)
-      refl refl refl (ap (λ (l : List (List ℕ)). damaged_come pdu l pair.near) is ∙ ap (λ (b : Bool). if b then Comes pdu ∷ [] else []) change.checked) (record { fair = tt; read = apart; addressed = tt; changed = subst (λ (l : List (List ℕ)). IsChangeOfFirst l pair.near.run.value pdu) (sym is) change }) tt broken
+      refl refl refl (ap (λ (l : List (List ℕ)). damaged_come pdu l pair.near) is ∙ ap (λ (b : Bool). if b then Comes pdu ∷ [] else []) change.checked) (record { fair = tt; read = apart; addressed = tt; changed = subst (λ (l : List (List ℕ)). IsChangeOfFirst l pair.near.run.value pdu) (sym is) change; roomy = tt }) tt broken some
 
-  -- what is being handed over to it comes in
-  pub comes-in : (pdu : List ℕ) (rest : List (List ℕ)) → PairFrom side mine theirs list other (pdu ∷ []) rest far_coming far_rest → PairFrom side mine theirs (list ++ Comes pdu ∷ []) other [] rest far_coming far_rest
-  comes-in pdu rest p = let v = faced side mine theirs list other (pdu ∷ []) rest far_coming far_rest p in passes_in pdu rest v v.comes
+  -- what is being handed over to it comes in, where there is room for an answer
+  pub comes-in : (pdu : List ℕ) (rest : List (List ℕ)) → has_room (run_of mine list).value ≡ true → PairFrom side mine theirs list other (pdu ∷ []) rest far_coming far_rest → PairFrom side mine theirs (list ++ Comes pdu ∷ []) other [] rest far_coming far_rest
+  comes-in pdu rest room p = let v = faced side mine theirs list other (pdu ∷ []) rest far_coming far_rest p in passes_in pdu rest v (ap (λ (r : Run). has_room r.value) v.run_is ∙ room) v.comes
 
   -- the first that is under way to it is handed over
-  pub is-handed : (pdu : List ℕ) (before rest : List (List ℕ)) → ((end' : End) → end'.coming ≡ before → end'.run ≡ run_of mine list → Passage (whole_of side) end' pdu rest) → PairFrom side mine theirs list other [] before far_coming far_rest → PairFrom side mine theirs list other (pdu ∷ []) rest far_coming far_rest
-  is-handed pdu before rest passes p = by side passes p
+  pub is-handed : (pdu : List ℕ) (due m : ℕ) (before rest : List (List ℕ)) → due + most_of side ≤ m → ((end' : End) → end'.coming ≡ before → end'.run ≡ run_of mine list → Passage (whole_of side) due end' pdu rest) → PairFrom side mine theirs list other [] before far_coming far_rest
+      → PairFrom (with_most m side) mine theirs list other (pdu ∷ []) rest far_coming far_rest
+  is-handed pdu due m before rest more passes p = by side more passes p
     where
-      by : (which : View) → ((end' : End) → end'.coming ≡ before → end'.run ≡ run_of mine list → Passage (whole_of which) end' pdu rest) → PairFrom which mine theirs list other [] before far_coming far_rest → PairFrom which mine theirs list other (pdu ∷ []) rest far_coming far_rest
-      by (NearBy whole) passed q = record { turns = q.turns; near_is = q.near_is; far_is = q.far_is; near_list = q.near_list; far_list = q.far_list; goes = q.goes; takes = q.takes; kept = q.kept; near_comes = passed (pair_of mine theirs q.turns).near q.near_comes q.near_is; far_comes = q.far_comes }
-      by (FarBy whole) passed q = record { turns = q.turns; near_is = q.near_is; far_is = q.far_is; near_list = q.near_list; far_list = q.far_list; goes = q.goes; takes = q.takes; kept = q.kept; near_comes = q.near_comes; far_comes = passed (pair_of theirs mine q.turns).far q.far_comes q.far_is }
+      by : (which : View) → due + most_of which ≤ m → ((end' : End) → end'.coming ≡ before → end'.run ≡ run_of mine list → Passage (whole_of which) due end' pdu rest) → PairFrom which mine theirs list other [] before far_coming far_rest
+          → PairFrom (with_most m which) mine theirs list other (pdu ∷ []) rest far_coming far_rest
+      by (NearBy whole most) enough passed q =
+          let spent = q.spent in
+          record { turns = q.turns; near_is = q.near_is; far_is = q.far_is; near_list = q.near_list; far_list = q.far_list; goes = q.goes; takes = q.takes; kept = q.kept; near_due = due; far_due = q.far_due; near_comes = passed (pair_of mine theirs q.turns).near q.near_comes q.near_is; far_comes = q.far_comes; spent = omega (arith, spent, enough) }
+      by (FarBy whole most) enough passed q =
+          let spent = q.spent in
+          record { turns = q.turns; near_is = q.near_is; far_is = q.far_is; near_list = q.near_list; far_list = q.far_list; goes = q.goes; takes = q.takes; kept = q.kept; near_due = q.near_due; far_due = due; near_comes = q.near_comes; far_comes = passed (pair_of theirs mine q.turns).far q.far_comes q.far_is; spent = omega (arith, spent, enough) }

@@ -1,14 +1,17 @@
 -- A host of a run, with what happened to its channels on each of its links, and what it does as turns of the pair that it is in.
-use Rattle.std.proofs.Common.{◌≡◌, ℕ, true, false, suc, ◌+◌, List, [], ◌∷◌, ◌++◌, map, length, Some, refl, sym, ap, ap₂, subst, ◌∙◌, append-nil, append_assoc, arith, length-append}
-use Rattle.std.specs.List.{AllByRecursion, flat_map}
+use Rattle.std.proofs.Common.{◌≡◌, ℕ, ◌≤◌, Bool, true, false, not, suc, ◌+◌, List, [], ◌∷◌, ◌++◌, map, length, Some, refl, sym, ap, ap₂, subst, ◌∙◌, append-nil, append_assoc, arith, length-append}
+use Rattle.std.specs.List.{AllByRecursion, flat_map, filter_map, list_any}
 use Rattle.std.proofs.lemmas.List.{map-append}
 use Rattle.std.proofs.lemmas.List.Concat.{flat_map-append}
 use Rattle.acl_fragments.specs.Pieces.{channel_of}
 use Rattle.channel_model.specs.Carrying.{Up as Handed, Nothing, Received}
+use Rattle.channel_model.specs.Changing.{is_answer, has_room}
 use Rattle.channel_model.specs.Hearing as channels
 use Rattle.channel_model.specs.Policies.{Policy}
 use Rattle.channel_model.specs.Value.{Channels, no_channels}
-use Rattle.channel_laws.specs.Runs.{Occurrence, Comes, Gives, Fires, new_link}
+use Rattle.channel_laws.specs.Runs.{Occurrence, Comes, Gives, Fires, new_link, run_of}
+use Rattle.channel_laws.specs.Tries.{one_if}
+use Rattle.channel_laws.proofs.Lasting.{answers_of}
 use Rattle.world_model.specs.Machines.{LinkEvent, News, Linked, Failed, Heard, TimerFired, Cancelled, Opening}
 use Rattle.world_model.specs.Talks.{Talk, Told, Said, Unsent}
 use Rattle.world_model.specs.Carriages.{is_told, landed, linked_by, told}
@@ -19,24 +22,25 @@ use Rattle.host_model.specs.Profiles.{Profile}
 use Rattle.host_model.specs.Machines.{upper}
 use Rattle.host_laws.specs.Acts.{Act, Hears, Says}
 use Rattle.host_laws.specs.Asked.{IsOfLink, BeginsNone, IsWantedAt, up_behind}
-use Rattle.host_laws.specs.Calls.{Asks, values_after}
+use Rattle.host_laws.specs.Calls.{Asks, values_after, outer}
 use Rattle.host_laws.specs.Calm.{IsCalmNews, IsReadFrom}
-use Rattle.host_laws.specs.Feeds.{Feed, Gifts, all_fed, asked_from, tidings_of, brought_by}
+use Rattle.host_laws.specs.Feeds.{Feed, Gifts, Learns, all_fed, asked_from, tidings_of, brought_by}
 use Rattle.host_laws.specs.Lives.{Mark, Occurred, Turned}
 use Rattle.host_laws.specs.OverLinks.{talk_marks}
-use Rattle.host_laws.specs.Seen.{IsCalmAt, IsCalm}
+use Rattle.host_laws.specs.Seen.{IsQuiet, IsCalmAt, IsCalm}
 use Rattle.host_laws.specs.Fed.{feeds_up}
 use Rattle.host_laws.specs.Gifts.{gifts_by, gifts_along}
-use Rattle.host_laws.specs.Woven.{Strand, Gifting, Hearing}
-use Rattle.host_laws.proofs.Gifts.{IsGivenSo, goes-given, turns-given}
-use Rattle.host_laws.proofs.Growing.{calm-both, grows_then, act_gifted, both-begin_none, tells_plain, drives_plain, readies_plain, act_plain}
+use Rattle.host_laws.specs.Woven.{Gifting, Hearing, Learning}
+use Rattle.host_laws.proofs.Growing.{calm-both, grows_then, both-begin_none, tells_plain, drives_plain, readies_plain, act_plain}
 use Rattle.host_laws.proofs.Links.{value_run, drives_told, act_told}
 use Rattle.host_laws.proofs.Living.{goes-on, turns-on}
 use Rattle.host_laws.proofs.OverLinks.{Calmly, goes_calmly, turns_calmly, IsAsked, goes-asked, turns-asked, up_turned}
 use Rattle.host_laws.proofs.Steps.{Grows}
-use Rattle.pair_laws.proofs.Facing.{View, PairFrom, each_split, comes-in}
+use Rattle.pair_laws.proofs.Given.{IsSilent, IsGift, IsServedSo, all_both, goes-served, turns-served, grown_served}
+use Rattle.pair_laws.proofs.Facing.{View, most_of, with_most, PairFrom, each_split, comes-in, fires-it}
 use Rattle.pair_laws.proofs.Walking.{AreMeant, calm-meant, ComesNot, gives_in, outer-gives, outer-comes_not, all_on}
-use Rattle.pair_laws.proofs.Numbered.{ended, Links, DoesMore, does-more, turns-to}
+use Rattle.pair_laws.proofs.Numbered.{ended, Links, DoesMore, does-more, turns-to, fires-over}
+use Rattle.pair_laws.proofs.Silence.{no-answer, silent-room, calm-silent, PassesNone, all-silent, run-silent, outer-passes_none, fires-once}
 
 -- ---- marks
 
@@ -52,24 +56,24 @@ marks_more talk more = flat_map-append talk_marks talk more
 -- ---- a host
 
 -- it lived calmly through what it was told and said, also of what waits; no push began on its links, each came up where its profile was
--- so, and what its ports answered is so
-pub record HostAt {P : Type 0} (A : Profile P) (asks : Asks A) (W : P → Type 0) (G : List Circumstance → Type 0) (e : carriages.End (Host P)) : Type 0 where
+-- so, and all that it had of its ports is so
+pub record HostAt {P : Type 0} (A : Profile P) (asks : Asks A) (W : P → Type 0) (G : Feed → Type 0) (e : carriages.End (Host P)) : Type 0 where
   pub marks : List Mark
   pub so : Calmly A asks marks e.upper
   pub marks_are : marks ≡ marks_of (talk_of e)
   pub asked : IsAsked A asks W marks e.upper so
-  pub given : IsGivenSo A asks G marks e.upper so
+  pub given : IsServedSo A asks G marks e.upper so
   pub up_is : up_behind false so.lives.spans ≡ e.linked
 
 -- and is one end of a pair on each link; the other is on its link of number j
-pub record Held {P T : Type 0} (side : View) (A : Profile P) (asks : Asks A) (W : P → Type 0) (G : List Circumstance → Type 0) (theirs : Policy) (number : ℕ) (e : carriages.End (Host P)) (other : ℕ → List Occurrence) (j : ℕ) (f : carriages.End T) : Type 0 where
+pub record Held {P T : Type 0} (side : View) (A : Profile P) (asks : Asks A) (W : P → Type 0) (G : Feed → Type 0) (theirs : Policy) (number : ℕ) (e : carriages.End (Host P)) (other : ℕ → List Occurrence) (j : ℕ) (f : carriages.End T) : Type 0 where
   pub host : HostAt A asks W G e
   pub level : length host.so.lives.spans + length e.owed ≡ number
   pub links : Links side A.policy theirs host.so.lives.spans host.so.lives.now e other j f
 
 -- ---- what a host does
 
-module _ {P : Type 0} (A : Profile P) (asks : Asks A) (W : P → Type 0) (G : List Circumstance → Type 0) where
+module _ {P : Type 0} (A : Profile P) (asks : Asks A) (W : P → Type 0) (G : Feed → Type 0) (silent : (feed : Feed) → IsSilent feed → G feed) where
   abbrev Calm : Type 0
   Calm = Unit {0}
 
@@ -159,16 +163,51 @@ module _ {P : Type 0} (A : Profile P) (asks : Asks A) (W : P → Type 0) (G : Li
   abbrev grown : (marks : List Mark) (acted : List Occurrence) (e e' : carriages.End (Host P)) → Calmly A asks marks e.upper → Grows A asks Calm acted e.upper e'.upper → e'.upper.channels.events ≡ [] → Calmly A asks (marks ++ map Occurred acted) e'.upper
   grown marks acted e e' so grows told = goes_calmly A asks marks acted e.upper e'.upper so grows told
 
-  -- what it is given is so
-  gives_only : (gifts : List (List Circumstance)) (weave : List Strand) → gifts_along weave ≡ gifts → AllByRecursion G gifts → AllByRecursion G (gifts_along weave)
-  gives_only gifts weave same all = subst (AllByRecursion G) (sym same) all
+  -- where no push begins, all is so where what it is given is
+  gives_only : (acted : List Occurrence) (gifts : List (List Circumstance)) (old new : Host P) (grows : Grows A asks Calm acted old new) → AllByRecursion BeginsNone grows.weave → gifts_along grows.weave ≡ gifts → AllByRecursion (IsGift G silent) gifts
+      → AllByRecursion G grows.feeds
+  gives_only acted gifts old new grows begins same all = grown_served A asks G silent acted old new grows begins (subst (AllByRecursion (IsGift G silent)) (sym same) all)
 
-  -- something happens on its link
-  grows_held : {T : Type 0} (side : View) (theirs : Policy) (number : ℕ) (e e' : carriages.End (Host P)) (other : ℕ → List Occurrence) (j : ℕ) (f : carriages.End T) (acted : List Occurrence) (held : Held side A asks W G theirs number e other j f) (grows : Grows A asks Calm acted e.upper e'.upper)
-      → e'.upper.channels.events ≡ [] → (e.linked ≡ true → AllByRecursion BeginsNone grows.weave) → AllByRecursion G (gifts_along grows.weave) → e'.linked ≡ e.linked → e'.owed ≡ e.owed → held.host.marks ++ map Occurred acted ≡ marks_of (talk_of e')
-      → DoesMore side A.policy theirs (other (length held.host.so.lives.spans)) held.host.so.lives.now (held.host.so.lives.now ++ grows.list) e e' → Held side A asks W G theirs number e' other j f
+  -- a push begins
+  abbrev begun : (gifts : List Circumstance) (name : List ℕ) (host : Host P) → Grows A asks Calm [] host (hears_news A gifts (Opening name) host)
+  begun gifts name host = record {
+    list = [];
+    feeds = Learns gifts (Opening name) ∷ [];
+    channels_are = refl;
+    profile_is = refl;
+    tidings_are = refl;
+    asked_is = refl;
+    acted_is = refl;
+    calm = λ c. tt;
+    weave = Learning gifts (Opening name) ∷ [];
+    woven_is = refl;
+    last_is = refl;
+    on_link = (refl, tt);
+    feeds_are = refl;
+  }
+
+  abbrev all_begun : (gifts : List Circumstance) (name : List ℕ) (host : Host P) → Grows A asks Calm [] host (hear A gifts (Opening name) host)
+  all_begun gifts name host =
+      let mid = ready A gifts host in
+      let opened = hears_news A gifts (Opening name) mid in
+      grows_then A asks Calm [] [] host mid (driven A opened) (readies_plain A asks Calm gifts host).grows (grows_then A asks Calm [] [] mid opened (driven A opened) (begun gifts name mid) (drives_plain A asks Calm most_steps opened).grows)
+
+  begun_so : (gifts : List Circumstance) (name : List ℕ) (host : Host P) → G (Gifts gifts) → G (Learns gifts (Opening name)) → AllByRecursion G (all_begun gifts name host).feeds
+  unfolding grows_then
+  begun_so gifts name host given learnt =
+      let mid = ready A gifts host in
+      let opened = hears_news A gifts (Opening name) mid in
+      let one = readies_plain A asks Calm gifts host in
+      let two = drives_plain A asks Calm most_steps opened in
+      all_both G one.grows.feeds (Learns gifts (Opening name) ∷ two.grows.feeds) (gives_only [] (gifts ∷ []) host mid one.grows one.begins one.gifts_are (given, tt))
+      (learnt, gives_only [] [] opened (driven A opened) two.grows two.begins two.gifts_are tt)
+
+  -- something happened on its link
+  grows_to : {T : Type 0} (side after : View) (theirs : Policy) (number : ℕ) (e e' : carriages.End (Host P)) (other : ℕ → List Occurrence) (j : ℕ) (f : carriages.End T) (acted : List Occurrence) (held : Held side A asks W G theirs number e other j f) (grows : Grows A asks Calm acted e.upper e'.upper)
+      → e'.upper.channels.events ≡ [] → (e.linked ≡ true → AllByRecursion BeginsNone grows.weave) → AllByRecursion G grows.feeds → e'.linked ≡ e.linked → e'.owed ≡ e.owed → held.host.marks ++ map Occurred acted ≡ marks_of (talk_of e')
+      → Links after A.policy theirs held.host.so.lives.spans (held.host.so.lives.now ++ grows.list) e' other j f → Held after A asks W G theirs number e' other j f
   unfolding goes_calmly goes-on
-  grows_held side theirs number e e' other j f acted held grows told begins gives linked owed marks does =
+  grows_to side after theirs number e e' other j f acted held grows told begins gives linked owed marks links =
       let so = held.host.so in
       record {
         host = record {
@@ -176,12 +215,20 @@ module _ {P : Type 0} (A : Profile P) (asks : Asks A) (W : P → Type 0) (G : Li
           so = goes_calmly A asks held.host.marks acted e.upper e'.upper so grows told;
           marks_are = marks;
           asked = goes-asked A asks W held.host.marks acted e.upper e'.upper so grows told (λ up. begins (sym held.host.up_is ∙ up)) held.host.asked;
-          given = goes-given A asks G held.host.marks acted e.upper e'.upper so grows told gives held.host.given;
+          given = goes-served A asks G held.host.marks acted e.upper e'.upper so grows told gives held.host.given;
           up_is = held.host.up_is ∙ sym linked;
         };
         level = ap (λ (l : List LinkEvent). length so.lives.spans + length l) owed ∙ held.level;
-        links = does-more side A.policy theirs so.lives.spans so.lives.now other j f (so.lives.now ++ grows.list) e e' does held.links;
+        links = links;
       }
+
+  -- something happens on its link
+  grows_held : {T : Type 0} (side : View) (theirs : Policy) (number : ℕ) (e e' : carriages.End (Host P)) (other : ℕ → List Occurrence) (j : ℕ) (f : carriages.End T) (acted : List Occurrence) (held : Held side A asks W G theirs number e other j f) (grows : Grows A asks Calm acted e.upper e'.upper)
+      → e'.upper.channels.events ≡ [] → (e.linked ≡ true → AllByRecursion BeginsNone grows.weave) → AllByRecursion G grows.feeds → e'.linked ≡ e.linked → e'.owed ≡ e.owed → held.host.marks ++ map Occurred acted ≡ marks_of (talk_of e')
+      → DoesMore side A.policy theirs (other (length held.host.so.lives.spans)) held.host.so.lives.now (held.host.so.lives.now ++ grows.list) e e' → Held side A asks W G theirs number e' other j f
+  grows_held side theirs number e e' other j f acted held grows told begins gives linked owed marks does =
+      let so = held.host.so in
+      grows_to side side theirs number e e' other j f acted held grows told begins gives linked owed marks (does-more side A.policy theirs so.lives.spans so.lives.now other j f (so.lives.now ++ grows.list) e e' does held.links)
 
   -- ---- it says a PDU, which waits; the first that waits moves
 
@@ -198,7 +245,7 @@ module _ {P : Type 0} (A : Profile P) (asks : Asks A) (W : P → Type 0) (G : Li
       let so = held.host.so in
       let plain = act_plain A asks Calm act e.upper after tt (λ c. calm) next in
       let grows = plain.grows in
-      grows_held side theirs number e e' other j f (Gives pdu ∷ []) held grows (act_told A act e.upper after next so.lives.all_told) (λ on. plain.begins) (gives_only [] grows.weave plain.gifts_are tt) refl refl
+      grows_held side theirs number e e' other j f (Gives pdu ∷ []) held grows (act_told A act e.upper after next so.lives.all_told) (λ on. plain.begins) (gives_only (Gives pdu ∷ []) [] e.upper after grows plain.begins plain.gifts_are tt) refl refl
       (ap (λ (m : List Mark). m ++ Occurred (Gives pdu) ∷ []) held.host.marks_are ∙ said_marks e.talk e.waiting pdu)
       (walks side theirs (other (length so.lives.spans)) held.host.marks (Gives pdu ∷ []) e e' so grows (tt, tt) none none
       (λ far_rest was owed. ap (λ (l : List (List ℕ)). l ++ pdu ∷ []) (was owed) ∙ append_assoc e.queue e.waiting (pdu ∷ [])))
@@ -230,42 +277,91 @@ module _ {P : Type 0} (A : Profile P) (asks : Asks A) (W : P → Type 0) (G : Li
       ∙ (ap (λ (m : List Mark). marks_of talk ++ m) (sym is ∙ sym (append-nil (talk_marks one)))
       ∙ (sym (marks_more talk (one ∷ [])) ∙ (ap marks_of (sym (append-nil (talk ++ one ∷ []))) ∙ ap (λ (w : List (List ℕ)). marks_of ((talk ++ one ∷ []) ++ map Unsent w)) (sym none))))
 
-  news_held : {T : Type 0} (side : View) (theirs : Policy) (number : ℕ) (e : carriages.End (Host P)) (other : ℕ → List Occurrence) (j : ℕ) (f : carriages.End T) (gifts : List Circumstance) (news : News) (acted : List Occurrence) (grows : Grows A asks Calm acted e.upper (hear A gifts news e.upper)) → (e.linked ≡ true → AllByRecursion BeginsNone grows.weave) → gifts_along grows.weave ≡ gifts ∷ [] → G gifts
+  news_held : {T : Type 0} (side : View) (theirs : Policy) (number : ℕ) (e : carriages.End (Host P)) (other : ℕ → List Occurrence) (j : ℕ) (f : carriages.End T) (gifts : List Circumstance) (news : News) (acted : List Occurrence) (grows : Grows A asks Calm acted e.upper (hear A gifts news e.upper)) → (e.linked ≡ true → AllByRecursion BeginsNone grows.weave) → AllByRecursion G grows.feeds
       → AllByRecursion ComesNot acted → gives_in acted ≡ [] → talk_marks (Told news) ≡ map Occurred acted → e.waiting ≡ [] → e.coming ≡ [] → Held side A asks W G theirs number e other j f → Held side A asks W G theirs number (told (upper A) gifts news e) other j f
-  news_held side theirs number e other j f gifts news acted grows begins gives allowed not none is waits coming held =
+  news_held side theirs number e other j f gifts news acted grows begins gives not none is waits coming held =
       let e' = told (upper A) gifts news e in
       let so = held.host.so in
       let act : Act Circumstance = Hears gifts news in
-      grows_held side theirs number e e' other j f acted held grows (act_told A act e.upper e'.upper refl so.lives.all_told) begins (gives_only (gifts ∷ []) grows.weave gives (allowed, tt)) refl refl
+      grows_held side theirs number e e' other j f acted held grows (act_told A act e.upper e'.upper refl so.lives.all_told) begins gives refl refl
       (still_marks held.host.marks e.talk e.waiting (Told news) (map Occurred acted) waits is held.host.marks_are)
       (walks side theirs (other (length so.lives.spans)) held.host.marks acted e e' so grows not coming coming
       (λ far_rest was owed. ap (λ (l : List (List ℕ)). far_rest ++ l) none ∙ (append-nil far_rest ∙ was owed)))
 
-  -- a word, or that a push begins
+  -- a word that fires no timer, or that a push begins
   abbrev pub IsWord : News → Type 0
-  IsWord TimerFired = Unit {0}
   IsWord Cancelled = Unit {0}
   IsWord (Opening name) = Unit {0}
   IsWord news = ⊥
 
-  pub told-held : {T : Type 0} (side : View) (theirs : Policy) (number : ℕ) (e : carriages.End (Host P)) (other : ℕ → List Occurrence) (j : ℕ) (f : carriages.End T) (gifts : List Circumstance) (news : News) → IsWord news → (e.linked ≡ true → IsOfLink news) → IsCalmNews A.policy news e.upper.channels → G gifts → e.waiting ≡ [] → e.coming ≡ []
+  pub told-held : {T : Type 0} (side : View) (theirs : Policy) (number : ℕ) (e : carriages.End (Host P)) (other : ℕ → List Occurrence) (j : ℕ) (f : carriages.End T) (gifts : List Circumstance) (news : News) → IsWord news → (e.linked ≡ true → IsOfLink news) → IsCalmNews A.policy news e.upper.channels → G (Gifts gifts) → G (Learns gifts news) → e.waiting ≡ [] → e.coming ≡ []
       → Held side A asks W G theirs number e other j f → Held side A asks W G theirs number (told (upper A) gifts news e) other j f
-  told-held side theirs number e other j f gifts TimerFired word of calm allowed waits coming held =
-      let plain = act_plain A asks Calm (Hears gifts TimerFired) e.upper (hear A gifts TimerFired e.upper) tt (λ c. calm) refl in
-      news_held side theirs number e other j f gifts TimerFired (Fires ∷ []) plain.grows (λ on. plain.begins) plain.gifts_are allowed (tt, tt) refl refl waits coming held
-  told-held side theirs number e other j f gifts Cancelled word of calm allowed waits coming held =
+  told-held side theirs number e other j f gifts Cancelled word of calm given learnt waits coming held =
       let plain = act_plain A asks Calm (Hears gifts Cancelled) e.upper (hear A gifts Cancelled e.upper) tt (λ c. calm) refl in
-      news_held side theirs number e other j f gifts Cancelled [] plain.grows (λ on. plain.begins) plain.gifts_are allowed tt refl refl waits coming held
-  told-held side theirs number e other j f gifts (Opening name) word of calm allowed waits coming held =
-      let gifted = act_gifted A asks Calm (Hears gifts (Opening name)) e.upper (hear A gifts (Opening name) e.upper) tt (λ c. calm) refl in
-      news_held side theirs number e other j f gifts (Opening name) [] gifted.grows (λ on. absurd (of on)) gifted.gifts_are allowed tt refl refl waits coming held
-  told-held side theirs number e other j f gifts (Linked event) word of calm allowed waits coming held = absurd word
-  told-held side theirs number e other j f gifts (Failed status) word of calm allowed waits coming held = absurd word
-  told-held side theirs number e other j f gifts (Heard pdu) word of calm allowed waits coming held = absurd word
+      news_held side theirs number e other j f gifts Cancelled [] plain.grows (λ on. plain.begins) (gives_only [] (gifts ∷ []) e.upper (hear A gifts Cancelled e.upper) plain.grows plain.begins plain.gifts_are (given, tt)) tt refl refl waits coming held
+  told-held side theirs number e other j f gifts (Opening name) word of calm given learnt waits coming held =
+      news_held side theirs number e other j f gifts (Opening name) [] (all_begun gifts name e.upper) (λ on. absurd (of on)) (begun_so gifts name e.upper given learnt) tt refl refl waits coming held
+  told-held side theirs number e other j f gifts (Linked event) word of calm given learnt waits coming held = absurd word
+  told-held side theirs number e other j f gifts (Failed status) word of calm given learnt waits coming held = absurd word
+  told-held side theirs number e other j f gifts (Heard pdu) word of calm given learnt waits coming held = absurd word
+  told-held side theirs number e other j f gifts TimerFired word of calm given learnt waits coming held = absurd word
+
+  -- ---- its timer fires
+
+  -- no answer waits, where it has nothing to give
+  pub held-silent : (e : carriages.End (Host P)) → HostAt A asks W G e → IsQuiet e.upper.channels → answers_of e.upper.channels.queue ≡ []
+  held-silent e host quiet =
+      let lives = host.so.lives in
+      ap (λ (v : Channels). answers_of v.queue) lives.channels_run
+      ∙ calm-silent A.policy lives.now host.so.now_calm (subst (λ (v : Channels). IsQuiet v) lives.channels_run quiet)
+
+  -- nor does one behind that
+  pub fired-silent : (gifts : List Circumstance) (host : Host P) → IsCalmNews A.policy TimerFired host.channels → answers_of host.channels.queue ≡ [] → answers_of (hear A gifts TimerFired host).channels.queue ≡ []
+  fired-silent gifts host calm silent =
+      let grows = (act_plain A asks Calm (Hears gifts TimerFired) host (hear A gifts TimerFired host) tt (λ c. calm) refl).grows in
+      ap (λ (v : Channels). answers_of v.queue) grows.channels_are
+      ∙ (all-silent A.policy grows.list host.channels (outer-passes_none grows.list (subst (AllByRecursion PassesNone) (sym grows.acted_is) (tt, tt))) ∙ silent)
+
+  -- what else happens then moves nothing
+  walks_still : (side : View) (theirs : Policy) (there now more : List Occurrence) (rest put : List (List ℕ)) → filter_map outer more ≡ [] → AreMeant A.policy now more → PairFrom side A.policy theirs now there [] rest [] put → PairFrom side A.policy theirs (now ++ more) there [] rest [] put
+  walks_still side theirs there now more rest put none meant p =
+      let given : gives_in more ≡ [] = sym (outer-gives more) ∙ ap gives_in none in
+      subst (λ (l : List (List ℕ)). PairFrom side A.policy theirs (now ++ more) there [] rest [] l) (ap (λ (l : List (List ℕ)). put ++ l) given ∙ append-nil put)
+      (all_on side A.policy theirs there rest [] now more put (outer-comes_not more (subst (AllByRecursion ComesNot) (sym none) tt)) meant p)
+
+  pub fires-held : {T : Type 0} (side : View) (m : ℕ) (theirs : Policy) (number : ℕ) (e : carriages.End (Host P)) (other : ℕ → List Occurrence) (j : ℕ) (f : carriages.End T) (gifts : List Circumstance) (free : Bool) → IsCalmNews A.policy TimerFired e.upper.channels → G (Gifts gifts) → e.waiting ≡ [] → e.coming ≡ [] → e.owed ≡ [] → f.owed ≡ [] → f.coming ≡ []
+      → one_if (not free) + most_of side ≤ m → (held : Held side A asks W G theirs number e other j f) → length held.host.so.lives.spans ≡ j
+      → (free ≡ true → (e.queue ≡ []) × (f.queue ++ f.waiting ≡ []) × (list_any is_answer (run_of theirs (other (length held.host.so.lives.spans))).value.queue ≡ false)) → Held (with_most m side) A asks W G theirs number (told (upper A) gifts TimerFired e) other j f
+  fires-held side m theirs number e other j f gifts free calm allowed waits coming owed far_owed far_coming more held level still =
+      let e' = told (upper A) gifts TimerFired e in
+      let so = held.host.so in
+      let now = so.lives.now in
+      let there = other (length so.lives.spans) in
+      let rest = f.queue ++ f.waiting in
+      let put = e.queue ++ e.waiting in
+      let act : Act Circumstance = Hears gifts TimerFired in
+      let plain = act_plain A asks Calm act e.upper (hear A gifts TimerFired e.upper) tt (λ c. calm) refl in
+      let grows = plain.grows in
+      let once = fires-once grows.list grows.acted_is in
+      let meant : AreMeant A.policy now (once.front ++ Fires ∷ once.behind) = subst (λ (l : List Occurrence). AreMeant A.policy now l) once.is (grown_meant held.host.marks (Fires ∷ []) e.upper e'.upper so grows) in
+      let parts = each_split _ now once.front (Fires ∷ once.behind) meant in
+      let front = now ++ once.front in
+      let silent : list_any is_answer (run_of A.policy front).value.queue ≡ false = no-answer (run_of A.policy front).value.queue (run-silent A.policy now once.front (outer-passes_none once.front (subst (AllByRecursion PassesNone) (sym once.none_front) tt))
+      (ap (λ (v : Channels). answers_of v.queue) (sym so.lives.channels_run) ∙ held-silent e held.host calm.0)) in
+      let all_fires : PairFrom side A.policy theirs now there [] rest [] put → PairFrom (with_most m side) A.policy theirs (now ++ grows.list) there [] rest [] put
+      = λ p. subst (λ (l : List Occurrence). PairFrom (with_most m side) A.policy theirs l there [] rest [] put) (append_assoc front (Fires ∷ []) once.behind ∙ (append_assoc now once.front (Fires ∷ once.behind) ∙ ap (λ (l : List Occurrence). now ++ l) (sym once.is)))
+      (walks_still (with_most m side) theirs there (front ++ Fires ∷ []) once.behind rest put once.none_behind parts.1.1
+      (fires-it side A.policy theirs front there [] put free m rest more
+      (λ on. let so_still = still on in (so_still.1, refl, ap (λ (l : List (List ℕ)). l ++ e.waiting) so_still.0 ∙ waits, silent, so_still.2))
+      (walks_still side theirs there now once.front rest put once.none_front parts.0 p))) in
+      let enough : most_of side ≤ m = omega (arith, more) in
+      grows_to side (with_most m side) theirs number e e' other j f (Fires ∷ []) held grows (act_told A act e.upper e'.upper refl so.lives.all_told) (λ on. plain.begins) (gives_only (Fires ∷ []) (gifts ∷ []) e.upper e'.upper grows plain.begins plain.gifts_are (allowed, tt)) refl refl
+      (still_marks held.host.marks e.talk e.waiting (Told TimerFired) (Occurred Fires ∷ []) waits refl held.host.marks_are)
+      (fires-over side m A.policy theirs so.lives.spans now (now ++ grows.list) other j e e' f level owed far_owed coming coming far_coming enough refl all_fires held.links)
 
   -- ---- a PDU comes in
 
-  pub hears-held : {T : Type 0} (side : View) (theirs : Policy) (number : ℕ) (e : carriages.End (Host P)) (other : ℕ → List Occurrence) (j : ℕ) (f : carriages.End T) (gifts : List Circumstance) (pdu : List ℕ) → IsCalmNews A.policy (Heard pdu) e.upper.channels → G gifts → e.waiting ≡ [] → e.coming ≡ pdu ∷ []
+  pub hears-held : {T : Type 0} (side : View) (theirs : Policy) (number : ℕ) (e : carriages.End (Host P)) (other : ℕ → List Occurrence) (j : ℕ) (f : carriages.End T) (gifts : List Circumstance) (pdu : List ℕ) → IsCalmNews A.policy (Heard pdu) e.upper.channels → G (Gifts gifts) → e.waiting ≡ [] → e.coming ≡ pdu ∷ []
       → Held side A asks W G theirs number e other j f → Held side A asks W G theirs number (record e { upper = (upper A).hear gifts (Heard pdu) e.upper; coming = []; talk = e.talk ++ Told (Heard pdu) ∷ [] }) other j f
   hears-held side theirs number e other j f gifts pdu calm allowed waits coming held =
       let e' : carriages.End (Host P) = record e { upper = (upper A).hear gifts (Heard pdu) e.upper; coming = []; talk = e.talk ++ Told (Heard pdu) ∷ [] } in
@@ -278,10 +374,11 @@ module _ {P : Type 0} (A : Profile P) (asks : Asks A) (W : P → Type 0) (G : Li
       let list_is : grows.list ≡ Comes pdu ∷ then'.list = heard_list gifts pdu e.upper calm in
       let meant : AreMeant A.policy now (Comes pdu ∷ then'.list) = subst (λ (l : List Occurrence). AreMeant A.policy now l) list_is (grown_meant held.host.marks (Comes pdu ∷ []) e.upper e'.upper so grows) in
       let none : gives_in then'.list ≡ [] = sym (outer-gives then'.list) ∙ ap gives_in then'.acted_is in
-      grows_held side theirs number e e' other j f (Comes pdu ∷ []) held grows (act_told A act e.upper e'.upper refl so.lives.all_told) (λ on. heard_begins gifts pdu e.upper calm) (gives_only (gifts ∷ []) grows.weave (heard_gifts gifts pdu e.upper calm) (allowed, tt)) refl refl
+      grows_held side theirs number e e' other j f (Comes pdu ∷ []) held grows (act_told A act e.upper e'.upper refl so.lives.all_told) (λ on. heard_begins gifts pdu e.upper calm) (gives_only (Comes pdu ∷ []) (gifts ∷ []) e.upper e'.upper grows (heard_begins gifts pdu e.upper calm) (heard_gifts gifts pdu e.upper calm) (allowed, tt)) refl refl
       (still_marks held.host.marks e.talk e.waiting (Told (Heard pdu)) (Occurred (Comes pdu) ∷ []) waits refl held.host.marks_are)
       (λ rest far_coming far_rest p.
-      let heard = comes-in side A.policy theirs now there far_coming far_rest pdu rest (subst (λ (c : List (List ℕ)). PairFrom side A.policy theirs now there c rest far_coming far_rest) coming p) in
+      let room : has_room (run_of A.policy now).value ≡ true = silent-room (run_of A.policy now).value (ap (λ (v : Channels). answers_of v.queue) (sym so.lives.channels_run) ∙ held-silent e held.host calm.0) in
+      let heard = comes-in side A.policy theirs now there far_coming far_rest pdu rest room (subst (λ (c : List (List ℕ)). PairFrom side A.policy theirs now there c rest far_coming far_rest) coming p) in
       let all = all_on side A.policy theirs there rest far_coming (now ++ Comes pdu ∷ []) then'.list far_rest (outer-comes_not then'.list (subst (AllByRecursion ComesNot) (sym then'.acted_is) tt)) meant.1 heard in
       record {
         after = far_rest ++ gives_in then'.list;
@@ -298,7 +395,7 @@ module _ {P : Type 0} (A : Profile P) (asks : Asks A) (W : P → Type 0) (G : Li
       ∙ (sym (marks_more (talk ++ map Unsent waiting) (Told (Linked event) ∷ []))
       ∙ (ap marks_of (append_assoc talk (map Unsent waiting) (Told (Linked event) ∷ [])) ∙ ap marks_of (sym (append-nil (talk ++ (map Unsent waiting ++ Told (Linked event) ∷ [])))))))
 
-  pub turns-held : {T : Type 0} (side : View) (theirs : Policy) (number : ℕ) (e : carriages.End (Host P)) (other : ℕ → List Occurrence) (j : ℕ) (f : carriages.End T) (gifts : List Circumstance) (event : LinkEvent) (more : List LinkEvent) → e.owed ≡ event ∷ more → IsWantedAt W event (A.given gifts e.upper.profile) → G gifts → e.coming ≡ [] → e.queue ≡ []
+  pub turns-held : {T : Type 0} (side : View) (theirs : Policy) (number : ℕ) (e : carriages.End (Host P)) (other : ℕ → List Occurrence) (j : ℕ) (f : carriages.End T) (gifts : List Circumstance) (event : LinkEvent) (more : List LinkEvent) → e.owed ≡ event ∷ more → IsWantedAt W event (A.given gifts e.upper.profile) → G (Gifts gifts) → e.coming ≡ [] → e.queue ≡ []
       → Held side A asks W G theirs number e other j f → Held side A asks W G theirs number (is_told (upper A) gifts event more e) other j f
   unfolding goes_calmly goes-on turns_calmly turns-on
   turns-held {T} side theirs number e other j f gifts event more owed wanted allowed coming queue held =
@@ -336,8 +433,8 @@ module _ {P : Type 0} (A : Profile P) (asks : Asks A) (W : P → Type 0) (G : Li
           marks_are = turned_marks marks e.talk e.waiting event held.host.marks_are;
           asked = goes-asked A asks W ((marks ++ []) ++ Turned event ∷ []) [] after (driven A after) turned two (drives_told A most_steps after turned.lives.all_told) (λ up. two_plain.begins)
               (turns-asked A asks W (marks ++ []) event gifts mid readied wanted (goes-asked A asks W marks [] e.upper mid so one so.lives.all_told (λ up. one_plain.begins) held.host.asked));
-          given = goes-given A asks G ((marks ++ []) ++ Turned event ∷ []) [] after (driven A after) turned two (drives_told A most_steps after turned.lives.all_told) (gives_only [] two.weave two_plain.gifts_are tt)
-              (turns-given A asks G (marks ++ []) event gifts mid readied (goes-given A asks G marks [] e.upper mid so one so.lives.all_told (gives_only (gifts ∷ []) one.weave one_plain.gifts_are (allowed, tt)) held.host.given));
+          given = goes-served A asks G ((marks ++ []) ++ Turned event ∷ []) [] after (driven A after) turned two (drives_told A most_steps after turned.lives.all_told) (gives_only [] [] after (driven A after) two two_plain.begins two_plain.gifts_are tt)
+              (turns-served A asks G silent (marks ++ []) event gifts mid readied (goes-served A asks G marks [] e.upper mid so one so.lives.all_told (gives_only [] (gifts ∷ []) e.upper mid one one_plain.begins one_plain.gifts_are (allowed, tt)) held.host.given));
           up_is = up_turned false spans (ended now event);
         };
         level = omega arith;

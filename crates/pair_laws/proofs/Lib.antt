@@ -2,6 +2,7 @@ pub mod Facing
 pub mod Walking
 pub mod Numbered
 pub mod Abreast
+pub mod Silence
 pub mod Awaiting
 pub mod Hosting
 pub mod Meeting
@@ -15,3 +16,5 @@ pub mod Seeing
 pub mod Whole
 pub mod Fronts
 pub mod PlainPipes
+pub mod Paying
+pub mod Given

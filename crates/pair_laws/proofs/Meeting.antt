@@ -1,5 +1,5 @@
 -- What becomes of a frame at its receiver, as turns of their pair.
-use Rattle.std.proofs.Common.{◌≡◌, ◌≢◌, ℕ, ◌+◌, ◌≤◌, ◌<◌, Bool, true, false, nat_lt, List, [], ◌∷◌, ◌++◌, length, Option, Some, None, refl, sym, ap, ◌∙◌, ltb-true, if◌then◌else◌}
+use Rattle.std.proofs.Common.{◌≡◌, ◌≢◌, ℕ, ◌+◌, ◌≤◌, ◌<◌, Bool, true, false, nat_lt, List, [], ◌∷◌, ◌++◌, length, Option, Some, None, refl, sym, ap, ◌∙◌, ltb-true, if◌then◌else◌, arith}
 use Rattle.std.specs.List.{AllByRecursion}
 use Rattle.std.proofs.lemmas.Bool.{ne_eqb}
 use Rattle.acl_fragments.specs.Pieces.{channel_of}
@@ -10,7 +10,7 @@ use Rattle.push_terms.specs.declared.word.Way.TheVariants.{Ab, Ba}
 use Rattle.push_terms.specs.declared.word.Word.{Word}
 use Rattle.push_terms.specs.declared.word.Word.TheVariants.{Pass, Lose, Repeat, Damage, Cut, Timer, Drop, Cancel}
 use Rattle.radio_air.specs.declared.deed.Deed.{Deed}
-use Rattle.radio_air.specs.declared.deed.Deed.TheVariants.{Nothing, Meets, Breaks}
+use Rattle.radio_air.specs.declared.deed.Deed.TheVariants.{Nothing, Meets, Fires, FiresBoth, Breaks, Cancels}
 use Rattle.radio_air.specs.declared.fate.Fate.{Fate}
 use Rattle.radio_air.specs.declared.fate.Fate.TheVariants.{Delivered, Lost, Repeated, CutOff, Changed}
 use Rattle.radio_air.specs.Fates.{changed, meets, comes_of, first_can_meet}
@@ -20,7 +20,9 @@ use Rattle.channel_model.specs.Calls.{has_fcs}
 use Rattle.channel_model.specs.Policies.{Policy}
 use Rattle.channel_laws.specs.Runs.{Occurrence, Run, run_of}
 use Rattle.scenario_laws.proofs.Taming.{changed-channel}
-use Rattle.pair_laws.proofs.Facing.{View, whole_of, Whole, Again, Other, PairFrom, loses-it, is-handed}
+use Rattle.channel_laws.specs.Tries.{one_if}
+use Rattle.pair_laws.specs.Costs.{is_adverse}
+use Rattle.pair_laws.proofs.Facing.{View, whole_of, most_of, with_most, Whole, Again, Other, PairFrom, loses-it, is-handed}
 
 -- ---- what a word does to a frame
 
@@ -40,10 +42,29 @@ IsRight whole (CutOff count) frames = whole ≡ false
 IsRight whole (Changed place mask) [] = whole ≡ false
 IsRight whole (Changed place mask) (frame ∷ rest) = (whole ≡ false) × IsWithin place mask frame
 
+-- both timers fire at a time only where nothing is in the air
 abbrev pub IsRightDeed : (whole : Bool) → Deed → (ab ba : List (List ℕ)) → Type 0
 IsRightDeed whole (Meets Ab fate) ab ba = IsRight whole fate ab
 IsRightDeed whole (Meets Ba fate) ab ba = IsRight whole fate ba
+IsRightDeed whole FiresBoth ab ba = (ab ≡ []) × (ba ≡ [])
 IsRightDeed whole deed ab ba = Unit {0}
+
+-- a fate disturbs that does not hand a frame over as it is
+abbrev pub fate_cost : Fate → ℕ
+fate_cost Delivered = 0
+fate_cost Lost = 1
+fate_cost Repeated = 1
+fate_cost (CutOff count) = 1
+fate_cost (Changed place mask) = 1
+
+-- and so does a timer that fires alone
+abbrev pub deed_cost : Deed → ℕ
+deed_cost Nothing = 0
+deed_cost (Meets way fate) = fate_cost fate
+deed_cost (Fires side) = 1
+deed_cost FiresBoth = 0
+deed_cost Breaks = 0
+deed_cost Cancels = 0
 
 -- a doing whose words lose, repeat and damage nothing, where all comes in whole
 abbrev pub IsGentle : (whole : Bool) → Doing → Type 0
@@ -95,12 +116,15 @@ module _ (whole : Bool) where
   on_right Ab fate ab ba asked = (first_right fate ab ba asked).0
   on_right Ba fate ab ba asked = (first_right fate ab ba asked).1
 
-  passing_right : (on : Option Way) (ab ba : List (List ℕ)) → IsRightDeed whole (passing on ab ba) ab ba
-  passing_right None ab ba = tt
-  passing_right (Some way) ab ba = on_right way Delivered ab ba tt
+  passing_right : (on served : Option Way) (ab ba : List (List ℕ)) → way_served served ab ba ≡ on → IsRightDeed whole (passing on ab ba) ab ba
+  passing_right None served [] [] is = (refl, refl)
+  passing_right None served (frame ∷ ab) [] is = cc
+  passing_right None served [] (frame ∷ ba) is = cc
+  passing_right None served (frame ∷ ab) (other ∷ ba) is = cc
+  passing_right (Some way) served ab ba is = on_right way Delivered ab ba tt
 
   pub word-right : (word : Word) (served : Option Way) (ab ba : List (List ℕ)) (linked : Bool) → IsWord word → (whole ≡ true → is_lossy word ≡ false) → IsRightDeed whole (deed_of word served ab ba linked) ab ba
-  word-right Pass served ab ba linked is gentle = passing_right (way_served served ab ba) ab ba
+  word-right Pass served ab ba linked is gentle = passing_right (way_served served ab ba) served ab ba refl
   word-right (Lose way) served ab ba linked is gentle = on_right way Lost ab ba (broken_by whole gentle)
   word-right (Repeat way) served ab ba linked is gentle = on_right way Repeated ab ba (broken_by whole gentle)
   word-right (Damage way place mask) served ab ba linked is gentle = on_right way (Changed place mask) ab ba (broken_by whole gentle, is.0, is.2, is.3)
@@ -113,36 +137,68 @@ module _ (whole : Bool) where
       by false = tt
   word-right Cancel served ab ba linked is gentle = tt
 
--- ---- at its receiver
+-- ---- what a word costs
 
-module _ (side : View) (mine theirs : Policy) (now there : List Occurrence) (waits far_coming far_rest : List (List ℕ)) where
+one_first : (which : Bool) (way : Way) (fate : Fate) → deed_cost (if which then Meets way fate else Nothing) ≤ fate_cost fate
+one_first true way fate = omega arith
+one_first false way fate = omega arith
+
+on_cost : (way : Way) (fate : Fate) (ab ba : List (List ℕ)) → deed_cost (meets_on way fate ab ba) ≤ fate_cost fate
+on_cost Ab fate ab ba = one_first (first_can_meet fate ab (length ba)) Ab fate
+on_cost Ba fate ab ba = one_first (first_can_meet fate ba (length ab)) Ba fate
+
+passing_cost : (on : Option Way) (ab ba : List (List ℕ)) → deed_cost (passing on ab ba) ≤ 0
+passing_cost None ab ba = omega arith
+passing_cost (Some way) ab ba = on_cost way Delivered ab ba
+
+pub word-cost : (word : Word) (served : Option Way) (ab ba : List (List ℕ)) (linked : Bool) → deed_cost (deed_of word served ab ba linked) ≤ one_if (is_adverse word)
+word-cost Pass served ab ba linked = passing_cost (way_served served ab ba) ab ba
+word-cost (Lose way) served ab ba linked = on_cost way Lost ab ba
+word-cost (Repeat way) served ab ba linked = on_cost way Repeated ab ba
+word-cost (Damage way place mask) served ab ba linked = on_cost way (Changed place mask) ab ba
+word-cost (Cut way packets) served ab ba linked = on_cost way (CutOff packets) ab ba
+word-cost (Timer side) served ab ba linked = omega arith
+word-cost Drop served ab ba linked = by linked
+  where
+    by : (up : Bool) → deed_cost (if up then Breaks else Nothing) ≤ 0
+    by true = omega arith
+    by false = omega arith
+word-cost Cancel served ab ba linked = omega arith
+
+-- ---- at its receiver, where so much is spent then
+
+module _ (side : View) (m : ℕ) (mine theirs : Policy) (now there : List Occurrence) (waits far_coming far_rest : List (List ℕ)) where
+  abbrev Before : (coming rest : List (List ℕ)) → Type 0
+  Before coming rest = PairFrom side mine theirs now there coming rest far_coming far_rest
+
   abbrev Under : (coming rest : List (List ℕ)) → Type 0
-  Under coming rest = PairFrom side mine theirs now there coming rest far_coming far_rest
+  Under coming rest = PairFrom (with_most m side) mine theirs now there coming rest far_coming far_rest
 
-  handed_over : (frame : List ℕ) (rest : List (List ℕ)) → Under [] ((frame ∷ rest) ++ waits) → Under (frame ∷ []) (rest ++ waits)
-  handed_over frame rest p = is-handed side mine theirs now there far_coming far_rest frame ((frame ∷ rest) ++ waits) (rest ++ waits) (λ end' is run. Whole is) p
+  handed_over : (frame : List ℕ) (rest : List (List ℕ)) → most_of side ≤ m → Before [] ((frame ∷ rest) ++ waits) → Under (frame ∷ []) (rest ++ waits)
+  handed_over frame rest enough p = is-handed side mine theirs now there far_coming far_rest frame 0 m ((frame ∷ rest) ++ waits) (rest ++ waits) (omega (arith, enough)) (λ end' is run. Whole is) p
 
-  lost : (frame : List ℕ) (rest : List (List ℕ)) → whole_of side ≡ false → Under [] ((frame ∷ rest) ++ waits) → Under [] (rest ++ waits)
-  lost frame rest broken p = loses-it side mine theirs now there far_coming far_rest frame (rest ++ waits) broken p
+  lost : (frame : List ℕ) (rest : List (List ℕ)) → 1 + most_of side ≤ m → whole_of side ≡ false → Before [] ((frame ∷ rest) ++ waits) → Under [] (rest ++ waits)
+  lost frame rest enough broken p = loses-it side mine theirs now there far_coming far_rest frame m (rest ++ waits) enough broken p
 
   -- it has a check word there, and so it is no command
-  damaged : (place mask : ℕ) (frame : List ℕ) (rest : List (List ℕ)) → whole_of side ≡ false → IsWithin place mask frame → has_fcs (channel_of frame) (run_of mine now).value ≡ true → channel_of frame ≢ 0x0001 → Under [] ((frame ∷ rest) ++ waits) → Under (changed place mask frame ∷ []) (rest ++ waits)
-  damaged place mask frame rest broken right checked apart p =
-      is-handed side mine theirs now there far_coming far_rest (changed place mask frame) ((frame ∷ rest) ++ waits) (rest ++ waits)
-      (λ end' is run. Other broken frame is
+  damaged : (place mask : ℕ) (frame : List ℕ) (rest : List (List ℕ)) → 1 + most_of side ≤ m → whole_of side ≡ false → IsWithin place mask frame → has_fcs (channel_of frame) (run_of mine now).value ≡ true → channel_of frame ≢ 0x0001 → Before [] ((frame ∷ rest) ++ waits)
+      → Under (changed place mask frame ∷ []) (rest ++ waits)
+  damaged place mask frame rest enough broken right checked apart p =
+      is-handed side mine theirs now there far_coming far_rest (changed place mask frame) 1 m ((frame ∷ rest) ++ waits) (rest ++ waits) enough
+      (λ end' is run. Other broken (omega arith) frame is
       (record { place = place; mask = mask; behind = right.behind; within = right.within; some = right.some; two = right.two; other_is = refl; checked = ap (λ (r : Run). has_fcs (channel_of frame) r.value) run ∙ checked })
       (ne_eqb (channel_of (changed place mask frame)) 0x0001 (λ is. apart (sym (changed-channel place mask frame right.behind) ∙ is)))) p
 
-  pub meets-it : (size : ℕ) (fate : Fate) (checked : Bool) (frame : List ℕ) (rest : List (List ℕ)) → IsRight (whole_of side) fate (frame ∷ rest) → (checked ≡ true → (has_fcs (channel_of frame) (run_of mine now).value ≡ true) × (channel_of frame ≢ 0x0001)) → Under [] ((frame ∷ rest) ++ waits)
+  pub meets-it : (size : ℕ) (fate : Fate) (checked : Bool) (frame : List ℕ) (rest : List (List ℕ)) → fate_cost fate + most_of side ≤ m → IsRight (whole_of side) fate (frame ∷ rest) → (checked ≡ true → (has_fcs (channel_of frame) (run_of mine now).value ≡ true) × (channel_of frame ≢ 0x0001)) → Before [] ((frame ∷ rest) ++ waits)
       → Under (comes_of size fate checked frame) (((meets size fate checked frame).stays ++ rest) ++ waits)
-  meets-it size Delivered checked frame rest right there_is p = handed_over frame rest p
-  meets-it size Lost checked frame rest right there_is p = lost frame rest right p
-  meets-it size Repeated checked frame rest right there_is p =
-      is-handed side mine theirs now there far_coming far_rest frame ((frame ∷ rest) ++ waits) ((frame ∷ rest) ++ waits) (λ end' is run. Again right (rest ++ waits) is refl) p
-  meets-it size (CutOff count) checked frame rest right there_is p = by (nat_lt count (length (frame_pieces size frame)))
+  meets-it size Delivered checked frame rest enough right there_is p = handed_over frame rest (omega (arith, enough)) p
+  meets-it size Lost checked frame rest enough right there_is p = lost frame rest enough right p
+  meets-it size Repeated checked frame rest enough right there_is p =
+      is-handed side mine theirs now there far_coming far_rest frame 1 m ((frame ∷ rest) ++ waits) ((frame ∷ rest) ++ waits) enough (λ end' is run. Again right (omega arith) (rest ++ waits) is refl) p
+  meets-it size (CutOff count) checked frame rest enough right there_is p = by (nat_lt count (length (frame_pieces size frame)))
     where
       by : (short : Bool) → Under (if short then [] else frame ∷ []) (rest ++ waits)
-      by true = lost frame rest right p
-      by false = handed_over frame rest p
-  meets-it size (Changed place mask) true frame rest right there_is p = let seen = there_is refl in damaged place mask frame rest right.0 right.1 seen.0 seen.1 p
-  meets-it size (Changed place mask) false frame rest right there_is p = lost frame rest right.0 p
+      by true = lost frame rest enough right p
+      by false = handed_over frame rest (omega (arith, enough)) p
+  meets-it size (Changed place mask) true frame rest enough right there_is p = let seen = there_is refl in damaged place mask frame rest enough right.0 right.1 seen.0 seen.1 p
+  meets-it size (Changed place mask) false frame rest enough right there_is p = lost frame rest enough right.0 p

@@ -1,12 +1,12 @@
 -- All links of two hosts at once, by their numbers, and what one of the hosts does on its link.
-use Rattle.std.proofs.Common.{◌≡◌, ◌⊎◌, inl, inr, ℕ, zero, suc, ◌+◌, ◌<◌, List, [], ◌∷◌, ◌++◌, map, length, get_or, refl, sym, ap, subst, ◌∙◌, arith, length-append}
+use Rattle.std.proofs.Common.{◌≡◌, ◌⊎◌, inl, inr, ℕ, zero, suc, ◌+◌, ◌<◌, ◌≤◌, List, [], ◌∷◌, ◌++◌, map, length, get_or, refl, sym, ap, subst, ◌∙◌, arith, length-append}
 use Rattle.std.proofs.lemmas.Bool.{cases_eq}
 use Rattle.channel_model.specs.Policies.{Policy}
 use Rattle.channel_laws.specs.Runs.{Occurrence}
 use Rattle.host_laws.specs.Lives.{Span}
 use Rattle.world_model.specs.Machines.{LinkEvent, Up, Down}
 use Rattle.world_model.specs.Carriages as carriages
-use Rattle.pair_laws.proofs.Facing.{View, NearBy, FarBy, PairFrom}
+use Rattle.pair_laws.proofs.Facing.{View, NearBy, FarBy, most_of, with_most, PairFrom, richer}
 
 -- ---- what happened on the link of a number
 
@@ -81,12 +81,12 @@ abbrev pub Links : {S T : Type 0} → View → (mine theirs : Policy) (spans : L
 Links side mine theirs spans now e other j f = (k : ℕ) → LinkAt side mine theirs (part_at k spans now) (other k) k (length spans) e j f
 
 abbrev pub opposite : View → View
-opposite (NearBy whole) = FarBy whole
-opposite (FarBy whole) = NearBy whole
+opposite (NearBy whole most) = FarBy whole most
+opposite (FarBy whole most) = NearBy whole most
 
 turned_pair : (side : View) (mine theirs : Policy) (list other : List Occurrence) (c r c' r' : List (List ℕ)) → PairFrom side mine theirs list other c r c' r' → PairFrom (opposite side) theirs mine other list c' r' c r
-turned_pair (NearBy whole) mine theirs list other c r c' r' p = p
-turned_pair (FarBy whole) mine theirs list other c r c' r' p = p
+turned_pair (NearBy whole most) mine theirs list other c r c' r' p = p
+turned_pair (FarBy whole most) mine theirs list other c r c' r' p = p
 
 -- as the other host has them
 pub turned-links : {S T : Type 0} (side : View) (mine theirs : Policy) (spans others : List Span) (now then : List Occurrence) (e : carriages.End S) (f : carriages.End T) → Links side mine theirs spans now e (λ k. part_at k others then) (length others) f
@@ -208,14 +208,29 @@ owes-both side mine theirs spans now other j one two e f links k =
       now_far = λ here none. absurd (far_owed none);
     }
 
+-- where more may be spent
+pub richer-links : {S T : Type 0} (side : View) (m : ℕ) (mine theirs : Policy) (spans : List Span) (now : List Occurrence) (other : ℕ → List Occurrence) (j : ℕ) (e : carriages.End S) (f : carriages.End T) → most_of side ≤ m → Links side mine theirs spans now e other j f
+    → Links (with_most m side) mine theirs spans now e other j f
+richer-links side m mine theirs spans now other j e f more links k =
+    let link = links k in
+    record {
+      rest = link.rest;
+      far_rest = link.far_rest;
+      pair = richer side m mine theirs (part_at k spans now) (other k) (coming_at k (length spans) e.coming) link.rest (coming_at k j f.coming) link.far_rest more link.pair;
+      none_put = link.none_put;
+      now_put = link.now_put;
+      none_far = link.none_far;
+      now_far = link.now_far;
+    }
+
 -- what is under way to the host comes to it, or is lost: both are on the same link, and nothing is owed to the other
-pub comes-over : {S T : Type 0} (side : View) (mine theirs : Policy) (spans : List Span) (now : List Occurrence) (other : ℕ → List Occurrence) (j : ℕ) (e e' : carriages.End S) (f f' : carriages.End T) → length spans ≡ j → f.owed ≡ []
+pub comes-over : {S T : Type 0} (side : View) (m : ℕ) (mine theirs : Policy) (spans : List Span) (now : List Occurrence) (other : ℕ → List Occurrence) (j : ℕ) (e e' : carriages.End S) (f f' : carriages.End T) → length spans ≡ j → f.owed ≡ [] → most_of side ≤ m
     → (e'.owed ≡ e.owed) × (e'.queue ++ e'.waiting ≡ e.queue ++ e.waiting) → f'.coming ≡ f.coming
-    → ((far_coming far_rest : List (List ℕ)) → PairFrom side mine theirs now (other (length spans)) e.coming (f.queue ++ f.waiting) far_coming far_rest → PairFrom side mine theirs now (other (length spans)) e'.coming (f'.queue ++ f'.waiting) far_coming far_rest)
-    → Links side mine theirs spans now e other j f → Links side mine theirs spans now e' other j f'
-comes-over {S} {T} side mine theirs spans now other j e e' f f' level none same far_same comes links k = by (cases_eq k (length spans))
+    → ((far_coming far_rest : List (List ℕ)) → PairFrom side mine theirs now (other (length spans)) e.coming (f.queue ++ f.waiting) far_coming far_rest → PairFrom (with_most m side) mine theirs now (other (length spans)) e'.coming (f'.queue ++ f'.waiting) far_coming far_rest)
+    → Links side mine theirs spans now e other j f → Links (with_most m side) mine theirs spans now e' other j f'
+comes-over {S} {T} side m mine theirs spans now other j e e' f f' level none more same far_same comes links k = by (cases_eq k (length spans))
   where
-    here : LinkAt side mine theirs (part_at (length spans) spans now) (other (length spans)) (length spans) (length spans) e' j f'
+    here : LinkAt (with_most m side) mine theirs (part_at (length spans) spans now) (other (length spans)) (length spans) (length spans) e' j f'
     here =
         let i = length spans in
         let link = links i in
@@ -228,31 +243,85 @@ comes-over {S} {T} side mine theirs spans now other j e e' f f' level none same 
         record {
           rest = f'.queue ++ f'.waiting;
           far_rest = link.far_rest;
-          pair = subst (λ (c : List (List ℕ)). PairFrom side mine theirs (part_at i spans now) (other i) (coming_at i i e'.coming) (f'.queue ++ f'.waiting) (coming_at i j c) link.far_rest) (sym far_same)
-              (subst (λ (c : List (List ℕ)). PairFrom side mine theirs (part_at i spans now) (other i) c (f'.queue ++ f'.waiting) fc link.far_rest) (sym (coming_here i i e'.coming (cases_eq i i) refl))
-              (subst (λ (l : List Occurrence). PairFrom side mine theirs l (other i) e'.coming (f'.queue ++ f'.waiting) fc link.far_rest) (sym (part-now spans now)) new));
+          pair = subst (λ (c : List (List ℕ)). PairFrom (with_most m side) mine theirs (part_at i spans now) (other i) (coming_at i i e'.coming) (f'.queue ++ f'.waiting) (coming_at i j c) link.far_rest) (sym far_same)
+              (subst (λ (c : List (List ℕ)). PairFrom (with_most m side) mine theirs (part_at i spans now) (other i) c (f'.queue ++ f'.waiting) fc link.far_rest) (sym (coming_here i i e'.coming (cases_eq i i) refl))
+              (subst (λ (l : List Occurrence). PairFrom (with_most m side) mine theirs l (other i) e'.coming (f'.queue ++ f'.waiting) fc link.far_rest) (sym (part-now spans now)) new));
           none_put = λ below. absurd (omega arith);
           now_put = λ here owed. link.now_put refl (sym same.0 ∙ owed) ∙ sym same.1;
           none_far = λ below. absurd (omega arith);
           now_far = λ here owed. refl;
         }
 
-    apart_from : (k ≡ length spans → ⊥) → LinkAt side mine theirs (part_at k spans now) (other k) k (length spans) e' j f'
+    apart_from : (k ≡ length spans → ⊥) → LinkAt (with_most m side) mine theirs (part_at k spans now) (other k) k (length spans) e' j f'
     apart_from apart =
         let i = length spans in
-        let link = links k in
+        let link = richer-links side m mine theirs spans now other j e f more links k in
         let fc = coming_at k j f.coming in
         record {
           rest = link.rest;
           far_rest = link.far_rest;
-          pair = subst (λ (c : List (List ℕ)). PairFrom side mine theirs (part_at k spans now) (other k) (coming_at k i e'.coming) link.rest (coming_at k j c) link.far_rest) (sym far_same)
-              (subst (λ (c : List (List ℕ)). PairFrom side mine theirs (part_at k spans now) (other k) c link.rest fc link.far_rest) (coming_else k i e.coming (cases_eq k i) apart ∙ sym (coming_else k i e'.coming (cases_eq k i) apart)) link.pair);
+          pair = subst (λ (c : List (List ℕ)). PairFrom (with_most m side) mine theirs (part_at k spans now) (other k) (coming_at k i e'.coming) link.rest (coming_at k j c) link.far_rest) (sym far_same)
+              (subst (λ (c : List (List ℕ)). PairFrom (with_most m side) mine theirs (part_at k spans now) (other k) c link.rest fc link.far_rest) (coming_else k i e.coming (cases_eq k i) apart ∙ sym (coming_else k i e'.coming (cases_eq k i) apart)) link.pair);
           none_put = link.none_put;
           now_put = λ same. absurd (apart same);
           none_far = link.none_far;
           now_far = λ there. absurd (apart (there ∙ sym level));
         }
 
-    by : (k ≡ length spans) ⊎ (k ≡ length spans → ⊥) → LinkAt side mine theirs (part_at k spans now) (other k) k (length spans) e' j f'
-    by (inl is) = subst (λ (n : ℕ). LinkAt side mine theirs (part_at n spans now) (other n) n (length spans) e' j f') (sym is) here
+    by : (k ≡ length spans) ⊎ (k ≡ length spans → ⊥) → LinkAt (with_most m side) mine theirs (part_at k spans now) (other k) k (length spans) e' j f'
+    by (inl is) = subst (λ (n : ℕ). LinkAt (with_most m side) mine theirs (part_at n spans now) (other n) n (length spans) e' j f') (sym is) here
+    by (inr apart) = apart_from apart
+
+-- Its timer fires: both are on the same link, nothing is owed to either, and what it says then waits still.
+pub fires-over : {S T : Type 0} (side : View) (m : ℕ) (mine theirs : Policy) (spans : List Span) (now later : List Occurrence) (other : ℕ → List Occurrence) (j : ℕ) (e e' : carriages.End S) (f : carriages.End T) → length spans ≡ j → e.owed ≡ [] → f.owed ≡ [] → e.coming ≡ [] → e'.coming ≡ [] → f.coming ≡ [] → most_of side ≤ m
+    → e'.queue ++ e'.waiting ≡ e.queue ++ e.waiting
+    → (PairFrom side mine theirs now (other (length spans)) [] (f.queue ++ f.waiting) [] (e.queue ++ e.waiting) → PairFrom (with_most m side) mine theirs later (other (length spans)) [] (f.queue ++ f.waiting) [] (e.queue ++ e.waiting))
+    → Links side mine theirs spans now e other j f → Links (with_most m side) mine theirs spans later e' other j f
+fires-over {S} {T} side m mine theirs spans now later other j e e' f level owes far_owes idle idle' far_idle more same fires links k = by (cases_eq k (length spans))
+  where
+    here : LinkAt (with_most m side) mine theirs (part_at (length spans) spans later) (other (length spans)) (length spans) (length spans) e' j f
+    here =
+        let i = length spans in
+        let link = links i in
+        let put = e.queue ++ e.waiting in
+        let left = f.queue ++ f.waiting in
+        let far_none = coming_none i j f.coming (cases_eq i j) far_idle in
+        let near_none = coming_none i i e.coming (cases_eq i i) idle in
+        let near_none' = coming_none i i e'.coming (cases_eq i i) idle' in
+        let old : PairFrom side mine theirs now (other i) [] left [] put =
+        subst (λ (r : List (List ℕ)). PairFrom side mine theirs now (other i) [] left [] r) (link.now_put refl owes)
+        (subst (λ (r : List (List ℕ)). PairFrom side mine theirs now (other i) [] r [] link.far_rest) (link.now_far level far_owes)
+        (subst (λ (c : List (List ℕ)). PairFrom side mine theirs now (other i) [] link.rest c link.far_rest) far_none
+        (subst (λ (c : List (List ℕ)). PairFrom side mine theirs now (other i) c link.rest (coming_at i j f.coming) link.far_rest) near_none
+        (subst (λ (l : List Occurrence). PairFrom side mine theirs l (other i) (coming_at i i e.coming) link.rest (coming_at i j f.coming) link.far_rest) (part-now spans now) link.pair)))) in
+        record {
+          rest = left;
+          far_rest = put;
+          pair = subst (λ (l : List Occurrence). PairFrom (with_most m side) mine theirs l (other i) (coming_at i i e'.coming) left (coming_at i j f.coming) put) (sym (part-now spans later))
+              (subst (λ (c : List (List ℕ)). PairFrom (with_most m side) mine theirs later (other i) c left (coming_at i j f.coming) put) (sym near_none')
+              (subst (λ (c : List (List ℕ)). PairFrom (with_most m side) mine theirs later (other i) [] left c put) (sym far_none) (fires old)));
+          none_put = λ below. absurd (omega arith);
+          now_put = λ there owed. sym same;
+          none_far = λ below. absurd (omega (arith, level, below));
+          now_far = λ there owed. refl;
+        }
+
+    apart_from : (k ≡ length spans → ⊥) → LinkAt (with_most m side) mine theirs (part_at k spans later) (other k) k (length spans) e' j f
+    apart_from apart =
+        let i = length spans in
+        let link = richer-links side m mine theirs spans now other j e f more links k in
+        let fc = coming_at k j f.coming in
+        record {
+          rest = link.rest;
+          far_rest = link.far_rest;
+          pair = subst (λ (c : List (List ℕ)). PairFrom (with_most m side) mine theirs (part_at k spans later) (other k) c link.rest fc link.far_rest) (coming_else k i e.coming (cases_eq k i) apart ∙ sym (coming_else k i e'.coming (cases_eq k i) apart))
+              (subst (λ (l : List Occurrence). PairFrom (with_most m side) mine theirs l (other k) (coming_at k i e.coming) link.rest fc link.far_rest) (part_else k spans now later apart) link.pair);
+          none_put = link.none_put;
+          now_put = λ there. absurd (apart there);
+          none_far = link.none_far;
+          now_far = link.now_far;
+        }
+
+    by : (k ≡ length spans) ⊎ (k ≡ length spans → ⊥) → LinkAt (with_most m side) mine theirs (part_at k spans later) (other k) k (length spans) e' j f
+    by (inl is) = subst (λ (n : ℕ). LinkAt (with_most m side) mine theirs (part_at n spans later) (other n) n (length spans) e' j f) (sym is) here
     by (inr apart) = apart_from apart

@@ -1,8 +1,8 @@
 -- The channels of both hosts on each link of a run are the two ends of a pair.
-use Rattle.std.proofs.Common.{◌≡◌, ◌≤◌, ◌+◌, arith, ℕ, Bool, true, false, Option, List, [], ◌∷◌, ◌++◌, map, length, refl, sym, ap, subst, ◌∙◌, append-nil}
+use Rattle.std.proofs.Common.{◌≡◌, ◌≤◌, ◌+◌, arith, ℕ, Bool, true, false, Option, Some, List, [], ◌∷◌, ◌++◌, map, length, refl, sym, ap, subst, ◌∙◌, append-nil}
 use Rattle.std.specs.List.{AllByRecursion}
 use Rattle.std.proofs.lemmas.Bool.{cases_eq}
-use Rattle.bt_base.specs.Objects.{Contents}
+use Rattle.bt_base.specs.Objects.{Object, Contents}
 use Rattle.push_script.specs.declared.scenario.Scenario.{Scenario}
 use Rattle.push_terms.specs.declared.word.Side.{Side}
 use Rattle.push_terms.specs.declared.word.Side.TheVariants as sides
@@ -12,6 +12,7 @@ use Rattle.capture.specs.Links.{linking}
 use Rattle.capture.specs.Moves.{moves}
 use Rattle.channel_model.specs.Policies.{Policy}
 use Rattle.channel_model.specs.Value.{no_channels}
+use Rattle.channel_laws.specs.Adverse.{disturbances, AreRoomy}
 use Rattle.channel_laws.specs.Belonging.{AreRead}
 use Rattle.channel_laws.specs.Ends.{DoesSo, end_at, AreFair}
 use Rattle.channel_laws.specs.Frames.{AreUttered}
@@ -31,7 +32,8 @@ use Rattle.host_model.specs.Clients.{ClientProfile, client_profile}
 use Rattle.host_model.specs.Servers.{ServerProfile, server_profile}
 use Rattle.host_model.specs.Machines.{upper}
 use Rattle.host_laws.specs.Calls.{Asks, HostsAsk}
-use Rattle.host_laws.specs.Gifts.{gifts_of}
+use Rattle.host_laws.specs.Feeds.{Feed, Gifts, Learns, Receives, Happens, Sent, Steps}
+use Rattle.host_laws.specs.Gifts.{gifts_in, gifts_of}
 use Rattle.host_laws.specs.Lives.{Span}
 use Rattle.host_laws.specs.Seen.{IsCalm}
 use Rattle.host_laws.proofs.Fitting.{AnyServer, IsLowClient}
@@ -50,19 +52,24 @@ use Rattle.scenario_laws.proofs.UnlinkedClients.{HasNoLink, clients_keep}
 use Rattle.scenario_laws.proofs.UnlinkedServers.{KnowsNone, servers_keep}
 use Rattle.turn_laws.proofs.Ordering.{at}
 use Rattle.turn_laws.proofs.Recounting.{HoldsAtRests}
-use Rattle.world_model.specs.Machines.{LinkEvent, Upper}
+use Rattle.world_model.specs.Machines.{LinkEvent, News, Linked, Failed, Heard, TimerFired, Cancelled, Opening, Upper}
+use Rattle.shelf_model.specs.Held.{held_by}
+use Rattle.shelf_model.proofs.Sizes.{sizes-are_of_objects}
 use Rattle.pair_laws.specs.Granted.{answered_by, granted, GrantedTakeTurns}
 use Rattle.pair_laws.specs.InTurn.{PairsInTurn, HostsTakeTurns}
 use Rattle.pair_laws.specs.GrantedOrder.{GrantedKeepOrder}
 use Rattle.pair_laws.specs.Keeping.{LosesNothing, PairsKeepOrder, RunsKeepOrder}
 use Rattle.pair_laws.specs.Changes.{AreChanged, IsSeenThere, DamageIsSeen}
+use Rattle.pair_laws.specs.Costs.{adverse_in, DisturbancesCostWords}
 use Rattle.pair_laws.specs.OnLinks.{LivedOver, happened_on, IsInAir, HostsArePairs}
 use Rattle.pair_laws.specs.Pairs.{TakesAll, PairOnLink}
+use Rattle.pair_laws.specs.Served.{TellsOf, BeginsOf, HeldTakeTurns, ServedTakeTurns}
 use Rattle.pair_laws.specs.Seen.{IsAddressedAt, AreAddressed}
 use Rattle.pair_laws.proofs.Abreast.{IsShort}
 use Rattle.pair_laws.proofs.Answered.{runs-so, rest-so, rest-back, fits-so, rests-so as carriage_rest}
 use Rattle.pair_laws.proofs.Awaiting.{HasNew, servers-await}
-use Rattle.pair_laws.proofs.Carrying.{Wants, Always, as_it_is, PairsOf, same_number, waits_none, all-sane}
+use Rattle.pair_laws.proofs.Carrying.{Wants, Always, as_it_is, any_allowed, PairsOf, same_number, waits_none, all-sane}
+use Rattle.pair_laws.proofs.Given.{IsSilentNews, IsSilent, Allows, all_both}
 use Rattle.pair_laws.proofs.Facing.{IsKept, AllKept, Goes, AllGo, AllTake, IsComing, PairAt}
 use Rattle.pair_laws.proofs.Hosting.{marks_of, talk_of, HostAt}
 use Rattle.pair_laws.proofs.Meeting.{gentle_doings}
@@ -96,6 +103,9 @@ all_read near far turns all = each_map _ _ [] turns (λ past turn (goes : Goes t
 all_changed : (near far : Policy) (turns : List Turn) → AllGo near far turns → AreChanged near far turns
 all_changed near far turns all = each_map _ _ [] turns (λ past turn (goes : Goes turn.happening (end_at turn.side (pair_of near far past))). goes.changed) all
 
+all_roomy : (near far : Policy) (turns : List Turn) → AllGo near far turns → AreRoomy near far turns
+all_roomy near far turns all = each_map _ _ [] turns (λ past turn (goes : Goes turn.happening (end_at turn.side (pair_of near far past))). goes.roomy) all
+
 all_addressed : (near far : Policy) (turns : List Turn) → AllGo near far turns → AreAddressed near far turns
 all_addressed near far turns all = each_map _ _ [] turns (λ past turn (goes : Goes turn.happening (end_at turn.side (pair_of near far past))). goes.addressed) all
 
@@ -107,8 +117,8 @@ all_carried near far turns all takes seen =
     (each_zip (λ past turn. Goes turn.happening (there past turn)) (λ past turn. IsSeenThere turn.happening (there past turn)) (λ past turn. Goes turn.happening (there past turn) × IsSeenThere turn.happening (there past turn)) [] turns (λ past turn goes sees. (goes, sees)) all seen)
 
 -- of lists that are these
-abbrev pair_of_two : (whole : Bool) (near far : Policy) (one other one' other' : List Occurrence) (c r c' r' : List (List ℕ)) → one ≡ one' → other ≡ other' → PairAt whole near far one other c r c' r' → PairOnLink near far one' other'
-pair_of_two whole near far one other one' other' c r c' r' same far_same p = record {
+abbrev pair_of_two : (whole : Bool) (most : ℕ) (near far : Policy) (one other one' other' : List Occurrence) (c r c' r' : List (List ℕ)) → one ≡ one' → other ≡ other' → PairAt whole most near far one other c r c' r' → PairOnLink near far one' other'
+pair_of_two whole most near far one other one' other' c r c' r' same far_same p = record {
   turns = p.turns;
   near_is = p.near_is ∙ ap (run_of near) same;
   far_is = p.far_is ∙ ap (run_of far) far_same;
@@ -127,7 +137,7 @@ all_utter : (policy : Policy) (lists : List (List Occurrence)) → AllByRecursio
 all_utter policy [] calm = tt
 all_utter policy (list ∷ lists) calm = (calm-utters policy list calm.0, all_utter policy lists calm.1)
 
-unfoldable lived : {P : Type 0} (A : Profile P) (asks : Asks A) (W : P → Type 0) (G : List Circumstance → Type 0) (side : Side) (capture : List Entry) (e : carriages.End (Host P)) (host : HostAt A asks W G e) (came : CameOver A side capture e.upper) → came.talk ≡ talk_of e → LivedOver A asks side capture e.upper
+unfoldable lived : {P : Type 0} (A : Profile P) (asks : Asks A) (W : P → Type 0) (G : Feed → Type 0) (side : Side) (capture : List Entry) (e : carriages.End (Host P)) (host : HostAt A asks W G e) (came : CameOver A side capture e.upper) → came.talk ≡ talk_of e → LivedOver A asks side capture e.upper
 unfolding calmly_fed
 lived A asks W G side capture e host came talk_is = record {
   came = came;
@@ -135,7 +145,7 @@ lived A asks W G side capture e host came talk_is = record {
   uttered = all_utter A.policy (map (λ (span : Span). span.list) host.so.lives.spans ++ host.so.lives.now ∷ []) (all_spans A.policy host.so.lives.spans host.so.lives.now host.so.spans_calm host.so.now_calm);
 }
 
-lived_at : {P : Type 0} (A : Profile P) (asks : Asks A) (W : P → Type 0) (G : List Circumstance → Type 0) (side : Side) (capture : List Entry) (e : carriages.End (Host P)) (host : HostAt A asks W G e) (came : CameOver A side capture e.upper) (talk_is : came.talk ≡ talk_of e) (number : ℕ)
+lived_at : {P : Type 0} (A : Profile P) (asks : Asks A) (W : P → Type 0) (G : Feed → Type 0) (side : Side) (capture : List Entry) (e : carriages.End (Host P)) (host : HostAt A asks W G e) (came : CameOver A side capture e.upper) (talk_is : came.talk ≡ talk_of e) (number : ℕ)
     → part_at number host.so.lives.spans host.so.lives.now ≡ happened_on A asks side capture e.upper (lived A asks W G side capture e host came talk_is) number
 unfolding lived calmly_fed
 lived_at A asks W G side capture e host came talk_is number = part-get number host.so.lives.spans host.so.lives.now
@@ -153,17 +163,17 @@ came_talk A side past capture e acted known same = refl
 -- ---- both
 
 -- where nothing is owed to them and nothing is handed over, all that is under way is in the air
-in_air : {P Q : Type 0} (whole : Bool) (A : Profile P) (asks_a : Asks A) (B : Profile Q) (asks_b : Asks B) (to : List Circumstance → List Circumstance) (G : List Circumstance → Type 0) (e : carriages.End (Host P)) (f : carriages.End (Host Q)) (both : PairsOf whole A asks_a B asks_b to G e f) → e.owed ≡ [] → f.owed ≡ [] → e.coming ≡ [] → f.coming ≡ [] → e.waiting ≡ [] → f.waiting ≡ []
+in_air : {P Q : Type 0} (whole : Bool) (most : ℕ) (A : Profile P) (asks_a : Asks A) (B : Profile Q) (asks_b : Asks B) (to_a : News → List Circumstance → List Circumstance) (E : Feed → Type 0) (allows_a : Allows to_a E) (to_b : News → List Circumstance → List Circumstance) (G : Feed → Type 0) (allows_b : Allows to_b G) (e : carriages.End (Host P)) (f : carriages.End (Host Q)) (both : PairsOf whole most A asks_a B asks_b to_a E allows_a to_b G allows_b e f) → e.owed ≡ [] → f.owed ≡ [] → e.coming ≡ [] → f.coming ≡ [] → e.waiting ≡ [] → f.waiting ≡ []
     → IsInAir A.policy B.policy (both.links (length both.a.so.lives.spans)).pair.turns f.queue e.queue
-in_air whole A asks_a B asks_b to G e f both none_a none_b idle_a idle_b quiet_a quiet_b =
+in_air whole most A asks_a B asks_b to_a E allows_a to_b G allows_b e f both none_a none_b idle_a idle_b quiet_a quiet_b =
     let i = length both.a.so.lives.spans in
     let j = length both.b.so.lives.spans in
     let link = both.links i in
     let pair = pair_of A.policy B.policy link.pair.turns in
     record {
-      near_is = subst (λ (c : List (List ℕ)). IsComing whole pair.near c link.rest) (coming_none i i e.coming (cases_eq i i) idle_a) link.pair.near_comes
-          ∙ (link.now_far (same_number whole A asks_a B asks_b to G e f both none_a none_b) none_b ∙ (ap (λ (w : List (List ℕ)). f.queue ++ w) quiet_b ∙ append-nil f.queue));
-      far_is = subst (λ (c : List (List ℕ)). IsComing whole pair.far c link.far_rest) (coming_none i j f.coming (cases_eq i j) idle_b) link.pair.far_comes
+      near_is = subst (λ (c : List (List ℕ)). IsComing whole link.pair.near_due pair.near c link.rest) (coming_none i i e.coming (cases_eq i i) idle_a) link.pair.near_comes
+          ∙ (link.now_far (same_number whole most A asks_a B asks_b to_a E allows_a to_b G allows_b e f both none_a none_b) none_b ∙ (ap (λ (w : List (List ℕ)). f.queue ++ w) quiet_b ∙ append-nil f.queue));
+      far_is = subst (λ (c : List (List ℕ)). IsComing whole link.pair.far_due pair.far c link.far_rest) (coming_none i j f.coming (cases_eq i j) idle_b) link.pair.far_comes
           ∙ (link.now_put refl none_a ∙ (ap (λ (w : List (List ℕ)). e.queue ++ w) quiet_a ∙ append-nil e.queue));
     }
 
@@ -175,9 +185,9 @@ short_length (event ∷ other ∷ more) short = absurd short
 not_ahead : (near far owed other number : ℕ) → near + owed ≡ number → far + other ≡ number → owed ≤ 1 → far ≤ near + 1
 not_ahead near far owed other number one two short = omega (arith, one, two, short)
 
--- Both hosts of a run are pairs in turn, where the ports of host b answer so; and all that it was given is so. Where the words of the run lose,
+-- Both hosts of a run are pairs in turn, where their ports answer so; and all that they had of them is so. Where the words of the run lose,
 -- repeat and damage nothing, all comes in whole.
-module _ (whole : Bool) (asks : HostsAsk) (scenario : Scenario) (content : Option Contents) (to : List Circumstance → List Circumstance) (G : List Circumstance → Type 0) (allowed : (answers : List Circumstance) → G (to answers)) where
+module _ (whole : Bool) (asks : HostsAsk) (scenario : Scenario) (content : Option Contents) (to_a : News → List Circumstance → List Circumstance) (E : Feed → Type 0) (allows_a : Allows to_a E) (to_b : News → List Circumstance → List Circumstance) (G : Feed → Type 0) (allows_b : Allows to_b G) where
   abbrev A : Profile ClientProfile
   A = client_profile scenario.settings
 
@@ -191,64 +201,84 @@ module _ (whole : Bool) (asks : HostsAsk) (scenario : Scenario) (content : Optio
   asks_b = asks.servers scenario.settings content
 
   abbrev U : Upper (Host ClientProfile) Circumstance
-  U = client_of scenario
+  U = answered_by to_a (client_of scenario)
 
   abbrev V : Upper (Host ServerProfile) Circumstance
-  V = answered_by to (server_of scenario content)
+  V = answered_by to_b (server_of scenario content)
 
   abbrev Ready : carriages.Carriage (Host ClientProfile) (Host ServerProfile) → Type 0
-  Ready = AreReady U (server_of scenario content) (free_where A) (free_where B)
+  Ready = AreReady (client_of scenario) (server_of scenario content) (free_where A) (free_where B)
 
   record TurnsSo (capture : List Entry) (ran : Ran scenario content capture) : Type 0 where
     turns : PairsInTurn asks scenario content capture ran
-    given : AllByRecursion G (gifts_of turns.pairs.b.fed.so.lives.feeds)
+    told : AllByRecursion E turns.pairs.a.fed.so.lives.feeds
+    given : AllByRecursion G turns.pairs.b.fed.so.lives.feeds
     kept : (number : ℕ) → AllKept whole (turns.pairs.pairs number).turns
+    cost : (number : ℕ) → disturbances (Pairs.new_pair A.policy B.policy) (turns.pairs.pairs number).turns ≤ adverse_in (all_words ran.happenings)
+    room : (number : ℕ) → AreRoomy A.policy B.policy (turns.pairs.pairs number).turns
 
   rests_so : (happenings : List Done) → HoldsAtRests U V Ready happenings (beginning scenario content)
   rests_so happenings front mid talk_a talk_b is there rest =
-      rests_hold scenario content happenings (runs_are_free scenario content happenings) front mid talk_a talk_b is (runs-so U (server_of scenario content) to front (beginning scenario content) mid there) (rest-so U (server_of scenario content) to mid rest)
+      rests_hold scenario content happenings (runs_are_free scenario content happenings) front mid talk_a talk_b is (runs-so (client_of scenario) (server_of scenario content) to_a to_b front (beginning scenario content) mid there) (rest-so (client_of scenario) (server_of scenario content) to_a to_b mid rest)
 
   takes_turns : (capture : List Entry) (ran : Ran scenario content capture) → Runs U V ran.happenings (beginning scenario content) ran.world → (whole ≡ true → LosesNothing (all_words ran.happenings)) → TurnsSo capture ran
   unfolding lived calmly_fed
   takes_turns capture ran happened gentle =
       let past = all_entries ran.happenings in
-      let worded = carried_worded U V Ready scenario.acl_length scenario.acl_count scenario.names ran.happenings ran.world (fits-so U (server_of scenario content) to scenario.acl_length (fits scenario content)) happened (rests_so ran.happenings) in
+      let worded = carried_worded U V Ready scenario.acl_length scenario.acl_count scenario.names ran.happenings ran.world (fits-so (client_of scenario) (server_of scenario content) to_a to_b scenario.acl_length (fits scenario content)) happened (rests_so ran.happenings) in
       let all = worded.carried in
       let c = at ran.world all.talk_a all.talk_b in
+      let most = adverse_in (carriages.all_words all.doings) in
+      let most_is : most ≡ adverse_in (all_words ran.happenings) = ap adverse_in worded.words_are in
       let sane = all-sane whole A asks_a B asks_b IsLowClient HasNoLink AnyServer KnowsNone (client-keeps scenario.settings) (server-keeps scenario.settings content) (clients_keep scenario.settings) (servers_keep scenario.settings content)
-      HasNew (servers-await scenario.settings content U) (λ gifts p. refl) to G allowed scenario.acl_length scenario.names all.doings c all.of_script (gentle_doings whole all.doings (λ on. subst LosesNothing (sym worded.words_are) (gentle on))) all.so in
+      HasNew (servers-await scenario.settings content (client_of scenario)) (λ gifts p. refl) to_a E allows_a to_b G allows_b scenario.acl_length scenario.names all.doings c all.of_script (gentle_doings whole all.doings (λ on. subst LosesNothing (sym worded.words_are) (gentle on))) all.so in
       let same : (side : Side) → linking (moves side capture) ≡ linking (moves side past) = λ side. ap (λ (es : List Entry). linking (moves side es)) ran.capture_is ∙ ended_all side ran.world.pushes past ran.ends ran.last in
       let came_a = came_by A sides.A past capture c.a sane.acted.a.acted all.links_a (same sides.A) in
       let came_b = came_by B sides.B past capture c.b sane.acted.b.acted all.links_b (same sides.B) in
       let talk_a = came_talk A sides.A past capture c.a sane.acted.a.acted all.links_a (same sides.A) in
       let talk_b = came_talk B sides.B past capture c.b sane.acted.b.acted all.links_b (same sides.B) in
-      let resting : IsAtRest U (server_of scenario content) ran.world → carriages.IsAtRest U (server_of scenario content) c = λ rests. carriage_rest U (server_of scenario content) to c (all.rests (rest-back U (server_of scenario content) to ran.world rests)) in
+      let resting : IsAtRest (client_of scenario) (server_of scenario content) ran.world → carriages.IsAtRest (client_of scenario) (server_of scenario content) c = λ rests. carriage_rest (client_of scenario) (server_of scenario content) to_a to_b c (all.rests (rest-back (client_of scenario) (server_of scenario content) to_a to_b ran.world rests)) in
       record {
         turns = record {
           pairs = record {
-            a = lived A asks_a (Wants A) Always sides.A capture c.a sane.pairs.a came_a talk_a;
+            a = lived A asks_a (Wants A) E sides.A capture c.a sane.pairs.a came_a talk_a;
             b = lived B asks_b Always G sides.B capture c.b sane.pairs.b came_b talk_b;
             pairs = λ number.
                 let a = sane.pairs.a.so.lives in
                 let b = sane.pairs.b.so.lives in
-                pair_of_two whole A.policy B.policy (part_at number a.spans a.now) (part_at number b.spans b.now) _ _ _ _ _ _ (lived_at A asks_a (Wants A) Always sides.A capture c.a sane.pairs.a came_a talk_a number) (lived_at B asks_b Always G sides.B capture c.b sane.pairs.b came_b talk_b number)
+                pair_of_two whole most A.policy B.policy (part_at number a.spans a.now) (part_at number b.spans b.now) _ _ _ _ _ _ (lived_at A asks_a (Wants A) E sides.A capture c.a sane.pairs.a came_a talk_a number) (lived_at B asks_b Always G sides.B capture c.b sane.pairs.b came_b talk_b number)
                 (sane.pairs.links number).pair;
-            level = λ rests. let rest = resting rests in sym (same_number whole A asks_a B asks_b to G c.a c.b sane.pairs rest.idle_a.none_owed rest.idle_b.none_owed);
+            level = λ rests. let rest = resting rests in sym (same_number whole most A asks_a B asks_b to_a E allows_a to_b G allows_b c.a c.b sane.pairs rest.idle_a.none_owed rest.idle_b.none_owed);
             air = λ rests.
                 let rest = resting rests in
-                in_air whole A asks_a B asks_b to G c.a c.b sane.pairs rest.idle_a.none_owed rest.idle_b.none_owed rest.idle_a.none_comes rest.idle_b.none_comes
+                in_air whole most A asks_a B asks_b to_a E allows_a to_b G allows_b c.a c.b sane.pairs rest.idle_a.none_owed rest.idle_b.none_owed rest.idle_a.none_comes rest.idle_b.none_comes
                 (waits_none A asks_a IsLowClient HasNoLink (client-keeps scenario.settings) (clients_keep scenario.settings) c.link c.a (record { sound = sane.both.a; acted = sane.acted.a; tame = sane.tame.a }) rest.idle_a)
                 (waits_none B asks_b AnyServer KnowsNone (server-keeps scenario.settings content) (servers_keep scenario.settings content) c.link c.b (record { sound = sane.both.b; acted = sane.acted.b; tame = sane.tame.b }) rest.idle_b);
           };
           asked = sane.pairs.a.asked;
           ahead = not_ahead (length sane.pairs.a.so.lives.spans) (length sane.pairs.b.so.lives.spans) (length c.a.owed) (length c.b.owed) sane.pairs.number sane.pairs.level_a sane.pairs.level_b (short_length c.a.owed sane.abreast.short);
         };
+        told = sane.pairs.a.given;
         given = sane.pairs.b.given;
         kept = λ number. (sane.pairs.links number).pair.kept;
+        cost = λ number. let spent = (sane.pairs.links number).pair.spent in omega (arith, spent, most_is);
+        room = λ number. let pair = (sane.pairs.links number).pair in all_roomy A.policy B.policy pair.turns pair.goes;
       }
 
 pub hosts-take_turns : HostsTakeTurns
-hosts-take_turns asks scenario content capture ran = (takes_turns false asks scenario content as_it_is Always (λ answers. tt) capture ran ran.happened (λ on. cc)).turns
+hosts-take_turns asks scenario content capture ran = (takes_turns false asks scenario content as_it_is Always any_allowed as_it_is Always any_allowed capture ran ran.happened (λ on. cc)).turns
+
+-- ---- the inbox grants all
+
+abbrev IsGrant : List Circumstance → Type 0
+IsGrant gift = AllGranted (answers_in gift)
+
+abbrev grants : News → List Circumstance → List Circumstance
+grants news answers = map granted answers
+
+-- of all that a server goes through, its inbox grants what it is given
+abbrev AreGrants : Feed → Type 0
+AreGrants feed = AllByRecursion IsGrant (gifts_in feed)
 
 granted_all : (gifts : List Circumstance) → AllGranted (answers_in (map granted gifts))
 granted_all [] = tt
@@ -256,13 +286,69 @@ granted_all (Size answer ∷ gifts) = granted_all gifts
 granted_all (Part answer ∷ gifts) = granted_all gifts
 granted_all (Stored answer ∷ gifts) = (refl, granted_all gifts)
 
-abbrev IsGrant : List Circumstance → Type 0
-IsGrant gift = AllGranted (answers_in gift)
+silent_grants : (feed : Feed) → IsSilent feed → AreGrants feed
+silent_grants (Gifts circumstances) silent = absurd silent
+silent_grants (Learns circumstances news) silent = tt
+silent_grants (Receives own psm sdu) silent = tt
+silent_grants (Happens event v) silent = tt
+silent_grants (Sent v) silent = tt
+silent_grants (Steps v) silent = tt
+
+grants_allowed : Allows grants AreGrants
+grants_allowed = record { silent = silent_grants; given = λ news answers. (granted_all answers, tt); told = λ news answers. tt }
+
+all_grants : (feeds : List Feed) → AllByRecursion AreGrants feeds → AllByRecursion IsGrant (gifts_of feeds)
+all_grants [] all = tt
+all_grants (feed ∷ feeds) all = all_both IsGrant (gifts_in feed) (gifts_of feeds) all.0 (all_grants feeds all.1)
 
 pub granted-take_turns : GrantedTakeTurns
 granted-take_turns asks scenario content capture ran happened =
-    let so = takes_turns false asks scenario content (map granted) IsGrant granted_all capture ran happened (λ on. cc) in
-    record { turns = so.turns; given = so.given }
+    let so = takes_turns false asks scenario content as_it_is Always any_allowed grants AreGrants grants_allowed capture ran happened (λ on. cc) in
+    record { turns = so.turns; given = all_grants so.turns.pairs.b.fed.so.lives.feeds so.given }
+
+-- ---- the shelf tells how long its objects are
+
+tells_of : (objects : List Object) (news : News) (answers : List Circumstance) → TellsOf objects (held_by (Some objects) news answers) news
+tells_of objects (Linked event) answers = tt
+tells_of objects (Failed status) answers = tt
+tells_of objects (Heard pdu) answers = tt
+tells_of objects TimerFired answers = tt
+tells_of objects Cancelled answers = tt
+tells_of objects (Opening name) answers = λ size is. sizes-are_of_objects objects name answers size is
+
+silent_news : (objects : List Object) (circumstances : List Circumstance) (news : News) → IsSilentNews news → TellsOf objects circumstances news
+silent_news objects circumstances (Linked event) silent = tt
+silent_news objects circumstances (Failed status) silent = tt
+silent_news objects circumstances (Heard pdu) silent = tt
+silent_news objects circumstances TimerFired silent = tt
+silent_news objects circumstances Cancelled silent = tt
+silent_news objects circumstances (Opening name) silent = absurd silent
+
+silent_begins : (objects : List Object) (feed : Feed) → IsSilent feed → BeginsOf objects feed
+silent_begins objects (Gifts circumstances) silent = absurd silent
+silent_begins objects (Learns circumstances news) silent = silent_news objects circumstances news silent
+silent_begins objects (Receives own psm sdu) silent = tt
+silent_begins objects (Happens event v) silent = tt
+silent_begins objects (Sent v) silent = tt
+silent_begins objects (Steps v) silent = tt
+
+begins_allowed : (objects : List Object) → Allows (held_by (Some objects)) (BeginsOf objects)
+begins_allowed objects = record { silent = silent_begins objects; given = λ news answers. tt; told = tells_of objects }
+
+pub held-take_turns : HeldTakeTurns
+held-take_turns asks scenario objects content capture ran happened =
+    let so = takes_turns false asks scenario content (held_by (Some objects)) (BeginsOf objects) (begins_allowed objects) as_it_is Always any_allowed capture ran happened (λ on. cc) in
+    record { turns = so.turns; told = so.told }
+
+pub served-take_turns : ServedTakeTurns
+served-take_turns asks scenario objects content capture ran happened =
+    let so = takes_turns false asks scenario content (held_by (Some objects)) (BeginsOf objects) (begins_allowed objects) grants AreGrants grants_allowed capture ran happened (λ on. cc) in
+    record { turns = so.turns; told = so.told; given = all_grants so.turns.pairs.b.fed.so.lives.feeds so.given }
+
+pub disturbances-cost_words : DisturbancesCostWords
+disturbances-cost_words asks scenario content capture ran =
+    let so = takes_turns false asks scenario content as_it_is Always any_allowed as_it_is Always any_allowed capture ran ran.happened (λ on. cc) in
+    record { turns = so.turns; cost = so.cost; room = so.room }
 
 pub hosts-are_pairs : HostsArePairs
 hosts-are_pairs asks scenario content capture ran = (hosts-take_turns asks scenario content capture ran).pairs
@@ -285,15 +371,15 @@ ordered side (turn ∷ turns) kept = by (same_side turn.side side) (ordered side
     by true rest = way_kept turn.happening (IsOrdered side turns) (IsBroken side turns) kept.0 rest
     by false rest = rest
 
-module _ (asks : HostsAsk) (scenario : Scenario) (content : Option Contents) (to : List Circumstance → List Circumstance) (G : List Circumstance → Type 0) (allowed : (answers : List Circumstance) → G (to answers)) where
-  abbrev in_order : (capture : List Entry) (ran : Ran scenario content capture) → TurnsSo true asks scenario content to G allowed capture ran → PairsKeepOrder asks scenario content capture ran
+module _ (asks : HostsAsk) (scenario : Scenario) (content : Option Contents) (to_b : News → List Circumstance → List Circumstance) (G : Feed → Type 0) (allows_b : Allows to_b G) where
+  abbrev in_order : (capture : List Entry) (ran : Ran scenario content capture) → TurnsSo true asks scenario content as_it_is Always any_allowed to_b G allows_b capture ran → PairsKeepOrder asks scenario content capture ran
   in_order capture ran all = record { turns = all.turns; near = λ number. ordered Near (all.turns.pairs.pairs number).turns (all.kept number); far = λ number. ordered Far (all.turns.pairs.pairs number).turns (all.kept number) }
 
 pub runs-keep_order : RunsKeepOrder
 runs-keep_order asks scenario content capture ran gentle =
-    in_order asks scenario content as_it_is Always (λ answers. tt) capture ran (takes_turns true asks scenario content as_it_is Always (λ answers. tt) capture ran ran.happened (λ on. gentle))
+    in_order asks scenario content as_it_is Always any_allowed capture ran (takes_turns true asks scenario content as_it_is Always any_allowed as_it_is Always any_allowed capture ran ran.happened (λ on. gentle))
 
 pub granted-keep_order : GrantedKeepOrder
 granted-keep_order asks scenario content capture ran happened gentle =
-    let all = takes_turns true asks scenario content (map granted) IsGrant granted_all capture ran happened (λ on. gentle) in
-    record { order = in_order asks scenario content (map granted) IsGrant granted_all capture ran all; given = all.given }
+    let all = takes_turns true asks scenario content as_it_is Always any_allowed grants AreGrants grants_allowed capture ran happened (λ on. gentle) in
+    record { order = in_order asks scenario content grants AreGrants grants_allowed capture ran all; given = all_grants all.turns.pairs.b.fed.so.lives.feeds all.given }

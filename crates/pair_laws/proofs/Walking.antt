@@ -113,6 +113,7 @@ calm-meant policy list calm = later_meant policy [] list calm (new-fitted AnyPsm
 
 -- ---- what comes in, and what is given
 
+-- neither comes a PDU in, nor does the timer fire
 abbrev pub ComesNot : Occurrence → Type 0
 ComesNot (Comes pdu) = ⊥
 ComesNot (Connects psm) = Unit {0}
@@ -120,7 +121,7 @@ ComesNot AsksFeatures = Unit {0}
 ComesNot (Disconnects own) = Unit {0}
 ComesNot (Sends own sdu) = Unit {0}
 ComesNot (Gives pdu) = Unit {0}
-ComesNot Fires = Unit {0}
+ComesNot Fires = ⊥
 ComesNot Tells = Unit {0}
 
 abbrev pub gives_by : Occurrence → List (List ℕ)
@@ -156,7 +157,7 @@ outer-comes_not (AsksFeatures ∷ list) all = (tt, outer-comes_not list all)
 outer-comes_not (Disconnects own ∷ list) all = (tt, outer-comes_not list all)
 outer-comes_not (Sends own sdu ∷ list) all = (tt, outer-comes_not list all)
 outer-comes_not (Gives pdu ∷ list) all = (tt, outer-comes_not list all.1)
-outer-comes_not (Fires ∷ list) all = (tt, outer-comes_not list all.1)
+outer-comes_not (Fires ∷ list) all = absurd all.0
 outer-comes_not (Tells ∷ list) all = (tt, outer-comes_not list all)
 
 -- ---- one after the other
@@ -170,13 +171,13 @@ module _ (side : View) (mine theirs : Policy) (other : List Occurrence) (rest fa
 
   one_on : (list : List Occurrence) (one : Occurrence) (far_rest : List (List ℕ)) → ComesNot one → IsMeant one (run_of mine list).value → At list far_rest → At (list ++ one ∷ []) (far_rest ++ gives_by one)
   one_on list (Comes pdu) far_rest not meant p = absurd not
-  one_on list (Connects psm) far_rest not meant p = alone list (Connects psm) far_rest (does-alone side mine theirs list other far_coming far_rest (Connects psm) rest refl tt p)
-  one_on list AsksFeatures far_rest not meant p = alone list AsksFeatures far_rest (does-alone side mine theirs list other far_coming far_rest AsksFeatures rest refl tt p)
-  one_on list (Disconnects own) far_rest not meant p = alone list (Disconnects own) far_rest (does-alone side mine theirs list other far_coming far_rest (Disconnects own) rest refl tt p)
-  one_on list (Sends own sdu) far_rest not meant p = alone list (Sends own sdu) far_rest (does-alone side mine theirs list other far_coming far_rest (Sends own sdu) rest refl meant p)
+  one_on list (Connects psm) far_rest not meant p = alone list (Connects psm) far_rest (does-alone side mine theirs list other far_coming far_rest (Connects psm) rest refl refl tt p)
+  one_on list AsksFeatures far_rest not meant p = alone list AsksFeatures far_rest (does-alone side mine theirs list other far_coming far_rest AsksFeatures rest refl refl tt p)
+  one_on list (Disconnects own) far_rest not meant p = alone list (Disconnects own) far_rest (does-alone side mine theirs list other far_coming far_rest (Disconnects own) rest refl refl tt p)
+  one_on list (Sends own sdu) far_rest not meant p = alone list (Sends own sdu) far_rest (does-alone side mine theirs list other far_coming far_rest (Sends own sdu) rest refl refl meant p)
   one_on list (Gives pdu) far_rest not meant p = puts-it side mine theirs list other far_coming far_rest pdu meant.given rest meant.is meant.spelled meant.read meant.addressed p
-  one_on list Fires far_rest not meant p = alone list Fires far_rest (does-alone side mine theirs list other far_coming far_rest Fires rest refl tt p)
-  one_on list Tells far_rest not meant p = alone list Tells far_rest (does-alone side mine theirs list other far_coming far_rest Tells rest refl tt p)
+  one_on list Fires far_rest not meant p = absurd not
+  one_on list Tells far_rest not meant p = alone list Tells far_rest (does-alone side mine theirs list other far_coming far_rest Tells rest refl refl tt p)
 
   pub all_on : (list more : List Occurrence) (far_rest : List (List ℕ)) → AllByRecursion ComesNot more → AreMeant mine list more → At list far_rest → At (list ++ more) (far_rest ++ gives_in more)
   all_on list [] far_rest not meant p = subst (λ (l : List (List ℕ)). At (list ++ []) l) (sym (append-nil far_rest)) (subst (λ (l : List Occurrence). At l far_rest) (sym (append-nil list)) p)

@@ -4,7 +4,7 @@ use Rattle.std.specs.List.{AllByRecursion}
 use Rattle.bt_base.specs.Objects.{Contents}
 use Rattle.push_script.specs.declared.scenario.Scenario.{Scenario}
 use Rattle.capture.specs.Entries.{Entry}
-use Rattle.world_model.specs.Machines.{Upper}
+use Rattle.world_model.specs.Machines.{News, Upper}
 use Rattle.world_model.specs.Worlds.{Happening, Runs}
 use Rattle.push_laws.specs.Premises.{AllGranted}
 use Rattle.host_model.specs.Circumstances.{Circumstance, Size, Part, Stored, answers_in}
@@ -13,9 +13,9 @@ use Rattle.host_laws.specs.Gifts.{gifts_of}
 use Rattle.scenario_laws.specs.Captures.{client_of, server_of, BothHosts, beginning, Ran}
 use Rattle.pair_laws.specs.InTurn.{PairsInTurn}
 
--- a machine whose ports give these answers in place of those
-abbrev pub answered_by : {S G : Type 0} → (List G → List G) → Upper S G → Upper S G
-answered_by to U = record U { hear = λ answers. U.hear (to answers) }
+-- a machine whose ports give these answers in place of those, with each news
+abbrev pub answered_by : {S G : Type 0} → (News → List G → List G) → Upper S G → Upper S G
+answered_by to U = record U { hear = λ answers news. U.hear (to news answers) news }
 
 -- an inbox grants whatever it is asked
 abbrev pub granted : Circumstance → Circumstance
@@ -24,7 +24,7 @@ granted (Part answer) = Part answer
 granted (Stored answer) = Stored (Ok tt)
 
 abbrev pub granting : {S : Type 0} → Upper S Circumstance → Upper S Circumstance
-granting U = answered_by (map granted) U
+granting U = answered_by (λ news answers. map granted answers) U
 
 -- all that happened, where the inbox of host b granted all
 abbrev pub HappenedGranted : Scenario → Option Contents → List Happening → BothHosts → Type 0

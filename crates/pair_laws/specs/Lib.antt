@@ -11,3 +11,5 @@ pub mod Keeping
 pub mod PlainPipes
 pub mod Granted
 pub mod GrantedOrder
+pub mod Costs
+pub mod Served

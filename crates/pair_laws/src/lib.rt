@@ -2,6 +2,7 @@
 #![tactic(auto)]
 
 ghost use Rattle.pair_laws.specs.Changes.{ChangesAreSeen};
+ghost use Rattle.pair_laws.specs.Costs.{DisturbancesCostWords, RequestsCostWords};
 ghost use Rattle.pair_laws.specs.Fronts.{FrontsAreRun};
 ghost use Rattle.pair_laws.specs.Granted.{GrantedTakeTurns};
 ghost use Rattle.pair_laws.specs.GrantedOrder.{GrantedKeepOrder};
@@ -9,6 +10,7 @@ ghost use Rattle.pair_laws.specs.InTurn.{HostsTakeTurns};
 ghost use Rattle.pair_laws.specs.Keeping.{RunsKeepOrder};
 ghost use Rattle.pair_laws.specs.OnLinks.{HostsArePairs};
 ghost use Rattle.pair_laws.specs.PlainPipes.{PlainPairsArePipes};
+ghost use Rattle.pair_laws.specs.Served.{HeldTakeTurns, ServedTakeTurns};
 ghost use Rattle.pair_laws.specs.Seen.{AllDamageIsSeen};
 ghost use Rattle.pair_laws.specs.Whole.{PairsAreWhole};
 ghost use Rattle.pair_laws.specs.Within.{HostsSendWithin, PairsAreCarried};
@@ -76,4 +78,32 @@ pub fn granted_take_turns()
 /// And where besides its words lose, cut, repeat and damage nothing, each way keeps its order.
 pub fn granted_keep_order()
     ensures { GrantedKeepOrder }
+{}
+
+/// On each link of both hosts of a run at most so many turns of their pair disturb as words of the run are adverse: those that lose, repeat, change
+/// or cut a frame, and those that fire a timer. When something comes in, an answer has room.
+pub fn disturbances_cost_words()
+    ensures { DisturbancesCostWords }
+{}
+
+/// So on each link of a run the question for the peer's features is given for the t-th time only behind t - 1 adverse words; so are requests for channels
+/// of a host that asks for no two with one identifier; and so is each request of which each copy that comes in is responded to, and each response
+/// ends the wait.
+pub fn requests_cost_words()
+    ensures { RequestsCostWords }
+{
+    channel_laws::laws::disturbances_are_counted();
+    channel_laws::laws::features_are_heeded();
+    channel_laws::laws::met_is_heeded();
+    channel_laws::laws::connections_are_met();
+}
+/// In a run in which the shelf of host a tells how long its objects are, the channels of both hosts are pairs in turn as in any run, and each
+/// length that host a was told is that of the object of that name.
+pub fn held_take_turns()
+    ensures { HeldTakeTurns }
+{}
+
+/// And where besides the inbox grants all calls, all that host b was given of its inbox are grants.
+pub fn served_take_turns()
+    ensures { ServedTakeTurns }
 {}

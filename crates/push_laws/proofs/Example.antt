@@ -28,7 +28,7 @@ use Rattle.push_model.specs.Listening.{hears_stream}
 use Rattle.push_model.specs.Streams.{front_of}
 use Rattle.push_laws.specs.Gains.{objects}
 use Rattle.push_laws.specs.Faults as with_faults
-use Rattle.push_laws.specs.Faults.{Marked, marked_from, failures}
+use Rattle.push_laws.specs.Faults.{Marked, marked_from, refusals}
 use Rattle.push_laws.specs.Premises.{AllGranted, AllMayCome, IsHeard, NoneShort, IsTaken, AllMayFail}
 use Rattle.std.specs.Prelude.{Ok, Err}
 use Rattle.bt_base.specs.declared.ports.PortFault.{PortFault}
@@ -324,7 +324,7 @@ module _ (settings : Settings) (low : 255 ≤ 1024) (high : 1024 ≤ 32767) (cre
   abbrev marked : List Marked
   marked = marked_from [] at0 pushed_in_vain
 
-  heard_in_vain : AllMayFail set [] at0 pushed_in_vain × (failures marked ≡ 1) × (with_faults.objects set marked ≡ [])
+  heard_in_vain : AllMayFail set [] at0 pushed_in_vain × (refusals marked ≡ 1) × (with_faults.objects set marked ≡ [])
   unfolding frame_answer added reduced divided low_bits message_answer messages_within messages packets_within obex_packets packet_in sized_at text_at octets_at one_at four_at value_at header_at headers_at headers_in fields_in behind_length front_at hears_stream front_of
   heard_in_vain = (all_come NoneShort (IsTaken set) (failing ∷ came example_frame ∷ []) (is_told, (is_pushed_in_vain, tt)), refl, refl)
 
@@ -335,5 +335,5 @@ one-push_is_heard settings before plain = lift (λ s. AllMayCome s [] (new_over 
 
 pub one-fault_is_heard : OneFaultIsHeard
 one-fault_is_heard settings before plain =
-    lift (λ s. AllMayFail s [] (new_over s before) pushed_in_vain × (failures (marked_from [] (new_over s before) pushed_in_vain) ≡ 1) × (with_faults.objects s (marked_from [] (new_over s before) pushed_in_vain) ≡ []))
+    lift (λ s. AllMayFail s [] (new_over s before) pushed_in_vain × (refusals (marked_from [] (new_over s before) pushed_in_vain) ≡ 1) × (with_faults.objects s (marked_from [] (new_over s before) pushed_in_vain) ≡ []))
     settings plain (λ l h cl ch ol oh. heard_in_vain settings l h cl ch ol oh before)

@@ -25,18 +25,19 @@ use Rattle.rfcomm_model.specs.ClosedSides.{IsOrderly}
 use Rattle.link_talk.specs.Gains.{beyond, gained}
 use Rattle.push_model.specs.Client.{own_maximum}
 use Rattle.push_model.specs.Sessions.{session_of, other_of, has_object}
+use Rattle.push_model.specs.Service.{Service, is_ignored}
 use Rattle.push_model.specs.Server.{Reacted, object_psm, rfcomm_psm}
 use Rattle.push_laws.specs.Occurrences.{Occurrence, Came, Went, Closed, LinkDown, Asked, Answering, done, all_done}
 use Rattle.push_laws.specs.Readings.{closes, came_on, octets_heard, packets_over}
 use Rattle.push_laws.specs.Gains as clear
 use Rattle.push_laws.specs.Gains.{objects_over}
-use Rattle.push_laws.specs.Faults.{Marked, unmarked, heard_as, heard_behind, heard_from, heard_over, stored_over, objects_with, objects, counted, failures, faults_of, fails_with, mark_of, marked_from, faults_before, spent_from}
+use Rattle.push_laws.specs.Faults.{Marked, unmarked, heard_as, heard_behind, heard_from, heard_over, stored_over, objects_with, objects, counted, refusals, faults_of, refuses_with, mark_of, marked_from, faults_before, spent_from, ignored_of, ignored_with, ignored_from}
 use Rattle.push_laws.specs.Faults as faulty
 use Rattle.obex_session.specs.Serving as serving
 use Rattle.obex_session.specs.Marks as marks
 use Rattle.obex_headers.specs.Reading as reading
 use Rattle.obex_headers.specs.declared.packet.Phase.TheVariants as phase
-use Rattle.push_laws.specs.Premises.{is_under_way, IsHeard, IsTaken, AllGranted, NoneShort, AnswersAre, MayCome, AllMayCome, new_packets, AllMayFail}
+use Rattle.push_laws.specs.Premises.{is_under_way, IsHeard, IsTaken, IsAlone, AllGranted, NoneShort, AnswersAre, MayCome, AllMayCome, new_packets, AllMayFail, AllMayMiss}
 use Rattle.push_laws.specs.Laws.{stored_in, new_over, paid_for, GainsWhatIsHeard, CreditsAreRead}
 use Rattle.push_laws.proofs.Sessions as opened
 use Rattle.push_laws.proofs.Readings.{read_more, read_closed, drop_front, unmarked_more, heard_more, spelled_stored}
@@ -61,7 +62,7 @@ module _ (settings : Settings) (before : List Object) where
   abbrev NextTo : List Marked → Reacted → List ℕ → Occurrence → Reacted → Type 0
   NextTo past at got one at' = Next settings (unmarked past) (heard_over L2cap past) (heard_over Rfcomm past) (before ++ objects settings past) got one at.server.listener.service at.gift at'
 
-  next_after : (past : List Marked) (one : Occurrence) (at : Reacted) (h : Holds settings before past at) → MayCome NoneShort (IsTaken settings (unmarked past) at.server.listener.service) settings (unmarked past) at one → NextTo past at h.got one (done one at)
+  next_after : (past : List Marked) (one : Occurrence) (at : Reacted) (h : Holds settings before past at) → MayCome NoneShort (IsAlone settings (unmarked past) at.server.listener.service) settings (unmarked past) at one → NextTo past at h.got one (done one at)
   next_after past (Came psm sdu) at h may =
       let is = unfailed past at _ h in
       subst (NextTo past at h.got (Came psm sdu)) (sym is)
@@ -82,53 +83,53 @@ module _ (settings : Settings) (before : List Object) where
 
   -- ---- one occurrence more
 
-  packets_as : (failed : Bool) (packets : List (List ℕ)) → map octets_of (heard_as failed packets) ≡ packets
-  packets_as failed [] = refl
-  packets_as failed (packet ∷ packets) = ap (λ (ps : List (List ℕ)). packet ∷ ps) (packets_as failed packets)
+  packets_as : (refused : Bool) (packets : List (List ℕ)) → map octets_of (heard_as refused packets) ≡ packets
+  packets_as refused [] = refl
+  packets_as refused (packet ∷ packets) = ap (λ (ps : List (List ℕ)). packet ∷ ps) (packets_as refused packets)
 
-  direct_by : (closing : Bool) (past : List Marked) (one : Occurrence) (failed : Bool) → closes object_psm one ≡ closing → map octets_of (heard_over L2cap past) ≡ packets_over L2cap (unmarked past)
-      → map octets_of (cond closing [] (heard_over L2cap past ++ heard_as failed (new_packets L2cap (unmarked past) one))) ≡ packets_over L2cap (unmarked past ++ one ∷ [])
-  direct_by true past one failed e is = sym (read_closed (came_on object_psm) object_psm (unmarked past) one e)
-  direct_by false past one failed e is =
+  direct_by : (closing : Bool) (past : List Marked) (one : Occurrence) (refused : Bool) → closes object_psm one ≡ closing → map octets_of (heard_over L2cap past) ≡ packets_over L2cap (unmarked past)
+      → map octets_of (cond closing [] (heard_over L2cap past ++ heard_as refused (new_packets L2cap (unmarked past) one))) ≡ packets_over L2cap (unmarked past ++ one ∷ [])
+  direct_by true past one refused e is = sym (read_closed (came_on object_psm) object_psm (unmarked past) one e)
+  direct_by false past one refused e is =
       let old : List (List ℕ) = packets_over L2cap (unmarked past) in
       let more = read_more (came_on object_psm) object_psm (unmarked past) one e in
-      map-append octets_of (heard_over L2cap past) (heard_as failed (new_packets L2cap (unmarked past) one))
-      ∙ ap (λ (ps : List (List ℕ)). map octets_of (heard_over L2cap past) ++ ps) (packets_as failed (new_packets L2cap (unmarked past) one) ∙ ap (beyond old) more ∙ drop_front old (cons_option (came_on object_psm one) []))
+      map-append octets_of (heard_over L2cap past) (heard_as refused (new_packets L2cap (unmarked past) one))
+      ∙ ap (λ (ps : List (List ℕ)). map octets_of (heard_over L2cap past) ++ ps) (packets_as refused (new_packets L2cap (unmarked past) one) ∙ ap (beyond old) more ∙ drop_front old (cons_option (came_on object_psm one) []))
       ∙ ap (λ (ps : List (List ℕ)). ps ++ cons_option (came_on object_psm one) []) is ∙ sym more
 
   pub record More (past : List Marked) (one : Occurrence) (at : Reacted) : Type 0 where
-    pub failed : Bool
-    pub is : failed ≡ fails_with (unmarked past) at.server.listener.service at.gift.answers one
-    pub holds : Holds settings before (past ++ record { occurrence = one; failed = failed } ∷ []) (done one at)
-    pub paid : faults_of (done one at).gift.answers + counted failed ≤ faults_before one at.gift.answers
+    pub refused : Bool
+    pub is : refused ≡ refuses_with (unmarked past) at.server.listener.service at.gift.answers one
+    pub holds : Holds settings before (past ++ record { occurrence = one; refused = refused } ∷ []) (done one at)
+    pub paid : faults_of (done one at).gift.answers + counted refused ≤ faults_before one at.gift.answers + ignored_with (unmarked past) at.server.listener.service one
 
-  pub holds_more : (past : List Marked) (one : Occurrence) (at : Reacted) → Holds settings before past at → MayCome NoneShort (IsTaken settings (unmarked past) at.server.listener.service) settings (unmarked past) at one → More past one at
+  pub holds_more : (past : List Marked) (one : Occurrence) (at : Reacted) → Holds settings before past at → MayCome NoneShort (IsAlone settings (unmarked past) at.server.listener.service) settings (unmarked past) at one → More past one at
   holds_more past one at h may =
       let next = next_after past one at h may in
-      let last : Marked = record { occurrence = one; failed = next.failed } in
+      let last : Marked = record { occurrence = one; refused = next.refused } in
       let later : List Marked = past ++ last ∷ [] in
       let occurrences : unmarked later ≡ unmarked past ++ one ∷ [] = unmarked_more past last in
       let heard : octets_heard (unmarked past ++ one ∷ []) ≡ next.octets = carries_read (settings.mtu - 6) settings.credits (passed (unmarked past ++ one ∷ [])) next.octets (done one at).server.mux (done one at).server.frame next.upholds.carries may.orderly in
-      let direct : heard_over L2cap later ≡ direct_after settings (unmarked past) (heard_over L2cap past) (heard_over Rfcomm past) (before ++ objects settings past) h.got one next.failed = heard_more L2cap past last in
-      let carried : heard_over Rfcomm later ≡ carried_after settings (unmarked past) (heard_over L2cap past) (heard_over Rfcomm past) (before ++ objects settings past) h.got one next.failed next.octets =
+      let direct : heard_over L2cap later ≡ direct_after settings (unmarked past) (heard_over L2cap past) (heard_over Rfcomm past) (before ++ objects settings past) h.got one next.refused = heard_more L2cap past last in
+      let carried : heard_over Rfcomm later ≡ carried_after settings (unmarked past) (heard_over L2cap past) (heard_over Rfcomm past) (before ++ objects settings past) h.got one next.refused next.octets =
       heard_more Rfcomm past last
-      ∙ ap (λ (xs : List ℕ). cond (closes rfcomm_psm one) [] (heard_over Rfcomm past ++ heard_as next.failed (beyond (obex_packets xs) (obex_packets (octets_heard (unmarked past ++ one ∷ [])))))) h.heard
-      ∙ ap (λ (xs : List ℕ). cond (closes rfcomm_psm one) [] (heard_over Rfcomm past ++ heard_as next.failed (beyond (obex_packets h.got) (obex_packets xs)))) heard in
+      ∙ ap (λ (xs : List ℕ). cond (closes rfcomm_psm one) [] (heard_over Rfcomm past ++ heard_as next.refused (beyond (obex_packets xs) (obex_packets (octets_heard (unmarked past ++ one ∷ [])))))) h.heard
+      ∙ ap (λ (xs : List ℕ). cond (closes rfcomm_psm one) [] (heard_over Rfcomm past ++ heard_as next.refused (beyond (obex_packets h.got) (obex_packets xs)))) heard in
       let stored : (before ++ objects settings past) ++ objects_with settings past last ≡ before ++ objects settings later =
       append_assoc before (objects settings past) (objects_with settings past last) ∙ ap (λ (os : List Object). before ++ os) (sym (given_by-more (objects_with settings) past last)) in
       record {
-        failed = next.failed;
+        refused = next.refused;
         is = next.is;
         holds = record {
           got = next.octets;
           heard = ap octets_heard occurrences ∙ heard;
-          direct = ap (map octets_of) (heard_more L2cap past last) ∙ direct_by (closes object_psm one) past one next.failed refl h.direct ∙ ap (packets_over L2cap) (sym occurrences);
+          direct = ap (map octets_of) (heard_more L2cap past last) ∙ direct_by (closes object_psm one) past one next.refused refl h.direct ∙ ap (packets_over L2cap) (sym occurrences);
           upholds = subst (λ (os : List Occurrence). Now settings os (heard_over L2cap later) (heard_over Rfcomm later) (before ++ objects settings later) next.octets (done one at)) (sym occurrences)
               (subst (λ (os : List Object). Now settings (unmarked past ++ one ∷ []) (heard_over L2cap later) (heard_over Rfcomm later) os next.octets (done one at)) stored
               (subst (λ (ds : List Heard). Now settings (unmarked past ++ one ∷ []) ds (heard_over Rfcomm later) ((before ++ objects settings past) ++ (beyond (stored_by (own_maximum L2cap settings) (heard_over L2cap past)) (stored_by (own_maximum L2cap settings) ds)
               ++ beyond (stored_by (own_maximum Rfcomm settings) (heard_over Rfcomm past)) (stored_by (own_maximum Rfcomm settings) (heard_over Rfcomm later)))) next.octets (done one at)) (sym direct)
-              (subst (λ (cs : List Heard). Now settings (unmarked past ++ one ∷ []) (direct_after settings (unmarked past) (heard_over L2cap past) (heard_over Rfcomm past) (before ++ objects settings past) h.got one next.failed) cs
-              ((before ++ objects settings past) ++ (beyond (stored_by (own_maximum L2cap settings) (heard_over L2cap past)) (stored_by (own_maximum L2cap settings) (direct_after settings (unmarked past) (heard_over L2cap past) (heard_over Rfcomm past) (before ++ objects settings past) h.got one next.failed))
+              (subst (λ (cs : List Heard). Now settings (unmarked past ++ one ∷ []) (direct_after settings (unmarked past) (heard_over L2cap past) (heard_over Rfcomm past) (before ++ objects settings past) h.got one next.refused) cs
+              ((before ++ objects settings past) ++ (beyond (stored_by (own_maximum L2cap settings) (heard_over L2cap past)) (stored_by (own_maximum L2cap settings) (direct_after settings (unmarked past) (heard_over L2cap past) (heard_over Rfcomm past) (before ++ objects settings past) h.got one next.refused))
               ++ beyond (stored_by (own_maximum Rfcomm settings) (heard_over Rfcomm past)) (stored_by (own_maximum Rfcomm settings) cs))) next.octets (done one at)) (sym carried) next.upholds)));
         };
         paid = next.paid;
@@ -138,25 +139,26 @@ module _ (settings : Settings) (before : List Object) where
 
   pub record Walked (past : List Marked) (occurrences : List Occurrence) (at : Reacted) : Type 0 where
     pub holds : Holds settings before (past ++ marked_from (unmarked past) at occurrences) (all_done occurrences at)
-    pub few : failures (marked_from (unmarked past) at occurrences) ≤ spent_from at occurrences
+    pub few : refusals (marked_from (unmarked past) at occurrences) ≤ spent_from at occurrences + ignored_from (unmarked past) at occurrences
 
   marked_more : (past : List Marked) (one : Occurrence) (rest : List Occurrence) (at : Reacted) → marked_from (unmarked (past ++ mark_of (unmarked past) at one ∷ [])) (done one at) rest ≡ marked_from (unmarked past ++ one ∷ []) (done one at) rest
   marked_more past one rest at = ap (λ (os : List Occurrence). marked_from os (done one at) rest) (unmarked_more past (mark_of (unmarked past) at one))
 
-  pub holds_all : (occurrences : List Occurrence) (past : List Marked) (at : Reacted) → Holds settings before past at → AllMayFail settings (unmarked past) at occurrences → Walked past occurrences at
+  pub holds_all : (occurrences : List Occurrence) (past : List Marked) (at : Reacted) → Holds settings before past at → AllMayMiss settings (unmarked past) at occurrences → Walked past occurrences at
   holds_all [] past at h all = record { holds = subst (λ (ms : List Marked). Holds settings before ms at) (sym (append-nil past)) h; few = omega arith }
   holds_all (one ∷ rest) past at h all =
       let more = holds_more past one at h all.0 in
       let last : Marked = mark_of (unmarked past) at one in
       let later : List Marked = past ++ last ∷ [] in
-      let holds : Holds settings before later (done one at) = subst (λ (b : Bool). Holds settings before (past ++ record { occurrence = one; failed = b } ∷ []) (done one at)) more.is more.holds in
-      let then = holds_all rest later (done one at) holds (subst (λ (os : List Occurrence). AllMayFail settings os (done one at) rest) (sym (unmarked_more past last)) all.1) in
+      let holds : Holds settings before later (done one at) = subst (λ (b : Bool). Holds settings before (past ++ record { occurrence = one; refused = b } ∷ []) (done one at)) more.is more.holds in
+      let then = holds_all rest later (done one at) holds (subst (λ (os : List Occurrence). AllMayMiss settings os (done one at) rest) (sym (unmarked_more past last)) all.1) in
       let marks = marked_more past one rest at in
       record {
         holds = subst (λ (ms : List Marked). Holds settings before ms (all_done rest (done one at))) (append_assoc past (last ∷ []) (marked_from (unmarked later) (done one at) rest) ∙ ap (λ (ms : List Marked). past ++ last ∷ ms) marks) then.holds;
-        few = (let paid = subst (λ (b : Bool). faults_of (done one at).gift.answers + counted b ≤ faults_before one at.gift.answers) more.is more.paid in
-            let second = subst (λ (ms : List Marked). failures ms ≤ spent_from (done one at) rest) marks then.few in
-            let count = sum_by-cons (λ (m : Marked). counted m.failed) last (marked_from (unmarked past ++ one ∷ []) (done one at) rest) in omega (arith, paid, second, count));
+        few = (let paid = subst (λ (b : Bool). faults_of (done one at).gift.answers + counted b ≤ faults_before one at.gift.answers + ignored_with (unmarked past) at.server.listener.service one) more.is more.paid in
+            let second = subst (λ (ms : List Marked). refusals ms ≤ spent_from (done one at) rest + ignored_from (unmarked later) (done one at) rest) marks then.few in
+            let missed = ap (λ (os : List Occurrence). ignored_from os (done one at) rest) (unmarked_more past last) in
+            let count = sum_by-cons (λ (m : Marked). counted m.refused) last (marked_from (unmarked past ++ one ∷ []) (done one at) rest) in omega (arith, paid, second, missed, count));
       }
 
   -- ---- at first
@@ -186,10 +188,50 @@ module _ (settings : Settings) (before : List Object) where
     };
   }
 
+  -- ---- where none is ignored
+
+  alone_all : (past : List Occurrence) (service : Service) (t : Transport) (packets : List (List ℕ)) → AllByRecursion (IsTaken settings past service t) packets → AllByRecursion (IsAlone settings past service t) packets
+  alone_all past service t [] all = tt
+  alone_all past service t (packet ∷ packets) all = (record { alone = all.0.alone }, alone_all past service t packets all.1)
+
+  pub as_alone : (past : List Occurrence) (one : Occurrence) (at : Reacted) → MayCome NoneShort (IsTaken settings past at.server.listener.service) settings past at one → MayCome NoneShort (IsAlone settings past at.server.listener.service) settings past at one
+  as_alone past one at may = record {
+    own = may.own;
+    answers = may.answers;
+    requests = record { single = may.requests.single; heard = λ t. alone_all past at.server.listener.service t (new_packets t past one) (may.requests.heard t); lengths = may.requests.lengths };
+    frame = may.frame;
+    orderly = may.orderly;
+  }
+
+  pub all_alone : (occurrences past : List Occurrence) (at : Reacted) → AllMayFail settings past at occurrences → AllMayMiss settings past at occurrences
+  all_alone [] past at all = tt
+  all_alone (one ∷ rest) past at all = (as_alone past one at all.0, all_alone rest (past ++ one ∷ []) (done one at) all.1)
+
+  none_of : (past : List Occurrence) (service : Service) (t : Transport) (packets : List (List ℕ)) → AllByRecursion (IsTaken settings past service t) packets → ignored_of t service packets ≡ 0
+  none_of past service t [] all = refl
+  none_of past service t (packet ∷ packets) all =
+      let count = sum_by-cons (λ (p : List ℕ). counted (is_ignored t p service)) packet packets in
+      let one = ap counted all.0.taken in
+      let more = none_of past service t packets all.1 in
+      omega (arith, count, one, more)
+
+  none_with : (past : List Occurrence) (one : Occurrence) (at : Reacted) → MayCome NoneShort (IsTaken settings past at.server.listener.service) settings past at one → ignored_with past at.server.listener.service one ≡ 0
+  none_with past one at may =
+      let direct = none_of past at.server.listener.service L2cap (new_packets L2cap past one) (may.requests.heard L2cap) in
+      let carried = none_of past at.server.listener.service Rfcomm (new_packets Rfcomm past one) (may.requests.heard Rfcomm) in
+      omega (arith, direct, carried)
+
+  pub none_from : (occurrences past : List Occurrence) (at : Reacted) → AllMayFail settings past at occurrences → ignored_from past at occurrences ≡ 0
+  none_from [] past at all = refl
+  none_from (one ∷ rest) past at all =
+      let first = none_with past one at all.0 in
+      let later = none_from rest (past ++ one ∷ []) (done one at) all.1 in
+      omega (arith, first, later)
+
   -- ---- where none fails
 
   abbrev pub clean : List Occurrence → List Marked
-  clean past = map (λ (one : Occurrence). (let m : Marked = record { occurrence = one; failed = false } in m)) past
+  clean past = map (λ (one : Occurrence). (let m : Marked = record { occurrence = one; refused = false } in m)) past
 
   pub clean_same : (past : List Occurrence) → unmarked (clean past) ≡ past
   clean_same [] = refl
@@ -205,7 +247,7 @@ module _ (settings : Settings) (before : List Object) where
   from_clean : (t : Transport) (past : List Occurrence) (kept : List Heard) (rest : List Occurrence) → kept ≡ without_fault (map octets_of kept) → heard_from t past kept (clean rest) ≡ without_fault (map octets_of (heard_from t past kept (clean rest)))
   from_clean t past kept [] e = e
   from_clean t past kept (one ∷ rest) e =
-      from_clean t (past ++ one ∷ []) (heard_behind t past kept (record { occurrence = one; failed = false })) rest (kept_clean (closes (faulty.psm_of t) one) kept (gained (packets_over t) past one) e)
+      from_clean t (past ++ one ∷ []) (heard_behind t past kept (record { occurrence = one; refused = false })) rest (kept_clean (closes (faulty.psm_of t) one) kept (gained (packets_over t) past one) e)
 
   -- what is marked is what is read
   pub clean_reads : (past : List Occurrence) (at : Reacted) → Holds settings before (clean past) at → (t : Transport) → heard_over t (clean past) ≡ without_fault (packets_over t past)
@@ -285,9 +327,9 @@ module _ (settings : Settings) (before : List Object) where
         orderly = may.orderly;
       }
 
-  unfailing : (failed : Bool) → counted failed ≤ 0 → failed ≡ false
-  unfailing true few = absurd (omega (arith, few))
-  unfailing false few = refl
+  unrefused : (refused : Bool) → counted refused ≤ 0 → refused ≡ false
+  unrefused true few = absurd (omega (arith, few))
+  unrefused false few = refl
 
   -- no packet is marked, and the objects are those of the packets
   pub record Clear (past : List Occurrence) (at : Reacted) : Type 0 where
@@ -297,20 +339,22 @@ module _ (settings : Settings) (before : List Object) where
 
   pub clear_more : (past : List Occurrence) (one : Occurrence) (at : Reacted) → Clear past at → MayCome AllGranted (IsHeard settings past at.server.listener.service) settings past at one → Clear (past ++ one ∷ []) (done one at)
   clear_more past one at c may =
-      let more = holds_more (clean past) one at c.holds (subst (λ (os : List Occurrence). MayCome NoneShort (IsTaken settings os at.server.listener.service) settings os at one) (sym (clean_same past)) (may_come past one at c.holds may)) in
+      let taken = subst (λ (os : List Occurrence). MayCome NoneShort (IsTaken settings os at.server.listener.service) settings os at one) (sym (clean_same past)) (may_come past one at c.holds may) in
+      let more = holds_more (clean past) one at c.holds (as_alone (unmarked (clean past)) one at taken) in
+      let missed = none_with (unmarked (clean past)) one at taken in
       let none = answers_none one at.gift.answers may.answers c.spared in
       let paid = more.paid in
       let spared = c.spared in
-      let last : Marked = record { occurrence = one; failed = false } in
-      let later : clean (past ++ one ∷ []) ≡ clean past ++ last ∷ [] = map-append (λ (o : Occurrence). (let m : Marked = record { occurrence = o; failed = false } in m)) past (one ∷ []) in
-      let unmarked_one = unfailing more.failed (omega (arith, paid, none, spared)) in
-      let holds : Holds settings before (clean past ++ last ∷ []) (done one at) = subst (λ (b : Bool). Holds settings before (clean past ++ record { occurrence = one; failed = b } ∷ []) (done one at)) unmarked_one more.holds in
+      let last : Marked = record { occurrence = one; refused = false } in
+      let later : clean (past ++ one ∷ []) ≡ clean past ++ last ∷ [] = map-append (λ (o : Occurrence). (let m : Marked = record { occurrence = o; refused = false } in m)) past (one ∷ []) in
+      let unmarked_one = unrefused more.refused (omega (arith, paid, none, missed, spared)) in
+      let holds : Holds settings before (clean past ++ last ∷ []) (done one at) = subst (λ (b : Bool). Holds settings before (clean past ++ record { occurrence = one; refused = b } ∷ []) (done one at)) unmarked_one more.holds in
       let holds' : Holds settings before (clean (past ++ one ∷ [])) (done one at) = subst (λ (ms : List Marked). Holds settings before ms (done one at)) (sym later) holds in
       let gains = λ (t : Transport). ap (λ (os : List Object). beyond os (stored_over settings t (clean past ++ last ∷ []))) (clean_over past at c.holds t)
       ∙ ap (beyond (objects_over settings t past)) (ap (stored_over settings t) (sym later) ∙ clean_over (past ++ one ∷ []) (done one at) holds' t) in
       record {
         holds = holds';
-        spared = omega (arith, paid, none, spared);
+        spared = omega (arith, paid, none, missed, spared);
         same = ap (objects settings) later ∙ given_by-more (objects_with settings) (clean past) last
             ∙ ap (λ (os : List Object). os ++ objects_with settings (clean past) last) c.same
             ∙ ap (λ (os : List Object). clear.objects settings past ++ (os ++ gained (stored_over settings Rfcomm) (clean past) last)) (gains L2cap)
@@ -338,7 +382,7 @@ unmarked_all [] past at = refl
 unmarked_all (one ∷ rest) past at = ap (λ (os : List Occurrence). one ∷ os) (unmarked_all rest (past ++ one ∷ []) (done one at))
 
 -- the multiplexer refused nothing to the end
-still_orderly : (settings : Settings) (occurrences : List Occurrence) (past : List Occurrence) (at : Reacted) → IsOrderly at.server.mux.closed → AllMayFail settings past at occurrences → IsOrderly (all_done occurrences at).server.mux.closed
+still_orderly : (settings : Settings) (occurrences : List Occurrence) (past : List Occurrence) (at : Reacted) → IsOrderly at.server.mux.closed → AllMayMiss settings past at occurrences → IsOrderly (all_done occurrences at).server.mux.closed
 still_orderly settings [] past at orderly all = orderly
 still_orderly settings (one ∷ rest) past at orderly all = still_orderly settings rest (past ++ one ∷ []) (done one at) all.0.orderly all.1
 

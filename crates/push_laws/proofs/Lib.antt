@@ -28,6 +28,12 @@ pub mod Opening
 pub mod TwoChannels
 pub mod Calm
 pub mod Turns
+pub mod Missing
+pub mod OneName
+pub mod Keeping
+pub mod Failing
+pub mod OneObject
+pub mod Losing
 pub mod Success
 pub mod Exchanges
 pub mod Flows

@@ -3,6 +3,7 @@ use Rattle.std.proofs.Common.{inl, inr, Bool, true, false, cond, ◌||◌, ◌�
 use Rattle.std.specs.List.{flat_map, AllByRecursion}
 use Rattle.std.proofs.lemmas.Bool.{cond-false, or_from}
 use Rattle.std.proofs.lemmas.List.{map-append}
+use Rattle.std.proofs.lemmas.List.Sums.{sum_by-cons}
 use Rattle.std.proofs.lemmas.Grind.{flat_map-append}
 use Rattle.bt_base.specs.declared.settings.Transport.{Transport}
 use Rattle.bt_base.specs.declared.settings.Transport.TheVariants.{L2cap, Rfcomm}
@@ -23,7 +24,7 @@ use Rattle.push_model.specs.Sessions.{Gift, session_of, other_of, has_object, is
 use Rattle.push_model.specs.Service.{Service, without_answer, is_ignored, hears_packet}
 use Rattle.push_model.specs.Listening.{Listener, Heeded, Received, has_bad_length, heeds, lets_go_by, heeds_carried, hears_stream}
 use Rattle.push_model.specs.Server.{unanswering}
-use Rattle.push_laws.specs.Faults.{heard_as, counted, faults_of, fails_at, any_fails}
+use Rattle.push_laws.specs.Faults.{heard_as, counted, faults_of, is_refused, any_refused, ignored_of}
 use Rattle.push_laws.proofs.Sessions.{Pasts, headers, pending, Adds, gain}
 use Rattle.push_laws.proofs.Services.{Serves, let_go_of, packet_heard, nothing_pending, refused_heard}
 use Rattle.push_laws.proofs.Readings.{drop_front, drop_same, stored_more}
@@ -70,7 +71,6 @@ pub record Listens (most : Transport → ℕ) (direct carried : List Heard) (got
 -- ---- a request is heard
 
 pub record IsWell (t : Transport) (service : Service) (packet : List ℕ) : Type 0 where
-  pub taken : is_ignored t packet service ≡ false
   pub alone : is_naming t packet service.sessions ≡ true → has_object (session_of (other_of t) service.sessions) ≡ false
 
 idle_over : (most : Transport → ℕ) (past : Pasts) (t : Transport) (stored : List Object) (service : Service) (gift : Gift) → Serves most past stored service gift → has_object (session_of t service.sessions) ≡ false → pending most past t ≡ None
@@ -83,25 +83,25 @@ alone_over most past t packet stored service gift s well named = idle_over most 
 -- ---- over L2CAP
 
 -- what is heard with one packet more
-pub record DirectAs (most : Transport → ℕ) (direct carried : List Heard) (got : List ℕ) (sdu : List ℕ) (stored : List Object) (gift : Gift) (fails : Bool) (listener' : Listener) (held : List ℕ) (gift' : Gift) : Type 0 where
-  pub failed : Bool
-  pub is : failed ≡ fails
-  pub listens : Listens most (direct ++ (sdu, failed) ∷ []) carried got (stored ++ beyond (stored_by (most L2cap) direct) (stored_by (most L2cap) (direct ++ (sdu, failed) ∷ []))) listener' held gift'
-  pub paid : faults_of gift'.answers + counted failed ≤ faults_of gift.answers
+pub record DirectAs (most : Transport → ℕ) (direct carried : List Heard) (got : List ℕ) (sdu : List ℕ) (stored : List Object) (gift : Gift) (refuses : Bool) (ignored : ℕ) (listener' : Listener) (held : List ℕ) (gift' : Gift) : Type 0 where
+  pub refused : Bool
+  pub is : refused ≡ refuses
+  pub listens : Listens most (direct ++ (sdu, refused) ∷ []) carried got (stored ++ beyond (stored_by (most L2cap) direct) (stored_by (most L2cap) (direct ++ (sdu, refused) ∷ []))) listener' held gift'
+  pub paid : faults_of gift'.answers + counted refused ≤ faults_of gift.answers + ignored
 
 pub direct_heard : (most : Transport → ℕ) (direct carried : List Heard) (got : List ℕ) (stored : List Object) (listener : Listener) (held : List ℕ) (gift : Gift) (sdu : List ℕ) → Listens most direct carried got stored listener held gift
-    → IsWell L2cap listener.service sdu → DirectAs most direct carried got sdu stored gift (fails_at L2cap sdu listener.service gift.answers) (heeds L2cap sdu listener gift).listener held (heeds L2cap sdu listener gift).gift
+    → IsWell L2cap listener.service sdu → DirectAs most direct carried got sdu stored gift (is_refused L2cap sdu listener.service gift.answers) (counted (is_ignored L2cap sdu listener.service)) (heeds L2cap sdu listener gift).listener held (heeds L2cap sdu listener gift).gift
 direct_heard most direct carried got stored listener held gift sdu l well =
     let past : Pasts = pasts direct carried l.tail in
-    let then = packet_heard most past L2cap sdu stored listener.service gift l.serves well.taken (alone_over most past L2cap sdu stored listener.service gift l.serves well) in
-    let past' : Pasts = pasts (direct ++ (sdu, then.failed) ∷ []) carried l.tail in
+    let then = packet_heard most past L2cap sdu stored listener.service gift l.serves (alone_over most past L2cap sdu stored listener.service gift l.serves well) in
+    let past' : Pasts = pasts (direct ++ (sdu, then.refused) ∷ []) carried l.tail in
     let served = hears_packet L2cap sdu listener.service gift in
     record {
-      failed = then.failed;
+      refused = then.refused;
       is = then.is;
       listens = record {
         tail = l.tail;
-        serves = subst (λ (os : List Object). Serves most past' (stored ++ os) served.service served.gift) (sym (stored_more (most L2cap) direct (sdu, then.failed))) (then.serves past' (record { here = refl; there = refl }));
+        serves = subst (λ (os : List Object). Serves most past' (stored ++ os) served.service served.gift) (sym (stored_more (most L2cap) direct (sdu, then.refused))) (then.serves past' (record { here = refl; there = refl }));
         packets = l.packets;
         cut = l.cut;
       };
@@ -155,13 +155,13 @@ broken_ends most direct carried got rest stored steps listener gift refusal s wh
     let none = three_refused (most Rfcomm) rest refusal begins in
     let size = wrong_size (most Rfcomm) rest refusal begins in
     let then = refused_heard most past Rfcomm octets none.0 stored listener.service gift s none.1 in
-    let past' : Pasts = pasts direct carried ((octets, then.failed) ∷ []) in
-    let adds : Adds Rfcomm (octets, then.failed) past past' = record { here = ap (λ (hs : List Heard). hs ++ (octets, then.failed) ∷ []) (sym (append-nil carried)); there = refl } in
+    let past' : Pasts = pasts direct carried ((octets, then.refused) ∷ []) in
+    let adds : Adds Rfcomm (octets, then.refused) past past' = record { here = ap (λ (hs : List Heard). hs ++ (octets, then.refused) ∷ []) (sym (append-nil carried)); there = refl } in
     subst (Ends most direct carried got stored (faults_of gift.answers)) (sym (hears_broken steps rest listener gift refusal long (subst (λ (n : ℕ). BeginsNone n rest refusal) (sym (s.stands.maxima Rfcomm)) begins)))
     (record {
-      tail = (octets, then.failed) ∷ [];
+      tail = (octets, then.refused) ∷ [];
       serves = then.serves past' adds;
-      cut = record { rest = rest; whole = whole; long = size.0; wrong = size.1; cleared = nothing_pending most past past' Rfcomm octets then.failed none.0 adds none.1 };
+      cut = record { rest = rest; whole = whole; long = size.0; wrong = size.1; cleared = nothing_pending most past past' Rfcomm octets then.refused none.0 adds none.1 };
       paid = then.paid;
     })
 
@@ -188,12 +188,12 @@ pub record OneAtATime (most : Transport → ℕ) (service : Service) (new : List
 abbrev pub carried_gain : (Transport → ℕ) → List Heard → List Heard → List Object
 carried_gain most old new = beyond (stored_by (most Rfcomm) old) (stored_by (most Rfcomm) new)
 
--- the same with the packets that are whole, and whether a call failed at one
+-- the same with the packets that are whole, and whether one counts as refused
 pub record CarriedAs (most : Transport → ℕ) (direct carried : List Heard) (got : List ℕ) (new : List (List ℕ)) (stored : List Object) (service : Service) (gift : Gift) (r : Received) : Type 0 where
-  pub failed : Bool
-  pub is : failed ≡ any_fails Rfcomm service gift.answers new
-  pub listens : Listens most direct (carried ++ heard_as failed new) got (stored ++ carried_gain most carried (carried ++ heard_as failed new)) r.listener r.held r.gift
-  pub paid : faults_of r.gift.answers + counted failed ≤ faults_of gift.answers
+  pub refused : Bool
+  pub is : refused ≡ any_refused Rfcomm service gift.answers new
+  pub listens : Listens most direct (carried ++ heard_as refused new) got (stored ++ carried_gain most carried (carried ++ heard_as refused new)) r.listener r.held r.gift
+  pub paid : faults_of r.gift.answers + counted refused ≤ faults_of gift.answers + ignored_of Rfcomm service new
 
 nothing_more : (most : Transport → ℕ) (stored : List Object) (old new : List Heard) → new ≡ old → stored ≡ stored ++ carried_gain most old new
 nothing_more most stored old new same =
@@ -205,8 +205,8 @@ carries_none : (most : Transport → ℕ) (direct carried : List Heard) (got : L
 carries_none most direct carried got new stored service gift r none packets e =
     let same : carried ++ heard_as false new ≡ carried = ap (λ (ps : List (List ℕ)). carried ++ heard_as false ps) none ∙ append-nil carried in
     record {
-      failed = false;
-      is = sym (ap (any_fails Rfcomm service gift.answers) none);
+      refused = false;
+      is = sym (ap (any_refused Rfcomm service gift.answers) none);
       listens = subst (λ (os : List Object). Listens most direct (carried ++ heard_as false new) got os r.listener r.held r.gift) (nothing_more most stored carried (carried ++ heard_as false new) same)
           (subst (λ (hs : List Heard). Listens most direct hs got stored r.listener r.held r.gift) (sym same) (record { tail = e.tail; serves = e.serves; packets = packets; cut = e.cut }));
       paid = (let paid = e.paid in omega arith);
@@ -222,25 +222,25 @@ one_ends most direct carried got packet rest stored steps listener gift least s 
     let framed : IsFramed listener.service.sessions.carried.maximum packet = (is.0, subst (λ (n : ℕ). length packet ≤ n) (sym (s.stands.maxima Rfcomm)) (right_length (most Rfcomm) packet least right), same_length packet is.0 ∙ is.1) in
     let first = hears_whole steps packet rest listener gift long framed in
     let middle : Heeded = heeds_carried packet listener gift in
-    let then = packet_heard most past Rfcomm packet stored listener.service gift s well.taken (alone_over most past Rfcomm packet stored listener.service gift s well) in
-    let now : List Heard = carried ++ (packet, then.failed) ∷ [] in
+    let then = packet_heard most past Rfcomm packet stored listener.service gift s (alone_over most past Rfcomm packet stored listener.service gift s well) in
+    let now : List Heard = carried ++ (packet, then.refused) ∷ [] in
     let past' : Pasts = pasts direct now [] in
-    let adds : Adds Rfcomm (packet, then.failed) past past' = record { here = append-nil now ∙ ap (λ (hs : List Heard). hs ++ (packet, then.failed) ∷ []) (sym (append-nil carried)); there = refl } in
-    let gains : gain most past Rfcomm (packet, then.failed) ≡ carried_gain most carried now =
-    ap (λ (hs : List Heard). gain most (λ (u : Transport). hs) Rfcomm (packet, then.failed)) (append-nil carried) ∙ sym (stored_more (most Rfcomm) carried (packet, then.failed)) in
+    let adds : Adds Rfcomm (packet, then.refused) past past' = record { here = append-nil now ∙ ap (λ (hs : List Heard). hs ++ (packet, then.refused) ∷ []) (sym (append-nil carried)); there = refl } in
+    let gains : gain most past Rfcomm (packet, then.refused) ≡ carried_gain most carried now =
+    ap (λ (hs : List Heard). gain most (λ (u : Transport). hs) Rfcomm (packet, then.refused)) (append-nil carried) ∙ sym (stored_more (most Rfcomm) carried (packet, then.refused)) in
     let serves : Serves most past' (stored ++ carried_gain most carried now) middle.listener.service middle.gift =
     subst (λ (os : List Object). Serves most past' (stored ++ os) middle.listener.service middle.gift) gains (then.serves past' adds) in
     let unbroken : middle.listener.breaks ≡ false = ap (λ (n : ℕ). has_bad_length (packet_in Request n packet)) (s.stands.maxima Rfcomm) ∙ right in
     let all : got ≡ stream_of now ++ rest =
     whole ∙ sym (append_assoc (stream_of carried) packet rest)
-    ∙ ap (λ (xs : List ℕ). xs ++ rest) (ap (λ (xs : List ℕ). stream_of carried ++ xs) (sym (append-nil packet)) ∙ sym (flat_map-append octets_of carried ((packet, then.failed) ∷ []))) in
+    ∙ ap (λ (xs : List ℕ). xs ++ rest) (ap (λ (xs : List ℕ). stream_of carried ++ xs) (sym (append-nil packet)) ∙ sym (flat_map-append octets_of carried ((packet, then.refused) ∷ []))) in
     let e = none_ends most direct now got rest (stored ++ carried_gain most carried now) first.less middle.listener middle.gift serves unbroken all first.enough none in
     subst (CarriedAs most direct carried got (packet ∷ []) stored listener.service gift) (sym (first.hears ∙ cond-false _ _ _ (or_from middle.listener.breaks middle.listener.service.failed unbroken serves.enough)))
     (record {
-      failed = then.failed;
-      is = then.is ∙ sym (or-false (fails_at Rfcomm packet listener.service gift.answers));
-      listens = record { tail = e.tail; serves = e.serves; packets = map-append octets_of carried ((packet, then.failed) ∷ []) ∙ packets; cut = e.cut };
-      paid = (let first = then.paid in let second = e.paid in omega arith);
+      refused = then.refused;
+      is = then.is ∙ sym (or-false (is_refused Rfcomm packet listener.service gift.answers));
+      listens = record { tail = e.tail; serves = e.serves; packets = map-append octets_of carried ((packet, then.refused) ∷ []) ∙ packets; cut = e.cut };
+      paid = (let first = then.paid in let second = e.paid in let count = sum_by-cons (λ (p : List ℕ). counted (is_ignored Rfcomm p listener.service)) packet [] in omega (arith, first, second, count));
     })
 
 -- ---- an SDU over RFCOMM brings octets

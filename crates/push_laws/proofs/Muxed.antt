@@ -18,7 +18,7 @@ use Rattle.push_laws.specs.Occurrences.{Occurrence, LinkDown, done}
 use Rattle.push_laws.specs.Parties.{Move, OfServer, OfClient, server_side, Push, begun_of, ended_with, over_pushes}
 use Rattle.push_laws.specs.Premises.{AllGranted, NoneShort, IsHeard, IsTaken, MayCome, AllCome}
 use Rattle.push_laws.proofs.Calm.{IsCalm, first_calm}
-use Rattle.push_laws.proofs.Gaining.{Holds, holds_more, first_holds, Clear, clear_more}
+use Rattle.push_laws.proofs.Gaining.{Holds, holds_more, as_alone, first_holds, Clear, clear_more}
 use Rattle.push_laws.proofs.Readings.{unmarked_more}
 use Rattle.push_laws.proofs.Numbers.{K, numbers_stay}
 use Rattle.push_laws.proofs.Throughout.{Numbers, numbers_of, Phase, Waits, phase_goes, deed_phase, down_fits, IsDown, Rests, Fails, is_down}
@@ -102,8 +102,8 @@ pub record Marks (settings : Settings) (before : List Stored) (past : List Occur
 
 pub marks_more : (settings : Settings) (before : List Stored) (past : List Occurrence) (one : Occurrence) (at : Reacted) → Marks settings before past at → MayCome NoneShort (IsTaken settings past at.server.listener.service) settings past at one → Marks settings before (past ++ one ∷ []) (done one at)
 marks_more settings before past one at m may =
-    let more = holds_more settings before m.marks one at m.holds (subst (λ (os : List Occurrence). MayCome NoneShort (IsTaken settings os at.server.listener.service) settings os at one) (sym m.same) may) in
-    let last : Marked = record { occurrence = one; failed = more.failed } in
+    let more = holds_more settings before m.marks one at m.holds (as_alone settings before (unmarked m.marks) one at (subst (λ (os : List Occurrence). MayCome NoneShort (IsTaken settings os at.server.listener.service) settings os at one) (sym m.same) may)) in
+    let last : Marked = record { occurrence = one; refused = more.refused } in
     record { marks = m.marks ++ last ∷ []; same = unmarked_more m.marks last ∙ ap (λ (os : List Occurrence). os ++ one ∷ []) m.same; holds = more.holds }
 
 pub pushes-may_fail : PushesMayFail

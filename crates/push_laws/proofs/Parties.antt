@@ -31,7 +31,7 @@ use Rattle.push_laws.proofs.Partners.{Served, served_more, way_behind, in_turn}
 use Rattle.push_laws.proofs.Pushing.{Task, Fresh, Stands}
 use Rattle.push_laws.proofs.Sending.{deed_stands, all_stand}
 use Rattle.push_laws.proofs.Talks.{Talk, talk_of, Kept, news_keeps, hears_by}
-use Rattle.push_laws.proofs.Turns.{first_clear, first_still, no-request_is_ignored}
+use Rattle.push_laws.proofs.Turns.{grants, first_clear, first_still, no-request_is_ignored}
 use Rattle.push_laws.proofs.Ways.{Way, Flowing}
 
 -- ---- a push stays over L2CAP
@@ -63,7 +63,7 @@ sends_direct content client packets after (Puts part free met none told is s c t
 sends_direct content client packets after (Aborts free met is s c t) = t
 sends_direct content client packets after (Leaves free met is s c t) = t
 
-deed_direct : (content : Option (List Object)) (deed : Deed) (client : Client) → AnswersTo content deed client → Direct client → Direct (deeds.done deed client)
+pub deed_direct : (content : Option (List Object)) (deed : Deed) (client : Client) → AnswersTo content deed client → Direct client → Direct (deeds.done deed client)
 deed_direct content (Hears news) client answers d = news_keeps IsDirect direct_kept news client d
 deed_direct content (Asks parts) client answers d = sends_direct content client _ (talk_of (deeds.done (Asks parts) client)) (asks_send content client parts d answers) ∙ d
 deed_direct content Finishes client answers d = d
@@ -79,7 +79,7 @@ no_cause : (o : Outcome) → None ≡ Some o → ⊥
 no_cause o e = cc
 
 -- a push that begins
-begun_so : (w : Task) (client : Client) → MayPush client w.name w.size → w.maximum ≡ client.session.maximum → w.wanted ≡ client.session.wanted → Stands w [] (talk_of (with_object w.name w.size client))
+pub begun_so : (w : Task) (client : Client) → MayPush client w.name w.size → w.maximum ≡ client.session.maximum → w.wanted ≡ client.session.wanted → Stands w [] (talk_of (with_object w.name w.size client))
 begun_so w client may same_maximum same_wanted = (
   record { maximum = sym same_maximum; wanted = sym same_wanted; name_is = refl; size_is = refl; short = may.short; small = may.small; least = may.least; most = may.most },
   Fresh refl refl refl refl (λ e. may.own) (λ e. no_cause outcomes.Done e),
@@ -94,7 +94,7 @@ pushes-leave_alike client name size content later direct may answers =
 
 -- ---- both
 
-serving_most : (packets : List (List ℕ)) (session : Serving) → (session_behind session packets).maximum ≡ session.maximum
+pub serving_most : (packets : List (List ℕ)) (session : Serving) → (session_behind session packets).maximum ≡ session.maximum
 serving_most [] session = refl
 serving_most (packet ∷ packets) session = serving_most packets (heard_with session packet []).session
 
@@ -135,7 +135,7 @@ module _ (settings : Settings) (before : List Object) (rest : List Occurrence) w
 
     server_turn : (past : List Occurrence) (due : Bool) (at : Reacted) (one : Occurrence) (client : Client) (pipes : Pipes) → ServesDirectly AllGranted at one → ArePipes (pipes_after (OfServer one) client pipes) → ComesOpen (OfServer one) pipes → Both past due at client pipes
         → InTurn settings past due one
-    server_turn past due at one client pipes serves are opened b = in_turn settings before past client.contact client.session pipes one due at serves opened are.requests b.way
+    server_turn past due at one client pipes serves are opened b = in_turn settings before past client.contact client.session pipes one due at serves.direct opened are.requests b.way
 
     server_more : (past : List Occurrence) (due : Bool) (at : Reacted) (one : Occurrence) (client : Client) (pipes : Pipes) → ServesDirectly AllGranted at one → ArePipes (pipes_after (OfServer one) client pipes) → ComesOpen (OfServer one) pipes → Both past due at client pipes
         → Both (past ++ one ∷ []) (due_behind settings past due one) (done one at) client (pipes_after (OfServer one) client pipes)
@@ -145,7 +145,7 @@ module _ (settings : Settings) (before : List Object) (rest : List Occurrence) w
       stands = b.stands;
       way = λ on.
           let both = neither pipes.closed (closes object_psm one) on in
-          way_behind settings before past client.contact client.session pipes one due at b.served serves both.1 are.requests (b.way both.0);
+          way_behind settings before past client.contact client.session pipes one due at b.served.still b.served.whole b.served.clear.holds.upholds.listens.serves.enough (grants one at b.served.clear.spared) serves.direct serves.own both.1 are.requests (b.way both.0);
     }
 
     both_turn : (moves : List Move) (past : List Occurrence) (due : Bool) (at : Reacted) (client : Client) (pipes : Pipes) → AllAnswer w.content (client_side moves) client → AllOnObject moves client → StayPipes moves client pipes → AllServeDirectly AllGranted at (server_side moves ++ rest) → GoesOn

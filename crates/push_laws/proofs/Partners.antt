@@ -7,21 +7,23 @@ use Rattle.obex_session.specs.Asking.{Asking}
 use Rattle.obex_session.specs.Past.{Serving}
 use Rattle.push_model.specs.declared.course.Contact.{Contact}
 use Rattle.push_model.specs.Server.{Server, Reacted, hears_on, object_psm}
-use Rattle.push_laws.specs.Occurrences.{Occurrence, Came, Went, Closed, LinkDown, Asked, Answering, done}
+use Rattle.std.proofs.lemmas.Bool.{cond-false}
+use Rattle.push_laws.specs.Occurrences.{Occurrence, Came, Went, Closed, LinkDown, Asked, Answering, done, IsOwn}
 use Rattle.push_laws.specs.Premises.{AllGranted}
-use Rattle.push_laws.specs.Parties.{Pipes, come_by, gone_by, ServesDirectly}
+use Rattle.push_laws.specs.Parties.{Pipes, come_by, gone_by, NoFrame, ServesDirectly}
 use Rattle.push_laws.specs.Readings.{closes}
 use Rattle.push_laws.specs.Turns.{serving, in_silence, due_behind, InTurn, TakesTurn}
-use Rattle.push_laws.proofs.Gaining.{Clear, clear_more, unfailed, clean}
+use Rattle.push_laws.proofs.Gaining.{Clear, clear_more}
 use Rattle.push_laws.proofs.Crossings as crossings
 use Rattle.push_laws.proofs.Crossings.{response_of, IsApart, Kind, Apart, Comes, Ends, kind_of}
 use Rattle.push_laws.proofs.Lending.{LendsWhole, whole_more}
 use Rattle.push_laws.proofs.Turns as turns
-use Rattle.push_laws.proofs.Turns.{Still, same_session, serving_more, response_now, still_more, may_come}
+use Rattle.push_laws.proofs.Turns.{Still, IsGranted, Grants, grants, same_session, serving_more, response_now, still_more, may_come}
 use Rattle.push_laws.proofs.Ways.{Way, due_none, came_way, went_way, same_way}
 
 -- ---- a server that is as the laws of turns have it
 
+-- the calls of its inbox were granted, and will be
 pub record Served (settings : Settings) (before : List Object) (past : List Occurrence) (due : Bool) (at : Reacted) : Type 0 where
   pub clear : Clear settings before past at
   pub still : turns.Stands settings past due at.server
@@ -31,7 +33,7 @@ pub served_more : (settings : Settings) (before : List Object) (past : List Occu
     → Served settings before (past ++ one ∷ []) (due_behind settings past due one) (done one at)
 served_more settings before past due at one s serves turn =
     let takes : TakesTurn settings past due at one = record { own = serves.own; granted = serves.answers; turn = turn } in
-    let later = still_more settings before past one due at s.clear takes s.still in
+    let later = still_more settings before past one due at s.clear.holds.upholds.listens.serves.enough (grants one at s.clear.spared) serves.own turn s.still in
     let may = may_come settings before past one due at s.clear takes s.still later in
     record { clear = clear_more settings before past one at s.clear may; still = later; whole = whole_more one at serves.direct s.whole }
 
@@ -51,15 +53,15 @@ module _ (settings : Settings) (before : List Object) (past : List Occurrence) (
       (same_way contact session pipes (After one) (serving settings past) due (due_behind settings past due one) (response_of at.server) (response_of (done one at).server) refl
       (ap (λ (ps : List (List ℕ)). pipes.requests_come ++ ps) a.come ∙ append-nil pipes.requests_come) (ap (λ (ps : List (List ℕ)). pipes.responses_sent ++ ps) a.gone ∙ append-nil pipes.responses_sent) refl (a.due settings past due) a.response way)
 
-  came_behind : (due : Bool) (sdu : List ℕ) (at : Reacted) → Served settings before past due at → Way contact session (serving settings past) pipes due (response_of at.server)
+  came_behind : (due : Bool) (sdu : List ℕ) (at : Reacted) → turns.Stands settings past due at.server → at.server.listener.service.failed ≡ false → IsGranted at sdu → Way contact session (serving settings past) pipes due (response_of at.server)
       → ((behind : List (List ℕ)) × (pipes.requests_sent ≡ (After (Came 0x1001 sdu)).requests_come ++ behind)) → WayBehind due (Came 0x1001 sdu) (done (Came 0x1001 sdu) at).server
-  came_behind due sdu at s way front =
+  came_behind due sdu at still sound granted way front =
       let server : Serving = serving settings past in
       let free = due_none contact session pipes server due (response_of at.server) sdu front.0 front.1 way in
-      let now = response_now settings before past due sdu at s.clear s.still (ap (λ (d : Bool). d && not (in_silence settings past sdu)) free) in
-      subst (λ (r : Reacted). WayBehind due (Came 0x1001 sdu) r.server) (sym (unfailed settings before (clean settings before past) at _ s.clear.holds))
+      let now = response_now settings before past due sdu at still granted (ap (λ (d : Bool). d && not (in_silence settings past sdu)) free) in
+      subst (λ (r : Reacted). WayBehind due (Came 0x1001 sdu) r.server) (sym (cond-false _ _ (hears_on 0x1001 sdu at.server at.gift) sound))
       (subst (λ (x : Serving). Way contact session x (After (Came 0x1001 sdu)) (due || not (in_silence settings past sdu)) (response_of (hears_on 0x1001 sdu at.server at.gift).server)) (sym (serving_more settings before past sdu))
-      (came_way contact session pipes server due (response_of at.server) (response_of (hears_on 0x1001 sdu at.server at.gift).server) sdu front.0 (pipes.closed || false) front.1 s.still.free now way))
+      (came_way contact session pipes server due (response_of at.server) (response_of (hears_on 0x1001 sdu at.server at.gift).server) sdu front.0 (pipes.closed || false) front.1 still.free now way))
 
   went_behind : (due : Bool) (sdu : List ℕ) (at : Reacted) → sdu ≡ response_of at.server → (response_of at.server ≡ [] → ⊥) → (due ≡ false → response_of at.server ≡ []) → response_of (done (Went 0x1001 sdu) at).server ≡ []
       → Way contact session (serving settings past) pipes due (response_of at.server) → WayBehind due (Went 0x1001 sdu) (done (Went 0x1001 sdu) at).server
@@ -68,18 +70,18 @@ module _ (settings : Settings) (before : List Object) (past : List Occurrence) (
       (subst (λ (x : Serving). Way contact session x (After (Went 0x1001 sdu)) false []) (same_session settings before past (Went 0x1001 sdu) refl refl)
       (went_way contact session pipes (serving settings past) due (response_of at.server) sdu (pipes.closed || false) octets some free way))
 
-  pub way_behind : (one : Occurrence) (due : Bool) (at : Reacted) → Served settings before past due at → ServesDirectly AllGranted at one → closes object_psm one ≡ false → ((behind : List (List ℕ)) × (pipes.requests_sent ≡ (After one).requests_come ++ behind))
+  pub way_behind : (one : Occurrence) (due : Bool) (at : Reacted) → turns.Stands settings past due at.server → LendsWhole at.server → at.server.listener.service.failed ≡ false → Grants one at → NoFrame one → IsOwn one at.server → closes object_psm one ≡ false → ((behind : List (List ℕ)) × (pipes.requests_sent ≡ (After one).requests_come ++ behind))
       → Way contact session (serving settings past) pipes due (response_of at.server) → WayBehind due one (done one at).server
-  way_behind one due at s serves on front way = by (kind_of one at serves.direct serves.own s.still.calm.no_frame)
+  way_behind one due at still whole sound granted direct own on front way = by (kind_of one at direct own still.calm.no_frame)
     where
       by : Kind one at → WayBehind due one (done one at).server
       by (Apart a) = apart one due at a way
       by (Comes sdu is) =
           subst (λ (x : Occurrence). WayBehind due x (done x at).server) (sym is)
-          (came_behind due sdu at s way (subst (λ (x : Occurrence). (behind : List (List ℕ)) × (pipes.requests_sent ≡ (After x).requests_come ++ behind)) is front))
+          (came_behind due sdu at still sound ((subst (λ (x : Occurrence). Grants x at) is granted) refl) way (subst (λ (x : Occurrence). (behind : List (List ℕ)) × (pipes.requests_sent ≡ (After x).requests_come ++ behind)) is front))
       by (crossings.Went sdu g) =
           subst (λ (x : Occurrence). WayBehind due x (done x at).server) (sym g.is)
-          (went_behind due sdu at g.octets (s.whole g.lent) s.still.free (subst (λ (x : Occurrence). response_of (done x at).server ≡ []) g.is g.none) way)
+          (went_behind due sdu at g.octets (whole g.lent) still.free (subst (λ (x : Occurrence). response_of (done x at).server ≡ []) g.is g.none) way)
       by (Ends closing) = absurd (let f : true ≡ false = sym closing ∙ on in cc)
 
   -- each request comes when no response is due
@@ -92,14 +94,14 @@ module _ (settings : Settings) (before : List Object) (past : List Occurrence) (
   due_at due false psm sdu server here is opened front way =
       due_none contact session pipes (serving settings past) due (response_of server) sdu front.0 (front.1 ∙ ap (λ (n : ℕ). (pipes.requests_come ++ come_by (Came n sdu)) ++ front.0) here) (way is)
 
-  pub in_turn : (one : Occurrence) (due : Bool) (at : Reacted) → ServesDirectly AllGranted at one → (pipes.closed ≡ true → come_by one ≡ []) → ((behind : List (List ℕ)) × (pipes.requests_sent ≡ (After one).requests_come ++ behind))
+  pub in_turn : (one : Occurrence) (due : Bool) (at : Reacted) → NoFrame one → (pipes.closed ≡ true → come_by one ≡ []) → ((behind : List (List ℕ)) × (pipes.requests_sent ≡ (After one).requests_come ++ behind))
       → (pipes.closed ≡ false → Way contact session (serving settings past) pipes due (response_of at.server)) → InTurn settings past due one
-  in_turn (Came psm sdu) due at serves opened front way = (
-    serves.direct,
+  in_turn (Came psm sdu) due at direct opened front way = (
+    direct,
     λ here. ap (λ (d : Bool). d && not (in_silence settings past sdu)) (due_at due pipes.closed psm sdu at.server here refl (λ e. opened e) front way),
   )
-  in_turn (Went psm sdu) due at serves opened front way = tt
-  in_turn (Closed psm) due at serves opened front way = tt
-  in_turn LinkDown due at serves opened front way = tt
-  in_turn Asked due at serves opened front way = tt
-  in_turn (Answering answers) due at serves opened front way = tt
+  in_turn (Went psm sdu) due at direct opened front way = tt
+  in_turn (Closed psm) due at direct opened front way = tt
+  in_turn LinkDown due at direct opened front way = tt
+  in_turn Asked due at direct opened front way = tt
+  in_turn (Answering answers) due at direct opened front way = tt

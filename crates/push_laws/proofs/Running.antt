@@ -3,6 +3,7 @@ use Rattle.std.proofs.Common.{Bool, false, cond, eqb, ◌+◌, ◌-◌, ◌≤�
 use Rattle.std.specs.List.{filter_map, AllByRecursion}
 use Rattle.std.proofs.Math.Seq.{drop-nil}
 use Rattle.std.proofs.lemmas.Bool.{cond_both, cond-false}
+use Rattle.std.proofs.lemmas.List.Sums.{sum_by-cons}
 use Rattle.bt_base.specs.declared.settings.Settings.{Settings}
 use Rattle.bt_base.specs.declared.settings.Transport.{Transport}
 use Rattle.bt_base.specs.declared.settings.Transport.TheVariants.{L2cap, Rfcomm}
@@ -26,12 +27,12 @@ use Rattle.push_model.specs.declared.outlet.Outlet.TheVariants.{Records, Direct,
 use Rattle.push_model.specs.Client.{own_maximum}
 use Rattle.push_model.specs.Payloads.{Framed, IsSaid}
 use Rattle.push_model.specs.Sessions.{Gift}
-use Rattle.push_model.specs.Service.{Service}
+use Rattle.push_model.specs.Service.{Service, is_ignored}
 use Rattle.push_model.specs.Server.{Server, Reacted, Lent, hears_search, hears_up, hears_on, object_psm, rfcomm_psm, frame_lent, lent_by, taken_by, remuxed, unanswered, unreplied, lets_go_on, closed_on, lets_go_twice}
 use Rattle.push_laws.specs.Occurrences.{Occurrence, Came, Went, Closed, LinkDown, Asked, Answering, done}
 use Rattle.push_laws.specs.Readings.{closes, since, came_on, passed_by, octets_heard, packets_over}
-use Rattle.push_laws.specs.Faults.{heard_as, counted, faults_of, fails_at, any_fails, fails_with, faults_before}
-use Rattle.push_laws.specs.Premises.{IsTaken, NoneShort, FrameIsHeard, MayCome, new_packets}
+use Rattle.push_laws.specs.Faults.{heard_as, counted, faults_of, is_refused, any_refused, refuses_with, faults_before, ignored_of, ignored_with}
+use Rattle.push_laws.specs.Premises.{IsAlone, NoneShort, FrameIsHeard, MayCome, new_packets}
 use Rattle.push_laws.proofs.Readings.{read_more, read_same, read_closed, drop_front, drop_same}
 use Rattle.push_laws.proofs.Listening as listening
 use Rattle.push_laws.proofs.Listening.{Listens, IsWell, OneAtATime, or-false, hears_more, direct_heard, direct_closed, carried_closed}
@@ -100,40 +101,40 @@ module _ (settings : Settings) (past : List Occurrence) (direct carried : List H
   Now at = Stands direct carried (passed past) got stored at
 
   abbrev pub direct_after : Occurrence → Bool → List Heard
-  direct_after one failed = cond (closes object_psm one) [] (direct ++ heard_as failed (new_packets L2cap past one))
+  direct_after one refused = cond (closes object_psm one) [] (direct ++ heard_as refused (new_packets L2cap past one))
 
   abbrev pub carried_after : Occurrence → Bool → List ℕ → List Heard
-  carried_after one failed octets = cond (closes rfcomm_psm one) [] (carried ++ heard_as failed (beyond (obex_packets got) (obex_packets octets)))
+  carried_after one refused octets = cond (closes rfcomm_psm one) [] (carried ++ heard_as refused (beyond (obex_packets got) (obex_packets octets)))
 
-  -- behind one occurrence more, at which a call failed or not
+  -- behind one occurrence more, whose packet counts as refused or not
   pub record Next (one : Occurrence) (service : Service) (gift : Gift) (at : Reacted) : Type 0 where
-    pub failed : Bool
-    pub is : failed ≡ fails_with past service gift.answers one
+    pub refused : Bool
+    pub is : refused ≡ refuses_with past service gift.answers one
     pub octets : List ℕ
-    pub upholds : Stands (direct_after one failed) (carried_after one failed octets) (passed (past ++ one ∷ [])) octets (stored ++ (direct_gain (direct_after one failed) ++ carried_gain (carried_after one failed octets))) at
-    pub paid : faults_of at.gift.answers + counted failed ≤ faults_before one gift.answers
+    pub upholds : Stands (direct_after one refused) (carried_after one refused octets) (passed (past ++ one ∷ [])) octets (stored ++ (direct_gain (direct_after one refused) ++ carried_gain (carried_after one refused octets))) at
+    pub paid : faults_of at.gift.answers + counted refused ≤ faults_before one gift.answers + ignored_with past service one
 
-  next_by : (one : Occurrence) (service : Service) (gift : Gift) (at : Reacted) (failed : Bool) (direct' carried' : List Heard) (on : List Passed) (octets : List ℕ) (held : List Object) → failed ≡ fails_with past service gift.answers one → direct_after one failed ≡ direct' → carried_after one failed octets ≡ carried'
-      → passed (past ++ one ∷ []) ≡ on → held ≡ stored ++ (direct_gain direct' ++ carried_gain carried') → Stands direct' carried' on octets held at → faults_of at.gift.answers + counted failed ≤ faults_before one gift.answers
+  next_by : (one : Occurrence) (service : Service) (gift : Gift) (at : Reacted) (refused : Bool) (direct' carried' : List Heard) (on : List Passed) (octets : List ℕ) (held : List Object) → refused ≡ refuses_with past service gift.answers one → direct_after one refused ≡ direct' → carried_after one refused octets ≡ carried'
+      → passed (past ++ one ∷ []) ≡ on → held ≡ stored ++ (direct_gain direct' ++ carried_gain carried') → Stands direct' carried' on octets held at → faults_of at.gift.answers + counted refused ≤ faults_before one gift.answers + ignored_with past service one
       → Next one service gift at
-  next_by one service gift at failed direct' carried' on octets held is d c p h u paid = record {
-    failed = failed;
+  next_by one service gift at refused direct' carried' on octets held is d c p h u paid = record {
+    refused = refused;
     is = is;
     octets = octets;
     upholds =
-        subst (λ (ps : List Passed). Stands (direct_after one failed) (carried_after one failed octets) ps octets (stored ++ (direct_gain (direct_after one failed) ++ carried_gain (carried_after one failed octets))) at) (sym p)
-        (subst (λ (ds : List Heard). Stands ds (carried_after one failed octets) on octets (stored ++ (direct_gain ds ++ carried_gain (carried_after one failed octets))) at) (sym d)
+        subst (λ (ps : List Passed). Stands (direct_after one refused) (carried_after one refused octets) ps octets (stored ++ (direct_gain (direct_after one refused) ++ carried_gain (carried_after one refused octets))) at) (sym p)
+        (subst (λ (ds : List Heard). Stands ds (carried_after one refused octets) on octets (stored ++ (direct_gain ds ++ carried_gain (carried_after one refused octets))) at) (sym d)
         (subst (λ (cs : List Heard). Stands direct' cs on octets (stored ++ (direct_gain direct' ++ carried_gain cs)) at) (sym c) (subst (λ (os : List Object). Stands direct' carried' on octets os at) h u)));
     paid = paid;
   }
 
   -- nothing new is whole
-  direct_same : (one : Occurrence) (failed : Bool) → closes object_psm one ≡ false → packets_over L2cap (past ++ one ∷ []) ≡ packets_over L2cap past → direct_after one failed ≡ direct
-  direct_same one failed stays same =
-      cond-false _ _ _ stays ∙ ap (λ (ps : List (List ℕ)). direct ++ heard_as failed ps) (ap (beyond (packets_over L2cap past)) same ∙ drop_same (packets_over L2cap past)) ∙ append-nil direct
+  direct_same : (one : Occurrence) (refused : Bool) → closes object_psm one ≡ false → packets_over L2cap (past ++ one ∷ []) ≡ packets_over L2cap past → direct_after one refused ≡ direct
+  direct_same one refused stays same =
+      cond-false _ _ _ stays ∙ ap (λ (ps : List (List ℕ)). direct ++ heard_as refused ps) (ap (beyond (packets_over L2cap past)) same ∙ drop_same (packets_over L2cap past)) ∙ append-nil direct
 
-  carried_same : (one : Occurrence) (failed : Bool) → closes rfcomm_psm one ≡ false → carried_after one failed got ≡ carried
-  carried_same one failed stays = cond-false _ _ _ stays ∙ ap (λ (ps : List (List ℕ)). carried ++ heard_as failed ps) (drop_same (obex_packets got)) ∙ append-nil carried
+  carried_same : (one : Occurrence) (refused : Bool) → closes rfcomm_psm one ≡ false → carried_after one refused got ≡ carried
+  carried_same one refused stays = cond-false _ _ _ stays ∙ ap (λ (ps : List (List ℕ)). carried ++ heard_as refused ps) (drop_same (obex_packets got)) ∙ append-nil carried
 
   nothing_new : stored ≡ stored ++ (direct_gain direct ++ carried_gain carried)
   nothing_new = no_gain stored (direct_gain direct) (carried_gain carried) (nothing_gained (own_maximum L2cap settings) direct) (nothing_gained (own_maximum Rfcomm settings) carried)
@@ -145,19 +146,19 @@ module _ (settings : Settings) (past : List Occurrence) (direct carried : List H
   pub no_carried : (one : Occurrence) → closes rfcomm_psm one ≡ false → passed_by one ≡ None → new_packets Rfcomm past one ≡ []
   no_carried one stays none = ap (λ (ps : List Passed). beyond (obex_packets (octets_heard past)) (obex_packets (user_octets 18 Responder Initiator ps))) (read_same passed_by rfcomm_psm past one stays none) ∙ drop_same (obex_packets (octets_heard past))
 
-  none_fails : (service : Service) (gift : Gift) (one : Occurrence) → came_on object_psm one ≡ None → passed_by one ≡ None → false ≡ fails_with past service gift.answers one
-  none_fails service gift (Came psm sdu) came pass =
-      sym (ap₂ (λ a b. a || b) (ap (any_fails L2cap service gift.answers) (no_direct (Came psm sdu) refl came)) (ap (any_fails Rfcomm service gift.answers) (no_carried (Came psm sdu) refl pass)))
-  none_fails service gift (Went psm sdu) came pass = refl
-  none_fails service gift (Closed psm) came pass = refl
-  none_fails service gift LinkDown came pass = refl
-  none_fails service gift Asked came pass = refl
-  none_fails service gift (Answering answers) came pass = refl
+  none_refused : (service : Service) (gift : Gift) (one : Occurrence) → came_on object_psm one ≡ None → passed_by one ≡ None → false ≡ refuses_with past service gift.answers one
+  none_refused service gift (Came psm sdu) came pass =
+      sym (ap₂ (λ a b. a || b) (ap (any_refused L2cap service gift.answers) (no_direct (Came psm sdu) refl came)) (ap (any_refused Rfcomm service gift.answers) (no_carried (Came psm sdu) refl pass)))
+  none_refused service gift (Went psm sdu) came pass = refl
+  none_refused service gift (Closed psm) came pass = refl
+  none_refused service gift LinkDown came pass = refl
+  none_refused service gift Asked came pass = refl
+  none_refused service gift (Answering answers) came pass = refl
 
   -- nothing is read off it
   pub same_next : (one : Occurrence) (service : Service) (gift : Gift) (at : Reacted) → closes object_psm one ≡ false → closes rfcomm_psm one ≡ false → came_on object_psm one ≡ None → passed_by one ≡ None → Now at → faults_of at.gift.answers ≤ faults_before one gift.answers → Next one service gift at
   same_next one service gift at a b came pass u paid =
-      next_by one service gift at false direct carried (passed past) got stored (none_fails service gift one came pass) (direct_same one false a (read_same (came_on object_psm) object_psm past one a came)) (carried_same one false b) (read_same passed_by rfcomm_psm past one b pass) nothing_new u (omega arith)
+      next_by one service gift at false direct carried (passed past) got stored (none_refused service gift one came pass) (direct_same one false a (read_same (came_on object_psm) object_psm past one a came)) (carried_same one false b) (read_same passed_by rfcomm_psm past one b pass) nothing_new u (omega arith)
 
   -- ---- an SDU comes
 
@@ -166,30 +167,31 @@ module _ (settings : Settings) (past : List Occurrence) (direct carried : List H
       same_next (Came 0x0001 sdu) at.server.listener.service at.gift (record { server = hears_search sdu at.server; gift = at.gift }) refl refl refl refl
       (cond_both (is_empty at.server.reply) _ _ (λ (s : Server). Now (record { server = s; gift = at.gift })) (λ none. record { listens = u.listens; carries = u.carries }) (λ some. u)) (omega arith)
 
-  wells : (t : Transport) (service : Service) (packets : List (List ℕ)) → AllByRecursion (IsTaken settings past service t) packets → AllByRecursion (IsWell t service) packets
+  wells : (t : Transport) (service : Service) (packets : List (List ℕ)) → AllByRecursion (IsAlone settings past service t) packets → AllByRecursion (IsWell t service) packets
   wells t service [] all = tt
-  wells t service (packet ∷ packets) all = (record { taken = all.0.taken; alone = all.0.alone }, wells t service packets all.1)
+  wells t service (packet ∷ packets) all = (record { alone = all.0.alone }, wells t service packets all.1)
 
-  object_next : (sdu : List ℕ) (at : Reacted) → AllByRecursion (IsTaken settings past at.server.listener.service L2cap) (new_packets L2cap past (Came 0x1001 sdu)) → Now at → Next (Came 0x1001 sdu) at.server.listener.service at.gift (hears_on 0x1001 sdu at.server at.gift)
+  object_next : (sdu : List ℕ) (at : Reacted) → AllByRecursion (IsAlone settings past at.server.listener.service L2cap) (new_packets L2cap past (Came 0x1001 sdu)) → Now at → Next (Came 0x1001 sdu) at.server.listener.service at.gift (hears_on 0x1001 sdu at.server at.gift)
   object_next sdu at requests u =
       let one : Occurrence = Came 0x1001 sdu in
       let new : new_packets L2cap past one ≡ sdu ∷ [] = ap (beyond (packets_over L2cap past)) (read_more (came_on object_psm) object_psm past one refl) ∙ drop_front (packets_over L2cap past) (sdu ∷ []) in
-      let well = (wells L2cap at.server.listener.service (sdu ∷ []) (subst (AllByRecursion (IsTaken settings past at.server.listener.service L2cap)) new requests)).0 in
+      let well = (wells L2cap at.server.listener.service (sdu ∷ []) (subst (AllByRecursion (IsAlone settings past at.server.listener.service L2cap)) new requests)).0 in
       let then = direct_heard (most settings) direct carried got stored at.server.listener at.server.held at.gift sdu u.listens well in
-      let now : List Heard = direct ++ (sdu, then.failed) ∷ [] in
-      let is : then.failed ≡ fails_with past at.server.listener.service at.gift.answers one =
-      then.is ∙ sym (ap₂ (λ a b. a || b) (ap (any_fails L2cap at.server.listener.service at.gift.answers) new) (ap (any_fails Rfcomm at.server.listener.service at.gift.answers) (no_carried one refl refl))
-      ∙ ap (λ b. b || false) (or-false (fails_at L2cap sdu at.server.listener.service at.gift.answers)) ∙ or-false (fails_at L2cap sdu at.server.listener.service at.gift.answers)) in
-      next_by one at.server.listener.service at.gift (hears_on 0x1001 sdu at.server at.gift) then.failed now carried (passed past) got (stored ++ direct_gain now) is (ap (λ (ps : List (List ℕ)). direct ++ heard_as then.failed ps) new) (carried_same one then.failed refl)
+      let now : List Heard = direct ++ (sdu, then.refused) ∷ [] in
+      let is : then.refused ≡ refuses_with past at.server.listener.service at.gift.answers one =
+      then.is ∙ sym (ap₂ (λ a b. a || b) (ap (any_refused L2cap at.server.listener.service at.gift.answers) new) (ap (any_refused Rfcomm at.server.listener.service at.gift.answers) (no_carried one refl refl))
+      ∙ ap (λ b. b || false) (or-false (is_refused L2cap sdu at.server.listener.service at.gift.answers)) ∙ or-false (is_refused L2cap sdu at.server.listener.service at.gift.answers)) in
+      next_by one at.server.listener.service at.gift (hears_on 0x1001 sdu at.server at.gift) then.refused now carried (passed past) got (stored ++ direct_gain now) is (ap (λ (ps : List (List ℕ)). direct ++ heard_as then.refused ps) new) (carried_same one then.refused refl)
       (read_same passed_by rfcomm_psm past one refl refl) (left_gain stored (direct_gain now) (carried_gain carried) (nothing_gained (own_maximum Rfcomm settings) carried)) (record { listens = then.listens; carries = u.carries })
-      (let paid = then.paid in omega arith)
+      (let paid = then.paid in let one = ap (ignored_of L2cap at.server.listener.service) new in let count = sum_by-cons (λ (packet : List ℕ). counted (is_ignored L2cap packet at.server.listener.service)) sdu [] in
+      omega (arith, paid, one, count))
 
   -- what comes up of a frame
   record Comes (on : List Passed) (octets : List ℕ) (service : Service) (gift : Gift) (at : Reacted) : Type 0 where
-    failed : Bool
-    is : failed ≡ any_fails Rfcomm service gift.answers (beyond (obex_packets got) (obex_packets octets))
-    stands : Stands direct (carried ++ heard_as failed (beyond (obex_packets got) (obex_packets octets))) on octets (stored ++ carried_gain (carried ++ heard_as failed (beyond (obex_packets got) (obex_packets octets)))) at
-    paid : faults_of at.gift.answers + counted failed ≤ faults_of gift.answers
+    refused : Bool
+    is : refused ≡ any_refused Rfcomm service gift.answers (beyond (obex_packets got) (obex_packets octets))
+    stands : Stands direct (carried ++ heard_as refused (beyond (obex_packets got) (obex_packets octets))) on octets (stored ++ carried_gain (carried ++ heard_as refused (beyond (obex_packets got) (obex_packets octets)))) at
+    paid : faults_of at.gift.answers + counted refused ≤ faults_of gift.answers + ignored_of Rfcomm service (beyond (obex_packets got) (obex_packets octets))
 
   no_octets : (on : List Passed) (server : Server) (gift : Gift) → Listens (most settings) direct carried got stored server.listener server.held gift → Carries (settings.mtu - 6) settings.credits on (got ++ []) server.mux server.frame
       → Comes on (got ++ []) server.listener.service gift (record { server = server; gift = gift })
@@ -198,8 +200,8 @@ module _ (settings : Settings) (past : List Occurrence) (direct carried : List H
       ap (λ (xs : List ℕ). carried ++ heard_as false (beyond (obex_packets got) (obex_packets xs))) (append-nil got) ∙ ap (λ (ps : List (List ℕ)). carried ++ heard_as false ps) (drop_same (obex_packets got)) ∙ append-nil carried in
       let same : stored ≡ stored ++ carried_gain carried = sym (append-nil stored) ∙ ap (λ (os : List Object). stored ++ os) (sym (nothing_gained (own_maximum Rfcomm settings) carried)) in
       record {
-        failed = false;
-        is = sym (ap (λ (xs : List ℕ). any_fails Rfcomm server.listener.service gift.answers (beyond (obex_packets got) (obex_packets xs))) (append-nil got) ∙ ap (any_fails Rfcomm server.listener.service gift.answers) (drop_same (obex_packets got)));
+        refused = false;
+        is = sym (ap (λ (xs : List ℕ). any_refused Rfcomm server.listener.service gift.answers (beyond (obex_packets got) (obex_packets xs))) (append-nil got) ∙ ap (any_refused Rfcomm server.listener.service gift.answers) (drop_same (obex_packets got)));
         stands = subst (λ (cs : List Heard). Stands direct cs on (got ++ []) (stored ++ carried_gain cs) (record { server = server; gift = gift })) (sym now)
             (record {
               listens = subst (λ (os : List Object). Listens (most settings) direct carried (got ++ []) os server.listener server.held gift) same
@@ -217,15 +219,15 @@ module _ (settings : Settings) (past : List Occurrence) (direct carried : List H
   up_comes (closed reason) on server gift l c one = no_octets on server gift l c
   up_comes (bytes octets) on server gift l c one =
       let then = listening.octets_heard (most settings) direct carried got octets server.held stored server.listener gift (let low = settings.obex_low in omega arith) l one in
-      let now : List Heard = carried ++ heard_as then.failed (beyond (obex_packets got) (obex_packets (got ++ octets))) in
+      let now : List Heard = carried ++ heard_as then.refused (beyond (obex_packets got) (obex_packets (got ++ octets))) in
       record {
-        failed = then.failed;
+        refused = then.refused;
         is = then.is;
         stands = octets_uphold (most settings) (settings.mtu - 6) settings.credits direct now on (got ++ octets) (stored ++ carried_gain now) octets server gift then.listens c;
-        paid = subst (λ (g : Gift). faults_of g.answers + counted then.failed ≤ faults_of gift.answers) (sym (octets_give octets server gift)) then.paid;
+        paid = subst (λ (g : Gift). faults_of g.answers + counted then.refused ≤ faults_of gift.answers + ignored_of Rfcomm server.listener.service (beyond (obex_packets got) (obex_packets (got ++ octets)))) (sym (octets_give octets server gift)) then.paid;
       }
 
-  frame_next : (sdu : List ℕ) (at : Reacted) → octets_heard past ≡ got → MayCome NoneShort (IsTaken settings past at.server.listener.service) settings past at (Came 0x0003 sdu) → done (Came 0x0003 sdu) at ≡ hears_on 0x0003 sdu at.server at.gift → Now at
+  frame_next : (sdu : List ℕ) (at : Reacted) → octets_heard past ≡ got → MayCome NoneShort (IsAlone settings past at.server.listener.service) settings past at (Came 0x0003 sdu) → done (Came 0x0003 sdu) at ≡ hears_on 0x0003 sdu at.server at.gift → Now at
       → Next (Came 0x0003 sdu) at.server.listener.service at.gift (hears_on 0x0003 sdu at.server at.gift)
   frame_next sdu at heard may is u =
       let one : Occurrence = Came 0x0003 sdu in
@@ -243,22 +245,22 @@ module _ (settings : Settings) (past : List Occurrence) (direct carried : List H
       let single : OneAtATime (most settings) at.server.listener.service (beyond (obex_packets got) (obex_packets octets)) =
       subst (OneAtATime (most settings) at.server.listener.service) new (record { single = requests.single; heard = wells Rfcomm at.server.listener.service (new_packets Rfcomm past one) (requests.heard Rfcomm); lengths = requests.lengths }) in
       let then = up_comes comes on server at.gift u.listens carries single in
-      let now : List Heard = carried ++ heard_as then.failed (beyond (obex_packets got) (obex_packets octets)) in
-      let is : then.failed ≡ fails_with past at.server.listener.service at.gift.answers one =
-      then.is ∙ sym (ap₂ (λ a b. a || b) (ap (any_fails L2cap at.server.listener.service at.gift.answers) (no_direct one refl refl)) (ap (any_fails Rfcomm at.server.listener.service at.gift.answers) new)) in
-      next_by one at.server.listener.service at.gift (hears_on 0x0003 sdu at.server at.gift) then.failed direct now on octets (stored ++ carried_gain now) is
-      (direct_same one then.failed refl (read_same (came_on object_psm) object_psm past one refl refl)) refl more (right_gain stored (direct_gain direct) (carried_gain now) (nothing_gained (own_maximum L2cap settings) direct)) then.stands
-      (let paid = then.paid in omega arith)
+      let now : List Heard = carried ++ heard_as then.refused (beyond (obex_packets got) (obex_packets octets)) in
+      let is : then.refused ≡ refuses_with past at.server.listener.service at.gift.answers one =
+      then.is ∙ sym (ap₂ (λ a b. a || b) (ap (any_refused L2cap at.server.listener.service at.gift.answers) (no_direct one refl refl)) (ap (any_refused Rfcomm at.server.listener.service at.gift.answers) new)) in
+      next_by one at.server.listener.service at.gift (hears_on 0x0003 sdu at.server at.gift) then.refused direct now on octets (stored ++ carried_gain now) is
+      (direct_same one then.refused refl (read_same (came_on object_psm) object_psm past one refl refl)) refl more (right_gain stored (direct_gain direct) (carried_gain now) (nothing_gained (own_maximum L2cap settings) direct)) then.stands
+      (let paid = then.paid in let one = ap (ignored_of Rfcomm at.server.listener.service) new in omega (arith, paid, one))
 
   other_next : (psm : ℕ) (sdu : List ℕ) (at : Reacted) → eqb psm 0x0001 ≡ false → eqb psm 0x0003 ≡ false → eqb psm 0x1001 ≡ false → Now at → Next (Came psm sdu) at.server.listener.service at.gift (hears_on psm sdu at.server at.gift)
   other_next psm sdu at a b c u =
       subst (Next (Came psm sdu) at.server.listener.service at.gift) (sym (cond-false _ _ _ a ∙ (cond-false _ _ _ b ∙ cond-false _ _ (let r : Reacted = record { server = at.server; gift = at.gift } in r) c)))
       (same_next (Came psm sdu) at.server.listener.service at.gift at refl refl (cond-false _ _ _ c) (cond-false _ _ _ b) u (omega arith))
 
-  pub came_next : (sdu : List ℕ) (at : Reacted) → octets_heard past ≡ got → Now at → (psm : ℕ) → MayCome NoneShort (IsTaken settings past at.server.listener.service) settings past at (Came psm sdu) → done (Came psm sdu) at ≡ hears_on psm sdu at.server at.gift
+  pub came_next : (sdu : List ℕ) (at : Reacted) → octets_heard past ≡ got → Now at → (psm : ℕ) → MayCome NoneShort (IsAlone settings past at.server.listener.service) settings past at (Came psm sdu) → done (Came psm sdu) at ≡ hears_on psm sdu at.server at.gift
       → Next (Came psm sdu) at.server.listener.service at.gift (hears_on psm sdu at.server at.gift)
   came_next sdu at heard u psm =
-      by_psm (λ p. MayCome NoneShort (IsTaken settings past at.server.listener.service) settings past at (Came p sdu) → done (Came p sdu) at ≡ hears_on p sdu at.server at.gift → Next (Came p sdu) at.server.listener.service at.gift (hears_on p sdu at.server at.gift))
+      by_psm (λ p. MayCome NoneShort (IsAlone settings past at.server.listener.service) settings past at (Came p sdu) → done (Came p sdu) at ≡ hears_on p sdu at.server at.gift → Next (Came p sdu) at.server.listener.service at.gift (hears_on p sdu at.server at.gift))
       (λ may is. search_next sdu at u) (λ may is. frame_next sdu at heard may is u) (λ may is. object_next sdu at (may.requests.heard L2cap) u) (λ p a b c may is. other_next p sdu at a b c u) psm
 
   -- ---- an SDU goes

@@ -1,6 +1,6 @@
 -- A service behind one packet more, and behind octets that begin none.
 use Rattle.std.proofs.Common.{Bool, true, false, ◌||◌, ◌+◌, ◌≤◌, ◌≡◌, ℕ, List, [], ◌∷◌, ◌++◌, Option, None, Err, arith, refl, sym, ap, subst, ◌∙◌, append-nil}
-use Rattle.std.proofs.lemmas.Bool.{cond_both, cond-false, or_from}
+use Rattle.std.proofs.lemmas.Bool.{cond_both, cond-true, cond-false, or_from}
 use Rattle.bt_base.specs.declared.settings.Transport.{Transport}
 use Rattle.bt_base.specs.declared.settings.Transport.TheVariants.{L2cap, Rfcomm}
 use Rattle.bt_base.specs.Objects.{Object}
@@ -12,7 +12,7 @@ use Rattle.obex_headers.specs.Runs.{put_of, run_headers, objects_from}
 use Rattle.obex_session.specs.Marks.{kind_of}
 use Rattle.obex_session.specs.Past.{put_heard, open_from, pending_of}
 use Rattle.obex_session.specs.Serving.{has_name}
-use Rattle.push_laws.specs.Faults.{counted, faults_of, fails_at}
+use Rattle.push_laws.specs.Faults.{counted, faults_of, fails_at, is_refused}
 use Rattle.push_model.specs.Sessions.{Sessions, Gift, other_of, lets_go, is_naming, hears}
 use Rattle.push_model.specs.Service.{Service, Served, response_over, after_heard, is_ignored, hears_packet, parts}
 use Rattle.push_laws.proofs.Sessions.{Pasts, pending, Stands, StandsAfter, Adds, gain, run_of, headers_behind, gone, gone_paid, heard}
@@ -53,34 +53,56 @@ let_go_of most past past' t stored service gift s cleared there =
 pub let_go_paid : (t : Transport) (service : Service) (gift : Gift) → faults_of (parts t service gift).gift.answers ≤ faults_of gift.answers
 let_go_paid t service gift = gone_paid t service.sessions gift
 
--- a packet was heard, and a call failed at it or not
-pub record ServedAs (most : Transport → ℕ) (past : Pasts) (t : Transport) (packet : List ℕ) (stored : List Object) (gift : Gift) (fails : Bool) (service' : Service) (gift' : Gift) : Type 0 where
-  pub failed : Bool
-  pub is : failed ≡ fails
-  pub serves : (past' : Pasts) → Adds t (packet, failed) past past' → Serves most past' (stored ++ gain most past t (packet, failed)) service' gift'
-  pub paid : faults_of gift'.answers + counted failed ≤ faults_of gift.answers
+-- a packet came, and counts as refused or not: that takes a fault, or it was ignored
+pub record ServedAs (most : Transport → ℕ) (past : Pasts) (t : Transport) (packet : List ℕ) (stored : List Object) (gift : Gift) (refuses : Bool) (ignored : ℕ) (service' : Service) (gift' : Gift) : Type 0 where
+  pub refused : Bool
+  pub is : refused ≡ refuses
+  pub serves : (past' : Pasts) → Adds t (packet, refused) past past' → Serves most past' (stored ++ gain most past t (packet, refused)) service' gift'
+  pub paid : faults_of gift'.answers + counted refused ≤ faults_of gift.answers + ignored
 
 after_hearing : (most : Transport → ℕ) (past : Pasts) (t : Transport) (packet : List ℕ) (stored : List Object) (service : Service) (gift : Gift) → Serves most past stored service gift
     → (is_naming t packet service.sessions ≡ true → pending most past (other_of t) ≡ None)
-    → let served = after_heard t service (hears t packet service.sessions gift) in ServedAs most past t packet stored gift (fails_at t packet service gift.answers) served.service served.gift
+    → let served = after_heard t service (hears t packet service.sessions gift) in ServedAs most past t packet stored gift (fails_at t packet service gift.answers) 0 served.service served.gift
 after_hearing most past t packet stored service gift s alone =
     let h = hears t packet service.sessions gift in
     let before : Service = record service { sessions = h.sessions; failed = service.failed || h.short } in
     let then = heard most past t packet stored service.sessions gift s.stands s.none_short alone in
     record {
-      failed = then.failed;
+      refused = then.failed;
       is = then.is;
       serves = λ past' adds.
           serves_with most past' (stored ++ gain most past t (packet, then.failed)) h.sessions _ h.gift h.short service.failed _ (then.stands past' adds) s.enough (over_sessions t h.response before) (over_failed t h.response before);
-      paid = then.paid;
+      paid = (let paid = then.paid in omega arith);
     }
 
--- a packet that is not ignored
+-- ignored or not
 pub packet_heard : (most : Transport → ℕ) (past : Pasts) (t : Transport) (packet : List ℕ) (stored : List Object) (service : Service) (gift : Gift) → Serves most past stored service gift
-    → is_ignored t packet service ≡ false → (is_naming t packet service.sessions ≡ true → pending most past (other_of t) ≡ None)
-    → ServedAs most past t packet stored gift (fails_at t packet service gift.answers) (hears_packet t packet service gift).service (hears_packet t packet service gift).gift
-packet_heard most past t packet stored service gift s taken alone =
-    subst (λ (served : Served). ServedAs most past t packet stored gift (fails_at t packet service gift.answers) served.service served.gift) (sym (cond-false _ _ _ taken)) (after_hearing most past t packet stored service gift s alone)
+    → (is_naming t packet service.sessions ≡ true → pending most past (other_of t) ≡ None)
+    → ServedAs most past t packet stored gift (is_refused t packet service gift.answers) (counted (is_ignored t packet service)) (hears_packet t packet service gift).service (hears_packet t packet service gift).gift
+packet_heard most past t packet stored service gift s alone = by (is_ignored t packet service) refl
+  where
+    by : (ignored : Bool) → is_ignored t packet service ≡ ignored
+        → ServedAs most past t packet stored gift (is_refused t packet service gift.answers) (counted (is_ignored t packet service)) (hears_packet t packet service gift).service (hears_packet t packet service gift).gift
+    by true is =
+        subst (λ (served : Served). ServedAs most past t packet stored gift (is_refused t packet service gift.answers) (counted (is_ignored t packet service)) served.service served.gift)
+        (sym (cond-true _ _ _ is))
+        (record {
+          refused = true;
+          is = sym (ap (λ (b : Bool). b || fails_at t packet service gift.answers) is);
+          serves = λ past' adds. subst (λ (os : List Object). Serves most past' os (parts t service gift).service (parts t service gift).gift) (sym (append-nil stored))
+              (let_go_of most past past' t stored service gift s (ap pending_of (headers_behind most past past' t (packet, true) adds)) adds.there);
+          paid = (let paid = let_go_paid t service gift in let one = ap counted is in omega (arith, paid, one));
+        })
+    by false is =
+        let then = after_hearing most past t packet stored service gift s alone in
+        subst (λ (served : Served). ServedAs most past t packet stored gift (is_refused t packet service gift.answers) (counted (is_ignored t packet service)) served.service served.gift)
+        (sym (cond-false _ _ _ is))
+        (record {
+          refused = then.refused;
+          is = then.is ∙ sym (ap (λ (b : Bool). b || fails_at t packet service gift.answers) is);
+          serves = then.serves;
+          paid = (let paid = then.paid in omega (arith, paid));
+        })
 
 -- ---- octets that begin no packet
 
@@ -104,8 +126,8 @@ never e = cc
 
 -- they store nothing and end what is under way
 pub record RefusedAs (most : Transport → ℕ) (past : Pasts) (t : Transport) (octets : List ℕ) (stored : List Object) (gift : Gift) (service' : Service) (gift' : Gift) : Type 0 where
-  pub failed : Bool
-  pub serves : (past' : Pasts) → Adds t (octets, failed) past past' → Serves most past' stored service' gift'
+  pub refused : Bool
+  pub serves : (past' : Pasts) → Adds t (octets, refused) past past' → Serves most past' stored service' gift'
   pub paid : faults_of gift'.answers ≤ faults_of gift.answers
 
 -- ignored or not
@@ -114,15 +136,15 @@ pub refused_heard : (most : Transport → ℕ) (past : Pasts) (t : Transport) (o
 refused_heard most past t octets refusal stored service gift s e =
     cond_both (is_ignored t octets service) _ _ (λ (served : Served). RefusedAs most past t octets stored gift served.service served.gift)
     (λ ignored. record {
-      failed = false;
+      refused = false;
       serves = λ past' adds. let_go_of most past past' t stored service gift s (nothing_pending most past past' t octets false refusal adds e) adds.there;
       paid = let_go_paid t service gift;
     })
     (λ taken.
     let then = after_hearing most past t octets stored service gift s (λ named. absurd (never (sym named ∙ unnamed most past t octets refusal stored service gift s e))) in
     record {
-      failed = then.failed;
+      refused = then.refused;
       serves = λ past' adds. subst (λ (os : List Object). (let served = after_heard t service (hears t octets service.sessions gift) in Serves most past' os served.service served.gift))
-          (ap (λ (os : List Object). stored ++ os) (nothing_gained most past t octets then.failed refusal e) ∙ append-nil stored) (then.serves past' adds);
+          (ap (λ (os : List Object). stored ++ os) (nothing_gained most past t octets then.refused refusal e) ∙ append-nil stored) (then.serves past' adds);
       paid = (let paid = then.paid in omega arith);
     })

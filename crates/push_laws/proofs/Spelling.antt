@@ -12,6 +12,7 @@ use Rattle.obex_headers.specs.Packets.{PlainPacket}
 use Rattle.obex_headers.specs.Reading.{◌>>=◌, headers_in, front_at, packet_in}
 use Rattle.obex_headers.specs.Runs.{put_of, spelled}
 use Rattle.obex_headers.proofs.HeaderLaws.{bind_ok, ok_is}
+use Rattle.link_talk.specs.ObjectsHeard.{put_within}
 use Rattle.obex_session.specs.Asking.{fresh}
 use Rattle.obex_session.specs.Pushes.{IsNoPut, Fits}
 use Rattle.obex_session.proofs.ObjectLaws.{puts_in_order}
@@ -24,10 +25,10 @@ use Rattle.push_laws.proofs.Sending.{sends-one_push}
 
 -- ---- packets that are no PUT
 
-code_read : (octets : List ℕ) (packet : PlainPacket) → packet_in Request 65535 octets ≡ Ok packet → packet.code ≡ slice_index octets 0
+code_read : (most : ℕ) (octets : List ℕ) (packet : PlainPacket) → packet_in Request most octets ≡ Ok packet → packet.code ≡ slice_index octets 0
 unfolding packet_in
-code_read octets packet e =
-    let a = bind_ok (front_at Request 65535 octets) (λ front. headers_in front.1 >>= λ headers. Ok (let p : PlainPacket = record { code = slice_index octets 0; extra = front.0; headers = headers } in p)) packet e in
+code_read most octets packet e =
+    let a = bind_ok (front_at Request most octets) (λ front. headers_in front.1 >>= λ headers. Ok (let p : PlainPacket = record { code = slice_index octets 0; extra = front.0; headers = headers } in p)) packet e in
     let b = bind_ok (headers_in a.0.1) (λ headers. Ok (let p : PlainPacket = record { code = slice_index octets 0; extra = a.0.0; headers = headers } in p)) packet a.2 in
     let made : PlainPacket = record { code = slice_index octets 0; extra = a.0.0; headers = b.0 } in
     sym (ap (λ (p : PlainPacket). p.code) (ok_is made packet b.2))
@@ -36,8 +37,11 @@ no_put_by : (read : Result PlainPacket ObexRefusal) (code : ℕ) → ((packet : 
 no_put_by (Err refusal) code is other = refl
 no_put_by (Ok packet) code is other = cond-false (eqb packet.code 0x02 || eqb packet.code 0x82) (Some packet) None (ap (λ (c : ℕ). eqb c 0x02 || eqb c 0x82) (is packet refl) ∙ other)
 
+pub no_put_within : (most : ℕ) (octets : List ℕ) → (eqb (slice_index octets 0) 0x02 || eqb (slice_index octets 0) 0x82) ≡ false → put_within most octets ≡ None
+no_put_within most octets other = no_put_by (packet_in Request most octets) (slice_index octets 0) (code_read most octets) other
+
 no_put : (octets : List ℕ) → (eqb (slice_index octets 0) 0x02 || eqb (slice_index octets 0) 0x82) ≡ false → IsNoPut octets
-no_put octets other = no_put_by (packet_in Request 65535 octets) (slice_index octets 0) (code_read octets) other
+no_put octets other = no_put_within 65535 octets other
 
 end_no_puts : (gave_up left : Bool) → AllByRecursion IsNoPut (end_of gave_up left)
 end_no_puts true true = (no_put _ refl, (no_put _ refl, tt))

@@ -1,5 +1,5 @@
 -- Where calls of the inbox fail: the requests of a client that wants no single response mode are taken, push after push.
-use Rattle.std.proofs.Common.{inl, inr, Bool, true, false, ◌≡◌, ◌==◌, ℕ, ◌≤◌, ◌&&◌, ◌||◌, List, [], ◌∷◌, ◌++◌, length, Option, Some, None, refl, sym, ap, subst, ◌∙◌, arith, append-nil, append_assoc}
+use Rattle.std.proofs.Common.{inl, inr, Bool, true, false, ◌≡◌, ◌==◌, ℕ, ◌≤◌, ◌&&◌, ◌||◌, List, [], ◌∷◌, ◌++◌, length, Option, None, refl, sym, ap, subst, ◌∙◌, arith, append-nil, append_assoc}
 use Rattle.std.specs.Prelude.{not}
 use Rattle.std.specs.List.{AllByRecursion, flat_map}
 use Rattle.std.proofs.lemmas.Bool.{cases_Bool, cond_both, eqb-true}
@@ -11,37 +11,27 @@ use Rattle.obex_headers.specs.declared.packet.Phase.TheVariants as phase
 use Rattle.obex_headers.specs.Reading.{packet_in}
 use Rattle.rfcomm_frames.specs.FrameReading.{is_empty}
 use Rattle.obex_session.specs.Views.{is_silent}
-use Rattle.push_model.specs.declared.outlet.Outlet.TheVariants as outlets
 use Rattle.push_model.specs.Client.{Client, own_maximum, with_object}
 use Rattle.push_model.specs.Laws as deeds
 use Rattle.push_model.specs.Laws.{Deed, Hears, Asks, Finishes, Cancels}
 use Rattle.push_model.specs.Listening.{has_bad_length}
-use Rattle.push_model.specs.Server.{Reacted, lets_go_on, remuxed, unreplied, unanswered, object_psm, rfcomm_psm}
-use Rattle.push_laws.specs.Faults.{Marked, unmarked}
+use Rattle.push_model.specs.Server.{Reacted, lets_go_on, remuxed, unreplied, unanswered, object_psm}
 use Rattle.push_laws.specs.Laws.{new_over}
 use Rattle.push_laws.specs.Occurrences.{Occurrence, Came, Went, Closed, LinkDown, Asked, Answering, done}
-use Rattle.push_laws.specs.Parties.{Move, OfServer, OfClient, server_side, client_side, Pipes, no_pipes, sent_by, come_by, gone_by, NoFrame, pipes_after, StayPipes, Push, IsPushedByTurns, ended_with, over_pushes, ServesDirectly, AllServeDirectly, RequestsAreTaken}
+use Rattle.push_laws.specs.Parties.{Move, OfServer, OfClient, server_side, client_side, Pipes, no_pipes, sent_by, come_by, gone_by, pipes_after, StayPipes, Push, IsPushedByTurns, ended_with, over_pushes, ServesDirectly, AllServeDirectly, RequestsAreTaken}
 use Rattle.push_laws.specs.Premises.{NoneShort, IsTaken, MayCome, AllMayFail, new_packets}
 use Rattle.push_laws.specs.Readings.{closes, came_on}
 use Rattle.push_laws.specs.Sending.{AllAnswer}
-use Rattle.push_laws.proofs.Calm.{IsCalm, first_calm, calm_more, is_orderly, none_direct, one_direct, none_muxed}
-use Rattle.push_laws.proofs.Gaining.{Holds, unfailed, holds_more, first_holds}
+use Rattle.push_laws.proofs.Calm.{IsCalm, calm_more, is_orderly, none_direct, one_direct, none_muxed}
+use Rattle.push_laws.proofs.Gaining.{unfailed}
+use Rattle.push_laws.proofs.Missing.{Stays, no_frame_comes, stays_more, first_stays}
 use Rattle.push_laws.proofs.Crossings as crossings
 use Rattle.push_laws.proofs.Crossings.{response_of, IsApart, Kind, Apart, Comes, Ends, kind_of}
-use Rattle.push_laws.proofs.Lending.{LendsWhole, whole_more}
+use Rattle.push_laws.proofs.Lending.{LendsWhole}
 use Rattle.push_laws.proofs.OnObject.{AllOnObject, none_sent, same_psm, none_come, on_object}
-use Rattle.push_laws.proofs.Readings.{unmarked_more}
 use Rattle.push_laws.proofs.OneByOne.{Exchange, Idle, free_then, comes, goes, alike, IsPlain, deed_plain, deed_moves, waits_of}
 
 -- ---- the server
-
-record Stays (settings : Settings) (before : List Object) (past : List Occurrence) (at : Reacted) : Type 0 where
-  calm : IsCalm past at.server
-  whole : LendsWhole at.server
-  -- it does not lack memory
-  marks : List Marked
-  same : unmarked marks ≡ past
-  holds : Holds settings before marks at
 
 abbrev IsFree : Reacted → Occurrence → Type 0
 IsFree at one = (sdu : List ℕ) → one ≡ Came object_psm sdu → response_of at.server ≡ []
@@ -70,9 +60,6 @@ module _ (settings : Settings) (before : List Object) (past : List Occurrence) (
       none_ends Asked e = refl
       none_ends (Answering answers) e = refl
 
-  no_frame_comes : (one : Occurrence) (sdu : List ℕ) → NoFrame one → one ≡ Came rfcomm_psm sdu → ⊥
-  no_frame_comes one sdu direct is = (subst NoFrame is direct) refl
-
   may_take : (one : Occurrence) → Stays settings before past at → ServesDirectly NoneShort at one → IsFree at one → MayCome NoneShort (IsTaken settings past at.server.listener.service) settings past at one
   may_take one s serves free =
       let later = calm_more past one at serves.direct serves.own s.calm in
@@ -85,26 +72,13 @@ module _ (settings : Settings) (before : List Object) (past : List Occurrence) (
           heard = λ transport. heard_over new transport;
           lengths = subst (AllByRecursion (λ packet. has_bad_length (packet_in phase.Request (own_maximum Rfcomm settings) packet) ≡ false)) (sym new) tt;
         };
-        frame = λ sdu is. absurd (no_frame_comes one sdu serves.direct is);
+        frame = λ sdu is. absurd (no_frame_comes settings before past at one sdu serves.direct is);
         orderly = is_orderly (done one at).server.mux later.fresh;
       }
     where
       heard_over : new_packets Rfcomm past one ≡ [] → (transport : Transport) → AllByRecursion (IsTaken settings past at.server.listener.service transport) (new_packets transport past one)
       heard_over new L2cap = taken_of one (kind_of one at serves.direct serves.own s.calm.no_frame) s.calm free
       heard_over new Rfcomm = subst (AllByRecursion (IsTaken settings past at.server.listener.service Rfcomm)) (sym new) tt
-
-  serving_more : (one : Occurrence) → Stays settings before past at → ServesDirectly NoneShort at one → IsFree at one → Stays settings before (past ++ one ∷ []) (done one at)
-  serving_more one s serves free =
-      let may = may_take one s serves free in
-      let more = holds_more settings before s.marks one at s.holds (subst (λ (os : List Occurrence). MayCome NoneShort (IsTaken settings os at.server.listener.service) settings os at one) (sym s.same) may) in
-      let last : Marked = record { occurrence = one; failed = more.failed } in
-      record {
-        calm = calm_more past one at serves.direct serves.own s.calm;
-        whole = whole_more one at serves.direct s.whole;
-        marks = s.marks ++ last ∷ [];
-        same = unmarked_more s.marks last ∙ ap (λ (os : List Occurrence). os ++ one ∷ []) s.same;
-        holds = more.holds;
-      }
 
 -- ---- an occurrence
 
@@ -156,7 +130,7 @@ module _ (settings : Settings) (before : List Object) (rest : List Occurrence) w
         may_take settings before past at one b.serving serve.0 free,
         both_taken content moves (past ++ one ∷ []) (done one at) client (pipes_after (OfServer one) client pipes) answers here carried.2 serve.1 on
             (record {
-              serving = serving_more settings before past at one b.serving serve.0 free;
+              serving = stays_more settings before past at one b.serving serve.0;
               plain = b.plain;
               exchange = λ opened.
                   let both = neither pipes.closed (closes object_psm one) opened in
@@ -180,7 +154,7 @@ module _ (settings : Settings) (before : List Object) (rest : List Occurrence) w
   away_taken (OfServer one ∷ moves) past at client pipes away none carried serve on s =
       let free = away_free pipes at one none carried.0.requests in (
         may_take settings before past at one s serve.0 free,
-        away_taken moves (past ++ one ∷ []) (done one at) client (pipes_after (OfServer one) client pipes) away none carried.2 serve.1 on (serving_more settings before past at one s serve.0 free),
+        away_taken moves (past ++ one ∷ []) (done one at) client (pipes_after (OfServer one) client pipes) away none carried.2 serve.1 on (stays_more settings before past at one s serve.0),
       )
   away_taken (OfClient deed ∷ moves) past at client pipes away none carried serve on s =
       away_taken moves past at (deeds.done deed client) (pipes_after (OfClient deed) client pipes) away
@@ -222,13 +196,10 @@ module _ (settings : Settings) (before : List Object) where
       (push_taken settings before (LinkDown ∷ others) push answered.0 past at empty (subst (AllServeDirectly NoneShort at) (sym same) serve)
       (λ past' at' s' serve'. (
         may_take settings before past' at' LinkDown s' serve'.0 (λ sdu is. absurd (no_came sdu is)),
-        linked pushes last (past' ++ LinkDown ∷ []) (done LinkDown at') (down_empty past' at' s') answered.1 over (serving_more settings before past' at' LinkDown s' serve'.0 (λ sdu is. absurd (no_came sdu is))) serve'.1,
+        linked pushes last (past' ++ LinkDown ∷ []) (done LinkDown at') (down_empty past' at' s') answered.1 over (stays_more settings before past' at' LinkDown s' serve'.0) serve'.1,
       )) s)
-
-not_lent : None ≡ Some outlets.Direct → ⊥
-not_lent e = cc
 
 pub requests-are_taken : RequestsAreTaken
 requests-are_taken settings before pushes last answered over serve =
     linked settings before pushes last [] (new_over settings before) refl answered over
-    (record { calm = first_calm settings; whole = λ e none. not_lent e; marks = []; same = refl; holds = first_holds settings before }) serve
+    (first_stays settings before) serve

@@ -30,17 +30,18 @@ use Rattle.push_model.specs.Listening.{Listener, has_bad_length}
 use Rattle.push_model.specs.Service.{Service, Served, response_over, after_heard, is_ignored}
 use Rattle.push_model.specs.Sessions as model
 use Rattle.push_model.specs.Sessions.{Sessions, Gift, session_of, has_object, lets_go, answers_to, is_naming, hears}
-use Rattle.push_model.specs.Server.{Server, Reacted, Lent, hears_search, hears_on, lends_by, frame_lent, lent_by, taken_by, closed_on, lets_go_on, remuxed, unreplied, unanswered, object_psm, rfcomm_psm}
+use Rattle.push_model.specs.Server.{Server, Reacted, Lent, hears_search, hears_on, lends_by, frame_lent, lent_by, taken_by, closed_on, lets_go_on, lets_go_twice, remuxed, unreplied, unanswered, object_psm, rfcomm_psm}
 use Rattle.push_laws.specs.Calls.{new_session}
+use Rattle.push_laws.specs.Faults.{faults_of}
 use Rattle.push_laws.specs.Laws.{new_over}
-use Rattle.push_laws.specs.Occurrences.{Occurrence, Came, Went, Closed, LinkDown, Asked, Answering, done}
+use Rattle.push_laws.specs.Occurrences.{Occurrence, Came, Went, Closed, LinkDown, Asked, Answering, done, IsOwn}
 use Rattle.push_laws.specs.Premises.{IsHeard, AllGranted, MayCome, AllMayCome, new_packets}
 use Rattle.push_laws.specs.Readings.{closes, came_on, packets_over}
 use Rattle.push_laws.specs.Turns.{serving, in_silence, due_behind, InTurn, TakesTurn, AllTakeTurns, NoRequestIsIgnored}
 use Rattle.push_laws.proofs.Answering.{come_granted, response_behind}
 use Rattle.push_laws.proofs.Calm.{Calm, IsCalm, first_calm, calm_same, came_calm, went_calm, closed_calm, down_calm, lends_calm, is_orderly, silent_stream, none_direct, one_direct, none_muxed}
 use Rattle.push_laws.proofs.Codes.{said_to}
-use Rattle.push_laws.proofs.Gaining.{unfailed, taken_all, Clear, clear_more, first_holds, clean}
+use Rattle.push_laws.proofs.Gaining.{Clear, clear_more, first_holds}
 use Rattle.push_laws.proofs.Readings.{read_more, read_same, read_closed}
 use Rattle.push_laws.proofs.Servers.{by_psm}
 
@@ -108,6 +109,27 @@ taken_in_turn false silent response answer free none turn =
     ap (λ (r : List ℕ). (not (is_empty r) || not (is_empty answer)) && not silent) (free refl) ∙ ap (λ (a : List ℕ). not (is_empty a) && not silent) none
 taken_in_turn true silent response answer free none turn = ap (λ (b : Bool). (not (is_empty response) || not (is_empty answer)) && b) turn ∙ and_false (not (is_empty response) || not (is_empty answer))
 
+-- the inbox grants the calls that a request asks for
+abbrev pub IsGranted : Reacted → List ℕ → Type 0
+IsGranted at sdu = come_of (ruling_on at.server.listener.service.sessions.direct sdu).calls at.gift.answers ≡ Ok tt
+
+abbrev pub Grants : Occurrence → Reacted → Type 0
+Grants (Came psm sdu) at = psm ≡ object_psm → IsGranted at sdu
+Grants (Went psm sdu) at = Unit {0}
+Grants (Closed psm) at = Unit {0}
+Grants LinkDown at = Unit {0}
+Grants Asked at = Unit {0}
+Grants (Answering answers) at = Unit {0}
+
+-- so it does where it grants all that it is still to be asked
+pub grants : (one : Occurrence) (at : Reacted) → faults_of at.gift.answers ≡ 0 → Grants one at
+grants (Came psm sdu) at spared = λ here. come_granted (ruling_on at.server.listener.service.sessions.direct sdu).calls at.gift.answers spared
+grants (Went psm sdu) at spared = tt
+grants (Closed psm) at spared = tt
+grants LinkDown at spared = tt
+grants Asked at spared = tt
+grants (Answering answers) at spared = tt
+
 module _ (settings : Settings) (before : List Object) (past : List Occurrence) where
   pub same_session : (one : Occurrence) → closes object_psm one ≡ false → came_on object_psm one ≡ None → serving settings past ≡ serving settings (past ++ one ∷ [])
   same_session one on none = ap (session_behind (new_session (own_maximum L2cap settings) settings.srm)) (sym (read_same (came_on object_psm) object_psm past one on none))
@@ -124,7 +146,7 @@ module _ (settings : Settings) (before : List Object) (past : List Occurrence) w
 
   -- ---- a request comes in turn
 
-  request_taken : (due : Bool) (sdu : List ℕ) (at : Reacted) → Stands settings past due at.server → (due && not (in_silence settings past sdu)) ≡ false → is_ignored L2cap sdu at.server.listener.service ≡ false
+  pub request_taken : (due : Bool) (sdu : List ℕ) (at : Reacted) → Stands settings past due at.server → (due && not (in_silence settings past sdu)) ≡ false → is_ignored L2cap sdu at.server.listener.service ≡ false
   request_taken due sdu at s turn =
       taken_in_turn due (is_silent at.server.listener.service.sessions.direct sdu) at.server.listener.service.response at.server.listener.service.answer s.free s.calm.answer
       (ap (λ (x : Serving). due && not (is_silent x sdu)) s.session ∙ turn)
@@ -135,16 +157,14 @@ module _ (settings : Settings) (before : List Object) (past : List Occurrence) w
     alone = λ named. ap (λ (ps : List (List ℕ)). nat_lt 0 (length (names (open_headers (own_maximum Rfcomm settings) (without_fault ps))))) (silent_stream past s.calm.quiet);
   }
 
-  request_still : (due : Bool) (sdu : List ℕ) (at : Reacted) → Clear settings before past at → Stands settings past due at.server → (due && not (in_silence settings past sdu)) ≡ false
+  request_still : (due : Bool) (sdu : List ℕ) (at : Reacted) → Stands settings past due at.server → IsGranted at sdu → (due && not (in_silence settings past sdu)) ≡ false
       → Stands settings (past ++ Came 0x1001 sdu ∷ []) (due || not (in_silence settings past sdu)) (hears_on 0x1001 sdu at.server at.gift).server
-  request_still due sdu at c s turn =
+  request_still due sdu at s come turn =
       let service : Service = at.server.listener.service in
       let session : Serving = service.sessions.direct in
-      let ignored = request_taken due sdu at s turn in
-      let is = (taken_all settings before past at c.holds L2cap (sdu ∷ []) (heard_now due sdu at s ignored, tt)).0 in
+      let taken = request_taken due sdu at s turn in
       let h = hears L2cap sdu service.sessions at.gift in
-      let come = come_granted (ruling_on session sdu).calls at.gift.answers c.spared in
-      let now = response_behind sdu service at.gift is.taken is.alone in
+      let now = response_behind sdu service at.gift taken (λ named. s.calm.idle) in
       record {
         calm = came_calm past sdu at s.calm 0x1001 (λ e. no_both e);
         free = λ e.
@@ -153,9 +173,9 @@ module _ (settings : Settings) (before : List Object) (past : List Occurrence) w
             let none : said_to session sdu at.gift.answers ≡ [] =
             ap (λ x. octets_said sdu session.maximum x) (said_alike session sdu at.gift.answers come) ∙ silence_is_none sdu session.maximum (heard_with session sdu []).saying silent in
             now ∙ ap (λ (x : List ℕ). cond (is_empty x) service.response x) none ∙ s.free both.0;
-        session = ap (λ (x : Served). x.service.sessions.direct) (cond-false _ _ (after_heard L2cap service h) is.taken)
+        session = ap (λ (x : Served). x.service.sessions.direct) (cond-false _ _ (after_heard L2cap service h) taken)
             ∙ ap (λ (x : Sessions). x.direct) (over_sessions h.response (record service { sessions = h.sessions; failed = service.failed || h.short }))
-            ∙ heard_direct sdu service.sessions at.gift is.alone ∙ turn_alike session sdu at.gift.answers come
+            ∙ heard_direct sdu service.sessions at.gift (λ named. s.calm.idle) ∙ turn_alike session sdu at.gift.answers come
             ∙ ap (λ (x : Serving). (heard_with x sdu []).session) s.session
             ∙ sym (behind_more (packets_over L2cap past) sdu (new_session (own_maximum L2cap settings) settings.srm))
             ∙ ap (session_behind (new_session (own_maximum L2cap settings) settings.srm)) (sym (read_more (came_on object_psm) object_psm past (Came 0x1001 sdu) refl));
@@ -171,25 +191,24 @@ module _ (settings : Settings) (before : List Object) (past : List Occurrence) w
       ∙ behind_more (packets_over L2cap past) sdu (new_session (own_maximum L2cap settings) settings.srm)
 
   -- and the response that waits
-  pub response_now : (due : Bool) (sdu : List ℕ) (at : Reacted) → Clear settings before past at → Stands settings past due at.server → (due && not (in_silence settings past sdu)) ≡ false
+  pub response_now : (due : Bool) (sdu : List ℕ) (at : Reacted) → Stands settings past due at.server → IsGranted at sdu → (due && not (in_silence settings past sdu)) ≡ false
       → (let r : List ℕ = octets_said sdu (serving settings past).maximum (heard_with (serving settings past) sdu []).saying in
       (hears_on 0x1001 sdu at.server at.gift).server.listener.service.response ≡ cond (is_empty r) at.server.listener.service.response r)
-  response_now due sdu at c s turn =
+  response_now due sdu at s come turn =
       let service : Service = at.server.listener.service in
-      let is = (taken_all settings before past at c.holds L2cap (sdu ∷ []) (heard_now due sdu at s (request_taken due sdu at s turn), tt)).0 in
-      response_behind sdu service at.gift is.taken is.alone
+      response_behind sdu service at.gift (request_taken due sdu at s turn) (λ named. s.calm.idle)
       ∙ ap (λ (r : List ℕ). cond (is_empty r) service.response r)
-      (ap (λ x. octets_said sdu service.sessions.direct.maximum x) (said_alike service.sessions.direct sdu at.gift.answers (come_granted (ruling_on service.sessions.direct sdu).calls at.gift.answers c.spared))
+      (ap (λ x. octets_said sdu service.sessions.direct.maximum x) (said_alike service.sessions.direct sdu at.gift.answers come)
       ∙ ap (λ (x : Serving). octets_said sdu x.maximum (heard_with x sdu []).saying) s.session)
 
-  came_still : (due : Bool) (sdu : List ℕ) (at : Reacted) → Clear settings before past at → Stands settings past due at.server → (psm : ℕ) → InTurn settings past due (Came psm sdu)
+  came_still : (due : Bool) (sdu : List ℕ) (at : Reacted) → Stands settings past due at.server → (psm : ℕ) → (psm ≡ object_psm → IsGranted at sdu) → InTurn settings past due (Came psm sdu)
       → Stands settings (past ++ Came psm sdu ∷ []) (due_behind settings past due (Came psm sdu)) (hears_on psm sdu at.server at.gift).server
-  came_still due sdu at c s psm =
-      by_psm (λ p. InTurn settings past due (Came p sdu) → Stands settings (past ++ Came p sdu ∷ []) (due_behind settings past due (Came p sdu)) (hears_on p sdu at.server at.gift).server)
-      (λ turn. same_still (Came 0x0001 sdu) due (due || false) at.server (hears_search sdu at.server) refl refl (or_false due) (search_same sdu at.server).0 (search_same sdu at.server).1 (came_calm past sdu at s.calm 0x0001 turn.0) s)
-      (λ turn. absurd (turn.0 refl))
-      (λ turn. request_still due sdu at c s (turn.1 refl))
-      (λ p x y z turn.
+  came_still due sdu at s psm =
+      by_psm (λ p. (p ≡ object_psm → IsGranted at sdu) → InTurn settings past due (Came p sdu) → Stands settings (past ++ Came p sdu ∷ []) (due_behind settings past due (Came p sdu)) (hears_on p sdu at.server at.gift).server)
+      (λ granted turn. same_still (Came 0x0001 sdu) due (due || false) at.server (hears_search sdu at.server) refl refl (or_false due) (search_same sdu at.server).0 (search_same sdu at.server).1 (came_calm past sdu at s.calm 0x0001 turn.0) s)
+      (λ granted turn. absurd (turn.0 refl))
+      (λ granted turn. request_still due sdu at s (granted refl) (turn.1 refl))
+      (λ p x y z granted turn.
       subst (λ (r : Reacted). Stands settings (past ++ Came p sdu ∷ []) (due_behind settings past due (Came p sdu)) r.server)
       (sym (cond-false _ _ _ x ∙ (cond-false _ _ _ y ∙ cond-false _ _ (let r : Reacted = record { server = at.server; gift = at.gift } in r) z)))
       (same_still (Came p sdu) due (due_behind settings past due (Came p sdu)) at.server at.server refl (cond-false _ _ _ z) (ap (λ (b : Bool). due || (b && not (in_silence settings past sdu))) z ∙ or_false due) refl refl
@@ -254,16 +273,16 @@ module _ (settings : Settings) (before : List Object) (past : List Occurrence) w
 
   -- ---- any occurrence
 
-  pub still_more : (one : Occurrence) (due : Bool) (at : Reacted) → Clear settings before past at → TakesTurn settings past due at one → Stands settings past due at.server
+  pub still_more : (one : Occurrence) (due : Bool) (at : Reacted) → at.server.listener.service.failed ≡ false → Grants one at → IsOwn one at.server → InTurn settings past due one → Stands settings past due at.server
       → Stands settings (past ++ one ∷ []) (due_behind settings past due one) (done one at).server
-  still_more (Came psm sdu) due at c t s =
-      subst (λ (r : Reacted). Stands settings (past ++ Came psm sdu ∷ []) (due_behind settings past due (Came psm sdu)) r.server) (sym (unfailed settings before (clean settings before past) at _ c.holds)) (came_still due sdu at c s psm t.turn)
-  still_more (Went psm sdu) due at c t s = went_still due at.server.lent psm sdu at.server t.own.0 t.own.1 t.own.2 s
-  still_more (Closed psm) due at c t s =
-      subst (λ (r : Reacted). Stands settings (past ++ Closed psm ∷ []) (due_behind settings past due (Closed psm)) r.server) (sym (unfailed settings before (clean settings before past) at _ c.holds)) (closed_still due at s psm)
-  still_more LinkDown due at c t s = subst (λ (r : Reacted). Stands settings (past ++ LinkDown ∷ []) false r.server) (sym (unfailed settings before (clean settings before past) at _ c.holds)) (down_still due at s)
-  still_more Asked due at c t s = lends_still due at.server.lent at.server s
-  still_more (Answering answers) due at c t s = same_still (Answering answers) due due at.server at.server refl refl refl refl refl (calm_same past (Answering answers) at.server.listener at.server.mux at.server.frame refl s.calm) s
+  still_more (Came psm sdu) due at sound granted own turn s =
+      subst (λ (r : Reacted). Stands settings (past ++ Came psm sdu ∷ []) (due_behind settings past due (Came psm sdu)) r.server) (sym (cond-false _ _ (hears_on psm sdu at.server at.gift) sound)) (came_still due sdu at s psm granted turn)
+  still_more (Went psm sdu) due at sound granted own turn s = went_still due at.server.lent psm sdu at.server own.0 own.1 own.2 s
+  still_more (Closed psm) due at sound granted own turn s =
+      subst (λ (r : Reacted). Stands settings (past ++ Closed psm ∷ []) (due_behind settings past due (Closed psm)) r.server) (sym (cond-false _ _ (closed_on psm at.server at.gift) sound)) (closed_still due at s psm)
+  still_more LinkDown due at sound granted own turn s = subst (λ (r : Reacted). Stands settings (past ++ LinkDown ∷ []) false r.server) (sym (cond-false _ _ (lets_go_twice (lets_go_on L2cap (unanswered at.server) at.gift)) sound)) (down_still due at s)
+  still_more Asked due at sound granted own turn s = lends_still due at.server.lent at.server s
+  still_more (Answering answers) due at sound granted own turn s = same_still (Answering answers) due due at.server at.server refl refl refl refl refl (calm_same past (Answering answers) at.server.listener at.server.mux at.server.frame refl s.calm) s
 
   -- ---- which packets are new
 
@@ -323,7 +342,8 @@ all_may_come : (settings : Settings) (before : List Object) (occurrences past : 
     → AllMayCome settings past at occurrences
 all_may_come settings before [] past due at c all s = tt
 all_may_come settings before (one ∷ rest) past due at c all s =
-    let later = still_more settings before past one due at c all.0 s in
+    let sound = c.holds.upholds.listens.serves.enough in
+    let later = still_more settings before past one due at sound (grants one at c.spared) all.0.own all.0.turn s in
     let may = may_come settings before past one due at c all.0 s later in
     (may, all_may_come settings before rest (past ++ one ∷ []) (due_behind settings past due one) (done one at) (clear_more settings before past one at c may) all.1 later)
 

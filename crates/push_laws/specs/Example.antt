@@ -9,7 +9,7 @@ use Rattle.push_model.specs.Server.{rfcomm_psm}
 use Rattle.push_laws.specs.Occurrences.{Occurrence, Came, Went, Asked, Answering}
 use Rattle.push_laws.specs.Gains.{objects}
 use Rattle.push_laws.specs.Faults as with_faults
-use Rattle.push_laws.specs.Faults.{Marked, marked_from, failures}
+use Rattle.push_laws.specs.Faults.{Marked, marked_from, refusals}
 use Rattle.push_laws.specs.Premises.{AllMayCome, AllMayFail}
 use Rattle.push_laws.specs.Laws.{new_over}
 
@@ -78,4 +78,4 @@ OnePushIsHeard = (settings : Settings) (before : List Object) → IsPlain settin
 -- So it may where the inbox fails: the packet is the one that is marked, and spells nothing.
 abbrev pub OneFaultIsHeard : Type 0
 OneFaultIsHeard = (settings : Settings) (before : List Object) → IsPlain settings → let marked : List Marked = marked_from [] (new_over settings before) pushed_in_vain in
-    AllMayFail settings [] (new_over settings before) pushed_in_vain × (failures marked ≡ 1) × (with_faults.objects settings marked ≡ [])
+    AllMayFail settings [] (new_over settings before) pushed_in_vain × (refusals marked ≡ 1) × (with_faults.objects settings marked ≡ [])

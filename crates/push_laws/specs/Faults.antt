@@ -1,5 +1,5 @@
--- The objects that packets spell where calls of the inbox fail: a packet at which one failed counts as a refused PUT
--- (this project's own).
+-- The objects that packets spell where calls of the inbox fail and where packets are ignored because a response waits: a packet at which a call
+-- failed, or that was ignored, counts as a refused PUT (this project's own).
 use Rattle.std.specs.Prelude.{ℕ, ◌+◌, ◌-◌, ◌||◌, Bool, false, List, [], ◌∷◌, ◌++◌, map, sum_by, is_err, Ok, Err, if◌then◌else◌}
 use Rattle.std.specs.List.{list_any}
 use Rattle.bt_base.specs.declared.settings.Settings.{Settings}
@@ -12,16 +12,16 @@ use Rattle.obex_session.specs.InboxCalls.{Answer, come_of}
 use Rattle.obex_session.specs.Past.{Heard, stored_by}
 use Rattle.obex_session.specs.Serving.{ruling_on}
 use Rattle.push_model.specs.Client.{own_maximum}
-use Rattle.push_model.specs.Service.{Service}
+use Rattle.push_model.specs.Service.{Service, is_ignored}
 use Rattle.push_model.specs.Sessions.{session_of}
 use Rattle.push_model.specs.Server.{Reacted, object_psm, rfcomm_psm}
 use Rattle.push_laws.specs.Occurrences.{Occurrence, Came, Went, Closed, LinkDown, Asked, Answering, done}
 use Rattle.push_laws.specs.Readings.{closes, packets_over}
 
--- an occurrence, and whether a call of the inbox failed at the packet that is whole with it
+-- an occurrence, and whether the packet that is whole with it counts as refused
 pub record Marked : Type 0 where
   pub occurrence : Occurrence
-  pub failed : Bool
+  pub refused : Bool
 
 abbrev pub unmarked : List Marked → List Occurrence
 unmarked past = map (λ (one : Marked). one.occurrence) past
@@ -31,11 +31,11 @@ psm_of L2cap = object_psm
 psm_of Rfcomm = rfcomm_psm
 
 abbrev pub heard_as : Bool → List (List ℕ) → List Heard
-heard_as failed packets = map (λ (packet : List ℕ). (packet, failed)) packets
+heard_as refused packets = map (λ (packet : List ℕ). (packet, refused)) packets
 
 -- with one occurrence more
 abbrev pub heard_behind : Transport → List Occurrence → List Heard → Marked → List Heard
-heard_behind transport past kept one = if closes (psm_of transport) one.occurrence then [] else kept ++ heard_as one.failed (gained (packets_over transport) past one.occurrence)
+heard_behind transport past kept one = if closes (psm_of transport) one.occurrence then [] else kept ++ heard_as one.refused (gained (packets_over transport) past one.occurrence)
 
 abbrev pub heard_from : Transport → List Occurrence → List Heard → List Marked → List Heard
 heard_from transport past kept [] = kept
@@ -55,13 +55,13 @@ objects_with settings past one = gained (stored_over settings L2cap) past one ++
 abbrev pub objects : Settings → List Marked → List Object
 objects settings past = given_by (objects_with settings) past
 
--- ---- how many fail
+-- ---- how many do
 
 abbrev pub counted : Bool → ℕ
-counted failed = if failed then 1 else 0
+counted holds = if holds then 1 else 0
 
-abbrev pub failures : List Marked → ℕ
-failures past = sum_by (λ (one : Marked). counted one.failed) past
+abbrev pub refusals : List Marked → ℕ
+refusals past = sum_by (λ (one : Marked). counted one.refused) past
 
 abbrev pub faults_of : List Answer → ℕ
 faults_of [] = 0
@@ -74,21 +74,25 @@ faults_of (Err fault ∷ answers) = faults_of answers + 1
 abbrev pub fails_at : Transport → List ℕ → Service → List Answer → Bool
 fails_at transport packet service answers = is_err (come_of (ruling_on (session_of transport service.sessions) packet).calls answers)
 
-abbrev pub any_fails : Transport → Service → List Answer → List (List ℕ) → Bool
-any_fails transport service answers packets = list_any (λ (packet : List ℕ). fails_at transport packet service answers) packets
+-- it counts as refused: it is ignored, or such a call fails
+abbrev pub is_refused : Transport → List ℕ → Service → List Answer → Bool
+is_refused transport packet service answers = is_ignored transport packet service || fails_at transport packet service answers
+
+abbrev pub any_refused : Transport → Service → List Answer → List (List ℕ) → Bool
+any_refused transport service answers packets = list_any (λ (packet : List ℕ). is_refused transport packet service answers) packets
 
 -- the same of the packets that are whole with an occurrence
-abbrev pub fails_with : List Occurrence → Service → List Answer → Occurrence → Bool
-fails_with past service answers (Came psm sdu) =
-    any_fails L2cap service answers (gained (packets_over L2cap) past (Came psm sdu)) || any_fails Rfcomm service answers (gained (packets_over Rfcomm) past (Came psm sdu))
-fails_with past service answers (Went psm sdu) = false
-fails_with past service answers (Closed psm) = false
-fails_with past service answers LinkDown = false
-fails_with past service answers Asked = false
-fails_with past service answers (Answering later) = false
+abbrev pub refuses_with : List Occurrence → Service → List Answer → Occurrence → Bool
+refuses_with past service answers (Came psm sdu) =
+    any_refused L2cap service answers (gained (packets_over L2cap) past (Came psm sdu)) || any_refused Rfcomm service answers (gained (packets_over Rfcomm) past (Came psm sdu))
+refuses_with past service answers (Went psm sdu) = false
+refuses_with past service answers (Closed psm) = false
+refuses_with past service answers LinkDown = false
+refuses_with past service answers Asked = false
+refuses_with past service answers (Answering later) = false
 
 abbrev pub mark_of : List Occurrence → Reacted → Occurrence → Marked
-mark_of past at one = record { occurrence = one; failed = fails_with past at.server.listener.service at.gift.answers one }
+mark_of past at one = record { occurrence = one; refused = refuses_with past at.server.listener.service at.gift.answers one }
 
 -- what happens to a server from a moment on, with its marks
 abbrev pub marked_from : List Occurrence → Reacted → List Occurrence → List Marked
@@ -113,3 +117,17 @@ spends at one = faults_before one at.gift.answers - faults_of (done one at).gift
 abbrev pub spent_from : Reacted → List Occurrence → ℕ
 spent_from at [] = 0
 spent_from at (one ∷ rest) = spends at one + spent_from (done one at) rest
+
+-- ---- how many are ignored
+
+-- of these packets
+abbrev pub ignored_of : Transport → Service → List (List ℕ) → ℕ
+ignored_of transport service packets = sum_by (λ (packet : List ℕ). counted (is_ignored transport packet service)) packets
+
+-- of those that are whole with an occurrence
+abbrev pub ignored_with : List Occurrence → Service → Occurrence → ℕ
+ignored_with past service one = ignored_of L2cap service (gained (packets_over L2cap) past one) + ignored_of Rfcomm service (gained (packets_over Rfcomm) past one)
+
+abbrev pub ignored_from : List Occurrence → Reacted → List Occurrence → ℕ
+ignored_from past at [] = 0
+ignored_from past at (one ∷ rest) = ignored_with past at.server.listener.service one + ignored_from (past ++ one ∷ []) (done one at) rest

@@ -17,10 +17,10 @@ use Rattle.push_laws.specs.Occurrences.{Occurrence, Came, all_done, begun}
 use Rattle.push_laws.specs.Readings.{since, passed_by, user_dlci}
 use Rattle.push_laws.specs.Answers.{AnswersInTurn}
 use Rattle.push_laws.specs.Faults as with_faults
-use Rattle.push_laws.specs.Faults.{marked_from, failures, spent_from}
+use Rattle.push_laws.specs.Faults.{marked_from, refusals, spent_from, ignored_from}
 use Rattle.push_laws.specs.Marks.{AllSayMarks}
 use Rattle.push_laws.specs.Gains.{objects}
-use Rattle.push_laws.specs.Premises.{AllMayCome, AllMayFail}
+use Rattle.push_laws.specs.Premises.{AllMayCome, AllMayFail, AllMayMiss}
 
 -- the objects that an inbox stored, where it tells them
 abbrev pub stored_in : Option Contents → Option (List Object)
@@ -36,15 +36,21 @@ abbrev pub GainsWhatIsHeard : Type 0
 GainsWhatIsHeard = (settings : Settings) (before : List Object) (occurrences : List Occurrence) → AllMayCome settings [] (new_over settings before) occurrences
     → stored_in (all_done occurrences (new_over settings before)).gift.content ≡ Some (before ++ objects settings occurrences)
 
--- Where calls of the inbox fail, it gains what the packets spell if those at which one failed count as refused: no more of
--- them than there are faults that its calls used up. Over L2CAP D0 says that a call failed, and A0 that an object is stored.
+-- Where calls of the inbox fail or requests are ignored, it gains what the packets spell if those at which one failed, and those ignored, count as
+-- refused: no more of them than there are faults that its calls used up and requests that were ignored. Over L2CAP D0 says that a call failed, and A0
+-- that an object is stored.
 pub record GainsBut (settings : Settings) (before : List Object) (occurrences : List Occurrence) : Type 0 where
   pub gains : stored_in (all_done occurrences (new_over settings before)).gift.content ≡ Some (before ++ with_faults.objects settings (marked_from [] (new_over settings before) occurrences))
-  pub few : failures (marked_from [] (new_over settings before) occurrences) ≤ spent_from (new_over settings before) occurrences
+  pub few : refusals (marked_from [] (new_over settings before) occurrences) ≤ spent_from (new_over settings before) occurrences + ignored_from [] (new_over settings before) occurrences
   pub said : AllSayMarks settings [] (new_over settings before) occurrences
 
+abbrev pub GainsAllButRefusals : Type 0
+GainsAllButRefusals = (settings : Settings) (before : List Object) (occurrences : List Occurrence) → AllMayMiss settings [] (new_over settings before) occurrences → GainsBut settings before occurrences
+
+-- the same where none is ignored
 abbrev pub GainsAllButFaults : Type 0
-GainsAllButFaults = (settings : Settings) (before : List Object) (occurrences : List Occurrence) → AllMayFail settings [] (new_over settings before) occurrences → GainsBut settings before occurrences
+GainsAllButFaults = (settings : Settings) (before : List Object) (occurrences : List Occurrence) → AllMayFail settings [] (new_over settings before) occurrences
+    → GainsBut settings before occurrences × (ignored_from [] (new_over settings before) occurrences ≡ 0)
 
 -- ---- credits
 
@@ -61,7 +67,7 @@ pub record HoldsCredits (occurrences : List Occurrence) (server : Server) : Type
   pub exact : server.mux.closed ≡ None → spare ≡ paid_for server.frame
 
 abbrev pub CreditsAreRead : Type 0
-CreditsAreRead = (settings : Settings) (before : List Object) (occurrences : List Occurrence) → AllMayFail settings [] (new_over settings before) occurrences
+CreditsAreRead = (settings : Settings) (before : List Object) (occurrences : List Occurrence) → AllMayMiss settings [] (new_over settings before) occurrences
     → HoldsCredits occurrences (all_done occurrences (new_over settings before)).server
 
 -- ---- responses

@@ -18,3 +18,4 @@ pub mod Carriage
 pub mod Dialogs
 pub mod Searches
 pub mod Cancelling
+pub mod Losing

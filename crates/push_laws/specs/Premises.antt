@@ -46,7 +46,11 @@ pub record IsHeard (settings : Settings) (past : List Occurrence) (service : Ser
   pub taken : is_ignored transport packet service ≡ false
   pub alone : is_named settings transport packet ≡ true → is_under_way settings (other_of transport) past ≡ false
 
--- the same, with the object that is under way where calls of the inbox fail
+-- where it has a Name, no object is under way over the other transport, also where calls of the inbox fail and requests are ignored
+pub record IsAlone (settings : Settings) (past : List Occurrence) (service : Service) (transport : Transport) (packet : List ℕ) : Type 0 where
+  pub alone : is_naming transport packet service.sessions ≡ true → has_object (session_of (other_of transport) service.sessions) ≡ false
+
+-- the same of one that is not ignored
 pub record IsTaken (settings : Settings) (past : List Occurrence) (service : Service) (transport : Transport) (packet : List ℕ) : Type 0 where
   pub taken : is_ignored transport packet service ≡ false
   pub alone : is_naming transport packet service.sessions ≡ true → has_object (session_of (other_of transport) service.sessions) ≡ false
@@ -136,3 +140,7 @@ AllMayCome settings past at occurrences = AllCome AllGranted (IsHeard settings) 
 -- or over one whose calls may fail, but not for want of memory
 abbrev pub AllMayFail : Settings → List Occurrence → Reacted → List Occurrence → Type 0
 AllMayFail settings past at occurrences = AllCome NoneShort (IsTaken settings) settings past at occurrences
+
+-- or where besides requests may be ignored
+abbrev pub AllMayMiss : Settings → List Occurrence → Reacted → List Occurrence → Type 0
+AllMayMiss settings past at occurrences = AllCome NoneShort (IsAlone settings) settings past at occurrences

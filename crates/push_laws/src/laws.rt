@@ -4,9 +4,10 @@ ghost use Rattle.push_laws.specs.Carriage.{FramesFit, PushedFramesFit, PushesMay
 ghost use Rattle.push_laws.specs.Calls.{InboxIsCalledByRuns};
 ghost use Rattle.push_laws.specs.Dialogs.{CarriedAreHeard, CarriedAreTaken, ClientsStay, MultiplexersStay};
 ghost use Rattle.push_laws.specs.Example.{OneFaultIsHeard, OnePushIsHeard};
-ghost use Rattle.push_laws.specs.Laws.{AnswersComeInTurn, CreditsAreRead, GainsAllButFaults, GainsWhatIsHeard, LendsFewOctets, OnePacketIsHeard};
+ghost use Rattle.push_laws.specs.Laws.{AnswersComeInTurn, CreditsAreRead, GainsAllButRefusals, GainsAllButFaults, GainsWhatIsHeard, LendsFewOctets, OnePacketIsHeard};
 ghost use Rattle.push_laws.specs.Parties.{RequestsAreHeard, RequestsAreTaken, RequestsComeInTurn};
 ghost use Rattle.push_laws.specs.Searches.{MuxedClientsStay, NewClientsAreMuxed, PushedAreHeard, PushedAreTaken, TargetsAreServed};
+ghost use Rattle.push_laws.specs.Losing.{PushesGainLess, PushesGainAll, NothingIsLeftOut};
 ghost use Rattle.push_laws.specs.Turns.{NoRequestIsIgnored};
 
 /// From a new server on the inbox gains exactly the objects that the heard packets spell, over both transports and through
@@ -16,9 +17,15 @@ pub fn gains_what_is_heard()
     ensures { GainsWhatIsHeard }
 {}
 
-/// Where calls of the inbox fail, it gains what the packets spell if those at which one failed count as refused: a fault is
-/// among the answers that the calls of such a packet use up, and each has a fault of its own. Over L2CAP D0 is said to such a
-/// packet, and success to a PUT exactly where it stores an object. Want of memory is not among the faults.
+/// Where calls of the inbox fail, or requests are ignored because a response waits, it gains what the packets spell if those at which one failed, and
+/// those that were ignored, count as refused: a fault is among the answers that the calls of such a packet use up, and each has a fault of its own.
+/// Over L2CAP D0 is said to a packet at which one failed, and success to a PUT exactly where it stores an object. Want of memory is not among the
+/// faults.
+pub fn gains_all_but_refusals()
+    ensures { GainsAllButRefusals }
+{}
+
+/// The same where no request is ignored, so where calls of the inbox fail alone.
 pub fn gains_all_but_faults()
     ensures { GainsAllButFaults }
 {}
@@ -140,4 +147,22 @@ pub fn muxed_clients_stay()
 pub fn pushed_requests_are_heard()
     ensures granted { PushedAreHeard }
     ensures failing { PushedAreTaken }
+{}
+
+/// Over L2CAP, push after push, the inbox gains the objects that the packets spell which come, in their order, but for one at most for each fault
+/// that its calls used up; so all of them where none failed. That is so of objects of any size, with single response mode or without, whether or not
+/// requests are ignored, where the shelf answers with as many octets as it was asked for, the channels of the object are pipes and the inbox does not
+/// lack memory.
+pub fn pushes_gain_less()
+    ensures { PushesGainLess }
+{}
+
+/// Where the inbox grants all calls it gains all objects that the packets spell, of any size and in any mode, under the same premises.
+pub fn pushes_gain_all()
+    ensures { PushesGainAll }
+{}
+
+/// Where no more than none is left out, the objects are all there.
+pub fn nothing_is_left_out()
+    ensures { NothingIsLeftOut }
 {}

@@ -4,7 +4,9 @@ use Rattle.std.specs.Prelude.{get_or}
 use Rattle.std.specs.List.{AllByRecursion, flat_map}
 use Rattle.std.proofs.lemmas.List.Concat.{flat_map-append}
 use Rattle.bt_base.specs.declared.settings.Settings.{Settings}
+use Rattle.bt_base.specs.declared.settings.Transport.TheVariants.{Rfcomm}
 use Rattle.bt_base.specs.Objects.{Contents, Object}
+use Rattle.push_terms.specs.declared.word.Side.TheVariants as sides
 use Rattle.push_script.specs.declared.scenario.Scenario.{Scenario}
 use Rattle.capture.specs.Entries.{Entry}
 use Rattle.capture.specs.Histories.{EachAfter}
@@ -28,13 +30,17 @@ use Rattle.host_model.specs.Clients.{ClientProfile, client_profile}
 use Rattle.host_model.specs.Servers.{ServerProfile, server_profile}
 use Rattle.host_laws.specs.Lives.{on_links}
 use Rattle.host_laws.specs.OneCarrier.{CarriesAlone}
+use Rattle.host_laws.specs.OneOnLinks.{packets_psm, CarriesOneOn}
 use Rattle.host_laws.specs.OverLinks.{talk_marks}
 use Rattle.host_laws.specs.Woven.{strand_list}
 use Rattle.host_laws.proofs.Asking.{clients_ask, hosts_ask}
+use Rattle.host_laws.proofs.InOrder.{asks-nothing}
 use Rattle.scenario_laws.specs.Captures.{Ran}
 use Rattle.scenario_laws.specs.Gains.{holding, serving, asked_by}
+use Rattle.scenario_laws.proofs.Alone.{runs-carry_alone}
 use Rattle.pair_laws.specs.Keeping.{PairsKeepOrder}
 use Rattle.pair_laws.specs.Fronts.{IsFrontOfTurns}
+use Rattle.pair_laws.specs.OnLinks.{happened_on}
 use Rattle.pair_laws.specs.Orders.{Joint, near_in, far_in, joints_from}
 use Rattle.pair_laws.specs.Pairs.{PairOnLink}
 use Rattle.pair_laws.specs.PlainPipes.{IsPlainPipe, ArePlainPipes}
@@ -46,7 +52,7 @@ use Rattle.pair_laws.proofs.Taking.{clients_within, servers_within}
 use Rattle.request_laws.specs.BothFed.{over_stored}
 use Rattle.request_laws.specs.HandedUp.{handed_for}
 use Rattle.request_laws.specs.Joined.{joints_of}
-use Rattle.request_laws.specs.MuxPipes.{CarriesOneOn, CarriesMuxes, StaysOn, MultiplexersArePiped}
+use Rattle.request_laws.specs.MuxPipes.{StaysOn, MultiplexersArePiped}
 use Rattle.request_laws.specs.Streams.{taken_at, Streams, no_streams, streams_after, AreStreams, AllStayStreams}
 use Rattle.request_laws.specs.Twists.{Twist, AtClient, AtServer, of_client, of_server, Both, new_both, both_after}
 use Rattle.request_laws.proofs.ClientTakes.{took, took-is}
@@ -61,7 +67,7 @@ further : (before here mid rest after : List (List ℕ)) → mid ≡ before ++ h
 further before here mid rest after one two = two ∙ (ap (λ (l : List (List ℕ)). l ++ rest) one ∙ append_assoc before here rest)
 
 module _ (carrier : ℕ) (settings : Settings) (content : Option Contents) where
-  abbrev streams_all : List Twist → Both → Streams → Streams
+  abbrev pub streams_all : List Twist → Both → Streams → Streams
   streams_all [] both s = s
   streams_all (twist ∷ twists) both s = streams_all twists (both_after (asking settings content) twist both) (streams_after carrier (asking settings content) twist both s)
 
@@ -72,13 +78,13 @@ module _ (carrier : ℕ) (settings : Settings) (content : Option Contents) where
     stay-streams twists (both_after (asking settings content) twist both) (streams_after carrier (asking settings content) twist both s) (λ front rest is. each (twist ∷ front) rest (ap (λ (l : List Twist). twist ∷ l) is)),
   )
 
-  record Sums (twists : List Twist) (both : Both) (before after : Streams) : Type 0 where
-    taken : after.taken ≡ before.taken ++ took carrier settings (flat_map of_client twists) both.near both.client
-    come : after.come ≡ before.come ++ handed_from carrier (policy settings true) both.far (far_list settings content twists both)
-    gone : after.gone ≡ before.gone ++ went carrier settings content (flat_map of_server twists) both.far both.server
-    heard : after.heard ≡ before.heard ++ handed_from carrier (policy settings false) both.near (near_list settings content twists both)
+  pub record Sums (twists : List Twist) (both : Both) (before after : Streams) : Type 0 where
+    pub taken : after.taken ≡ before.taken ++ took carrier settings (flat_map of_client twists) both.near both.client
+    pub come : after.come ≡ before.come ++ handed_from carrier (policy settings true) both.far (far_list settings content twists both)
+    pub gone : after.gone ≡ before.gone ++ went carrier settings content (flat_map of_server twists) both.far both.server
+    pub heard : after.heard ≡ before.heard ++ handed_from carrier (policy settings false) both.near (near_list settings content twists both)
 
-  sums : (twists : List Twist) (both : Both) (s : Streams) → Sums twists both s (streams_all twists both s)
+  pub sums : (twists : List Twist) (both : Both) (s : Streams) → Sums twists both s (streams_all twists both s)
   sums [] both s = record { taken = sym (append-nil s.taken); come = sym (append-nil s.come); gone = sym (append-nil s.gone); heard = sym (append-nil s.heard) }
   sums (AtClient strand ∷ twists) both s =
       let next = both_after (asking settings content) (AtClient strand) both in
@@ -244,22 +250,37 @@ module _ (carrier : ℕ) (settings : Settings) (content : Option Contents) (basi
 
 -- ---- of a run
 
-at_place : (own : Policy) (lists : List (List Occurrence)) → AllByRecursion (AreUttered own) lists → (number : ℕ) → AreUttered own (get_or lists number [])
-at_place own [] all number = tt
-at_place own (list ∷ lists) all zero = all.0
-at_place own (list ∷ lists) all (suc number) = at_place own lists all.1 number
+pub at_place : (P : List Occurrence → Type 0) → P [] → (lists : List (List Occurrence)) → AllByRecursion P lists → (number : ℕ) → P (get_or lists number [])
+at_place P none [] all number = none
+at_place P none (list ∷ lists) all zero = all.0
+at_place P none (list ∷ lists) all (suc number) = at_place P none lists all.1 number
 
-pub multiplexers_piped : (scenario : Scenario) (before : List Object) (capture : List Entry) (ran : Ran scenario (holding before) capture) (order : PairsKeepOrder both_ask scenario (holding before) capture ran) → CarriesMuxes both_ask scenario before capture ran order
+-- where nothing happened there is no channel
+pub none_carry : (carrier : ℕ) (policy : Policy) → CarriesOneOn carrier policy []
+none_carry carrier policy = record { channel = record { psm = carrier; own = 0; peer = 0 }; psm_is = refl; alone = tt }
+
+-- on each link one channel alone carries packets
+pub all_carry : (scenario : Scenario) (before : List Object) (capture : List Entry) (ran : Ran scenario (holding before) capture) (order : PairsKeepOrder both_ask scenario (holding before) capture ran) → scenario.settings.transport ≡ Rfcomm
+    → (number : ℕ) → CarriesOneOn rfcomm_psm (serving scenario.settings before).policy (happened_on (serving scenario.settings before) (asked_by both_ask scenario.settings before) sides.B capture ran.world.b.upper order.turns.pairs.b number)
+all_carry scenario before capture ran order muxed number =
+    let B = serving scenario.settings before in
+    let asks = asked_by both_ask scenario.settings before in
+    let b = order.turns.pairs.b in
+    let lists = on_links B asks (flat_map talk_marks b.came.talk) ran.world.b.upper b.fed.so.lives in
+    let alone = runs-carry_alone scenario (holding before) capture ran asks b.came b.fed.so (asks-nothing scenario.settings (holding before)) in
+    at_place (CarriesOneOn rfcomm_psm B.policy) (none_carry rfcomm_psm B.policy) lists (subst (λ T. AllByRecursion (CarriesOneOn (packets_psm T) B.policy) lists) muxed alone) number
+
+pub multiplexers_piped : (scenario : Scenario) (before : List Object) (capture : List Entry) (ran : Ran scenario (holding before) capture) (order : PairsKeepOrder both_ask scenario (holding before) capture ran) → scenario.settings.transport ≡ Rfcomm
     → (number : ℕ) (client : ClientProfile) (server : ServerProfile) → client.endpoints ≡ [] → server.endpoints ≡ [] → StaysOn rfcomm_psm (over_stored both_ask scenario.settings before) (order.turns.pairs.pairs number).turns client server
-multiplexers_piped scenario before capture ran order muxes number client server client_none server_none =
+multiplexers_piped scenario before capture ran order muxed number client server client_none server_none =
     let settings = scenario.settings in
     let A = client_profile settings in
     let B = serving settings before in
     let pairs = order.turns.pairs in
     let within : BothSendWithin both_ask = record { clients = clients_within; servers = servers_within } in
     stays-on rfcomm_psm settings (holding before) (record { near_mode = refl; far_mode = refl }) (λ psm aside is. aside.1 is) _ _ (pairs.pairs number) (plain-pairs_are_pipes both_ask scenario (holding before) capture ran order within number)
-    (at_place A.policy (on_links A (both_ask.clients settings) (flat_map talk_marks pairs.a.came.talk) ran.world.a.upper pairs.a.fed.so.lives) pairs.a.uttered number)
-    (at_place B.policy (on_links B (asked_by both_ask settings before) (flat_map talk_marks pairs.b.came.talk) ran.world.b.upper pairs.b.fed.so.lives) pairs.b.uttered number) (muxes number) client server client_none server_none
+    (at_place (AreUttered A.policy) tt (on_links A (both_ask.clients settings) (flat_map talk_marks pairs.a.came.talk) ran.world.a.upper pairs.a.fed.so.lives) pairs.a.uttered number)
+    (at_place (AreUttered B.policy) tt (on_links B (asked_by both_ask settings before) (flat_map talk_marks pairs.b.came.talk) ran.world.b.upper pairs.b.fed.so.lives) pairs.b.uttered number) (all_carry scenario before capture ran order muxed number) client server client_none server_none
 
 pub multiplexers_are_piped : MultiplexersArePiped
 multiplexers_are_piped = record { asks = both_ask; pipes = multiplexers_piped }

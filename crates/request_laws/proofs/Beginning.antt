@@ -1,5 +1,5 @@
 -- A client may begin a push, whatever became of those before.
-use Rattle.std.proofs.Common.{◌≡◌, ℕ, ◌≤◌, ◌++◌, Bool, true, false, cond, List, [], ◌∷◌, length, Option, Some, None, Result, Ok, Err, refl, sym, subst, ◌∙◌, arith, min}
+use Rattle.std.proofs.Common.{◌≡◌, ℕ, ◌≤◌, ◌<◌, ◌^◌, ◌++◌, Bool, true, false, cond, List, [], ◌∷◌, length, Option, Some, None, Result, Ok, Err, refl, sym, subst, ◌∙◌, arith, min}
 use Rattle.std.specs.Char.Escape.{encode_utf16}
 use Rattle.std.specs.List.{flat_map}
 use Rattle.std.proofs.lemmas.Str.{chars-nil}
@@ -22,7 +22,7 @@ use Rattle.push_laws.proofs.Staying.{multiplexers-stay}
 use Rattle.push_laws.proofs.Talks.{Talk, talk_of, Kept, news_keeps, hears_by}
 use Rattle.host_laws.specs.Answered.{IsSmall, IsAnswered, AllAnswered}
 use Rattle.host_laws.specs.Pushing.{Affair, Begins, Does, client_after, client_behind}
-use Rattle.request_laws.specs.BothFed.{most_octets, AllAsked}
+use Rattle.request_laws.specs.BothFed.{AllAsked}
 
 -- ---- it stays on its transport
 
@@ -84,10 +84,10 @@ module _ (line : Transport) (maximum : ℕ) (wanted : Bool) where
     pub most : 255 ≤ maximum
     pub direct : client.transport ≡ line
 
-  pub may_push : (client : Client) (name : List ℕ) (size : ℕ) → Good client → IsSmall most_octets (Ok size) name → MayPush client name size
-  may_push client name size good small =
+  pub may_push : (most : ℕ) → most < 2 ^ 32 → (client : Client) (name : List ℕ) (size : ℕ) → Good client → IsSmall most (Ok size) name → MayPush client name size
+  may_push most fits client name size good small =
       let fixed = good.stands.0 in
-      let bounded : size ≤ most_octets = small.bounded size refl in
+      let bounded : size ≤ most = small.bounded size refl in
       record { short = small.short; small = omega arith; own = subst (λ (n : ℕ). 255 ≤ n) (sym fixed.maximum) good.most; least = fixed.least; most = fixed.most }
 
   -- ---- whatever it does
@@ -104,24 +104,25 @@ module _ (line : Transport) (maximum : ℕ) (wanted : Bool) where
         direct = deed_line line deed client answers good.direct;
       }
 
-  fixed_anew : (client : Client) (name : List ℕ) (size : ℕ) → (good : Good client) → length (units_in name) ≤ 100 → size ≤ most_octets → Fixed (task maximum wanted name size) (with_object name size client).session name size client.limit
+  fixed_anew : (client : Client) (name : List ℕ) (size : ℕ) → (good : Good client) → length (units_in name) ≤ 100 → size < 2 ^ 32 → Fixed (task maximum wanted name size) (with_object name size client).session name size client.limit
   fixed_anew client name size good short bounded =
       let fixed = good.stands.0 in
       record { maximum = fixed.maximum; wanted = fixed.wanted; name_is = refl; size_is = refl; short = short; small = omega arith; least = fixed.least; most = fixed.most }
 
-  good_begun : (size : Result ℕ PortFault) (name : List ℕ) (client : Client) → IsSmall most_octets size name → Good client → Good (begun_by size name client)
-  good_begun (Ok size) name client small good =
+  good_begun : (most : ℕ) → most < 2 ^ 32 → (size : Result ℕ PortFault) (name : List ℕ) (client : Client) → IsSmall most size name → Good client → Good (begun_by size name client)
+  good_begun most fits (Ok size) name client small good =
+      let bounded : size ≤ most = small.bounded size refl in
       let w = task maximum wanted name size in
       let own : 255 ≤ client.session.maximum = subst (λ (n : ℕ). 255 ≤ n) (sym good.stands.0.maximum) good.most in
       record {
         name = name;
         size = size;
         sent = [];
-        stands = (fixed_anew client name size good small.short (small.bounded size refl), Fresh refl refl refl refl (λ e. own) (no_cause outcomes.Done));
+        stands = (fixed_anew client name size good small.short (omega (arith, bounded, fits)), Fresh refl refl refl refl (λ e. own) (no_cause outcomes.Done));
         most = good.most;
         direct = good.direct;
       }
-  good_begun (Err fault.Failed) name client small good =
+  good_begun most fits (Err fault.Failed) name client small good =
       let w = task maximum wanted name 0 in
       record {
         name = name;
@@ -131,19 +132,19 @@ module _ (line : Transport) (maximum : ℕ) (wanted : Bool) where
         most = good.most;
         direct = good.direct;
       }
-  good_begun (Err fault.NoMemory) name client small good = record { name = good.name; size = good.size; sent = good.sent; stands = good.stands; most = good.most; direct = good.direct }
+  good_begun most fits (Err fault.NoMemory) name client small good = record { name = good.name; size = good.size; sent = good.sent; stands = good.stands; most = good.most; direct = good.direct }
 
   either_good : (test : Bool) (a b : Client) → Good a → Good b → Good (cond test a b)
   either_good true a b x y = x
   either_good false a b x y = y
 
-  pub good_affair : (one : Affair) (client : Client) → IsAnswered most_octets one client → Good client → Good (client_after one client)
-  good_affair (Begins size name) client small good = either_good client.failed client (begun_by size name client) good (good_begun size name client small good)
-  good_affair (Does deed) client answers good = good_deed deed client answers good
+  pub good_affair : (most : ℕ) → most < 2 ^ 32 → (one : Affair) (client : Client) → IsAnswered most one client → Good client → Good (client_after one client)
+  good_affair most fits (Begins size name) client small good = either_good client.failed client (begun_by size name client) good (good_begun most fits size name client small good)
+  good_affair most fits (Does deed) client answers good = good_deed deed client answers good
 
-  pub good_all : (affairs : List Affair) (client : Client) → AllAsked (IsAnswered most_octets) affairs client → Good client → Good (client_behind affairs client)
-  good_all [] client answered good = good
-  good_all (one ∷ rest) client answered good = good_all rest (client_after one client) answered.1 (good_affair one client answered.0 good)
+  pub good_all : (most : ℕ) → most < 2 ^ 32 → (affairs : List Affair) (client : Client) → AllAsked (IsAnswered most) affairs client → Good client → Good (client_behind affairs client)
+  good_all most fits [] client answered good = good
+  good_all most fits (one ∷ rest) client answered good = good_all most fits rest (client_after one client) answered.1 (good_affair most fits one client answered.0 good)
 
 -- ---- the first moment
 
@@ -171,19 +172,19 @@ good_first settings line is =
 
 -- ---- lists of affairs
 
-pub answered_ahead : (xs ys : List Affair) (client : Client) → AllAsked (IsAnswered most_octets) (xs ++ ys) client → AllAsked (IsAnswered most_octets) xs client
-answered_ahead [] ys client all = tt
-answered_ahead (x ∷ xs) ys client all = (all.0, answered_ahead xs ys (client_after x client) all.1)
+pub answered_ahead : (most : ℕ) (xs ys : List Affair) (client : Client) → AllAsked (IsAnswered most) (xs ++ ys) client → AllAsked (IsAnswered most) xs client
+answered_ahead most [] ys client all = tt
+answered_ahead most (x ∷ xs) ys client all = (all.0, answered_ahead most xs ys (client_after x client) all.1)
 
-pub answered_behind : (xs ys : List Affair) (client : Client) → AllAsked (IsAnswered most_octets) (xs ++ ys) client → AllAsked (IsAnswered most_octets) ys (client_behind xs client)
-answered_behind [] ys client all = all
-answered_behind (x ∷ xs) ys client all = answered_behind xs ys (client_after x client) all.1
+pub answered_behind : (most : ℕ) (xs ys : List Affair) (client : Client) → AllAsked (IsAnswered most) (xs ++ ys) client → AllAsked (IsAnswered most) ys (client_behind xs client)
+answered_behind most [] ys client all = all
+answered_behind most (x ∷ xs) ys client all = answered_behind most xs ys (client_after x client) all.1
 
 pub client-both : (xs ys : List Affair) (client : Client) → client_behind (xs ++ ys) client ≡ client_behind ys (client_behind xs client)
 client-both [] ys client = refl
 client-both (x ∷ xs) ys client = client-both xs ys (client_after x client)
 
 -- what the laws on a client say of its affairs
-pub all_asked : (affairs : List Affair) (client : Client) → AllAnswered most_octets affairs client → AllAsked (IsAnswered most_octets) affairs client
-all_asked [] client answered = tt
-all_asked (one ∷ rest) client answered = (answered.0, all_asked rest (client_after one client) answered.1)
+pub all_asked : (most : ℕ) (affairs : List Affair) (client : Client) → AllAnswered most affairs client → AllAsked (IsAnswered most) affairs client
+all_asked most [] client answered = tt
+all_asked most (one ∷ rest) client answered = (answered.0, all_asked most rest (client_after one client) answered.1)

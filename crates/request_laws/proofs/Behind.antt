@@ -46,7 +46,7 @@ use Rattle.host_laws.proofs.Telling.{events_run}
 use Rattle.request_laws.specs.Behind.{NothingComesBehind}
 use Rattle.request_laws.specs.BothFed.{ComesNone}
 use Rattle.request_laws.specs.Carried.{NoneComesBehind}
-use Rattle.request_laws.specs.MuxPipes.{CarriesOneOn}
+use Rattle.host_laws.specs.OneOnLinks.{CarriesOneOn}
 use Rattle.request_laws.specs.Streams.{come_on}
 use Rattle.request_laws.specs.Twists.{NoneBehind}
 use Rattle.request_laws.proofs.Feeding.{all_both, event_shape, lent_shape}

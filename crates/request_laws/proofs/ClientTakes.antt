@@ -49,7 +49,7 @@ use Rattle.request_laws.proofs.Takes.{takes_from, takes_both, takes_of, run_more
 abbrev pub WasAsked : List Saying → Endpoint → Type 0
 WasAsked said endpoint = (identifier : ℕ) × HasAsked identifier endpoint.psm endpoint.own said
 
-asked_later : (before after : List Saying) → Grown before after → (endpoint : Endpoint) → WasAsked before endpoint → WasAsked after endpoint
+pub asked_later : (before after : List Saying) → Grown before after → (endpoint : Endpoint) → WasAsked before endpoint → WasAsked after endpoint
 asked_later before after more endpoint (identifier, stands) =
     (identifier, subst (λ (l : List Saying). HasAsked identifier endpoint.psm endpoint.own l) (sym more.is) (stands-left (spoken (command_with identifier (connection_request endpoint.psm endpoint.own))) before more.more stands))
 
@@ -85,7 +85,7 @@ module _ (carrier : ℕ) (settings : Settings) where
   abbrev own : Policy
   own = policy settings false
 
-  abbrev Asked : List Occurrence → ClientProfile → Type 0
+  abbrev pub Asked : List Occurrence → ClientProfile → Type 0
   Asked front p = AllEndpoints (WasAsked (run_of (policy settings false) front).said) p.endpoints
 
   later_asked : (front here : List Occurrence) (p : ClientProfile) → Asked front p → Asked (front ++ here) p
@@ -162,7 +162,7 @@ module _ (carrier : ℕ) (settings : Settings) where
   abbrev list_of : Strand → Channels → ClientProfile → List Occurrence
   list_of strand v p = strand_list (client_profile settings) (clients_ask settings) strand v p
 
-  strand_asked : (front : List Occurrence) (strand : Strand) (v : Channels) (p : ClientProfile) → v ≡ (run_of own front).value → Asked front p → Asked (front ++ list_of strand v p) (strand_profile (client_profile settings) strand v p)
+  pub strand_asked : (front : List Occurrence) (strand : Strand) (v : Channels) (p : ClientProfile) → v ≡ (run_of own front).value → Asked front p → Asked (front ++ list_of strand v p) (strand_profile (client_profile settings) strand v p)
   strand_asked front (Hearing pdu) v p at all = handed_asked (front ++ list_of (Hearing pdu) v p) (up (channel_of pdu) pdu v) p (later_asked front (list_of (Hearing pdu) v p) p all)
   strand_asked front (Giving pdu) v p at all = later_asked front (list_of (Giving pdu) v p) p all
   strand_asked front Firing v p at all = later_asked front (list_of Firing v p) p all

@@ -148,7 +148,7 @@ FeedSo Q (Sent v) = Unit {0}
 FeedSo Q (Steps v) = Unit {0}
 
 module _ (Q : Affair → Type 0) (holds : Holds Q) where
-  end_so : (step : Step) → AllByRecursion Q (end_asked step)
+  pub end_so : (step : Step) → AllByRecursion Q (end_asked step)
   end_so Wait = tt
   end_so MakeLink = tt
   end_so AskFeatures = tt

@@ -1,5 +1,5 @@
 -- What happened to both hosts over their links is a list of pushes, so no request is ignored.
-use Rattle.std.proofs.Common.{◌≡◌, ℕ, ◌≤◌, Bool, true, false, List, [], ◌∷◌, ◌++◌, map, None, Result, Ok, refl, sym, ap, ap₂, subst, ◌∙◌, append-nil, arith}
+use Rattle.std.proofs.Common.{◌≡◌, ℕ, ◌≤◌, ◌<◌, ◌^◌, Some, Bool, true, false, List, [], ◌∷◌, ◌++◌, map, None, Result, Ok, refl, sym, ap, ap₂, subst, ◌∙◌, append-nil, arith}
 use Rattle.std.specs.List.{AllByRecursion, flat_map}
 use Rattle.bt_base.specs.declared.ports.PortFault.{PortFault}
 use Rattle.bt_base.specs.declared.settings.Transport.TheVariants.{L2cap}
@@ -9,23 +9,32 @@ use Rattle.push_model.specs.Events as events
 use Rattle.push_model.specs.Events.{hears_news}
 use Rattle.push_model.specs.Laws as push
 use Rattle.push_model.specs.Laws.{Deed, Hears, all_done}
-use Rattle.push_laws.specs.Laws.{new_over}
-use Rattle.push_laws.specs.Occurrences.{Occurrence}
-use Rattle.push_laws.specs.Parties.{come_by, Move, server_side, client_side, Pipes, no_pipes, ArePipes, StayPipes, IsPushed, AllServeDirectly}
+use Rattle.push_laws.specs.Laws.{new_over, stored_in}
+use Rattle.push_laws.specs.Occurrences.{Occurrence, all_done as all_done_by}
+use Rattle.push_laws.specs.Gains.{objects as spelled_by}
+use Rattle.push_laws.specs.Losing.{IsOffered}
+use Rattle.push_laws.specs.Parties.{come_by, Move, server_side, client_side, Pipes, no_pipes, ArePipes, StayPipes, Push, IsPushed, AllServeDirectly}
 use Rattle.push_laws.specs.Premises.{AllGranted, AllMayCome}
 use Rattle.push_laws.specs.Sending.{AllAnswer}
+use Rattle.push_laws.proofs.Losing.{pushes-gain_all}
 use Rattle.push_laws.proofs.Parties.{requests-are_heard}
+use Rattle.bt_base.specs.Objects.{Object}
+use Rattle.bt_base.specs.declared.settings.Settings.{Settings}
+use Rattle.world_model.specs.Talks.{Talk}
+use Rattle.host_model.specs.Hosts.{Host}
+use Rattle.host_laws.specs.Calls.{HostsAsk}
 use Rattle.host_model.specs.Clients.{ClientProfile, client_profile}
 use Rattle.host_model.specs.Servers.{ServerProfile, server_profile}
-use Rattle.host_laws.specs.Answered.{IsSmall, IsAnswered}
-use Rattle.host_laws.specs.Fed.{strand_feeds, woven_feeds}
+use Rattle.host_laws.specs.Answered.{IsSmall, IsAnswered, BeginsAtMost}
+use Rattle.host_laws.specs.Fed.{strand_feeds, woven_feeds, TalksFed}
 use Rattle.host_laws.specs.OverLinks.{AreTimely}
 use Rattle.host_laws.specs.Pushing.{Affair, Begins, Does, client_behind, pushed_from}
 use Rattle.host_laws.specs.Serving.{served_from}
 use Rattle.host_laws.specs.Woven.{Strand}
 use Rattle.host_laws.proofs.Answered.{clients_are_answered}
 use Rattle.host_laws.proofs.Pushing.{all_pushed}
-use Rattle.request_laws.specs.BothFed.{most_octets, AllAsked, ComesNone, over_stored, RequestsOfLinksAreHeard}
+use Rattle.request_laws.specs.BothFed.{most_octets, AllAsked, ComesNone, AreTwined, over_stored, RequestsOfLinksAreHeard}
+use Rattle.request_laws.specs.AllSizes.{longest_octets, LinksGainAll}
 use Rattle.request_laws.specs.Twists.{Twist, AtClient, AtServer, of_client, of_server, Both, new_both, Set, both_after, all_deeds, moves_by, all_moves, taken_in, carried_by, pipes_behind, AllStayPiped, NoneBehind, OpensNone, Twined}
 use Rattle.request_laws.proofs.Asking.{even_of, strand_makes}
 use Rattle.request_laws.proofs.Carrying.{Carries, pipes_carried, carries_none, carries_client, carries_server}
@@ -33,16 +42,16 @@ use Rattle.request_laws.proofs.Beginning.{Good, may_push, no_units, good_all, go
 use Rattle.request_laws.proofs.Silent.{IsStill}
 use Rattle.request_laws.proofs.Feeding.{strand_so, pushed-both, served-both, IsDeed, strand_client, strand_shape}
 use Rattle.request_laws.proofs.Lending.{serve_all}
-use Rattle.request_laws.proofs.Pushes.{map_deeds, all_does, pushed_on, served_on, server_on, client_on, deeds_on, Started, OnePush, silent_up, done_both, made}
+use Rattle.request_laws.proofs.Pushes.{map_deeds, all_does, pushed_on, served_on, server_on, client_on, deeds_on, Started, OnePush, Pushes, silent_up, done_both, made}
 use Rattle.request_laws.proofs.Piping.{moved, pipes_both, stay_both, server_both, client_both, by_client, by_server, client_moved, server_moved, client_of_client, server_of_client, server_of_server, client_of_server, stay_client, stay_quiet, stay_server, still_pipes, silent_pipes, still_quiet, no_pipes_are, closed_client, come_cut, quiet_after}
 
 -- ---- deeds of affairs
 
 -- the shelf answers so at each of them
-answered_deeds : (affairs : List Affair) (client : Client) → AllByRecursion IsDeed affairs → AllAsked (IsAnswered most_octets) affairs client → AllAnswer None (all_deeds affairs) client
-answered_deeds [] client all answered = tt
-answered_deeds (Begins size name ∷ affairs) client all answered = absurd all.0
-answered_deeds (Does deed ∷ affairs) client all answered = (answered.0, answered_deeds affairs (push.done deed client) all.1 answered.1)
+answered_deeds : (most : ℕ) (affairs : List Affair) (client : Client) → AllByRecursion IsDeed affairs → AllAsked (IsAnswered most) affairs client → AllAnswer None (all_deeds affairs) client
+answered_deeds most [] client all answered = tt
+answered_deeds most (Begins size name ∷ affairs) client all answered = absurd all.0
+answered_deeds most (Does deed ∷ affairs) client all answered = (answered.0, answered_deeds most affairs (push.done deed client) all.1 answered.1)
 
 pub answers_both : (xs ys : List Deed) (client : Client) → AllAnswer None xs client → AllAnswer None ys (all_done xs client) → AllAnswer None (xs ++ ys) client
 answers_both [] ys client one two = two
@@ -50,7 +59,11 @@ answers_both (x ∷ xs) ys client one two = (one.0, answers_both xs ys (push.don
 
 -- ---- on one link
 
-module _ (set : Set) (maximum : ℕ) (wanted : Bool) where
+-- a push of an object that is no longer
+abbrev Offered : ℕ → Push → Type 0
+Offered most push = IsOffered push × (push.size ≤ most)
+
+module _ (set : Set) (maximum : ℕ) (wanted : Bool) (most : ℕ) (fits : most < 2 ^ 32) where
   -- a client over L2CAP that takes packets so long, and wants single response mode or not
   abbrev G : Client → Type 0
   G client = Good L2cap maximum wanted client
@@ -63,9 +76,9 @@ module _ (set : Set) (maximum : ℕ) (wanted : Bool) where
   -- what the shelf answered, behind one thing more
   record Behind (strand : Strand) (weave : List Strand) (both : Both) : Type 0 where
     good : G (both_after set (AtClient strand) both).client.client
-    answered : (let next = both_after set (AtClient strand) both in AllAsked (IsAnswered most_octets) (pushed_on set weave next.near next.client) next.client.client)
+    answered : (let next = both_after set (AtClient strand) both in AllAsked (IsAnswered most) (pushed_on set weave next.near next.client) next.client.client)
 
-  behind : (strand : Strand) (weave : List Strand) (both : Both) → G both.client.client → AllAsked (IsAnswered most_octets) (pushed_on set (strand ∷ weave) both.near both.client) both.client.client → Behind strand weave both
+  behind : (strand : Strand) (weave : List Strand) (both : Both) → G both.client.client → AllAsked (IsAnswered most) (pushed_on set (strand ∷ weave) both.near both.client) both.client.client → Behind strand weave both
   behind strand weave both good answered =
       let A = client_profile set.settings in
       let asks = set.asks.clients set.settings in
@@ -76,11 +89,11 @@ module _ (set : Set) (maximum : ℕ) (wanted : Bool) where
       let so = strand_so A asks strand both.near both.client in
       let cut : pushed_on set (strand ∷ weave) both.near both.client ≡ one ++ pushed_from set.settings next.client more =
       pushed-both set.settings feeds more both.client ∙ ap (λ (p : ClientProfile). one ++ pushed_from set.settings p more) so in
-      let all = subst (λ (l : List Affair). AllAsked (IsAnswered most_octets) l both.client.client) cut answered in
+      let all = subst (λ (l : List Affair). AllAsked (IsAnswered most) l both.client.client) cut answered in
       let now : client_behind one both.client.client ≡ next.client.client = sym (all_pushed set.settings feeds both.client) ∙ ap (λ (p : ClientProfile). p.client) so in
       record {
-        good = subst G now (good_all L2cap maximum wanted one both.client.client (answered_ahead one (pushed_from set.settings next.client more) both.client.client all) good);
-        answered = subst (AllAsked (IsAnswered most_octets) (pushed_from set.settings next.client more)) now (answered_behind one (pushed_from set.settings next.client more) both.client.client all);
+        good = subst G now (good_all L2cap maximum wanted most fits one both.client.client (answered_ahead most one (pushed_from set.settings next.client more) both.client.client all) good);
+        answered = subst (AllAsked (IsAnswered most) (pushed_from set.settings next.client more)) now (answered_behind most one (pushed_from set.settings next.client more) both.client.client all);
       }
 
   record Stays (moves : List Move) (client : Client) (pipes : Pipes) : Type 0 where
@@ -105,7 +118,7 @@ module _ (set : Set) (maximum : ℕ) (wanted : Bool) where
       ∙ ap (λ (p : ServerProfile). served_from set.settings set.content both.server feeds ++ served_from set.settings set.content p more) (strand_so B asks strand both.far both.server)
 
   -- `channel` is what the channels carry, and `pipes` with what the client asked to send
-  stay_on : (twists : List Twist) (both : Both) (channel pipes : Pipes) → AllByRecursion OpensNone (flat_map of_client twists) → G both.client.client → AllAsked (IsAnswered most_octets) (pushed_on set (flat_map of_client twists) both.near both.client) both.client.client
+  stay_on : (twists : List Twist) (both : Both) (channel pipes : Pipes) → AllByRecursion OpensNone (flat_map of_client twists) → G both.client.client → AllAsked (IsAnswered most) (pushed_on set (flat_map of_client twists) both.near both.client) both.client.client
       → Carries both.client channel pipes → ArePipes channel → AllStayPiped set twists both channel → (pipes.closed ≡ true → flat_map come_by (served_on set (flat_map of_server twists) both.far both.server) ≡ [])
       → NoneBehind (served_on set (flat_map of_server twists) both.far both.server) → Stays (all_moves set twists both) both.client.client pipes
   stay_on [] both channel pipes opens good answered carries now piped quiet ended = record { stays = tt; last = pipes_carried both.client channel pipes carries now }
@@ -136,8 +149,8 @@ module _ (set : Set) (maximum : ℕ) (wanted : Bool) where
       (λ closed. come_cut occurrences rest (here closed)))
       (stay_on twists next channel_after after opens good answered then_carries piped.0 piped.1 then_quiet.0 then_quiet.1)
 
-  one_push : (client : ClientProfile) (server : ServerProfile) (ahead tail : List Occurrence) (near far : List Strand) → Started (IsAnswered most_octets) G client → G client.client → AllByRecursion IsStill ahead → AllByRecursion ComesNone tail → Twined set near far client server
-      → AllAsked (IsAnswered most_octets) (pushed_on set near no_channels client) client.client → OnePush IsPushed (ahead ++ (served_on set far no_channels server ++ tail))
+  one_push : (client : ClientProfile) (server : ServerProfile) (ahead tail : List Occurrence) (near far : List Strand) → Started (IsAnswered most) G client → G client.client → AllByRecursion IsStill ahead → AllByRecursion ComesNone tail → Twined set near far client server
+      → AllAsked (IsAnswered most) (pushed_on set near no_channels client) client.client → OnePush (Offered most) (ahead ++ (served_on set far no_channels server ++ tail))
   one_push client server ahead tail near far start good still quiet twined answered =
       let begun = with_object start.name start.size start.old in
       let both = new_both client server in
@@ -155,7 +168,7 @@ module _ (set : Set) (maximum : ℕ) (wanted : Bool) where
       -- pipes
       let after_first : pipes_behind first begun no_pipes ≡ no_pipes = still_pipes ahead begun no_pipes still in
       let after_second : pipes_behind second begun no_pipes ≡ no_pipes = silent_pipes deeds begun no_pipes silent in
-      let answered_here : AllAsked (IsAnswered most_octets) (pushed_on set (flat_map of_client twists) no_channels client) client.client = subst (λ (w : List Strand). AllAsked (IsAnswered most_octets) (pushed_on set w no_channels client) client.client) (sym twined.near_is) answered in
+      let answered_here : AllAsked (IsAnswered most) (pushed_on set (flat_map of_client twists) no_channels client) client.client = subst (λ (w : List Strand). AllAsked (IsAnswered most) (pushed_on set w no_channels client) client.client) (sym twined.near_is) answered in
       let here = stay_on twists both no_pipes no_pipes opens good answered_here (carries_none client start.free) no_pipes_are twined.piped (λ closed. cc) (subst (λ (w : List Strand). NoneBehind (served_on set w no_channels server)) (sym twined.far_is) twined.behind) in
       let pipes = pipes_behind third client.client no_pipes in
       let stay_third : StayPipes (third ++ last) client.client no_pipes = stay_both third last client.client no_pipes here.stays (stay_quiet tail (moved third client.client) pipes here.last quiet) in
@@ -171,11 +184,11 @@ module _ (set : Set) (maximum : ℕ) (wanted : Bool) where
       let client_is : client_side moves ≡ deeds ++ all_deeds affairs =
       client_both first (second ++ (third ++ last)) ∙ (ap (λ (l : List Deed). l ++ client_side (second ++ (third ++ last))) (client_of_server ahead)
       ∙ (client_both second (third ++ last) ∙ (ap₂ (λ (a b : List Deed). a ++ b) (client_of_client deeds) (client_both third last ∙ (ap₂ (λ (a b : List Deed). a ++ b) here_deeds (client_of_server tail) ∙ append-nil (all_deeds affairs)))))) in
-      let answers_old : AllAnswer None start.deeds begun = subst (λ (l : List Deed). AllAnswer None l begun) (map_deeds start.deeds) (answered_deeds (map Does start.deeds) begun (all_does start.deeds) start.asked) in
+      let answers_old : AllAnswer None start.deeds begun = subst (λ (l : List Deed). AllAnswer None l begun) (map_deeds start.deeds) (answered_deeds most (map Does start.deeds) begun (all_does start.deeds) start.asked) in
       let answers : AllAnswer None (client_side moves) begun =
       subst (λ (l : List Deed). AllAnswer None l begun) (sym client_is)
       (answers_both deeds (all_deeds affairs) begun (answers_both start.deeds (Hears events.LinkUp ∷ []) begun answers_old (tt, tt))
-      (subst (λ (c : Client). AllAnswer None (all_deeds affairs) c) now (answered_deeds affairs client.client (deeds_on set near no_channels client twined.opens) answered))) in
+      (subst (λ (c : Client). AllAnswer None (all_deeds affairs) c) now (answered_deeds most affairs client.client (deeds_on set near no_channels client twined.opens) answered))) in
       -- what is the server's
       let server_is : server_side moves ≡ ahead ++ (served_on set far no_channels server ++ tail) =
       server_both first (second ++ (third ++ last)) ∙ (ap₂ (λ (a b : List Occurrence). a ++ b) (server_of_server ahead)
@@ -183,39 +196,77 @@ module _ (set : Set) (maximum : ℕ) (wanted : Bool) where
       ∙ (server_both third last ∙ ap₂ (λ (a b : List Occurrence). a ++ b) (server_on set twists both ∙ ap (λ (w : List Strand). served_on set w no_channels server) twined.far_is) (server_of_server tail))))) in
       record {
         push = record { client = start.old; name = start.name; size = start.size; content = None; moves = moves };
-        pushed = record { direct = start.good.direct; may = may_push L2cap maximum wanted start.old start.name start.size start.good start.begins; bounded = start.begins.bounded start.size refl; answers = answers; carried = stay_first };
+        pushed = (record { direct = start.good.direct; may = may_push L2cap maximum wanted most fits start.old start.name start.size start.good start.begins; answers = answers; carried = stay_first }, start.begins.bounded start.size refl);
         is = server_is;
       }
 
 -- a push of its own, on which nothing comes
-no_push : (maximum : ℕ) (wanted : Bool) (client : Client) (occurrences : List Occurrence) → Good L2cap maximum wanted client → AllByRecursion ComesNone occurrences → OnePush IsPushed occurrences
-no_push maximum wanted client occurrences good quiet =
-    let small : IsSmall most_octets (Ok 0) [] = record { short = no_units; bounded = λ count is. none_left count is } in
+no_push : (maximum : ℕ) (wanted : Bool) (most : ℕ) → most < 2 ^ 32 → (client : Client) (occurrences : List Occurrence) → Good L2cap maximum wanted client → AllByRecursion ComesNone occurrences → OnePush (Offered most) occurrences
+no_push maximum wanted most fits client occurrences good quiet =
+    let small : IsSmall most (Ok 0) [] = record { short = no_units; bounded = λ count is. none_left count is } in
     record {
       push = record { client = client; name = []; size = 0; content = None; moves = by_server occurrences };
-      pushed = record {
-        direct = good.direct;
-        may = may_push L2cap maximum wanted client [] 0 good small;
-        bounded = omega arith;
-        answers = subst (λ (l : List Deed). AllAnswer None l (with_object [] 0 client)) (sym (client_of_server occurrences)) tt;
-        carried = stay_quiet occurrences (with_object [] 0 client) no_pipes no_pipes_are quiet;
-      };
+      pushed = (
+        record {
+          direct = good.direct;
+          may = may_push L2cap maximum wanted most fits client [] 0 good small;
+          answers = subst (λ (l : List Deed). AllAnswer None l (with_object [] 0 client)) (sym (client_of_server occurrences)) tt;
+          carried = stay_quiet occurrences (with_object [] 0 client) no_pipes no_pipes_are quiet;
+        },
+        omega arith,
+      );
       is = server_of_server occurrences;
     }
   where
     inner : (n m : ℕ) → (let size : Result ℕ PortFault = Ok n in size ≡ Ok m) → n ≡ m
     inner n m is = cc
 
-    none_left : (count : ℕ) → (let size : Result ℕ PortFault = Ok 0 in size ≡ Ok count) → count ≤ most_octets
-    none_left count is = subst (λ (n : ℕ). n ≤ most_octets) (inner 0 count is) (omega arith)
+    none_left : (count : ℕ) → (let size : Result ℕ PortFault = Ok 0 in size ≡ Ok count) → count ≤ most
+    none_left count is = subst (λ (n : ℕ). n ≤ most) (inner 0 count is) (omega arith)
 
-pub requests_of_links_are_heard : RequestsOfLinksAreHeard
-requests_of_links_are_heard asks settings before direct talk_a talk_b a b near far so none =
+-- ---- over all links
+
+-- what happened to the server is a list of pushes
+links_pushed : (most : ℕ) → most < 2 ^ 32 → (asks : HostsAsk) (settings : Settings) (before : List Object) → settings.transport ≡ L2cap →
+    (let set = over_stored asks settings before in (talk_a talk_b : List Talk) (a : Host ClientProfile) (b : Host ServerProfile)
+    (near : TalksFed (client_profile settings) (asks.clients settings) talk_a a) (far : TalksFed (server_profile settings set.content) (asks.servers settings set.content) talk_b b)
+    → AreTwined set (λ k. k) near.so.lives.spans near.so.lives.now near.so.lives.feeds (client_profile settings).first a.profile far.so.lives.spans far.so.lives.now far.so.lives.feeds (server_profile settings set.content).first b.profile near.fed far.fed
+    → AllByRecursion (BeginsAtMost most) near.so.lives.feeds → Pushes (Offered most) (served_from settings set.content (server_profile settings set.content).first far.so.lives.feeds))
+links_pushed most fits asks settings before direct talk_a talk_b a b near far twined small =
     let set = over_stored asks settings before in
     let maximum = (new_client settings).session.maximum in
     let wanted = (new_client settings).session.wanted in
     let A = client_profile settings in
     let B = server_profile settings set.content in
-    let all = made set (IsAnswered most_octets) (Good L2cap maximum wanted) IsPushed (Twined set) (good_affair L2cap maximum wanted) (one_push set maximum wanted) (no_push maximum wanted) (λ k. k) near.so.lives.spans near.so.lives.now near.so.lives.feeds A.first a.profile far.so.lives.spans far.so.lives.now far.so.lives.feeds B.first b.profile near.fed far.fed so.twined (subst (AreTimely false) (sym near.so.lives.marks_are) near.so.timely) (subst (AreTimely false) (sym far.so.lives.marks_are) far.so.timely) refl (good_first settings L2cap direct) (all_asked _ A.first.client (clients_are_answered most_octets settings A.first near.so.lives.feeds so.small)) in
-    let heard = requests-are_heard settings before all.pushes all.last all.pushed all.last_pushed (subst (AllServeDirectly AllGranted (new_over settings before)) all.is (serve_all settings set.content far.so.lives.feeds B.first so.granted none)) in
+    made set (IsAnswered most) (Good L2cap maximum wanted) (Offered most) (Twined set) (good_affair L2cap maximum wanted most fits) (one_push set maximum wanted most fits) (no_push maximum wanted most fits) (λ k. k) near.so.lives.spans near.so.lives.now near.so.lives.feeds A.first a.profile
+    far.so.lives.spans far.so.lives.now far.so.lives.feeds B.first b.profile near.fed far.fed twined (subst (AreTimely false) (sym near.so.lives.marks_are) near.so.timely) (subst (AreTimely false) (sym far.so.lives.marks_are) far.so.timely) refl (good_first settings L2cap direct)
+    (all_asked most _ A.first.client (clients_are_answered most settings A.first near.so.lives.feeds small))
+
+is_pushed : (push : Push) → Offered most_octets push → IsPushed push
+is_pushed push (offered, bounded) = record { direct = offered.direct; may = offered.may; bounded = bounded; answers = offered.answers; carried = offered.carried }
+
+all_pushes : (pushes : List Push) → AllByRecursion (Offered most_octets) pushes → AllByRecursion IsPushed pushes
+all_pushes [] all = tt
+all_pushes (push ∷ pushes) all = (is_pushed push all.0, all_pushes pushes all.1)
+
+all_offered : (most : ℕ) (pushes : List Push) → AllByRecursion (Offered most) pushes → AllByRecursion IsOffered pushes
+all_offered most [] all = tt
+all_offered most (push ∷ pushes) all = (all.0.0, all_offered most pushes all.1)
+
+pub requests_of_links_are_heard : RequestsOfLinksAreHeard
+requests_of_links_are_heard asks settings before direct talk_a talk_b a b near far so none =
+    let set = over_stored asks settings before in
+    let B = server_profile settings set.content in
+    let all = links_pushed most_octets (omega arith) asks settings before direct talk_a talk_b a b near far so.twined so.small in
+    let heard = requests-are_heard settings before all.pushes all.last (all_pushes all.pushes all.pushed) (is_pushed all.last all.last_pushed)
+    (subst (AllServeDirectly AllGranted (new_over settings before)) all.is (serve_all settings set.content far.so.lives.feeds B.first so.granted none)) in
     subst (AllMayCome settings [] (new_over settings before)) (sym all.is) heard
+
+pub links_gain_all : LinksGainAll
+links_gain_all asks settings before direct talk_a talk_b a b near far so none =
+    let set = over_stored asks settings before in
+    let B = server_profile settings set.content in
+    let all = links_pushed longest_octets (omega arith) asks settings before direct talk_a talk_b a b near far so.twined so.small in
+    let gains = pushes-gain_all settings before all.pushes all.last (all_offered longest_octets all.pushes all.pushed) all.last_pushed.0
+    (subst (AllServeDirectly AllGranted (new_over settings before)) all.is (serve_all settings set.content far.so.lives.feeds B.first so.granted none)) in
+    subst (λ (os : List Occurrence). stored_in (all_done_by os (new_over settings before)).gift.content ≡ Some (before ++ spelled_by settings os)) (sym all.is) gains

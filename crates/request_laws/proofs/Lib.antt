@@ -33,7 +33,6 @@ pub mod AlongStreams
 pub mod MuxAsking
 pub mod MuxCarrying
 pub mod MuxHeard
-pub mod MuxTogether
 pub mod MuxPackets
 pub mod SpellableParts
 pub mod PacketOctets
@@ -41,4 +40,16 @@ pub mod SpellableClients
 pub mod Spellable
 pub mod ResponseOctets
 pub mod SpellableServers
-pub mod ReadTogether
+pub mod AllSizes
+pub mod LendingOctets
+pub mod Moved
+pub mod ReadLinks
+pub mod GainsCarried
+pub mod Delivering
+pub mod OctetsHeard
+pub mod AmongTaken
+pub mod Truths
+pub mod MuxPushed
+pub mod HeardTogether
+pub mod Scripts
+pub mod GivenOctets

@@ -50,7 +50,7 @@ use Rattle.request_laws.proofs.Taking.{event_same, sdu_same, fires_same, cancell
 -- ---- the step that a client gives
 
 -- none that sends; one that sends to the records of services; or one that sends a frame on the channel of the multiplexer
-data Kind (client : Client) (o : Stepped) : Type 0 where
+pub data Kind (client : Client) (o : Stepped) : Type 0 where
   Rests : frames_of o.step ≡ [] → ((endpoints : List Endpoint) (v : Channels) → taken_by rfcomm_psm o.step endpoints v ≡ []) → ((psm : ℕ) (payload : Payload) → o.step ≡ SendSdu psm payload → ⊥) → Kind client o
   Searches : (octets : List ℕ) → o.step ≡ SendSdu 0x0001 (Octets octets) → o.client.given ≡ true → Kind client o
   Sends : (frame : PlainFrame) → o.step ≡ SendSdu rfcomm_psm (Framed frame) → o.client.given ≡ true → Kind client o
@@ -107,7 +107,7 @@ search_kind client parts =
     let asked : Client = record client { query = after_request client.query; left = client.left - 1; rest = octets } in
     either_kind client (is_due client.query) (steps.sends_sdu 0x0001 (Octets octets) asked parts) (steps.rests client parts) (Searches octets refl refl) (rests_kind client client parts)
 
-at_kind : (stage : Stage) (client : Client) (parts : List Part) → client.transport ≡ Rfcomm → Kind client (steps.steps_at stage client parts)
+pub at_kind : (stage : Stage) (client : Client) (parts : List Part) → client.transport ≡ Rfcomm → Kind client (steps.steps_at stage client parts)
 at_kind stages.Rest client parts muxed = rests_kind client client parts
 at_kind (stages.Link Due) client parts muxed = Rests refl (λ endpoints v. refl) (λ psm payload e. cc)
 at_kind (stages.Link Asked) client parts muxed = rests_kind client client parts

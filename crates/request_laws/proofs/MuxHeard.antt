@@ -59,9 +59,9 @@ use Rattle.request_laws.proofs.Pushes.{map_deeds, all_does, pushed_on, served_on
 -- ---- a client over RFCOMM
 
 -- it takes packets as long as at first, wants no single response mode, and its multiplexer keeps its side, its room and its credits
-record GoodMux (settings : Settings) (client : Client) : Type 0 where
-  good : Good Rfcomm (new_client settings).session.maximum (new_client settings).session.wanted client
-  numbers : SameNumbers (new_client settings).mux client.mux
+pub record GoodMux (settings : Settings) (client : Client) : Type 0 where
+  pub good : Good Rfcomm (new_client settings).session.maximum (new_client settings).session.wanted client
+  pub numbers : SameNumbers (new_client settings).mux client.mux
 
 same_then : (a b c : Mux) → SameNumbers a b → SameNumbers b c → SameNumbers a c
 same_then a b c one two = (two.0 ∙ one.0, two.1 ∙ one.1, two.2 ∙ one.2)
@@ -87,13 +87,13 @@ all_so : (affairs : List Affair) (client : Client) → AllAnswered most_octets a
 all_so [] client answered asked = tt
 all_so (one ∷ rest) client answered asked = (record { answered = answered.0; asked = asked.0 }, all_so rest (client_after one client) answered.1 asked.1)
 
-numbers_after : (settings : Settings) (one : Affair) (client : Client) → client.transport ≡ Rfcomm → SameNumbers (new_client settings).mux client.mux → SameNumbers (new_client settings).mux (client_after one client).mux
+pub numbers_after : (settings : Settings) (one : Affair) (client : Client) → client.transport ≡ Rfcomm → SameNumbers (new_client settings).mux client.mux → SameNumbers (new_client settings).mux (client_after one client).mux
 numbers_after settings (Begins size name) client muxed same = subst (SameNumbers (new_client settings).mux) (sym (begins_mux size name client)) same
 numbers_after settings (Does deed) client muxed same = same_then (new_client settings).mux client.mux (push.done deed client).mux same (multiplexers-stay client (deed ∷ []) muxed).1
 
 goes_on : (settings : Settings) (one : Affair) (client : Client) → IsSo one client → GoodMux settings client → GoodMux settings (client_after one client)
 goes_on settings one client asked good = record {
-  good = good_affair Rfcomm (new_client settings).session.maximum (new_client settings).session.wanted one client asked.answered good.good;
+  good = good_affair Rfcomm (new_client settings).session.maximum (new_client settings).session.wanted most_octets (omega arith) one client asked.answered good.good;
   numbers = numbers_after settings one client good.good.direct good.numbers;
 }
 
@@ -125,7 +125,7 @@ targets_both [] ys client = refl
 targets_both (x ∷ xs) ys client =
     ap (λ (l : List Target). targets_by x client ++ l) (targets_both xs ys (push.done x client)) ∙ sym (append_assoc (targets_by x client) (targets_heard xs (push.done x client)) (targets_heard ys (all_done xs (push.done x client))))
 
-answers_both : (xs ys : List Deed) (client : Client) → AllAnswer None xs client → AllAnswer None ys (all_done xs client) → AllAnswer None (xs ++ ys) client
+pub answers_both : (xs ys : List Deed) (client : Client) → AllAnswer None xs client → AllAnswer None ys (all_done xs client) → AllAnswer None (xs ++ ys) client
 answers_both [] ys client one two = two
 answers_both (x ∷ xs) ys client one two = (one.0, answers_both xs ys (push.done x client) one.1 two)
 
@@ -160,7 +160,7 @@ module _ (settings : Settings) (muxed : settings.transport ≡ Rfcomm) where
         few = omega (arith, cap, high);
         named = so.named;
         carried = stays;
-        may = may_push Rfcomm (new_client settings).session.maximum (new_client settings).session.wanted client name size good.good small;
+        may = may_push Rfcomm (new_client settings).session.maximum (new_client settings).session.wanted most_octets (omega arith) client name size good.good small;
         plain = fixed.wanted ∙ ap (λ (t : Transport). is_direct t && settings.srm) muxed;
         within = subst (λ (n : ℕ). n ≤ own_maximum Rfcomm settings) (sym (longest ∙ own)) (omega arith);
         answers = so.answers;
@@ -296,7 +296,7 @@ feed_serves (Happens event v) p grants said packets = event_serves event (reacte
 feed_serves (Sent v) p grants said packets = tt
 feed_serves (Steps v) p grants said packets = (record { own = tt; answers = tt; carried = tt }, lent_serves (lent_sdu (lends p.server)) v p (done Asked (reacted p)) refl said)
 
-serve_from : (settings : Settings) (content : Option Contents) (feeds : List Feed) (p : ServerProfile) → AllByRecursion GrantsAll feeds → AllSaySo settings content p feeds → AllByRecursion NoPacket (served_from settings content p feeds)
+pub serve_from : (settings : Settings) (content : Option Contents) (feeds : List Feed) (p : ServerProfile) → AllByRecursion GrantsAll feeds → AllSaySo settings content p feeds → AllByRecursion NoPacket (served_from settings content p feeds)
     → Serves (reacted p) (served_from settings content p feeds)
 serve_from settings content [] p grants said packets = tt
 serve_from settings content (feed ∷ feeds) p grants said packets =

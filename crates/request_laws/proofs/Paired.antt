@@ -16,11 +16,17 @@ use Rattle.host_laws.specs.Lives.{Span, all_marks}
 use Rattle.host_laws.specs.OverLinks.{AreTimely}
 use Rattle.host_laws.specs.Woven.{Woven}
 use Rattle.scenario_laws.specs.Gains.{holding, serving, asked_by}
-use Rattle.pair_laws.specs.OnLinks.{happened_on}
+use Rattle.pair_laws.specs.OnLinks.{ArePairs, happened_on}
 use Rattle.pair_laws.specs.Orders.{joints_from}
 use Rattle.pair_laws.proofs.Whole.{pairs-are_whole}
 use Rattle.request_laws.specs.BothFed.{IsDown, AreLinked, AreTwined, over_stored}
-use Rattle.request_laws.specs.Paired.{PairsOf, IsPiped, PipedOn, PairedServersServe}
+use Rattle.request_laws.specs.Paired.{PairsOf, IsPiped, PipedOn, PairsLinked, PairedServersServe}
+use Rattle.bt_base.specs.Objects.{Object}
+use Rattle.push_script.specs.declared.scenario.Scenario.{Scenario}
+use Rattle.capture.specs.Entries.{Entry}
+use Rattle.host_laws.specs.Calls.{HostsAsk}
+use Rattle.host_laws.specs.InOrder.{IsServedInOrder}
+use Rattle.scenario_laws.specs.Captures.{Ran}
 use Rattle.request_laws.specs.Runs.{BothCameFed}
 use Rattle.request_laws.specs.Twists.{Set, Twined}
 use Rattle.request_laws.proofs.Joining.{joined_are_twined}
@@ -86,8 +92,12 @@ module _ (set : Set) (near far : ℕ → List channels.Occurrence) (pairs : Pair
             (λ k. at_a (suc (suc k))) (λ k. at_b (suc (suc k))) (behind_link other far_link spans_b now_b timely) carried.1.1 carries more,
       )
 
-pub paired_servers_serve : PairedServersServe
-paired_servers_serve asks scenario before capture ran direct pairs serves within nothing =
+-- in the runs of a scenario
+pub runs_twined : (asks : HostsAsk) (scenario : Scenario) (before : List Object) (capture : List Entry) (ran : Ran scenario (holding before) capture) (pairs : ArePairs asks scenario (holding before) capture ran)
+    → IsServedInOrder scenario.settings (holding before) (asked_by asks scenario.settings before) pairs.b.came.talk ran.world.b.upper pairs.b.fed.so → PairsLinked asks scenario before capture ran pairs
+    → AreTwined (over_stored asks scenario.settings before) (λ k. k) pairs.a.fed.so.lives.spans pairs.a.fed.so.lives.now pairs.a.fed.so.lives.feeds (client_profile scenario.settings).first ran.world.a.upper.profile
+    pairs.b.fed.so.lives.spans pairs.b.fed.so.lives.now pairs.b.fed.so.lives.feeds (serving scenario.settings before).first ran.world.b.upper.profile pairs.a.fed.fed pairs.b.fed.fed
+runs_twined asks scenario before capture ran pairs order linked =
     let set = over_stored asks scenario.settings before in
     let A = client_profile scenario.settings in
     let B = serving scenario.settings before in
@@ -95,12 +105,17 @@ paired_servers_serve asks scenario before capture ran direct pairs serves within
     let far = happened_on B (asked_by asks scenario.settings before) sides.B capture ran.world.b.upper pairs.b in
     let a = pairs.a.fed.so.lives in
     let b = pairs.b.fed.so.lives in
+    all_twined set near far pairs.pairs (λ k. k) a.spans a.now a.feeds A.first ran.world.a.upper.profile b.spans b.now b.feeds B.first ran.world.b.upper.profile pairs.a.fed.fed pairs.b.fed.fed (λ k. refl) (λ k. refl) (subst (AreTimely false) (sym b.marks_are) pairs.b.fed.so.timely)
+    order.carried order.carries linked
+
+pub paired_servers_serve : PairedServersServe
+paired_servers_serve asks scenario before capture ran direct pairs serves within nothing =
     let both : BothCameFed asks scenario (holding before) capture ran = record { a = record { came = pairs.a.came; fed = pairs.a.fed }; b = record { came = pairs.b.came; fed = pairs.b.fed } } in
     let order = is_in_order asks scenario before capture ran direct nothing pairs.b.came pairs.b.fed.so (pairs-are_whole asks scenario (holding before) capture ran pairs within).b in
     servers_serve_in_order asks scenario before capture ran direct both
     (record {
       heard = record {
-        twined = all_twined set near far pairs.pairs (λ k. k) a.spans a.now a.feeds A.first ran.world.a.upper.profile b.spans b.now b.feeds B.first ran.world.b.upper.profile pairs.a.fed.fed pairs.b.fed.fed (λ k. refl) (λ k. refl) (subst (AreTimely false) (sym b.marks_are) pairs.b.fed.so.timely) order.carried order.carries serves.linked;
+        twined = runs_twined asks scenario before capture ran pairs order serves.linked;
         small = serves.small;
         granted = serves.granted;
       };

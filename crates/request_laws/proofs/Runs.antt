@@ -7,22 +7,20 @@ use Rattle.push_script.specs.declared.scenario.Scenario.{Scenario}
 use Rattle.capture.specs.Entries.{Entry}
 use Rattle.channel_model.specs.Policies.{policy}
 use Rattle.push_terms.specs.declared.word.Side.TheVariants as sides
-use Rattle.capture.specs.Links.{links}
-use Rattle.capture.specs.Pdus.{pdus}
-use Rattle.std.proofs.Common.{map}
+use Rattle.std.proofs.Common.{subst}
 use Rattle.host_model.specs.Clients.{client_profile}
 use Rattle.host_model.specs.Servers.{server_profile}
 use Rattle.host_laws.specs.Calls.{HostsAsk}
-use Rattle.host_laws.specs.InOrder.{AsksNoChannels, IsWhole, IsServedInOrder}
+use Rattle.host_laws.specs.InOrder.{AsksForOneObject, AsksNoChannels, IsWhole, IsServedInOrder}
 use Rattle.host_laws.specs.Lives.{on_links}
-use Rattle.host_laws.specs.OverLinks.{parts, talk_marks, TalksOverLinks}
+use Rattle.host_laws.specs.OverLinks.{parts, moved_in, talk_marks, TalksOverLinks}
 use Rattle.host_laws.proofs.InOrder.{servers-are_served_in_order}
 use Rattle.host_laws.proofs.OverLinks.{hosts_talk_fed}
 use Rattle.scenario_laws.specs.Captures.{Ran}
 use Rattle.scenario_laws.specs.Coming.{CameOver}
 use Rattle.scenario_laws.specs.Gains.{holding, serving, asked_by}
 use Rattle.scenario_laws.proofs.Free.{free_runs_are_gentle}
-use Rattle.scenario_laws.proofs.Orderly.{parts_asked, asked_talks, servers-are_asked_once}
+use Rattle.scenario_laws.proofs.Orderly.{parts-are_asked}
 use Rattle.request_laws.specs.Runs.{RunsAreFed, ServersServeInOrder}
 use Rattle.request_laws.proofs.Heard.{requests_of_links_are_heard}
 
@@ -40,8 +38,7 @@ pub is_in_order : (asks : HostsAsk) (scenario : Scenario) (before : List Object)
     → AllByRecursion (IsWhole (policy scenario.settings true)) (on_links (serving scenario.settings before) (asked_by asks scenario.settings before) (flat_map talk_marks came.talk) ran.world.b.upper so.lives)
     → IsServedInOrder scenario.settings (holding before) (asked_by asks scenario.settings before) came.talk ran.world.b.upper so
 is_in_order asks scenario before capture ran direct nothing came so whole =
-    let asked = servers-are_asked_once scenario (holding before) capture ran direct in
-    let sought = parts_asked (parts came.talk) (map pdus (links sides.B capture)) came.fall (asked_talks (links sides.B capture) asked) in
+    let sought = subst (λ T. AllByRecursion (λ part. AsksForOneObject T (moved_in part)) (parts came.talk)) direct (parts-are_asked scenario (holding before) capture ran (parts came.talk) came.fall) in
     servers-are_served_in_order scenario.settings (holding before) (asked_by asks scenario.settings before) came.talk ran.world.b.upper so nothing sought whole
 
 pub servers_serve_in_order : ServersServeInOrder

@@ -49,10 +49,10 @@ module _ (carrier : ℕ) (settings : Settings) (content : Option Contents) where
   -- ---- the endpoints of a server
 
   -- it brought an SDU, so its channel is one of the talk
-  abbrev WasOpened : List Occurrence → Endpoint → Type 0
+  abbrev pub WasOpened : List Occurrence → Endpoint → Type 0
   WasOpened front endpoint = Opened (run_of (policy settings true) front).said endpoint.psm endpoint.own
 
-  abbrev Open : List Occurrence → ServerProfile → Type 0
+  abbrev pub Open : List Occurrence → ServerProfile → Type 0
   Open front p = AllEndpoints (WasOpened front) p.endpoints
 
   later_open : (front here : List Occurrence) (p : ServerProfile) → Open front p → Open (front ++ here) p
@@ -95,7 +95,7 @@ module _ (carrier : ℕ) (settings : Settings) (content : Option Contents) where
   takes_open front None v server p all = all
   takes_open front (Some lent) v server p all = submits_open front (endpoint_of lent.psm p.endpoints) lent v server p all
 
-  strand_open : (front : List Occurrence) (strand : Strand) (v : Channels) (p : ServerProfile) → v ≡ (run_of own front).value → Open front p → Open (front ++ list_of strand v p) (next_of strand v p)
+  pub strand_open : (front : List Occurrence) (strand : Strand) (v : Channels) (p : ServerProfile) → v ≡ (run_of own front).value → Open front p → Open (front ++ list_of strand v p) (next_of strand v p)
   strand_open front (Hearing pdu) v p at all =
       handed_open (front ++ Comes pdu ∷ []) (up (channel_of pdu) pdu v) p
       (up-stays own front (Comes pdu ∷ []) (up (channel_of pdu) pdu v) (subst (λ (w : Channels). OpenedUp (run_of own front).said (up (channel_of pdu) pdu w)) (sym at) (opened-up own front (Comes pdu))))
@@ -116,7 +116,7 @@ module _ (carrier : ℕ) (settings : Settings) (content : Option Contents) where
   abbrev pub Sure : List Occurrence → ℕ → Type 0
   Sure all here = (psm at : ℕ) → Opened (run_of (policy settings true) all).said psm at → eqb psm carrier ≡ eqb at here
 
-  abbrev gone_in : List served.Occurrence → List (List ℕ)
+  abbrev pub gone_in : List served.Occurrence → List (List ℕ)
   gone_in occurrences = flat_map (gone_on carrier) occurrences
 
   abbrev pub goes_by : Strand → Channels → ServerProfile → List (List ℕ)
@@ -126,7 +126,7 @@ module _ (carrier : ℕ) (settings : Settings) (content : Option Contents) where
   up_goes Nothing p = refl
   up_goes (Received at psm sdu) p = refl
 
-  told_goes : (found : List ChannelEvent) (v : Channels) (p : ServerProfile) → gone_in (served_from settings content p (next_happening found v)) ≡ []
+  pub told_goes : (found : List ChannelEvent) (v : Channels) (p : ServerProfile) → gone_in (served_from settings content p (next_happening found v)) ≡ []
   told_goes [] v p = refl
   told_goes (events.Opened at psm ∷ found) v p = refl
   told_goes (events.Closed at psm reason ∷ found) v p = by (is_told reason)
@@ -138,7 +138,7 @@ module _ (carrier : ℕ) (settings : Settings) (content : Option Contents) where
   told_goes (events.FeaturesLost ∷ found) v p = refl
   told_goes (events.DisconnectLost at ∷ found) v p = refl
 
-  news_go : (news : News) → gone_in (news_served news ++ []) ≡ []
+  pub news_go : (news : News) → gone_in (news_served news ++ []) ≡ []
   news_go (Linked Up) = refl
   news_go (Linked (Down reason)) = refl
   news_go (Failed status) = refl
@@ -170,7 +170,7 @@ module _ (carrier : ℕ) (settings : Settings) (content : Option Contents) where
       on None found = refl
       on (Some at) found = by at (takes_sdu at (sdu_of lent.payload) v) found refl
 
-  strand_goes : (front later : List Occurrence) (here : ℕ) (strand : Strand) (v : Channels) (p : ServerProfile) → Open front p → Sure (front ++ later) here → goes_by strand v p ≡ takes_from own here v (list_of strand v p)
+  pub strand_goes : (front later : List Occurrence) (here : ℕ) (strand : Strand) (v : Channels) (p : ServerProfile) → Open front p → Sure (front ++ later) here → goes_by strand v p ≡ takes_from own here v (list_of strand v p)
   strand_goes front later here (Hearing pdu) v p all sure = up_goes (up (channel_of pdu) pdu v) p
   strand_goes front later here (Giving pdu) v p all sure = refl
   strand_goes front later here Firing v p all sure = refl

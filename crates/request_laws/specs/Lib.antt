@@ -14,10 +14,11 @@ pub mod Streams
 pub mod MuxPipes
 pub mod Carried
 pub mod MuxFed
-pub mod TogetherCarried
 pub mod Granted
-pub mod GrantedCarried
 pub mod Spellable
 pub mod SpellableClients
 pub mod SpellableServers
-pub mod TogetherRead
+pub mod AllSizes
+pub mod GainsCarried
+pub mod TogetherHeard
+pub mod Scripts

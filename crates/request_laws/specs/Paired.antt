@@ -42,13 +42,18 @@ PipedOn set near far pairs number list_a list_b client last_a server last_b a b 
 
 -- ---- the law
 
+-- Links come up as the client wants them, the server is never two turns ahead, and on each of them the channels of the object were pipes.
+abbrev pub PairsLinked : (asks : HostsAsk) (scenario : Scenario) (before : List Object) (capture : List Entry) (ran : Ran scenario (holding before) capture) → ArePairs asks scenario (holding before) capture ran → Type 0
+PairsLinked asks scenario before capture ran pairs =
+    (let set : Set = over_stored asks scenario.settings before in
+    AreLinked set (PipedOn set (happened_on (client_profile scenario.settings) (asks.clients scenario.settings) sides.A capture ran.world.a.upper pairs.a) (happened_on (serving scenario.settings before) (asked_by asks scenario.settings before) sides.B capture ran.world.b.upper pairs.b) pairs.pairs)
+    (λ k. k) pairs.a.fed.so.lives.spans pairs.a.fed.so.lives.now pairs.a.fed.so.lives.feeds (client_profile scenario.settings).first ran.world.a.upper.profile
+    pairs.b.fed.so.lives.spans pairs.b.fed.so.lives.now pairs.b.fed.so.lives.feeds (serving scenario.settings before).first ran.world.b.upper.profile pairs.a.fed.fed pairs.b.fed.fed)
+
 -- What is asked of both hosts of a run whose channels are pairs: links come up as the client wants them, the server is never two turns ahead, on each
 -- of them the channels of the object were pipes, the shelf told no object that is too long, and the inbox granted all calls.
 pub record PairsServe (asks : HostsAsk) (scenario : Scenario) (before : List Object) (capture : List Entry) (ran : Ran scenario (holding before) capture) (pairs : ArePairs asks scenario (holding before) capture ran) : Type 0 where
-  pub linked : (let set : Set = over_stored asks scenario.settings before in
-      AreLinked set (PipedOn set (happened_on (client_profile scenario.settings) (asks.clients scenario.settings) sides.A capture ran.world.a.upper pairs.a) (happened_on (serving scenario.settings before) (asked_by asks scenario.settings before) sides.B capture ran.world.b.upper pairs.b) pairs.pairs)
-      (λ k. k) pairs.a.fed.so.lives.spans pairs.a.fed.so.lives.now pairs.a.fed.so.lives.feeds (client_profile scenario.settings).first ran.world.a.upper.profile
-      pairs.b.fed.so.lives.spans pairs.b.fed.so.lives.now pairs.b.fed.so.lives.feeds (serving scenario.settings before).first ran.world.b.upper.profile pairs.a.fed.fed pairs.b.fed.fed)
+  pub linked : PairsLinked asks scenario before capture ran pairs
   pub small : AllByRecursion (BeginsAtMost most_octets) pairs.a.fed.so.lives.feeds
   pub granted : AllByRecursion GrantsAll pairs.b.fed.so.lives.feeds
 

@@ -1,13 +1,14 @@
 //! Laws of both hosts on their links: that no request of the client is ignored.
 #![tactic(auto)]
 
+ghost use Rattle.request_laws.specs.AllSizes.{LinksGainAll, RunsGainAll};
 ghost use Rattle.request_laws.specs.Alternating.{LinksAlternate};
 ghost use Rattle.request_laws.specs.Behind.{NothingComesBehind};
 ghost use Rattle.request_laws.specs.BothFed.{RequestsOfLinksAreHeard};
 ghost use Rattle.request_laws.specs.Carried.{LinksAreCarried};
 ghost use Rattle.request_laws.specs.Firsts.{FirstHostsAreHeard};
+ghost use Rattle.request_laws.specs.GainsCarried.{GainsCarried};
 ghost use Rattle.request_laws.specs.Granted.{RunsServeGranted};
-ghost use Rattle.request_laws.specs.GrantedCarried.{RunsServeCarriedGranted, RunsServeReadGranted};
 ghost use Rattle.request_laws.specs.HandedUp.{ObjectsAreHandedUp};
 ghost use Rattle.request_laws.specs.Joined.{JoinedAreTwined};
 ghost use Rattle.request_laws.specs.Linked.{RunsAreLinked};
@@ -16,11 +17,11 @@ ghost use Rattle.request_laws.specs.MuxPipes.{MultiplexersArePiped};
 ghost use Rattle.request_laws.specs.ObjectPipes.{ChannelsOfObjectsArePipes};
 ghost use Rattle.request_laws.specs.Paired.{PairedServersServe};
 ghost use Rattle.request_laws.specs.Runs.{RunsAreFed, ServersServeInOrder};
+ghost use Rattle.request_laws.specs.Scripts.{ScriptsLoseNothing};
 ghost use Rattle.request_laws.specs.Spellable.{FramesAreSpellable};
 ghost use Rattle.request_laws.specs.SpellableClients.{ClientFramesAreRead};
 ghost use Rattle.request_laws.specs.SpellableServers.{ServerFramesAreSaid};
-ghost use Rattle.request_laws.specs.TogetherRead.{RunsServeRead};
-ghost use Rattle.request_laws.specs.TogetherCarried.{RunsServeCarried};
+ghost use Rattle.request_laws.specs.TogetherHeard.{RunsServeHeard, RunsServeHeardGranted};
 ghost use Rattle.request_laws.specs.Together.{RunsServeTogether};
 
 /// Whatever happens to both hosts over all their links: no request is ignored, and all else holds that the laws of a server ask of what
@@ -96,9 +97,9 @@ pub fn runs_serve_together()
     ensures { RunsServeTogether }
 {}
 
-/// In each run whose words lose, cut, repeat and damage nothing, wherever it broke off, the channels of the multiplexers are pipes along the pair of both
-/// hosts' channels on each link: at each moment the SDUs that came to the one on PSM 0x0003 are a front of those that the other's end took of its
-/// profile. That is so where on each link of host b one channel alone carries packets, that of the multiplexer.
+/// In each run over RFCOMM whose words lose, cut, repeat and damage nothing, wherever it broke off, the channels of the multiplexers are pipes along the
+/// pair of both hosts' channels on each link: at each moment the SDUs that came to the one on PSM 0x0003 are a front of those that the other's end took
+/// of its profile.
 pub fn multiplexers_are_piped()
     ensures { MultiplexersArePiped }
 {}
@@ -118,22 +119,9 @@ pub fn carried_requests_are_heard()
     ensures { CarriedRequestsAreHeard }
 {}
 
-/// So in each run over RFCOMM whose words lose, cut, repeat and damage nothing, wherever it broke off, no request of the client is ignored, and host b's
-/// inbox gained exactly what the capture spells. Asked for are still: on each link one channel alone carries packets, that of the multiplexer, and
-/// what happened to the server is read off what moved; the shelf tells no object of more than 16,777,215 octets, the inbox grants all calls, the client
-/// hears of the server's channel, and each frame is read as it was sent.
-pub fn runs_serve_carried()
-    ensures { RunsServeCarried }
-{}
-
 /// And in each run over L2CAP in which the inbox grants all calls, nothing is asked for but that the shelf tells no object that is longer.
 pub fn runs_serve_granted()
     ensures { RunsServeGranted }
-{}
-
-/// And in each run over RFCOMM of such words in which the inbox grants all calls, that it does so is asked no more.
-pub fn runs_serve_carried_granted()
-    ensures { RunsServeCarriedGranted }
 {}
 
 /// A multiplexer of RFCOMM whose numbers fit the fields of its frames, of either side, that hears octets and is handed octets to send: each frame that
@@ -154,13 +142,40 @@ pub fn server_frames_are_said()
     ensures { ServerFramesAreSaid }
 {}
 
-/// So runs over RFCOMM serve as `runs_serve_carried` says, and nothing is asked of frames: where what both hosts hear of SDUs and what the shelf answers
-/// are octets, each frame is read as it was sent.
-pub fn runs_serve_read()
-    ensures { RunsServeRead }
+/// At each moment of each run over RFCOMM whose both hosts' channels are pairs that keep their order, wherever it broke off, the inbox of host b gained
+/// exactly what the capture spells, where no request is ignored. What host b was told and sent stands in the order in which it moved, for a host hears a
+/// PDU where it has said all.
+pub fn inboxes_gain_carried()
+    ensures { GainsCarried }
 {}
 
-/// And in each such run in which the inbox grants all calls, that it does so is asked no more there either.
-pub fn runs_serve_read_granted()
-    ensures { RunsServeReadGranted }
+/// In each run over RFCOMM whose words lose, cut, repeat and damage nothing, wherever it broke off, no request of the client is ignored, and host b's
+/// inbox gained exactly what the capture spells. Nothing is asked of what both hosts hear: what comes up at either is what the other's channel took, so
+/// all of it are octets, and of the service the client hears what the server's record names. Asked for is of the ports alone: the shelf gives octets and
+/// tells no object of more than 16,777,215 octets, and the inbox grants all calls.
+pub fn runs_serve_heard()
+    ensures { RunsServeHeard }
+{}
+
+/// And in each such run in which the inbox grants all calls, that it does so is asked no more.
+pub fn runs_serve_heard_granted()
+    ensures { RunsServeHeardGranted }
+{}
+
+/// On all links of both hosts, over L2CAP, the inbox gained what the packets spell that came, of objects of any size up to 4,294,967,295 octets: where the
+/// channels of the object were pipes and the inbox granted all calls.
+pub fn links_gain_all()
+    ensures { LinksGainAll }
+{}
+
+/// In each run over L2CAP, wherever it broke off, the inbox gained exactly what the capture spells, of objects of any size up to 4,294,967,295 octets, and
+/// whether or not requests are ignored: where it granted all calls.
+pub fn runs_gain_all()
+    ensures { RunsGainAll }
+{}
+
+/// No word of a script over RFCOMM loses, cuts, repeats or damages a frame, nor do those of a run that keeps to it, wherever it broke off: a script with such
+/// a word is no scenario's.
+pub fn scripts_lose_nothing()
+    ensures { ScriptsLoseNothing }
 {}

@@ -44,7 +44,7 @@ so_both : {S G : Type 0} (U : Upper S G) (W : Bool → S → Type 0) (up : Bool)
 so_both U W up [] ys old one two = two old refl
 so_both U W up (x ∷ xs) ys old one two = (one.0, λ next does. so_both U W (is_up_behind up x) xs ys next (one.1 next does) (λ mid acting. two mid (next, does, acting)))
 
-so_then : {S G : Type 0} (U : Upper S G) (W : Bool → S → Type 0) (up link : Bool) (xs ys : List (Act G)) (old mid : S) → AreSo U W up xs old → Acting U xs old mid → up_behind up xs ≡ link → AreSo U W link ys mid → AreSo U W up (xs ++ ys) old
+pub so_then : {S G : Type 0} (U : Upper S G) (W : Bool → S → Type 0) (up link : Bool) (xs ys : List (Act G)) (old mid : S) → AreSo U W up xs old → Acting U xs old mid → up_behind up xs ≡ link → AreSo U W link ys mid → AreSo U W up (xs ++ ys) old
 so_then {S} U W up link xs ys old mid one acting is two =
     so_both U W up xs ys old one
     (λ other also. subst (λ (s : S). AreSo U W (up_behind up xs) ys s) (acting_one U xs old mid other acting also) (subst (λ (b : Bool). AreSo U W b ys mid) (sym is) two))
@@ -100,7 +100,7 @@ record Adds {S G : Type 0} (U : Upper S G) (W : Bool → S → Type 0) (linked :
   more : Stays talks
   silent : linked ≡ false → flat_map pdus_in talks ≡ []
 
-up_more : {S G : Type 0} (U : Upper S G) (W : Bool → S → Type 0) (acts : List (Act G)) (talks : List Talk) (mid now : S) (talk : List Talk) → Acting U acts mid now → map deed_of acts ≡ flat_map deeds_in talks → AreInQuiet U acts mid → AllByRecursion StaysOnLink acts → Stays talks → up_behind true acts ≡ true → AreSo U W true acts mid
+unfoldable pub up_more : {S G : Type 0} (U : Upper S G) (W : Bool → S → Type 0) (acts : List (Act G)) (talks : List Talk) (mid now : S) (talk : List Talk) → Acting U acts mid now → map deed_of acts ≡ flat_map deeds_in talks → AreInQuiet U acts mid → AllByRecursion StaysOnLink acts → Stays talks → up_behind true acts ≡ true → AreSo U W true acts mid
     → SinceSo U W talk mid → SinceSo U W (talk ++ talks) now
 up_more U W acts talks mid now talk acting deeds quiet stays more up_is so up =
     let on = up.on in
@@ -166,7 +166,7 @@ acts_more U W linked acts talks old now left last talk adds went up parted says 
 }
 
 -- where nothing waits, it is where it came to
-none_waits : {S G : Type 0} (U : Upper S G) (mid now : S) (waiting : List (List ℕ)) → waiting ≡ [] → Acting U (map Says waiting) mid now → now ≡ mid
+pub none_waits : {S G : Type 0} (U : Upper S G) (mid now : S) (waiting : List (List ℕ)) → waiting ≡ [] → Acting U (map Says waiting) mid now → now ≡ mid
 none_waits U mid now [] none says = says
 none_waits U mid now (pdu ∷ waiting) none says = cc
 
@@ -185,7 +185,7 @@ IsAside news = Unit {0}
 none_more : (now : List Pdu) → Some now ≡ Some (now ++ [])
 none_more now = ap (λ (x : List Pdu). Some x) (sym (append-nil now))
 
-plain_stays : (one : Talk) → turns_link one ≡ false → pdus_in one ≡ [] → ((l : Linkage) → linkage_after l one ≡ l) → Stays (one ∷ [])
+pub plain_stays : (one : Talk) → turns_link one ≡ false → pdus_in one ≡ [] → ((l : Linkage) → linkage_after l one ≡ l) → Stays (one ∷ [])
 plain_stays one aside none same = record {
   aside = (aside, tt);
   past = λ l. ap (λ (x : Linkage). x.past) (same l);
@@ -196,10 +196,10 @@ plain_stays one aside none same = record {
 heard_stays : (pdu : List ℕ) → Stays (Told (Heard pdu) ∷ [])
 heard_stays pdu = record { aside = (refl, tt); past = λ l. refl; up = λ l now is. rw is refl; none = λ l is. rw is refl }
 
-said_stays : (pdu : List ℕ) → Stays (Said pdu ∷ [])
+pub said_stays : (pdu : List ℕ) → Stays (Said pdu ∷ [])
 said_stays pdu = record { aside = (refl, tt); past = λ l. refl; up = λ l now is. rw is refl; none = λ l is. rw is refl }
 
-told_stays : (news : News) → IsAside news → Stays (Told news ∷ [])
+pub told_stays : (news : News) → IsAside news → Stays (Told news ∷ [])
 told_stays (Linked event) aside = absurd aside
 told_stays (Failed status) aside = plain_stays (Told (Failed status)) refl refl (λ l. refl)
 told_stays (Heard pdu) aside = heard_stays pdu
@@ -207,7 +207,7 @@ told_stays TimerFired aside = plain_stays (Told TimerFired) refl refl (λ l. ref
 told_stays Cancelled aside = plain_stays (Told Cancelled) refl refl (λ l. refl)
 told_stays (Opening name) aside = plain_stays (Told (Opening name)) refl refl (λ l. refl)
 
-told_link : {G : Type 0} (linked : Bool) (gifts : List G) (news : News) → IsAside news → (let one : Act G = Hears gifts news in (up_behind linked (one ∷ []) ≡ linked) × StaysOnLink one)
+pub told_link : {G : Type 0} (linked : Bool) (gifts : List G) (news : News) → IsAside news → (let one : Act G = Hears gifts news in (up_behind linked (one ∷ []) ≡ linked) × StaysOnLink one)
 told_link linked gifts (Linked event) aside = absurd aside
 told_link linked gifts (Failed status) aside = (refl, tt)
 told_link linked gifts (Heard pdu) aside = (refl, tt)
@@ -300,7 +300,7 @@ pub went_all : {S G : Type 0} (U : Upper S G) (W : Bool → S → Type 0) (linke
 went_all {S} {G} U W linked now waiting talk acted =
     so_goes_on U W linked linked (map Says waiting) (map Unsent waiting) talk acted.mid now acted.says (unsent_deeds G waiting) (turns_said U linked waiting acted.mid) (up_said G linked waiting) (so_said U W linked waiting acted.mid) acted.went
 
-told_went : {S G : Type 0} (U : Upper S G) (W : Bool → S → Type 0) (linked : Bool) (gifts : List G) (event : LinkEvent) (old : S) (waiting : List (List ℕ)) (talk : List Talk) → (event ≡ Up → linked ≡ false) → (event ≢ Up → linked ≡ true) → ActedSo U W linked old waiting talk
+pub told_went : {S G : Type 0} (U : Upper S G) (W : Bool → S → Type 0) (linked : Bool) (gifts : List G) (event : LinkEvent) (old : S) (waiting : List (List ℕ)) (talk : List Talk) → (event ≡ Up → linked ≡ false) → (event ≢ Up → linked ≡ true) → ActedSo U W linked old waiting talk
     → WentSo U W (linked_by event) (talk ++ (map Unsent waiting ++ Told (Linked event) ∷ [])) (U.hear gifts (Linked event) old)
 told_went {S} {G} U W linked gifts event old waiting talk fresh held acted =
     let now = U.hear gifts (Linked event) old in
@@ -313,7 +313,7 @@ told_went {S} {G} U W linked gifts event old waiting talk fresh held acted =
     by Up fresh held = (fresh refl, refl)
     by (Down reason) fresh held = (held (λ is. cc), refl)
 
-pub tells_acted : {S G : Type 0} (U : Upper S G) (W : Bool → S → Type 0) (linked : Bool) (gifts : List G) (event : LinkEvent) (old : S) (waiting : List (List ℕ)) (talk : List Talk) → (event ≡ Up → linked ≡ false) → (event ≢ Up → linked ≡ true) → ActedSo U W linked old waiting talk
+unfoldable pub tells_acted : {S G : Type 0} (U : Upper S G) (W : Bool → S → Type 0) (linked : Bool) (gifts : List G) (event : LinkEvent) (old : S) (waiting : List (List ℕ)) (talk : List Talk) → (event ≡ Up → linked ≡ false) → (event ≢ Up → linked ≡ true) → ActedSo U W linked old waiting talk
     → ActedSo U W (linked_by event) (U.hear gifts (Linked event) old) [] (talk ++ (map Unsent waiting ++ Told (Linked event) ∷ []))
 tells_acted {S} U W linked gifts Up old waiting talk fresh held acted =
     let none = acted.down (fresh refl) in

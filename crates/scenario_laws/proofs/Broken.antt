@@ -21,7 +21,7 @@ use Rattle.scenario_laws.proofs.Gaining.{gains_exactly}
 use Rattle.std.proofs.lemmas.List.{append-nil}
 
 pub scenarios_break_off : ScenariosBreakOff
-scenarios_break_off asks scenario before happenings world next later happened ran words transport serves plain =
+scenarios_break_off asks scenario before happenings world next later happened ran words transport serves =
     let content = holding before in
     let past = all_entries happenings in
     let capture : List Entry = past ++ next in
@@ -36,10 +36,10 @@ scenarios_break_off asks scenario before happenings world next later happened ra
       within_b = buffers_kept scenario content capture B ran;
       honest = controllers_honest scenario content capture ran;
       in_turn = pushes_in_turn scenario content capture ran;
-      keeps = subst (λ (ws : List Word). EachAfter (KeepsTo hosts scenario.acl_length ws) [] capture) (sym words) (air_kept asks scenario content capture later ran plain);
+      keeps = subst (λ (ws : List Word). EachAfter (KeepsTo hosts scenario.acl_length ws) [] capture) (sym words) (air_kept scenario content capture later ran);
     }
 
 pub crowds_are_told : CrowdsAreTold
-crowds_are_told asks scenario content happenings world happened plain crowded =
+crowds_are_told scenario content happenings world happened crowded =
     air.crowds_are_told (client_of scenario) (server_of scenario content) (hosts_of scenario.settings) scenario.acl_length scenario.acl_count scenario.names happenings world (fits scenario content) happened
-    (tells_hosts asks scenario content happenings plain) crowded
+    (tells_hosts scenario content happenings) crowded

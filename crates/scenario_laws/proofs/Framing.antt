@@ -36,6 +36,7 @@ use Rattle.scenario_laws.specs.Accounts.{KeepsWindow, WindowsAreKept}
 use Rattle.scenario_laws.specs.Parties.{party_of}
 use Rattle.scenario_laws.specs.Plain.{IsPlainAt}
 use Rattle.scenario_laws.proofs.Fronts.{with_ends, ended_talk}
+use Rattle.scenario_laws.proofs.PlainRuns.{stepping_asks, plain_runs}
 use Rattle.scenario_laws.proofs.Wishes.{states_frame, wishes_window}
 use Rattle.scenario_laws.proofs.Telling.{side_linked}
 use Rattle.scenario_laws.proofs.Windows.{windows_within}
@@ -88,12 +89,13 @@ ended_window settings side past push outcome kept own entry =
     subst (λ (said : List Saying). read_at own (reading said).entries ≡ Some entry → is_alive entry.life ≡ true → window_used (party_of settings side) said entry.channel ≤ settings.window) (sym (ended_talk side past push outcome)) (kept own entry)
 
 pub windows_kept : WindowsAreKept
-windows_kept asks scenario content capture side ran rests plain =
+windows_kept scenario content capture side ran rests =
+    let plain = plain_runs scenario content ran.happenings in
     let past = all_entries ran.happenings in
     let whole : IsFront ran.happenings ran.happenings = ([], sym (append-nil ran.happenings)) in
-    let one = side_window (client_profile scenario.settings) (asks.clients scenario.settings) scenario.settings sides.A ran.world.a.upper (link_up sides.A past) (states_frame scenario.settings false sides.A) (wishes_window scenario.settings)
+    let one = side_window (client_profile scenario.settings) (stepping_asks.clients scenario.settings) scenario.settings sides.A ran.world.a.upper (link_up sides.A past) (states_frame scenario.settings false sides.A) (wishes_window scenario.settings)
     (plain.a ran.happenings ran.world whole ran.happened rests) in
-    let other = side_window (server_profile scenario.settings content) (asks.servers scenario.settings content) scenario.settings sides.B ran.world.b.upper (link_up sides.B past) (states_frame scenario.settings true sides.B) (wishes_window scenario.settings)
+    let other = side_window (server_profile scenario.settings content) (stepping_asks.servers scenario.settings content) scenario.settings sides.B ran.world.b.upper (link_up sides.B past) (states_frame scenario.settings true sides.B) (wishes_window scenario.settings)
     (plain.b ran.happenings ran.world whole ran.happened rests) in
     subst (KeepsWindow scenario.settings side) (sym ran.capture_is)
     (with_ends (KeepsWindow scenario.settings side) ran.world.pushes past ran.ends (λ push outcome kept. ended_window scenario.settings side past push outcome kept) ran.last (of side one other))

@@ -32,7 +32,7 @@ use Rattle.scenario_laws.proofs.Gentle.{IsTameAct, AreTameLinks, both_tame, hear
 one_command : (act : Act Circumstance) → IsTameAct act → IsActSo IsOneCommand act
 one_command (Hears circumstances (Linked event)) tame = tt
 one_command (Hears circumstances (Failed status)) tame = tt
-one_command (Hears circumstances (Heard pdu)) tame = λ here. let one = (tame here).1 in ((tame here).0, omega (arith, one))
+one_command (Hears circumstances (Heard pdu)) tame = λ here. let one = tame.1 here in (tame.0, omega (arith, one))
 one_command (Hears circumstances TimerFired) tame = tt
 one_command (Hears circumstances Cancelled) tame = tt
 one_command (Hears circumstances (Opening name)) tame = tt

@@ -27,10 +27,11 @@ use Rattle.host_laws.specs.OverLinks.{GoesOut, parts, moved_in, talk_marks}
 use Rattle.host_laws.specs.Seen.{is_spoken, spoken_of}
 use Rattle.host_laws.specs.Spoken.{AsksForNone, GrantsAnew, IsServed}
 use Rattle.host_laws.proofs.Carriers.{hosts_gain_by_carriers}
-use Rattle.host_laws.proofs.GainingOver.{hosts_gain_over_links}
+use Rattle.host_laws.proofs.GainingOver.{hosts_read_over_links}
+use Rattle.host_laws.proofs.Serving.{hosts_gain}
 use Rattle.host_laws.proofs.Spoken.{objects-move}
 use Rattle.scenario_laws.specs.Coming.{out_of, FallTo}
-use Rattle.scenario_laws.specs.Gains.{asked_by, GainsExactly, behind_last, carried_links, GainsOverEither}
+use Rattle.scenario_laws.specs.Gains.{holding, asked_by, ReadServer, ServersAreRead, GainsExactly, behind_last, carried_links, GainsOverEither}
 use Rattle.scenario_laws.specs.Parties.{party_of}
 use Rattle.scenario_laws.proofs.Wishes.{states_frame}
 
@@ -115,14 +116,22 @@ link_talks party (link ∷ list) = ap (λ (l : List Object). objects party (talk
 
 -- ---- the inbox
 
+pub servers_are_read : ServersAreRead
+servers_are_read asks scenario before capture ran transport read =
+    let settings = scenario.settings in
+    let party = party_of settings sides.B in
+    let talk = read.came.talk in
+    hosts_read_over_links settings (holding before) party (asked_by asks settings before) talk ran.world.b.upper read.so (states_frame settings true sides.B) (ap (λ (t : Transport). own_maximum t settings) transport)
+    read.direct read.carried read.carries read.granted
+    ∙ (all_spell party (parts talk) (map pdus (links sides.B capture)) read.came.fall read.granted ∙ link_talks party (links sides.B capture))
+
 pub gains_exactly : GainsExactly
 gains_exactly asks scenario before capture ran transport orderly =
     let settings = scenario.settings in
-    let party = party_of settings sides.B in
-    let talk = orderly.came.talk in
-    let gains = hosts_gain_over_links settings before party (asked_by asks settings before) talk ran.world.b.upper orderly.so (states_frame settings true sides.B) (ap (λ (t : Transport). own_maximum t settings) transport)
-    orderly.comes orderly.direct orderly.carried orderly.carries orderly.granted in
-    gains ∙ ap (λ (l : List Object). Some (before ++ l)) (all_spell party (parts talk) (map pdus (links sides.B capture)) orderly.came.fall orderly.granted ∙ link_talks party (links sides.B capture))
+    let read : ReadServer asks settings before capture ran.world.b.upper =
+    record { came = orderly.came; so = orderly.so; direct = orderly.direct; carried = orderly.carried; carries = orderly.carries; granted = orderly.granted } in
+    hosts_gain settings before (asked_by asks settings before) (flat_map talk_marks orderly.came.talk) ran.world.b.upper orderly.so.lives orderly.comes
+    ∙ ap (λ (l : List Object). Some (before ++ l)) (servers_are_read asks scenario before capture ran transport read)
 
 -- ---- over either transport
 

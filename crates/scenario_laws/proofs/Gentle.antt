@@ -30,7 +30,7 @@ use Rattle.channel_laws.proofs.Fitted.{IsLowPsm, FittedLow}
 use Rattle.world_model.specs.Machines.{Up, Down, News, Linked, Failed, Heard, TimerFired, Cancelled, Opening}
 use Rattle.world_model.specs.Talks.{Talk, Told, Said, Unsent, Met, Done}
 use Rattle.world_model.specs.PerLink.{Linkage, no_linkage, pdus_of, linkage_after, linkage_from, linkage, captured}
-use Rattle.world_model.specs.Worlds.{Happening, IsAtRest, all_entries}
+use Rattle.world_model.specs.Worlds.{all_entries}
 use Rattle.host_model.specs.Circumstances.{Circumstance}
 use Rattle.host_model.specs.Hosts.{Host, first_host, hear, next}
 use Rattle.host_model.specs.Profiles.{Profile}
@@ -39,17 +39,17 @@ use Rattle.host_model.specs.Servers.{server_profile}
 use Rattle.host_model.specs.Machines.{upper}
 use Rattle.host_model.proofs.Orderly.{says_octets}
 use Rattle.host_laws.specs.Acts.{Act, Hears, Says, Does, Acting, StaysOnLink}
-use Rattle.host_laws.specs.Calls.{Asks, HostsAsk}
+use Rattle.host_laws.specs.Calls.{Asks}
 use Rattle.host_laws.specs.Calm.{AreGentle, pdus_in, TalksSo}
 use Rattle.host_laws.specs.OverLinks.{is_up_behind, AreInTurn, turns_link, parts_from, parts, IsTimely, AreGentleUp, IsGentleUp}
 use Rattle.host_laws.specs.Read.{IsSoberPdu, IsHeardSo, IsSoberAct}
 use Rattle.host_laws.specs.Seen.{FiresPlainly, saying_of}
-use Rattle.host_laws.specs.Turning.{deed_of, deeds_in}
+use Rattle.host_laws.specs.Turning.{deed_of, deeds_in, OnLink}
 use Rattle.host_laws.proofs.Fitting.{IsProper, proper-holds, any-holds, up-fits, KeepsFit, FitHost, first-fits, hears-fit, said-fits, AnyServer, servers-keep_fit, IsLowClient, clients-keep_fit}
 use Rattle.host_laws.proofs.ReadSo.{spoke, reads-so, act-fits, profile-so}
-use Rattle.host_laws.proofs.Talking.{deed_pdus, talks_pdus, TalksWovenOn, talks_woven_on}
+use Rattle.host_laws.proofs.Talking.{deed_pdus, talks_pdus, hosts_talk_in_turns}
 use Rattle.host_laws.proofs.Turning.{does_one}
-use Rattle.scenario_laws.specs.Captures.{client_of, server_of, BothHosts, Happened, Ran}
+use Rattle.scenario_laws.specs.Captures.{client_of, server_of, Ran}
 use Rattle.scenario_laws.specs.Coming.{out_of, FallTo, CameOver, CameUp}
 use Rattle.scenario_laws.specs.Gentle.{HasOneCommand, PdusHaveOneCommand, AreFreeUp, IsFreeAct, ComesGently, HostsAreGentle, IsFreeOn, LivesThrough, RestsAreLived}
 use Rattle.scenario_laws.proofs.Acting.{Anyhow, Acted}
@@ -75,7 +75,7 @@ no_check v fitted = by (held_at 0x0001 v) refl (fits-found IsLowPsm (has_own 0x0
 sober_of : (news : News) → IsTameNews news → IsHeardSo IsSoberPdu news
 sober_of (Linked event) tame = tt
 sober_of (Failed status) tame = tt
-sober_of (Heard pdu) tame = λ is. (tame is).0
+sober_of (Heard pdu) tame = λ is. tame.0
 sober_of TimerFired tame = tt
 sober_of Cancelled tame = tt
 sober_of (Opening name) tame = tt
@@ -93,7 +93,7 @@ host-tames A Q keeps = record {
   hears = λ gifts news s tame fit. hears-fit A IsSoberPdu (IsProper A.policy) Q keeps gifts news s (sober_of news tame) fit;
   says = λ s t pdu said fit.
       let told = spoke A s pdu t said in
-      (subst (FitHost (IsProper A.policy) Q) (sym told.after_is) (said-fits A IsSoberPdu (IsProper A.policy) Q keeps told.left s fit), λ here. (says_octets A s pdu t said, one_command pdu (saying_of told.given pdu) (reads-so A s t pdu fit.channels said told.given told.is).read here));
+      (subst (FitHost (IsProper A.policy) Q) (sym told.after_is) (said-fits A IsSoberPdu (IsProper A.policy) Q keeps told.left s fit), (says_octets A s pdu t said, λ here. one_command pdu (saying_of told.given pdu) (reads-so A s t pdu fit.channels said told.given told.is).read here));
   unchecked = λ s fit. no_check s.channels fit.channels.fitted;
 }
 
@@ -177,7 +177,11 @@ both_tame scenario content capture ran =
 
 of_links : (list : List Link) → AreTameLinks (map pdus list) → AllByRecursion (λ (link : Link). AllByRecursion HasOneCommand (pdus link)) list
 of_links [] all = tt
-of_links (link ∷ list) all = (all.0, of_links list all.1)
+of_links (link ∷ list) all = (on_link (pdus link) all.0, of_links list all.1)
+  where
+    on_link : (moved : List Pdu) → AreTamePdus moved → AllByRecursion HasOneCommand moved
+    on_link [] tame = tt
+    on_link (pdu ∷ moved) tame = (λ here. (tame.0.0, tame.0.1 here), on_link moved tame.1)
 
 pub pdus_have_one_command : PdusHaveOneCommand
 pdus_have_one_command scenario content capture sides.A ran = of_links (links sides.A capture) (both_tame scenario content capture ran).a
@@ -250,6 +254,19 @@ deeds_tame (Says pdu ∷ acts) all = (tt, deeds_tame acts all.1)
 acts_tame : (acts : List (Act Circumstance)) (talk : List Talk) → map deed_of acts ≡ flat_map deeds_in talk → IsTamePart talk → AllByRecursion IsTameAct acts
 acts_tame acts talk deeds tame = deeds_tame acts (subst (AllByRecursion IsTameInto) (sym (ap (flat_map deed_pdus) deeds ∙ talks_pdus talk)) tame)
 
+-- by its talk
+talks_part : (talk : List Talk) → AreTameTalks talk → IsTamePart talk
+talks_part [] tame = tt
+talks_part (one ∷ talk) tame = both_all IsTameInto (pdus_in one) (flat_map pdus_in talk) (into_all (pdus_in one) tame.0) (talks_part talk tame.1)
+
+later_tame : (past since : List Talk) → AreTameTalks (past ++ since) → AreTameTalks since
+later_tame [] since tame = tame
+later_tame (one ∷ past) since tame = later_tame past since tame.1
+
+-- of all that it did since its link came up
+pub since_tame : {P : Type 0} (A : Profile P) (talk : List Talk) (now : Host P) (on : OnLink (upper A) talk now) → AreTameTalks talk → AllByRecursion IsTameAct on.acts
+since_tame A talk now on tame = acts_tame on.acts on.since on.deeds_are (talks_part on.since (later_tame on.past (Told (Linked Up) ∷ on.since) (subst AreTameTalks on.talk_is tame)).1)
+
 -- however it came to its links
 pub heard_tame : {P : Type 0} (A : Profile P) (side : Side) (capture : List Entry) (now : Host P) (came : CameOver A side capture now) → AreTameLinks (map pdus (links side capture)) → AllByRecursion IsTameAct came.over.acts
 heard_tame A side capture now came tame = acts_tame came.over.acts came.talk came.over.deeds_are (of_parts [] came.talk (fallen (parts came.talk) (map pdus (links side capture)) came.fall tame))
@@ -269,7 +286,7 @@ module _ {P : Type 0} (A : Profile P) (Q R : P → Type 0) (keeps : KeepsFit A I
   up_gentle : (act : Act Circumstance) (host mid : Host P) → Does (upper A) act host mid → IsTameAct act → FitHost (IsProper A.policy) Q host → IsFreeAct A act host → IsGentleUp A true act host
   up_gentle (Hears circumstances (Linked event)) host mid does tame fit free = tt
   up_gentle (Hears circumstances (Failed status)) host mid does tame fit free = tt
-  up_gentle (Hears circumstances (Heard pdu)) host mid does tame fit free = (free, λ here. let one = (tame here).1 in ((tame here).0, omega (arith, one)))
+  up_gentle (Hears circumstances (Heard pdu)) host mid does tame fit free = (free, λ here. let one = tame.1 here in (tame.0, omega (arith, one)))
   up_gentle (Hears circumstances TimerFired) host mid does tame fit free = free
   up_gentle (Hears circumstances Cancelled) host mid does tame fit free = tt
   up_gentle (Hears circumstances (Opening name)) host mid does tame fit free = tt
@@ -324,17 +341,17 @@ module _ {P : Type 0} (A : Profile P) (Q R : P → Type 0) (keeps : KeepsFit A I
       stays_up (Hears circumstances (Opening name)) stays = refl
       stays_up (Says pdu) stays = refl
 
-  -- and what happened on it is in one order with what its profile went through
-  pub lives_woven : (asks : Asks A) (moved : List Pdu) (now : Host P) → KeepsFit A (λ pdu. Unit {0}) (λ v. Unit {0}) Q → AreTamePdus moved → next A now ≡ None → (came : CameUp A moved now) → IsFreeOn A moved now came → TalksWovenOn A asks came.talk now came.on
-  lives_woven asks moved now whatever tame none came free =
-      let on = came.on in
-      let start = hear A on.gifts (Linked Up) on.old in
-      let heard = deeds_tame on.acts (subst (AllByRecursion IsTameInto) (sym (ap (flat_map deed_pdus) on.deeds_are ∙ (talks_pdus on.since ∙ came.moved_is))) (into_all moved tame)) in
-      talks_woven_on A asks came.talk now on
-      (on_gentle on.acts start now on.acting on.stays heard (up-fits A IsSoberPdu (IsProper A.policy) Q keeps on.gifts on.old (profile-so A Q whatever on.before on.old on.acting_before)) free.free) none free.back
+  -- where all that it heard is tame
+  pub link_gentle : (talk : List Talk) (now : Host P) (on : OnLink (upper A) talk now) → KeepsFit A (λ pdu. Unit {0}) (λ v. Unit {0}) Q → AllByRecursion IsTameAct on.acts → AreFreeUp A true on.acts (hear A on.gifts (Linked Up) on.old)
+      → AreGentle A on.acts (hear A on.gifts (Linked Up) on.old)
+  link_gentle talk now on whatever heard free =
+      on_gentle on.acts (hear A on.gifts (Linked Up) on.old) now on.acting on.stays heard (up-fits A IsSoberPdu (IsProper A.policy) Q keeps on.gifts on.old (profile-so A Q whatever on.before on.old on.acting_before)) free
 
   pub lives_through : (asks : Asks A) (moved : List Pdu) (now : Host P) → KeepsFit A (λ pdu. Unit {0}) (λ v. Unit {0}) Q → AreTamePdus moved → next A now ≡ None → (came : CameUp A moved now) → IsFreeOn A moved now came → TalksSo A asks came.talk now came.on
-  lives_through asks moved now whatever tame none came free = (lives_woven asks moved now whatever tame none came free).so
+  lives_through asks moved now whatever tame none came free =
+      let on = came.on in
+      let heard = deeds_tame on.acts (subst (AllByRecursion IsTameInto) (sym (ap (flat_map deed_pdus) on.deeds_are ∙ (talks_pdus on.since ∙ came.moved_is))) (into_all moved tame)) in
+      hosts_talk_in_turns A asks came.talk now on (link_gentle came.talk now on whatever heard free.free) none free.back
 
 pub hosts_are_gentle : HostsAreGentle
 hosts_are_gentle scenario content capture ran =
@@ -345,7 +362,7 @@ hosts_are_gentle scenario content capture ran =
     }
 
 -- what moved on the link that is up
-pub last_tame : (list : List Link) (up : Option Link) → AreTameLinks (map pdus (list ++ option_to_list up)) → IsTameUp (option_map pdus up)
+last_tame : (list : List Link) (up : Option Link) → AreTameLinks (map pdus (list ++ option_to_list up)) → IsTameUp (option_map pdus up)
 last_tame list None all = tt
 last_tame [] (Some link) all = all.0
 last_tame (one ∷ list) (Some link) all = last_tame list (Some link) all.1
@@ -383,18 +400,3 @@ rests_are_lived asks scenario content happenings world happened rests =
           (λ moved tame none came free. lives_through server AnyServer KnowsNone (server-keeps scenario.settings content) (servers_keep scenario.settings content) (asks.servers scenario.settings content) moved world.b.upper
           (servers-keep_fit scenario.settings content (λ pdu. Unit {0}) (λ v. Unit {0}) (any-holds (policy scenario.settings true))) tame none came free) tame.b;
     }
-
--- The client of a run at rest, with what happened on its link and what its profile went through in one order.
-pub client_woven : (asks : HostsAsk) (scenario : Scenario) (content : Option Contents) (happenings : List Happening) (world : BothHosts) → Happened scenario content happenings world → IsAtRest (client_of scenario) (server_of scenario content) world → world.radio.a.up ≡ true
-    → (link : Link) → link_up sides.A (all_entries happenings) ≡ Some link → (came : CameUp (client_profile scenario.settings) (pdus link) world.a.upper) → IsFreeOn (client_profile scenario.settings) (pdus link) world.a.upper came
-    → TalksWovenOn (client_profile scenario.settings) (asks.clients scenario.settings) came.talk world.a.upper came.on
-client_woven asks scenario content happenings world happened rests on link is came free =
-    let U = client_of scenario in
-    let V = server_of scenario content in
-    let past = all_entries happenings in
-    let all = carried U V scenario.acl_length scenario.acl_count scenario.names happenings world (fits scenario content) happened in
-    let rest = all.rests rests in
-    let tame = both_tame scenario content past (record { happenings = happenings; world = world; happened = happened; ends = []; last = tt; capture_is = sym (append-nil past) }) in
-    let pdus_tame = subst (λ (up : Option Link). IsTameUp (option_map pdus up)) is (last_tame (linking (moves sides.A past)).past (link_up sides.A past) tame.a) in
-    lives_woven (client_profile scenario.settings) IsLowClient HasNoLink (client-keeps scenario.settings) (clients_keep scenario.settings) (asks.clients scenario.settings) (pdus link) world.a.upper
-    (clients-keep_fit scenario.settings (λ pdu. Unit {0}) (λ v. Unit {0}) (any-holds (policy scenario.settings false))) pdus_tame (rest.idle_a.said_all on).none_next came free

@@ -32,3 +32,7 @@ pub mod Keeping
 pub mod Broken
 pub mod Onward
 pub mod FreeClients
+pub mod Alone
+pub mod Rising
+pub mod Searched
+pub mod PlainRuns

@@ -1,5 +1,5 @@
 -- Host a is on its link while one is up, and at rest it does not end it.
-use Rattle.std.proofs.Common.{◌≡◌, ◌≢◌, ℕ, Bool, true, false, cond, not, ◌&&◌, List, [], ◌∷◌, ◌++◌, Some, None, Result, Ok, Err, refl, sym, ap, subst, ◌∙◌, if◌then◌else◌}
+use Rattle.std.proofs.Common.{◌≡◌, ℕ, Bool, true, false, cond, not, ◌&&◌, List, [], ◌∷◌, ◌++◌, Some, None, Result, Ok, Err, refl, sym, ap, subst, ◌∙◌, if◌then◌else◌}
 use Rattle.std.specs.Prelude.{is_some, nat_lt}
 use Rattle.std.specs.Option.{option_map}
 use Rattle.bt_base.specs.declared.ports.PortFault.{PortFault}
@@ -42,13 +42,12 @@ use Rattle.host_laws.specs.Leaving.{is_off}
 use Rattle.host_laws.specs.Onward.{Befits, IsOfPush}
 use Rattle.host_laws.proofs.OnwardSteps.{StepSo, steps_so, IsSo, ended_stays, keeps_so, learns_so}
 use Rattle.scenario_laws.specs.Captures.{client_of, server_of}
-use Rattle.scenario_laws.specs.Onward.{AwaitingPushesArePlain, PushesGoOnward}
+use Rattle.scenario_laws.specs.Onward.{PushesGoOnward}
 use Rattle.scenario_laws.proofs.Acting.{Anyhow, Acted}
 use Rattle.scenario_laws.proofs.Both.{idle_acted, both_acted}
 use Rattle.scenario_laws.proofs.Carrying.{carried}
 use Rattle.scenario_laws.proofs.Freeing.{runs_hold_back_nothing}
 use Rattle.scenario_laws.proofs.Fronts.{fits}
-use Rattle.scenario_laws.proofs.Keeping.{pushes_are_plain}
 use Rattle.scenario_laws.proofs.UnlinkedClients.{clients_keep}
 
 -- ---- its stage
@@ -87,7 +86,7 @@ both_of : (a b : Bool) → (a && b) ≡ true → a ≡ true
 both_of true b is = refl
 both_of false b is = cc
 
-rests_at : (stage : Stage) → is_rest stage ≡ true → stage ≡ Rest
+pub rests_at : (stage : Stage) → is_rest stage ≡ true → stage ≡ Rest
 rests_at Rest is = refl
 rests_at (Paged point) is = cc
 rests_at (SearchChannel point) is = cc
@@ -152,13 +151,13 @@ opens_so gifts name p at =
 -- ---- one host
 
 -- no link comes up
-abbrev NoneUp : List LinkEvent → Type 0
+abbrev pub NoneUp : List LinkEvent → Type 0
 NoneUp [] = Unit {0}
 NoneUp (Up ∷ more) = ⊥
 NoneUp (Down reason ∷ more) = NoneUp more
 
 -- a link that it is to be told of came up for its push, which waits for it
-abbrev Awaited : List LinkEvent → Stage → Type 0
+abbrev pub Awaited : List LinkEvent → Stage → Type 0
 Awaited [] stage = Unit {0}
 Awaited (Up ∷ more) stage = (stage ≡ Paged Asked) × NoneUp more
 Awaited (Down reason ∷ more) stage = NoneUp more
@@ -184,9 +183,9 @@ awaits_on [] linked link one two chain on so = tt
 awaits_on (Up ∷ more) linked link one two chain on so = let never : false ≡ true = sym chain.0 ∙ on in cc
 awaits_on (Down reason ∷ more) linked link one two chain on so = so
 
-record IsOnto (e : End (Host ClientProfile)) : Type 0 where
-  so : IsSo e.linked e.upper.profile
-  owed : Awaited e.owed e.upper.profile.client.stage
+pub record IsOnto (e : End (Host ClientProfile)) : Type 0 where
+  pub so : IsSo e.linked e.upper.profile
+  pub owed : Awaited e.owed e.upper.profile.client.stage
 
 module _ (settings : Settings) where
   abbrev U : Upper (Host ClientProfile) Circumstance
@@ -269,7 +268,7 @@ module _ (settings : Settings) where
     deed_onto Breaks old new idle same onto = rw same (parts_onto 0x08 old.a onto)
     deed_onto Cancels old new idle (may, g, same) onto = rw same (word_onto g Cancelled old.a tt idle onto)
 
-    done_onto : (doing : Doing) (old new : Carriage (Host ClientProfile) T) → IsDone U V doing old new → Both U V old → IsOnto old.a → IsOnto new.a
+    pub done_onto : (doing : Doing) (old new : Carriage (Host ClientProfile) T) → IsDone U V doing old new → Both U V old → IsOnto old.a → IsOnto new.a
     done_onto (Moved A motion) old new (e, does, same) sound onto = rw same (motion_onto old.link motion old.a e does sound.a onto)
     done_onto (Moved B motion) old new (f, does, same) sound onto = rw same onto
     done_onto (Deeds word) old new (rest, acts) sound onto = deed_onto (finds word old) old new rest.idle_a acts onto
@@ -328,6 +327,3 @@ pushes_go_onward scenario content happenings front world link is there rest up =
     let none = (runs_hold_back_nothing scenario content front world there).a ((idle.idle_a.said_all linked).none_next) in
     let stays = stays_on scenario.settings now none (idle.calm.no_fall_a (sym (idle_linked U _ _ idle.idle_a both.1.a) ∙ linked)) in
     goes_on now.profile.client.stage (onto.so.linked linked) stays
-
-pub awaiting_pushes_are_plain : AwaitingPushesArePlain
-awaiting_pushes_are_plain asks scenario content happenings sends awaits = pushes_are_plain asks scenario content happenings sends (pushes_go_onward scenario content happenings) awaits

@@ -1,5 +1,5 @@
 -- Host b of a run serves in order.
-use Rattle.std.proofs.Common.{◌≡◌, ℕ, zero, suc, ◌+◌, ◌≤◌, List, [], ◌∷◌, ◌++◌, map, filter, replicate, Bool, true, false, cond, eqb, ◌||◌, ◌&&◌, not, Some, None, Ok, Err, refl, sym, ap, ap₂, subst, ◌∙◌, ◌⊎◌, inl, inr, arith, append_assoc, append-nil}
+use Rattle.std.proofs.Common.{◌≡◌, ℕ, zero, suc, ◌+◌, ◌≤◌, List, [], ◌∷◌, ◌++◌, map, filter, replicate, Bool, true, false, cond, eqb, ◌||◌, ◌&&◌, not, Option, Some, None, Ok, Err, refl, sym, ap, ap₂, subst, ◌∙◌, ◌⊎◌, inl, inr, arith, append_assoc, append-nil}
 use Rattle.std.specs.Prelude.{drop, nat_lt, option_to_list}
 use Rattle.std.specs.List.{AllByRecursion, flat_map, list_any}
 use Rattle.std.proofs.lemmas.Bool.{eqb-true, eq-eqb, ltb-false, ltb-true}
@@ -7,7 +7,8 @@ use Rattle.std.proofs.lemmas.List.{map-append}
 use Rattle.std.proofs.lemmas.List.Concat.{flat_map-append}
 use Rattle.std.proofs.lemmas.List.Folds.{list_any-append}
 use Rattle.acl_fragments.specs.Pieces.{channel_of}
-use Rattle.bt_base.specs.Objects.{Object}
+use Rattle.bt_base.specs.Objects.{Object, Contents}
+use Rattle.bt_base.specs.declared.settings.Transport.{Transport}
 use Rattle.bt_base.specs.declared.settings.Transport.TheVariants.{L2cap}
 use Rattle.push_script.specs.declared.scenario.Scenario.{Scenario}
 use Rattle.capture.specs.declared.flow.Flow.{Flow}
@@ -38,7 +39,7 @@ use Rattle.host_model.specs.Hosts.{first_host}
 use Rattle.host_model.specs.Clients.{client_profile}
 use Rattle.host_model.specs.Servers.{server_profile}
 use Rattle.host_laws.specs.Calm.{pdus_in}
-use Rattle.host_laws.specs.InOrder.{seeks_object, may_ask, AsksForOneObject}
+use Rattle.host_laws.specs.InOrder.{seeks_object, may_carry, may_ask, AsksForOneObject}
 use Rattle.host_laws.specs.OverLinks.{turns_link, parts_from, parts, moved_in}
 use Rattle.host_laws.proofs.Fitting.{IsProper, FitHost, AnyServer, IsLowClient}
 use Rattle.host_laws.proofs.Asking.{hosts_ask}
@@ -84,34 +85,34 @@ none_came p came (x ∷ sent) (times, rest, is, later) none = ap (list_any p) is
     both : (a b : Bool) → a ≡ false → b ≡ false → (a || b) ≡ false
     both a b one two = ap (λ c. c || b) one ∙ two
 
-fewer_may : (psm : ℕ) (came sent : List Call) → Arrives came sent → may_ask psm sent ≡ true → may_ask psm came ≡ true
-fewer_may psm came sent is may = by (eqb psm 1) (eqb psm 3) (list_any seeks_object sent) refl may
+fewer_may : (T : Transport) (psm : ℕ) (came sent : List Call) → Arrives came sent → may_ask T psm sent ≡ true → may_ask T psm came ≡ true
+fewer_may T psm came sent is may = by (eqb psm 1) (may_carry T psm) (list_any seeks_object sent) refl may
   where
-    by : (one three any : Bool) → list_any seeks_object sent ≡ any → (one || (not three && not any)) ≡ true → (one || (not three && not (list_any seeks_object came))) ≡ true
-    by true three any at may = refl
-    by false true any at may = cc
-    by false false true at may = cc
-    by false false false at may = ap not (none_came seeks_object came sent is at)
+    by : (one other any : Bool) → list_any seeks_object sent ≡ any → (one || (other && not any)) ≡ true → (one || (other && not (list_any seeks_object came))) ≡ true
+    by true other any at may = refl
+    by false false any at may = cc
+    by false true true at may = cc
+    by false true false at may = ap not (none_came seeks_object came sent is at)
 
-fresh_came : (one : Call) (came sent : List Call) → Arrives came sent → IsFresh may_ask one sent → IsFresh may_ask one came
-fresh_came one came sent is fresh = record { wanted = fresh.wanted; wanted_is = fresh.wanted_is; fits = fewer_may fresh.wanted.psm came sent is fresh.fits; unused = none_came (names fresh.wanted.source) came sent is fresh.unused }
+fresh_came : (T : Transport) (one : Call) (came sent : List Call) → Arrives came sent → IsFresh (may_ask T) one sent → IsFresh (may_ask T) one came
+fresh_came T one came sent is fresh = record { wanted = fresh.wanted; wanted_is = fresh.wanted_is; fits = fewer_may T fresh.wanted.psm came sent is fresh.fits; unused = none_came (names fresh.wanted.source) came sent is fresh.unused }
 
 -- one is again the last or new among those that came as it is among all
-next_came : (one : Call) (came sent : List Call) → Arrives came sent → AreOneByOne may_ask sent → IsAgain one sent ⊎ IsFresh may_ask one sent → IsAgain one came ⊎ IsFresh may_ask one came
-next_came one came [] is all (inl never) = absurd never
-next_came one came [] is all (inr fresh) = inr (fresh_came one came [] is fresh)
-next_came one came (x ∷ sent) is all (inr fresh) = inr (fresh_came one came (x ∷ sent) is fresh)
-next_came one came (x ∷ sent) (times, rest, came_is, later) all (inl same) = by times came_is (next_came x rest sent later all.1 all.0)
+next_came : (T : Transport) (one : Call) (came sent : List Call) → Arrives came sent → AreOneByOne (may_ask T) sent → IsAgain one sent ⊎ IsFresh (may_ask T) one sent → IsAgain one came ⊎ IsFresh (may_ask T) one came
+next_came T one came [] is all (inl never) = absurd never
+next_came T one came [] is all (inr fresh) = inr (fresh_came T one came [] is fresh)
+next_came T one came (x ∷ sent) is all (inr fresh) = inr (fresh_came T one came (x ∷ sent) is fresh)
+next_came T one came (x ∷ sent) (times, rest, came_is, later) all (inl same) = by times came_is (next_came T x rest sent later all.1 all.0)
   where
-    by : (n : ℕ) → came ≡ replicate n x ++ rest → IsAgain x rest ⊎ IsFresh may_ask x rest → IsAgain one came ⊎ IsFresh may_ask one came
-    by zero is so = subst (λ (c : Call). IsAgain c came ⊎ IsFresh may_ask c came) (sym same) (subst (λ (l : List Call). IsAgain x l ⊎ IsFresh may_ask x l) (sym is) so)
+    by : (n : ℕ) → came ≡ replicate n x ++ rest → IsAgain x rest ⊎ IsFresh (may_ask T) x rest → IsAgain one came ⊎ IsFresh (may_ask T) one came
+    by zero is so = subst (λ (c : Call). IsAgain c came ⊎ IsFresh (may_ask T) c came) (sym same) (subst (λ (l : List Call). IsAgain x l ⊎ IsFresh (may_ask T) x l) (sym is) so)
     by (suc n) is so = inl (subst (IsAgain one) (sym is) same)
 
-pub came-one_by_one : (came sent : List Call) → Arrives came sent → AreOneByOne may_ask sent → AreOneByOne may_ask came
-came-one_by_one came [] is all = subst (AreOneByOne may_ask) (sym is) tt
-came-one_by_one came (x ∷ sent) (times, rest, is, later) all = subst (AreOneByOne may_ask) (sym is) (by times (came-one_by_one rest sent later all.1) (next_came x rest sent later all.1 all.0))
+pub came-one_by_one : (T : Transport) (came sent : List Call) → Arrives came sent → AreOneByOne (may_ask T) sent → AreOneByOne (may_ask T) came
+came-one_by_one T came [] is all = subst (AreOneByOne (may_ask T)) (sym is) tt
+came-one_by_one T came (x ∷ sent) (times, rest, is, later) all = subst (AreOneByOne (may_ask T)) (sym is) (by times (came-one_by_one T rest sent later all.1) (next_came T x rest sent later all.1 all.0))
   where
-    by : (n : ℕ) → AreOneByOne may_ask rest → IsAgain x rest ⊎ IsFresh may_ask x rest → AreOneByOne may_ask (replicate n x ++ rest)
+    by : (n : ℕ) → AreOneByOne (may_ask T) rest → IsAgain x rest ⊎ IsFresh (may_ask T) x rest → AreOneByOne (may_ask T) (replicate n x ++ rest)
     by zero below next = below
     by (suc zero) below next = (next, below)
     by (suc (suc n)) below next = (inl refl, by (suc n) below next)
@@ -129,18 +130,18 @@ same_any : (p : Call → Bool) → ((c : Call) → p (heard_as c) ≡ p c) → (
 same_any p alike [] = refl
 same_any p alike (x ∷ calls) = ap₂ (λ (a b : Bool). a || b) (alike x) (same_any p alike calls)
 
-as_fresh : (one : Call) (before : List Call) → IsFresh may_ask one before → IsFresh may_ask (heard_as one) (map heard_as before)
-as_fresh one before fresh = record {
+as_fresh : (T : Transport) (one : Call) (before : List Call) → IsFresh (may_ask T) one before → IsFresh (may_ask T) (heard_as one) (map heard_as before)
+as_fresh T one before fresh = record {
   wanted = fresh.wanted;
   wanted_is = fresh.wanted_is;
-  fits = ap (λ any. (eqb fresh.wanted.psm 1) || (not (eqb fresh.wanted.psm 3) && not any)) (same_any seeks_object (λ c. refl) before) ∙ fresh.fits;
+  fits = ap (λ any. (eqb fresh.wanted.psm 1) || (may_carry T fresh.wanted.psm && not any)) (same_any seeks_object (λ c. refl) before) ∙ fresh.fits;
   unused = same_any (names fresh.wanted.source) (λ c. refl) before ∙ fresh.unused;
 }
 
-as_one_by_one : (calls : List Call) → AreOneByOne may_ask calls → AreOneByOne may_ask (map heard_as calls)
-as_one_by_one [] all = tt
-as_one_by_one (one ∷ before) (inl again, later) = (inl (as_again one before again), as_one_by_one before later)
-as_one_by_one (one ∷ before) (inr fresh, later) = (inr (as_fresh one before fresh), as_one_by_one before later)
+as_one_by_one : (T : Transport) (calls : List Call) → AreOneByOne (may_ask T) calls → AreOneByOne (may_ask T) (map heard_as calls)
+as_one_by_one T [] all = tt
+as_one_by_one T (one ∷ before) (inl again, later) = (inl (as_again one before again), as_one_by_one T before later)
+as_one_by_one T (one ∷ before) (inr fresh, later) = (inr (as_fresh T one before fresh), as_one_by_one T before later)
 
 -- a PDU has the same requests for both
 answer_calls : (answer : Answer) → map heard_as (calls_that_went Out (Command Out answer ∷ [])) ≡ calls_that_went Into (Command Into answer ∷ [])
@@ -286,8 +287,8 @@ said_part (one ∷ part) = by one (said_part part)
     by (Done outcome) is = same [] is
 
 -- of one by one all that moved is so
-said_so : (part : List Talk) → AreOneByOne may_ask (calls_that_went Out (moved_in part)) → AreOneByOne may_ask (taken said_of part)
-said_so part all = came-one_by_one (taken said_of part) (taken outgoing_of part) (said_part part) (subst (AreOneByOne may_ask) (out_part part) (as_one_by_one (calls_that_went Out (moved_in part)) all))
+said_so : (T : Transport) (part : List Talk) → AreOneByOne (may_ask T) (calls_that_went Out (moved_in part)) → AreOneByOne (may_ask T) (taken said_of part)
+said_so T part all = came-one_by_one T (taken said_of part) (taken outgoing_of part) (said_part part) (subst (AreOneByOne (may_ask T)) (out_part part) (as_one_by_one T (calls_that_went Out (moved_in part)) all))
 
 -- ---- parts of talk
 
@@ -405,29 +406,29 @@ heard_aside (Unsent pdu) is = cc
 heard_aside (Met fate checked) is = cc
 heard_aside (Done outcome) is = cc
 
-each_said : (talk : List Talk) → AsksOnce talk → (j : ℕ) → AreOneByOne may_ask (said_at j talk)
-each_said talk all j =
-    subst (AreOneByOne may_ask) (ap (λ (l : List Call). at_turn said_of 0 j talk ++ l) (either (eqb 0 j)) ∙ append-nil (at_turn said_of 0 j talk))
-    (each_part (AreOneByOne may_ask) tt said_of said_aside 0 [] talk (all_said (parts talk) all) j)
+each_said : (T : Transport) (talk : List Talk) → AsksOnce T talk → (j : ℕ) → AreOneByOne (may_ask T) (said_at j talk)
+each_said T talk all j =
+    subst (AreOneByOne (may_ask T)) (ap (λ (l : List Call). at_turn said_of 0 j talk ++ l) (either (eqb 0 j)) ∙ append-nil (at_turn said_of 0 j talk))
+    (each_part (AreOneByOne (may_ask T)) tt said_of said_aside 0 [] talk (all_said (parts talk) all) j)
   where
     either : (b : Bool) → (let nothing : List Call = [] in cond b nothing nothing ≡ nothing)
     either true = refl
     either false = refl
 
-    all_said : (list : List (List Talk)) → AllByRecursion (λ (part : List Talk). AreOneByOne may_ask (calls_that_went Out (moved_in part))) list → AllByRecursion (λ (part : List Talk). AreOneByOne may_ask (taken said_of part)) list
+    all_said : (list : List (List Talk)) → AllByRecursion (λ (part : List Talk). AreOneByOne (may_ask T) (calls_that_went Out (moved_in part))) list → AllByRecursion (λ (part : List Talk). AreOneByOne (may_ask T) (taken said_of part)) list
     all_said [] all = tt
-    all_said (part ∷ list) all = (said_so part all.0, all_said list all.1)
+    all_said (part ∷ list) all = (said_so T part all.0, all_said list all.1)
 
-all_sought : (talk : List Talk) → ((j : ℕ) → AreOneByOne may_ask (at_turn heard_of 0 j talk)) → AllByRecursion (λ (part : List Talk). AsksForOneObject (moved_in part)) (parts talk)
-all_sought talk each = all_heard (parts talk) (all_parts (AreOneByOne may_ask) tt heard_of heard_aside 0 [] talk (λ j. subst (AreOneByOne may_ask) (sym (ap (λ (l : List Call). at_turn heard_of 0 j talk ++ l) (either (eqb 0 j)) ∙ append-nil (at_turn heard_of 0 j talk))) (each j)))
+all_sought : (T : Transport) (talk : List Talk) → ((j : ℕ) → AreOneByOne (may_ask T) (at_turn heard_of 0 j talk)) → AllByRecursion (λ (part : List Talk). AsksForOneObject T (moved_in part)) (parts talk)
+all_sought T talk each = all_heard (parts talk) (all_parts (AreOneByOne (may_ask T)) tt heard_of heard_aside 0 [] talk (λ j. subst (AreOneByOne (may_ask T)) (sym (ap (λ (l : List Call). at_turn heard_of 0 j talk ++ l) (either (eqb 0 j)) ∙ append-nil (at_turn heard_of 0 j talk))) (each j)))
   where
     either : (b : Bool) → (let nothing : List Call = [] in cond b nothing nothing ≡ nothing)
     either true = refl
     either false = refl
 
-    all_heard : (list : List (List Talk)) → AllByRecursion (λ (part : List Talk). AreOneByOne may_ask (taken heard_of part)) list → AllByRecursion (λ (part : List Talk). AsksForOneObject (moved_in part)) list
+    all_heard : (list : List (List Talk)) → AllByRecursion (λ (part : List Talk). AreOneByOne (may_ask T) (taken heard_of part)) list → AllByRecursion (λ (part : List Talk). AsksForOneObject T (moved_in part)) list
     all_heard [] all = tt
-    all_heard (part ∷ list) all = (subst (AreOneByOne may_ask) (sym (heard_part part)) all.0, all_heard list all.1)
+    all_heard (part ∷ list) all = (subst (AreOneByOne (may_ask T)) (sym (heard_part part)) all.0, all_heard list all.1)
 
 unsent_silent : (of : Talk → List Call) → ((pdu : List ℕ) → of (Unsent pdu) ≡ []) → (waiting : List (List ℕ)) → AllByRecursion (λ (one : Talk). of one ≡ []) (map Unsent waiting)
 unsent_silent of none [] = tt
@@ -443,50 +444,51 @@ part_asked part link unsent moved =
     ∙ (calls-more Into (flat_map said_by link) more ∙ ap (λ (l : List Call). l ++ calls_that_went Into (flat_map said_by link)) (out-calls more (all-out unsent))))
 
 -- what all links have
-abbrev pub AllAsk : List (List Pdu) → Type 0
-AllAsk links = AllByRecursion (λ (link : List Pdu). AsksForOneObject (flat_map said_by link)) links
+abbrev AllAsk : Transport → List (List Pdu) → Type 0
+AllAsk T links = AllByRecursion (λ (link : List Pdu). AsksForOneObject T (flat_map said_by link)) links
 
-links_asked : (ps : List (List Talk)) (links : List (List Pdu)) → FallTo ps links → AllByRecursion (λ (part : List Talk). AsksForOneObject (moved_in part)) ps → AllAsk links
-links_asked [] links none all = subst AllAsk (sym none) tt
-links_asked (part ∷ ps) links fall all =
+links_asked : (T : Transport) (ps : List (List Talk)) (links : List (List Pdu)) → FallTo ps links → AllByRecursion (λ (part : List Talk). AsksForOneObject T (moved_in part)) ps → AllAsk T links
+links_asked T [] links none all = subst (AllAsk T) (sym none) tt
+links_asked T (part ∷ ps) links fall all =
     elim fall [
-      | inl (silent, more) ↦ links_asked ps links more all.1
-      | inr (link, rest, unsent, is, moved, more) ↦ subst AllAsk (sym is) (subst (AreOneByOne may_ask) (part_asked part link unsent moved) all.0, links_asked ps rest more all.1)
+      | inl (silent, more) ↦ links_asked T ps links more all.1
+      | inr (link, rest, unsent, is, moved, more) ↦ subst (AllAsk T) (sym is) (subst (AreOneByOne (may_ask T)) (part_asked part link unsent moved) all.0, links_asked T ps rest more all.1)
     ]
 
-pub parts_asked : (ps : List (List Talk)) (links : List (List Pdu)) → FallTo ps links → AllAsk links → AllByRecursion (λ (part : List Talk). AsksForOneObject (moved_in part)) ps
-parts_asked [] links none all = tt
-parts_asked (part ∷ ps) links fall all =
+parts_asked : (T : Transport) (ps : List (List Talk)) (links : List (List Pdu)) → FallTo ps links → AllAsk T links → AllByRecursion (λ (part : List Talk). AsksForOneObject T (moved_in part)) ps
+parts_asked T [] links none all = tt
+parts_asked T (part ∷ ps) links fall all =
     elim fall [
-      | inl (silent, more) ↦ (subst (λ (l : List Pdu). AsksForOneObject (flat_map said_by l)) (sym silent) tt, parts_asked ps links more all)
+      | inl (silent, more) ↦ (subst (λ (l : List Pdu). AsksForOneObject T (flat_map said_by l)) (sym silent) tt, parts_asked T ps links more all)
       | inr (link, rest, unsent, is, moved, more) ↦
-          let both : AllAsk (link ∷ rest) = subst AllAsk is all in
-          (subst (AreOneByOne may_ask) (sym (part_asked part link unsent moved)) both.0, parts_asked ps rest more both.1)
+          let both : AllAsk T (link ∷ rest) = subst (AllAsk T) is all in
+          (subst (AreOneByOne (may_ask T)) (sym (part_asked part link unsent moved)) both.0, parts_asked T ps rest more both.1)
     ]
 
-talks_asked : (list : List Link) → AllAsk (map pdus list) → AllByRecursion AsksForOneObject (map talk list)
-talks_asked [] all = tt
-talks_asked (link ∷ list) all = (all.0, talks_asked list all.1)
+talks_asked : (T : Transport) (list : List Link) → AllAsk T (map pdus list) → AllByRecursion (AsksForOneObject T) (map talk list)
+talks_asked T [] all = tt
+talks_asked T (link ∷ list) all = (all.0, talks_asked T list all.1)
 
-pub asked_talks : (list : List Link) → AllByRecursion AsksForOneObject (map talk list) → AllAsk (map pdus list)
-asked_talks [] all = tt
-asked_talks (link ∷ list) all = (all.0, asked_talks list all.1)
+asked_talks : (T : Transport) (list : List Link) → AllByRecursion (AsksForOneObject T) (map talk list) → AllAsk T (map pdus list)
+asked_talks T [] all = tt
+asked_talks T (link ∷ list) all = (all.0, asked_talks T list all.1)
 
 -- what host a said by then, and what of it host b heard
-said_once : (talk : List Talk) (waiting : List (List ℕ)) → AsksOnce (talk ++ map Unsent waiting) → (j : ℕ) → AreOneByOne may_ask (said_at j talk)
-said_once talk waiting once j = subst (AreOneByOne may_ask) (all-still said_of j talk (map Unsent waiting) (unsent_silent said_of (λ pdu. refl) waiting)) (each_said (talk ++ map Unsent waiting) once j)
+said_once : (T : Transport) (talk : List Talk) (waiting : List (List ℕ)) → AsksOnce T (talk ++ map Unsent waiting) → (j : ℕ) → AreOneByOne (may_ask T) (said_at j talk)
+said_once T talk waiting once j = subst (AreOneByOne (may_ask T)) (all-still said_of j talk (map Unsent waiting) (unsent_silent said_of (λ pdu. refl) waiting)) (each_said T (talk ++ map Unsent waiting) once j)
 
-heard_once : (talk : List Talk) (waiting coming : List (List ℕ)) → ((j : ℕ) → AreOneByOne may_ask (heard_at j talk coming)) → (j : ℕ) → AreOneByOne may_ask (at_turn heard_of 0 j (talk ++ map Unsent waiting))
-heard_once talk waiting coming heard j =
-    subst (AreOneByOne may_ask) (sym (all-still heard_of j talk (map Unsent waiting) (unsent_silent heard_of (λ pdu. refl) waiting)))
-    (tail-single may_ask (cond (eqb (turns talk) j) (queue_calls coming) []) (at_turn heard_of 0 j talk) (heard j))
+heard_once : (T : Transport) (talk : List Talk) (waiting coming : List (List ℕ)) → ((j : ℕ) → AreOneByOne (may_ask T) (heard_at j talk coming)) → (j : ℕ) → AreOneByOne (may_ask T) (at_turn heard_of 0 j (talk ++ map Unsent waiting))
+heard_once T talk waiting coming heard j =
+    subst (AreOneByOne (may_ask T)) (sym (all-still heard_of j talk (map Unsent waiting) (unsent_silent heard_of (λ pdu. refl) waiting)))
+    (tail-single (may_ask T) (cond (eqb (turns talk) j) (queue_calls coming) []) (at_turn heard_of 0 j talk) (heard j))
 
 pub clients-ask_once : ClientsAskOnce
-clients-ask_once scenario content capture ran came direct free =
-    asked_once scenario.settings came.talk ran.world.a.upper came.over direct ((hosts_are_gentle scenario content capture ran).a came free)
+clients-ask_once scenario content capture ran came free =
+    asked_once scenario.settings came.talk ran.world.a.upper came.over ((hosts_are_gentle scenario content capture ran).a came free)
 
 pub servers-are_asked_once : ServersAreAskedOnce
-servers-are_asked_once scenario content capture ran direct =
+servers-are_asked_once scenario content capture ran =
+    let T = scenario.settings.transport in
     let client = client_profile scenario.settings in
     let server = server_profile scenario.settings content in
     let U = client_of scenario in
@@ -502,21 +504,26 @@ servers-are_asked_once scenario content capture ran direct =
     let a : CameOverSo client W sides.A capture ran.world.a.upper = came_over client W sides.A past capture _ ran.world.a.upper _ all.talk_a acted.a.acted all.links_a (same sides.A) in
     let b : CameOverSo server X sides.B capture ran.world.b.upper = came_over server X sides.B past capture _ ran.world.b.upper _ all.talk_b acted.b.acted all.links_b (same sides.B) in
     let ends = at ran.world all.talk_a all.talk_b in
-    let once = subst AsksOnce (came_over-talk client W sides.A past capture _ ran.world.a.upper _ all.talk_a acted.a.acted all.links_a (same sides.A))
-    (clients-ask_once scenario content capture ran a.came direct (free_acts client a.came.over.acts false (first_host client) a.so)) in
+    let once = subst (AsksOnce T) (came_over-talk client W sides.A past capture _ ran.world.a.upper _ all.talk_a acted.a.acted all.links_a (same sides.A))
+    (clients-ask_once scenario content capture ran a.came (free_acts client a.came.over.acts false (first_host client) a.so)) in
     let reached = all-reach U V (FitHost (IsProper (policy scenario.settings false)) IsLowClient) (FitHost (IsProper (policy scenario.settings true)) AnyServer) one other scenario.acl_length scenario.names all.doings _ all.of_script all.carries in
-    let heard = heard_once all.talk_b ends.b.waiting ends.b.coming (λ j. came-one_by_one (heard_at j all.talk_b ends.b.coming) (said_at j all.talk_a) (reached j) (said_once all.talk_a ends.a.waiting once j)) in
-    let sought = subst (λ (t : List Talk). AllByRecursion (λ (part : List Talk). AsksForOneObject (moved_in part)) (parts t)) (sym (came_over-talk server X sides.B past capture _ ran.world.b.upper _ all.talk_b acted.b.acted all.links_b (same sides.B)))
-    (all_sought (all.talk_b ++ map Unsent ends.b.waiting) heard) in
-    talks_asked (links sides.B capture) (links_asked (parts b.came.talk) (map pdus (links sides.B capture)) b.came.fall sought)
+    let heard = heard_once T all.talk_b ends.b.waiting ends.b.coming (λ j. came-one_by_one T (heard_at j all.talk_b ends.b.coming) (said_at j all.talk_a) (reached j) (said_once T all.talk_a ends.a.waiting once j)) in
+    let sought = subst (λ (t : List Talk). AllByRecursion (λ (part : List Talk). AsksForOneObject T (moved_in part)) (parts t)) (sym (came_over-talk server X sides.B past capture _ ran.world.b.upper _ all.talk_b acted.b.acted all.links_b (same sides.B)))
+    (all_sought T (all.talk_b ++ map Unsent ends.b.waiting) heard) in
+    talks_asked T (links sides.B capture) (links_asked T (parts b.came.talk) (map pdus (links sides.B capture)) b.came.fall sought)
+
+-- so it is in each part of what host b was told and said
+pub parts-are_asked : (scenario : Scenario) (content : Option Contents) (capture : List Entry) (ran : Ran scenario content capture) (ps : List (List Talk)) → FallTo ps (map pdus (links sides.B capture))
+    → AllByRecursion (λ (part : List Talk). AsksForOneObject scenario.settings.transport (moved_in part)) ps
+parts-are_asked scenario content capture ran ps fall =
+    let T = scenario.settings.transport in parts_asked T ps (map pdus (links sides.B capture)) fall (asked_talks T (links sides.B capture) (servers-are_asked_once scenario content capture ran))
 
 -- ---- host b serves in order
 
 pub serves-in_order : (scenario : Scenario) (before : List Object) (capture : List Entry) (ran : Ran scenario (holding before) capture) → scenario.settings.transport ≡ L2cap
     → ServesSo hosts_ask scenario.settings before capture ran.world.b.upper → OrderlyServer hosts_ask scenario.settings before capture ran.world.b.upper
 serves-in_order scenario before capture ran direct serves =
-    let asked = servers-are_asked_once scenario (holding before) capture ran direct in
-    let sought = parts_asked (parts serves.came.talk) (map pdus (links sides.B capture)) serves.came.fall (asked_talks (links sides.B capture) asked) in
+    let sought = subst (λ T. AllByRecursion (λ (part : List Talk). AsksForOneObject T (moved_in part)) (parts serves.came.talk)) direct (parts-are_asked scenario (holding before) capture ran (parts serves.came.talk) serves.came.fall) in
     let order = servers-are_served_in_order scenario.settings (holding before) (asked_by hosts_ask scenario.settings before) serves.came.talk ran.world.b.upper serves.so (asks-nothing scenario.settings (holding before)) sought serves.whole in
     record {
       came = serves.came;

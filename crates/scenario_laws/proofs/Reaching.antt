@@ -268,7 +268,7 @@ is_met size (CutOff count) checked frame behind apart = by (nat_lt count (length
 is_met size (Changed at mask) true frame behind apart = inr (inl (refl, none_asked (changed at mask frame) (by (eqb (channel_of (changed at mask frame)) 0x0001) refl)))
   where
     by : (b : Bool) → eqb (channel_of (changed at mask frame)) 0x0001 ≡ b → b ≡ false
-    by true is = absurd (apart refl (sym (changed-channel at mask frame behind) ∙ eqb-true (channel_of (changed at mask frame)) 0x0001 is))
+    by true is = absurd (apart refl (sym (changed-channel at mask frame behind.0) ∙ eqb-true (channel_of (changed at mask frame)) 0x0001 is))
     by false is = refl
 is_met size (Changed at mask) false frame behind apart = inr (inl (refl, refl))
 
@@ -291,7 +291,7 @@ one_pdu pdu tame = by (eqb (channel_of pdu) 0x0001) refl
     by : (b : Bool) → eqb (channel_of pdu) 0x0001 ≡ b → IsOnePdu pdu
     by true is =
         subst (λ (l : List Call). (l ≡ []) ⊎ ((one : Call) × (l ≡ one ∷ []))) (sym (ap (λ b. calls_that_went Into (cond b (map (Command Into) (answers (drop 4 pdu))) (Carried Into pdu ∷ []))) is))
-        (only (answers (drop 4 pdu)) (tame (eqb-true (channel_of pdu) 0x0001 is)).1)
+        (only (answers (drop 4 pdu)) (tame.1 (eqb-true (channel_of pdu) 0x0001 is)))
     by false is = inl (none_asked pdu is)
 
 fate_met : {S T H : Type 0} (V : Upper T H) (size : ℕ) (fate : Fate) (e : End S) (f : End T) (e' : End S) (f' : End T) → MeetsFate V size fate e f e' f' → IsBehind fate → V.has_check f.upper 0x0001 ≡ false → e.owed ≡ [] → f.owed ≡ [] → f.coming ≡ [] → Reaches e f → Reaches e' f'

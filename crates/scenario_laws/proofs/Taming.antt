@@ -1,7 +1,8 @@
--- Each PDU on the signalling channel that moves in a run is one command in octets.
-use Rattle.std.proofs.Common.{◌≡◌, ◌≢◌, ℕ, zero, suc, ◌+◌, ◌≤◌, Bool, true, false, List, [], ◌∷◌, ◌++◌, map, length, drop, Option, Some, None, refl, sym, ap, subst, ◌∙◌, if◌then◌else◌, arith}
+-- Each PDU that moves in a run is octets, and on the signalling channel one command.
+use Rattle.std.proofs.Common.{◌≡◌, ◌≢◌, ℕ, zero, suc, ◌+◌, ◌≤◌, ◌<◌, Bool, true, false, List, [], ◌∷◌, ◌++◌, map, length, drop, Option, Some, None, refl, sym, ap, subst, ◌∙◌, if◌then◌else◌, arith}
 use Rattle.std.specs.Prelude.{nat_lt, ◌/◌, ◌%◌, bit_xor, slice_set, slice_index}
 use Rattle.std.specs.List.{AllByRecursion}
+use Rattle.std.proofs.lemmas.Nat.{xor_of_8, div_below, mod_below}
 use Rattle.acl_fragments.specs.Pieces.{channel_of}
 use Rattle.bt_base.specs.Octets.{IsOctets}
 use Rattle.l2cap_signal.specs.Reading.{answers}
@@ -27,9 +28,9 @@ use Rattle.host_laws.specs.Calm.{pdus_in}
 
 -- ---- a PDU
 
--- a command in octets
+-- it is octets, and on the signalling channel a command
 abbrev pub IsTame : List ℕ → Type 0
-IsTame pdu = channel_of pdu ≡ 0x0001 → IsOctets pdu × (length (answers (drop 4 pdu)) ≡ 1)
+IsTame pdu = IsOctets pdu × (channel_of pdu ≡ 0x0001 → length (answers (drop 4 pdu)) ≡ 1)
 
 abbrev pub AreTame : List (List ℕ) → Type 0
 AreTame pdus = AllByRecursion IsTame pdus
@@ -145,8 +146,27 @@ changed-channel at mask frame far =
     let one = slice_set frame at (bit_xor (slice_index frame at) (mask / 256)) in
     set_same (at + 1) (bit_xor (slice_index frame (at + 1)) (mask % 256)) one (omega (arith, far)) ∙ set_same at (bit_xor (slice_index frame at) (mask / 256)) frame far
 
+cons_octets : (x : ℕ) (xs : List ℕ) → x < 256 → IsOctets xs → IsOctets (x ∷ xs)
+cons_octets x xs small all zero = small
+cons_octets x xs small all (suc i) = all i
+
+set_octets : (xs : List ℕ) (at value : ℕ) → IsOctets xs → value < 256 → IsOctets (slice_set xs at value)
+set_octets [] zero value all small = all
+set_octets [] (suc at) value all small = all
+set_octets (x ∷ xs) zero value all small = cons_octets value xs small (λ i. all (suc i))
+set_octets (x ∷ xs) (suc at) value all small = cons_octets x (slice_set xs at value) (all 0) (set_octets xs at value (λ i. all (suc i)) small)
+
+-- and octets are octets
+changed_octets : (at mask : ℕ) (frame : List ℕ) → mask ≤ 65535 → IsOctets frame → IsOctets (changed at mask frame)
+changed_octets at mask frame low all =
+    let one = slice_set frame at (bit_xor (slice_index frame at) (mask / 256)) in
+    set_octets one (at + 1) (bit_xor (slice_index frame (at + 1)) (mask % 256))
+    (set_octets frame at (bit_xor (slice_index frame at) (mask / 256)) all (xor_of_8 (slice_index frame at) (mask / 256) (all at) (div_below mask 256 256 (omega arith) (omega (arith, low)))))
+    (xor_of_8 (slice_index frame (at + 1)) (mask % 256) (all (at + 1)) (mod_below mask 256 (omega arith)))
+
+-- behind the header, in two octets
 abbrev pub IsBehind : Fate → Type 0
-IsBehind (Changed at mask) = 4 ≤ at
+IsBehind (Changed at mask) = (4 ≤ at) × (mask ≤ 65535)
 IsBehind fate = Unit {0}
 
 stays_tame : (size : ℕ) (fate : Fate) (checked : Bool) (frame : List ℕ) (rest : List (List ℕ)) → AreTame (frame ∷ rest) → AreTame ((meets size fate checked frame).stays ++ rest)
@@ -166,7 +186,7 @@ comes_tame size Delivered checked frame behind apart tame = (tame, tt)
 comes_tame size Lost checked frame behind apart tame = tt
 comes_tame size Repeated checked frame behind apart tame = (tame, tt)
 comes_tame size (CutOff count) checked frame behind apart tame = either_tame (nat_lt count (length (frame_pieces size frame))) [] (frame ∷ []) tt (tame, tt)
-comes_tame size (Changed at mask) true frame behind apart tame = (λ is. absurd (apart refl (sym (changed-channel at mask frame behind) ∙ is)), tt)
+comes_tame size (Changed at mask) true frame behind apart tame = ((changed_octets at mask frame behind.1 tame.0, λ is. absurd (apart refl (sym (changed-channel at mask frame behind.0) ∙ is))), tt)
 comes_tame size (Changed at mask) false frame behind apart tame = tt
 
 meets_tame : {S T G H : Type 0} (U : Upper S G) (V : Upper T H) (Q : S → Type 0) (R : T → Type 0) (size : ℕ) (fate : Fate) (e : End S) (f : End T) (e' : End S) (f' : End T) → Tames V R → MeetsFate V size fate e f e' f' → IsBehind fate → TameEnd Q e → TameEnd R f
@@ -210,7 +230,7 @@ pub word-behind : (word : Word) (served : Option Way) (ab ba : List (List ℕ)) 
 word-behind Pass served ab ba linked is = passing_behind (way_served served ab ba) ab ba
 word-behind (Lose way) served ab ba linked is = on_behind way Lost ab ba tt
 word-behind (Repeat way) served ab ba linked is = on_behind way Repeated ab ba tt
-word-behind (Damage way place mask) served ab ba linked is = on_behind way (Changed place mask) ab ba is.0
+word-behind (Damage way place mask) served ab ba linked is = on_behind way (Changed place mask) ab ba (is.0, is.3)
 word-behind (Cut way packets) served ab ba linked is = on_behind way (CutOff packets) ab ba tt
 word-behind (Timer side) served ab ba linked is = tt
 word-behind Drop served ab ba linked is = by linked

@@ -13,10 +13,8 @@ use Rattle.channel_laws.specs.Views.{read_at}
 use Rattle.radio_air.specs.Course.{PushesInTurn}
 use Rattle.radio_air.specs.Honest.{AreHonest}
 use Rattle.world_model.specs.Worlds.{IsAtRest}
-use Rattle.host_laws.specs.Calls.{HostsAsk}
 use Rattle.scenario_laws.specs.Captures.{client_of, server_of, Ran}
 use Rattle.scenario_laws.specs.Parties.{party_of}
-use Rattle.scenario_laws.specs.Plain.{ArePlain}
 
 -- at each moment a host has no more packets outstanding than its controller takes, and no more than 64
 abbrev pub BuffersAreKept : Type 0
@@ -30,8 +28,8 @@ KeepsWindow settings side past = (own : ℕ) (channel : Known) → read_at own (
 
 -- so it is wherever all is at rest
 abbrev pub WindowsAreKept : Type 0
-WindowsAreKept = (asks : HostsAsk) (scenario : Scenario) (content : Option Contents) (capture : List Entry) (side : Side) (ran : Ran scenario content capture) → IsAtRest (client_of scenario) (server_of scenario content) ran.world
-    → ArePlain asks scenario content ran.happenings → KeepsWindow scenario.settings side capture
+WindowsAreKept = (scenario : Scenario) (content : Option Contents) (capture : List Entry) (side : Side) (ran : Ran scenario content capture) → IsAtRest (client_of scenario) (server_of scenario content) ran.world
+    → KeepsWindow scenario.settings side capture
 
 -- controllers are honest, and each packet out of a host has the handle of its link
 abbrev pub ControllersAreHonest : Type 0

@@ -10,10 +10,8 @@ use Rattle.capture.specs.Histories.{EachAfter}
 use Rattle.link_talk.specs.Captures.{is_armed, is_checked_at}
 use Rattle.radio_air.specs.Air.{Hosts, KeepsTo, Obeys}
 use Rattle.world_model.specs.Worlds.{all_words}
-use Rattle.host_laws.specs.Calls.{HostsAsk}
 use Rattle.scenario_laws.specs.Captures.{Ran, Finished}
 use Rattle.scenario_laws.specs.Parties.{party_of}
-use Rattle.scenario_laws.specs.Plain.{ArePlain}
 
 -- what the capture says of timers and check words: what waits, and which channels have check words, on the link that is up
 abbrev pub hosts_of : Settings → Hosts
@@ -25,10 +23,9 @@ hosts_of settings = record {
 -- A scenario that ran to its end obeyed its script: what came into the hosts is what the words handed over, and words without an entry found
 -- nothing to act on.
 abbrev pub AirIsObeyed : Type 0
-AirIsObeyed = (asks : HostsAsk) (scenario : Scenario) (content : Option Contents) (capture : List Entry) (finished : Finished scenario content capture)
-    → ArePlain asks scenario content finished.ran.happenings → Obeys (hosts_of scenario.settings) scenario.acl_length (words_of scenario.script) capture
+AirIsObeyed = (scenario : Scenario) (content : Option Contents) (capture : List Entry) → Finished scenario content capture → Obeys (hosts_of scenario.settings) scenario.acl_length (words_of scenario.script) capture
 
 -- and wherever it broke off, each entry keeps to the words that were turned, whatever words are left
 abbrev pub AirIsKept : Type 0
-AirIsKept = (asks : HostsAsk) (scenario : Scenario) (content : Option Contents) (capture : List Entry) (later : List Word) (ran : Ran scenario content capture)
-    → ArePlain asks scenario content ran.happenings → EachAfter (KeepsTo (hosts_of scenario.settings) scenario.acl_length (all_words ran.happenings ++ later)) [] capture
+AirIsKept = (scenario : Scenario) (content : Option Contents) (capture : List Entry) (later : List Word) (ran : Ran scenario content capture)
+    → EachAfter (KeepsTo (hosts_of scenario.settings) scenario.acl_length (all_words ran.happenings ++ later)) [] capture

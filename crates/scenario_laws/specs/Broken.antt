@@ -23,7 +23,6 @@ use Rattle.scenario_laws.specs.Air.{hosts_of}
 use Rattle.scenario_laws.specs.Captures.{BothHosts, Happened, Ran}
 use Rattle.scenario_laws.specs.Gains.{holding, OrderlyServer}
 use Rattle.scenario_laws.specs.Parties.{party_of}
-use Rattle.scenario_laws.specs.Plain.{ArePlain}
 
 -- All that happened stands in `past`, and `capture` has the entry behind it as well, if one was begun. The inbox gained all objects that the
 -- past spells, and so the first of those that the capture spells; the buffers of both controllers at each moment, honest controllers and the
@@ -39,15 +38,15 @@ pub record BrokeOff (scenario : Scenario) (before : List Object) (stored : Optio
   pub in_turn : PushesInTurn capture
   pub keeps : EachAfter (KeepsTo (hosts_of scenario.settings) scenario.acl_length (words_of scenario.script)) [] capture
 
--- So it is of every scenario over L2CAP that broke off so, where host b is orderly and both hosts are plain.
+-- So it is of every scenario over L2CAP that broke off so, where host b is orderly.
 abbrev pub ScenariosBreakOff : Type 0
 ScenariosBreakOff = (asks : HostsAsk) (scenario : Scenario) (before : List Object) (happenings : List Happening) (world : BothHosts) (next : List Entry) (later : List Word) → Happened scenario (holding before) happenings world
     → (ran : Ran scenario (holding before) (all_entries happenings ++ next)) → words_of scenario.script ≡ all_words ran.happenings ++ later → scenario.settings.transport ≡ L2cap
-    → OrderlyServer asks scenario.settings before (all_entries happenings) world.b.upper → ArePlain asks scenario (holding before) ran.happenings
+    → OrderlyServer asks scenario.settings before (all_entries happenings) world.b.upper
     → BrokeOff scenario before (stored_in world.b.upper.profile.inbox.content) (all_entries happenings) (all_entries happenings ++ next)
 
 -- Where a run led to where more frames wait in a direction of the air, or more octets of them, than memory is reserved for, its capture says
--- so, where both hosts are plain.
+-- so.
 abbrev pub CrowdsAreTold : Type 0
-CrowdsAreTold = (asks : HostsAsk) (scenario : Scenario) (content : Option Contents) (happenings : List Happening) (world : BothHosts) → Happened scenario content happenings world → ArePlain asks scenario content happenings
+CrowdsAreTold = (scenario : Scenario) (content : Option Contents) (happenings : List Happening) (world : BothHosts) → Happened scenario content happenings world
     → (is_crowded world.radio.a.waiting || is_crowded world.radio.b.waiting) ≡ true → IsCrowded (hosts_of scenario.settings) scenario.acl_length (all_entries happenings)

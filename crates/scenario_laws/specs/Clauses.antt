@@ -17,19 +17,11 @@ use Rattle.radio_world.specs.Standing.{last_ended, last_entries, all_outcomes}
 use Rattle.host_laws.specs.Calls.{HostsAsk}
 use Rattle.scenario_laws.specs.Accounts.{KeepsWindow}
 use Rattle.scenario_laws.specs.Air.{hosts_of}
-use Rattle.scenario_laws.specs.Captures.{Ran, Finished}
+use Rattle.scenario_laws.specs.Captures.{Finished}
 use Rattle.scenario_laws.specs.Gains.{holding}
 use Rattle.scenario_laws.specs.Orderly.{ServesSo}
 use Rattle.scenario_laws.specs.Outcomes.{outcomes_of}
 use Rattle.scenario_laws.specs.Parties.{party_of}
-use Rattle.scenario_laws.specs.Plain.{RestsKeepOn}
-
--- All that is asked of both hosts in a run: where it is at rest no request was given up and each profile
--- waits for services as its own talk says; and of host b, that no call of its inbox fails, no request is ignored, and all that comes on its
--- channels is handed up.
-pub record Orderly (asks : HostsAsk) (scenario : Scenario) (before : List Object) (capture : List Entry) (ran : Ran scenario (holding before) capture) : Type 0 where
-  pub keeps : RestsKeepOn asks scenario (holding before) ran.happenings
-  pub serves : ServesSo asks scenario.settings before capture ran.world.b.upper
 
 -- What the capture says of it: what the inbox holds then, the buffers of both controllers at each moment, the windows of both hosts, that
 -- controllers are honest, the pushes and how they ended, and that the air obeyed the script.
@@ -44,8 +36,9 @@ pub record Ends (scenario : Scenario) (before : List Object) (stored : Option (L
   pub outcomes_are : outcomes ≡ outcomes_of scenario capture
   pub obeys : Obeys (hosts_of scenario.settings) scenario.acl_length (words_of scenario.script) capture
 
--- So it is of every scenario over L2CAP and every script, whatever shelf and inbox answered, where both hosts are orderly.
+-- So it is of every scenario over L2CAP and every script, whatever shelf and inbox answered, where host b serves: no call of its inbox fails, no
+-- request is ignored, and all that comes on its channels is handed up.
 pub record ScenariosEnd : Type 0 where
   pub asks : HostsAsk
   pub ends : (scenario : Scenario) (before : List Object) (capture : List Entry) (finished : Finished scenario (holding before) capture) (came : Option Outcome) → finished.ran.ends ≡ last_entries came finished.ran.world.pushes
-      → scenario.settings.transport ≡ L2cap → Orderly asks scenario before capture finished.ran → Ends scenario before (stored_in finished.ran.world.b.upper.profile.inbox.content) (all_outcomes (last_ended came finished.ran.world.pushes)) capture
+      → scenario.settings.transport ≡ L2cap → ServesSo asks scenario.settings before capture finished.ran.world.b.upper → Ends scenario before (stored_in finished.ran.world.b.upper.profile.inbox.content) (all_outcomes (last_ended came finished.ran.world.pushes)) capture

@@ -12,6 +12,7 @@ use Rattle.link_talk.specs.Captures.{talks, objects_heard}
 use Rattle.link_talk.specs.Sayings.{Saying}
 use Rattle.channel_model.specs.Policies.{policy}
 use Rattle.push_laws.specs.Occurrences.{Occurrence, begun}
+use Rattle.push_laws.specs.Gains.{objects as spelled_by}
 use Rattle.push_laws.specs.Premises.{AllMayCome}
 use Rattle.push_laws.specs.Laws.{stored_in}
 use Rattle.world_model.specs.Talks.{Talk}
@@ -56,6 +57,15 @@ pub record OrderlyServer (asks : HostsAsk) (settings : Settings) (before : List 
   pub carries : CarriesOne (policy settings true) so.lives.now
   pub granted : AllByRecursion (λ part. IsServed (moved_in part)) (parts came.talk)
 
+-- The same, whether or not a call of the inbox fails or a request is ignored.
+pub record ReadServer (asks : HostsAsk) (settings : Settings) (before : List Object) (capture : List Entry) (now : Host ServerProfile) : Type 0 where
+  pub came : CameOver (serving settings before) sides.B capture now
+  pub so : TalksOverLinks (serving settings before) (asked_by asks settings before) came.talk now
+  pub direct : AllByRecursion IsDirect (all_served asks settings before came.talk now so)
+  pub carried : AllByRecursion (λ (span : Span). CarriedOne (policy settings true) span.event span.list) so.lives.spans
+  pub carries : CarriesOne (policy settings true) so.lives.now
+  pub granted : AllByRecursion (λ part. IsServed (moved_in part)) (parts came.talk)
+
 -- So is each server to which nothing happened yet.
 abbrev pub FirstServersAreOrderly : Type 0
 FirstServersAreOrderly = (asks : HostsAsk) (settings : Settings) (before : List Object) → OrderlyServer asks settings before [] (first_host (serving settings before))
@@ -66,6 +76,12 @@ abbrev pub GainsExactly : Type 0
 GainsExactly = (asks : HostsAsk) (scenario : Scenario) (before : List Object) (capture : List Entry) (ran : Ran scenario (holding before) capture) → scenario.settings.transport ≡ L2cap
     → OrderlyServer asks scenario.settings before capture ran.world.b.upper
     → stored_in ran.world.b.upper.profile.inbox.content ≡ Some (before ++ objects_heard (party_of scenario.settings sides.B) sides.B capture)
+
+-- What it heard spells exactly what the capture spells of what host b heard.
+abbrev pub ServersAreRead : Type 0
+ServersAreRead = (asks : HostsAsk) (scenario : Scenario) (before : List Object) (capture : List Entry) (ran : Ran scenario (holding before) capture) → scenario.settings.transport ≡ L2cap
+    → (read : ReadServer asks scenario.settings before capture ran.world.b.upper)
+    → spelled_by scenario.settings (all_served asks scenario.settings before read.came.talk ran.world.b.upper read.so) ≡ objects_heard (party_of scenario.settings sides.B) sides.B capture
 
 -- ---- over either transport
 

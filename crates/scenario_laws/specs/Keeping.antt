@@ -5,18 +5,15 @@ use Rattle.bt_base.specs.Objects.{Contents}
 use Rattle.push_script.specs.declared.scenario.Scenario.{Scenario}
 use Rattle.push_terms.specs.declared.word.Side.TheVariants as sides
 use Rattle.capture.specs.Links.{Link, link_up}
-use Rattle.capture.specs.Pdus.{pdus}
 use Rattle.turn_laws.specs.Laws.{IsFront}
 use Rattle.world_model.specs.Worlds.{Happening, IsAtRest, all_entries}
 use Rattle.host_model.specs.Clients.{client_profile}
-use Rattle.host_laws.specs.Armed.{AwaitsServices}
 use Rattle.host_laws.specs.Calls.{HostsAsk}
 use Rattle.host_laws.specs.Keeping.{SendsAsItLends}
 use Rattle.host_laws.specs.Leaving.{is_off}
 use Rattle.scenario_laws.specs.Captures.{client_of, server_of, BothHosts, Happened}
-use Rattle.scenario_laws.specs.Gentle.{CameSo}
 use Rattle.scenario_laws.specs.Parties.{party_of}
-use Rattle.scenario_laws.specs.Plain.{ArePlain, KeepsOn, RestsKeepOn}
+use Rattle.scenario_laws.specs.Plain.{KeepsOn, RestsKeepOn}
 
 -- what is asked of both hosts at rest, of the client alone
 abbrev pub ClientsKeepOn : HostsAsk → (scenario : Scenario) → Option Contents → List Happening → Type 0
@@ -37,14 +34,3 @@ abbrev pub PushesGoOn : Scenario → Option Contents → List Happening → Type
 PushesGoOn scenario content happenings =
     (front : List Happening) (world : BothHosts) (link : Link) → IsFront front happenings → Happened scenario content front world → IsAtRest (client_of scenario) (server_of scenario content) world → link_up sides.A (all_entries front) ≡ Some link
     → is_off world.a.upper.profile.client.stage ≡ false
-
--- However its host came to what moved on that link and lived through it, its profile waits for services as its own talk says.
-abbrev pub ClientsAwait : HostsAsk → (scenario : Scenario) → Option Contents → List Happening → Type 0
-ClientsAwait asks scenario content happenings =
-    (front : List Happening) (world : BothHosts) (link : Link) → IsFront front happenings → Happened scenario content front world → IsAtRest (client_of scenario) (server_of scenario content) world → link_up sides.A (all_entries front) ≡ Some link
-    → (came : CameSo (client_profile scenario.settings) (asks.clients scenario.settings) (pdus link) world.a.upper) → AwaitsServices (client_profile scenario.settings) (party_of scenario.settings sides.A) world.a.upper came.so.lives.now
-
--- Then both hosts are plain: neither gave up a request.
-abbrev pub PushesArePlain : Type 0
-PushesArePlain = (asks : HostsAsk) (scenario : Scenario) (content : Option Contents) (happenings : List Happening) → SendsAsItLends scenario.settings content (asks.servers scenario.settings content)
-    → PushesGoOn scenario content happenings → ClientsAwait asks scenario content happenings → ArePlain asks scenario content happenings

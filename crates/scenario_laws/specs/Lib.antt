@@ -17,3 +17,6 @@ pub mod Keeping
 pub mod Broken
 pub mod Onward
 pub mod FreeClients
+pub mod Alone
+pub mod Searched
+pub mod PlainRuns

@@ -2,6 +2,7 @@
 use Rattle.std.specs.Prelude.{◌≡◌, true, false, List, [], Option}
 use Rattle.std.specs.List.{AllByRecursion, flat_map}
 use Rattle.bt_base.specs.declared.settings.Settings.{Settings}
+use Rattle.bt_base.specs.declared.settings.Transport.{Transport}
 use Rattle.bt_base.specs.declared.settings.Transport.TheVariants.{L2cap}
 use Rattle.bt_base.specs.Objects.{Object, Contents}
 use Rattle.push_terms.specs.declared.word.Side.{Side}
@@ -30,18 +31,18 @@ use Rattle.scenario_laws.specs.Gains.{holding, serving, asked_by, all_served, Or
 
 -- ---- requests for channels
 
--- on each link host a asks for one channel of objects, and not for RFCOMM's
-abbrev pub AsksOnce : List Talk → Type 0
-AsksOnce talk = AllByRecursion (λ part. AreOneByOne may_ask (calls_that_went Out (moved_in part))) (parts talk)
+-- on each link host a asks for service discovery, and for one channel besides that may carry packets over the transport
+abbrev pub AsksOnce : Transport → List Talk → Type 0
+AsksOnce transport talk = AllByRecursion (λ part. AreOneByOne (may_ask transport) (calls_that_went Out (moved_in part))) (parts talk)
 
--- Over L2CAP it does, however it came to what the capture has of its links, where it was free.
+-- It does, however it came to what the capture has of its links, where it was free.
 abbrev pub ClientsAskOnce : Type 0
 ClientsAskOnce = (scenario : Scenario) (content : Option Contents) (capture : List Entry) (ran : Ran scenario content capture) (came : CameOver (client_profile scenario.settings) sides.A capture ran.world.a.upper)
-    → scenario.settings.transport ≡ L2cap → AreFreeUp (client_profile scenario.settings) false came.over.acts (first_host (client_profile scenario.settings)) → AsksOnce came.talk
+    → AreFreeUp (client_profile scenario.settings) false came.over.acts (first_host (client_profile scenario.settings)) → AsksOnce scenario.settings.transport came.talk
 
 -- So it comes to host b on each link of the capture, whatever the air left out and repeated.
 abbrev pub ServersAreAskedOnce : Type 0
-ServersAreAskedOnce = (scenario : Scenario) (content : Option Contents) (capture : List Entry) (ran : Ran scenario content capture) → scenario.settings.transport ≡ L2cap → AllByRecursion AsksForOneObject (talks sides.B capture)
+ServersAreAskedOnce = (scenario : Scenario) (content : Option Contents) (capture : List Entry) (ran : Ran scenario content capture) → AllByRecursion (AsksForOneObject scenario.settings.transport) (talks sides.B capture)
 
 -- ---- how both live
 

@@ -4,6 +4,7 @@
 
 ghost use Rattle.scenario_laws.specs.Accounts.{BuffersAreKept, ControllersAreHonest, PushesAreInTurn, WindowsAreKept};
 ghost use Rattle.scenario_laws.specs.Air.{AirIsKept, AirIsObeyed};
+ghost use Rattle.scenario_laws.specs.Alone.{RunsCarryAlone};
 ghost use Rattle.scenario_laws.specs.Broken.{CrowdsAreTold, ScenariosBreakOff};
 ghost use Rattle.scenario_laws.specs.Captures.{FrontsRan};
 ghost use Rattle.scenario_laws.specs.Clauses.{ScenariosEnd};
@@ -12,13 +13,15 @@ ghost use Rattle.scenario_laws.specs.Early.{BrokenGoesOn, EarlyEndsGain, FrontsS
 ghost use Rattle.scenario_laws.specs.FreeClients.{ClientsAreFree, ClientsLiveOverLinks};
 ghost use Rattle.scenario_laws.specs.FreeServers.{ServersAreFree, ServersLiveOverLinks, ServersRestSo, ServersServeSo};
 ghost use Rattle.scenario_laws.specs.Gentle.{FreeRestsAreLived, FreeRunsAreGentle, HostsAreGentle, PdusHaveOneCommand, RestsAreLived, RunsAreFree, RunsHoldBackNothing, RunsRestFree};
-ghost use Rattle.scenario_laws.specs.Gains.{FirstServersAreOrderly, GainsExactly, GainsOverEither};
+ghost use Rattle.scenario_laws.specs.Gains.{FirstServersAreOrderly, GainsExactly, GainsOverEither, ServersAreRead};
 ghost use Rattle.scenario_laws.specs.Orderly.{ClientsAskOnce, HostsLiveOverLinks, ServersAreAskedOnce, ServersAreOrderly};
-ghost use Rattle.scenario_laws.specs.Keeping.{FreeServersKeepOn, PushesArePlain};
-ghost use Rattle.scenario_laws.specs.Onward.{AwaitingPushesArePlain, PushesGoOnward};
+ghost use Rattle.scenario_laws.specs.Keeping.{FreeServersKeepOn};
+ghost use Rattle.scenario_laws.specs.Onward.{PushesGoOnward};
 ghost use Rattle.scenario_laws.specs.Outcomes.{OutcomesAreStated};
 ghost use Rattle.scenario_laws.specs.Plain.{FreeHostsArePlain};
+ghost use Rattle.scenario_laws.specs.PlainRuns.{RunsArePlain};
 ghost use Rattle.scenario_laws.specs.Played.{CallsArePlayed, PlaysAreFinished, SetHostsAreHosts};
+ghost use Rattle.scenario_laws.specs.Searched.{RunsSearch};
 ghost use Rattle.host_model.specs.Circumstances.{Circumstance};
 ghost use Rattle.world_model.specs.Machines.{Upper};
 
@@ -33,7 +36,7 @@ pub fn buffers_are_kept()
 {}
 
 /// Wherever all is at rest, a host has no more I-frames unacknowledged on a channel that it has not closed than the window that both
-/// hosts state, where both hosts are plain.
+/// hosts state.
 pub fn windows_are_kept()
     ensures { WindowsAreKept }
 {}
@@ -50,7 +53,7 @@ pub fn pushes_are_in_turn()
 {}
 
 /// The air obeyed the script where the scenario ran to its end: what came into the hosts is what the words handed over, and
-/// words without an entry found nothing. Timers and check words are read off the capture, where both hosts are plain.
+/// words without an entry found nothing. Timers and check words are read off the capture.
 pub fn air_is_obeyed()
     ensures { AirIsObeyed }
 {}
@@ -143,8 +146,8 @@ pub fn hosts_live_over_links()
     ensures { HostsLiveOverLinks }
 {}
 
-/// Over L2CAP, however host a of a run came to what the capture has, it asked for one channel of objects on each link, where no bound on
-/// what it says held a PDU back and its firings said what waits behind them.
+/// However host a of a run came to what the capture has, it asked for one channel of packets on each link, where no bound on what it says held a
+/// PDU back and its firings said what waits behind them. Over RFCOMM that is the channel of its multiplexer.
 pub fn clients_ask_once()
     ensures { ClientsAskOnce }
 {}
@@ -157,6 +160,12 @@ pub fn servers_are_asked_once()
 /// At each moment of each run over L2CAP host b serves in order, where no call of its inbox fails, no request is ignored and all that comes on its channels is handed up.
 pub fn servers_are_orderly()
     ensures { ServersAreOrderly }
+{}
+
+/// What host b heard in a run over L2CAP spells what the capture spells of it, whether or not its inbox failed or a request was ignored: where one
+/// channel alone carried packets on each link, host b asked for none, and host a gave each endpoint once.
+pub fn servers_are_read()
+    ensures { ServersAreRead }
 {}
 
 /// At each moment of a run, wherever it broke off, the inbox has gained exactly the objects that the packets spell which
@@ -198,7 +207,7 @@ pub fn early_ends_gain()
 {}
 
 /// What is so of every scenario over L2CAP that ran to its end, over its capture alone: what the inbox gained, the accounts of both
-/// hosts, the pushes and how they ended, and that the air obeyed the script; where both hosts are orderly.
+/// hosts, the pushes and how they ended, and that the air obeyed the script; where host b serves.
 pub fn scenarios_end()
     ensures { ScenariosEnd }
 {}
@@ -241,20 +250,13 @@ pub fn free_servers_keep_on()
     ensures { FreeServersKeepOn }
 {}
 
-/// Where a push of host a goes on over each link that is up at rest, neither host gave up a request: so both are plain, where the
-/// profile of host a waits for services as its own talk says.
-pub fn pushes_are_plain()
-    ensures { PushesArePlain }
-{}
-
 /// What is so of every scenario over L2CAP that broke off, over its capture so far alone: what the inbox gained by then, the buffers, the
-/// pushes, honest controllers, and that each entry keeps to the script; where host b is orderly and both hosts are plain.
+/// pushes, honest controllers, and that each entry keeps to the script; where host b is orderly.
 pub fn scenarios_break_off()
     ensures { ScenariosBreakOff }
 {}
 
-/// Where more frames wait in a direction of the air, or more octets of them, than memory is reserved for, the capture says so, where
-/// both hosts are plain.
+/// Where more frames wait in a direction of the air, or more octets of them, than memory is reserved for, the capture says so.
 pub fn crowds_are_told()
     ensures { CrowdsAreTold }
 {}
@@ -265,7 +267,20 @@ pub fn pushes_go_onward()
     ensures { PushesGoOnward }
 {}
 
-/// So both hosts are plain where the profile of host a waits at rest for services as its own talk says.
-pub fn awaiting_pushes_are_plain()
-    ensures { AwaitingPushesArePlain }
+/// At each rest of every run, over L2CAP or over RFCOMM and whatever its ports answered, both hosts are plain: neither gave up a request on the link
+/// that is up, and the profile of host a waits for services there as its own talk says.
+pub fn runs_are_plain()
+    ensures { RunsArePlain }
+{}
+
+/// Wherever a run is at rest, what happened on the link that is up, in one order with what host a's client went through there, is the search of the
+/// push for which the link came up: its question was a new one, no push began since, all that came in is octets, and it searches in order and with
+/// memory.
+pub fn runs_search()
+    ensures { RunsSearch }
+{}
+
+/// So at each moment of each run, over either transport and wherever it broke off, one channel alone carries packets on each link of host b.
+pub fn runs_carry_alone()
+    ensures { RunsCarryAlone }
 {}

@@ -1,10 +1,10 @@
 -- What a world in code did from hosts whose ports have still to answer, both hosts of the scenario do.
 use Rattle.std.proofs.Common.{◌≡◌, ◌⊎◌, List, ◌++◌, map, Option, inl, inr, refl, sym, ap, ap₂, subst, ◌∙◌}
-use Rattle.bt_base.specs.Objects.{Contents}
+use Rattle.bt_base.specs.Objects.{Object, Contents}
 use Rattle.push_script.specs.declared.scenario.Scenario.{Scenario}
 use Rattle.push_terms.specs.declared.outcome.Outcome.{Outcome}
 use Rattle.capture.specs.Air.{words_of}
-use Rattle.world_model.specs.Machines.{Upper}
+use Rattle.world_model.specs.Machines.{News, Upper}
 use Rattle.world_model.specs.Pushes.{Pushes}
 use Rattle.world_model.specs.Worlds.{World, Happening, Runs, IsAtRest, all_entries, all_words}
 use Rattle.air_laws.specs.AirLaws.{IsLastEnd}
@@ -15,6 +15,7 @@ use Rattle.alike_laws.proofs.Twins.{runs_are_of_twins, rest_is_of_twins}
 use Rattle.radio_world.specs.Scenes.{world_at}
 use Rattle.radio_world.specs.Standing.{starting, first_moment, last_ended, last_entries, all_outcomes}
 use Rattle.host_model.specs.Circumstances.{Circumstance}
+use Rattle.shelf_model.specs.Held.{held_by}
 use Rattle.host_model.specs.Hosts.{Host}
 use Rattle.host_model.specs.Clients.{ClientProfile}
 use Rattle.host_model.specs.Servers.{ServerProfile}
@@ -23,7 +24,8 @@ use Rattle.scenario_laws.specs.Outcomes.{outcomes_of}
 use Rattle.scenario_laws.specs.Played.{AreHostsOf}
 use Rattle.scenario_laws.proofs.Outcomes.{outcomes_stated}
 use Rattle.scenario_laws.proofs.Played.{last_is}
-use Rattle.pair_laws.specs.Granted.{granted, granting, HappenedGranted}
+use Rattle.pair_laws.specs.Granted.{granted, granting}
+use Rattle.pair_laws.specs.Served.{holding_on, HappenedHeld, HappenedServed}
 use Rattle.pair_laws.proofs.Answered.{runs-so}
 
 -- what is told of both of two is told of each of them
@@ -103,15 +105,29 @@ module _ {S T : Type 0} (U : Upper S Circumstance) (V : Upper T Circumstance) (s
           outcomes_are = subst (λ (p : Pushes). all_outcomes (last_ended came p) ≡ outcomes_of scenario (all_entries happenings ++ last_entries came p)) pushes_are ((outcomes_stated scenario content (all_entries happenings ++ ends) ran).all came);
         }
 
--- ---- where the inbox grants all
+-- ---- where the shelf tells what it holds, and the inbox grants all
 
--- a run like that one, in which the inbox granted all calls where that is so
-pub record IsLikeGranted {S T : Type 0} (scenario : Scenario) (content : Option Contents) (as_a : Host ClientProfile → S) (as_b : Host ServerProfile → T) (s : S) (t : T) (happenings : List Happening) (at : World S T) (Never : Type 0) : Type 0 where
+-- a run like that one, in which the shelf told what it holds, and the inbox granted all calls where that is so
+pub record IsLikeServed {S T : Type 0} (scenario : Scenario) (shelf : Option (List Object)) (content : Option Contents) (as_a : Host ClientProfile → S) (as_b : Host ServerProfile → T) (s : S) (t : T) (happenings : List Happening) (at : World S T) (Never : Type 0) : Type 0 where
   pub like : IsLike scenario content as_a as_b s t happenings at
-  pub granted : Never → HappenedGranted scenario content happenings like.world
+  pub held : HappenedHeld scenario shelf content happenings like.world
+  pub granted : Never → HappenedServed scenario shelf content happenings like.world
 
-module _ {S T : Type 0} (U : Upper S Circumstance) (V : Upper T Circumstance) (scenario : Scenario) (content : Option Contents) (as_a : Host ClientProfile → S) (as_b : Host ServerProfile → T) (hosts : AreHostsOf scenario content U V as_a as_b)
-    (s : S) (t : T) (twins_a : AreTwins U s (as_a (client_of scenario).first)) (twins_b : AreTwins V t (as_b (server_of scenario content).first)) (granting_b : AreTwins (granting V) t (as_b (server_of scenario content).first)) where
+module _ {S T : Type 0} (U : Upper S Circumstance) (V : Upper T Circumstance) (scenario : Scenario) (shelf : Option (List Object)) (content : Option Contents) (as_a : Host ClientProfile → S) (as_b : Host ServerProfile → T) (hosts : AreHostsOf scenario content U V as_a as_b)
+    (s : S) (t : T) (holding_a : AreTwins (holding_on shelf U) s (as_a (client_of scenario).first)) (twins_b : AreTwins V t (as_b (server_of scenario content).first)) (granting_b : AreTwins (granting V) t (as_b (server_of scenario content).first)) where
+  holding_host : Embeds as_a (holding_on shelf (client_of scenario)) (holding_on shelf U)
+  holding_host = record {
+    hear = λ answers news host. hosts.a.hear (held_by shelf news answers) news host;
+    next = hosts.a.next;
+    wants_link = hosts.a.wants_link;
+    leaves_link = hosts.a.leaves_link;
+    is_idle = hosts.a.is_idle;
+    outcome = hosts.a.outcome;
+    armed = hosts.a.armed;
+    may_cancel = hosts.a.may_cancel;
+    has_check = hosts.a.has_check;
+  }
+
   granting_host : Embeds as_b (granting (server_of scenario content)) (granting V)
   granting_host = record {
     hear = λ answers news host. hosts.b.hear (map granted answers) news host;
@@ -125,23 +141,43 @@ module _ {S T : Type 0} (U : Upper S Circumstance) (V : Upper T Circumstance) (s
     has_check = hosts.b.has_check;
   }
 
+  abbrev as_told : News → List Circumstance → List Circumstance
+  as_told news answers = answers
+
+  abbrev grants : News → List Circumstance → List Circumstance
+  grants news answers = map granted answers
+
+  abbrev From : World S T
+  From = world_at (first_moment (starting s U) (starting t V) scenario.acl_length scenario.acl_count scenario.names)
+
   -- it is where the inbox failed never that the answers are grants
-  pub like_granted : (happenings : List Happening) (at : World S T) (Never : Type 0) → Never ⊎ (Never → ⊥)
-      → (let first = world_at (first_moment (starting s U) (starting t V) scenario.acl_length scenario.acl_count scenario.names) in Runs U V happenings first at × (Never → Runs U (granting V) happenings first at))
-      → IsLikeGranted scenario content as_a as_b s t happenings at Never
-  like_granted happenings at Never (inr failed) runs =
-      record { like = like_runs U V scenario content as_a as_b hosts s t twins_a twins_b happenings at runs.0; granted = λ never. absurd (failed never) }
-  like_granted happenings at Never (inl never) runs =
-      let first = first_moment (starting s U) (starting t V) scenario.acl_length scenario.acl_count scenario.names in
+  pub like_served : (happenings : List Happening) (at : World S T) (Never : Type 0) → Never ⊎ (Never → ⊥) → Runs (holding_on shelf U) V happenings From at → (Never → Runs (holding_on shelf U) (granting V) happenings From at)
+      → IsLikeServed scenario shelf content as_a as_b s t happenings at Never
+  like_served happenings at Never (inr failed) run served =
       let other_a = as_a (client_of scenario).first in
       let other_b = as_b (server_of scenario content).first in
-      let (new, alike, ran) = runs_are_of_twins U (granting V) s other_a t other_b twins_a granting_b happenings (world_at first) at refl refl (runs.1 never) in
-      let (world, same, happened) = runs_are_of_less as_a as_b (client_of scenario) U (granting (server_of scenario content)) (granting V) hosts.a granting_host happenings (beginning scenario content) new ran in
+      let (new, alike, ran) = runs_are_of_twins (holding_on shelf U) V s other_a t other_b holding_a twins_b happenings From at refl refl run in
+      let (world, same, happened) = runs_are_of_less as_a as_b (holding_on shelf (client_of scenario)) (holding_on shelf U) (server_of scenario content) V holding_host hosts.b happenings (beginning scenario content) new ran in
       record {
         like = record {
           world = world;
-          happened = runs-so (client_of scenario) (server_of scenario content) (map granted) happenings (beginning scenario content) world happened;
+          happened = runs-so (client_of scenario) (server_of scenario content) (held_by shelf) as_told happenings (beginning scenario content) world happened;
           alike = subst (λ (w : World S T). WorldsAlike (IsOther s other_a) (IsOther t other_b) at w) same alike;
         };
+        held = happened;
+        granted = λ never. absurd (failed never);
+      }
+  like_served happenings at Never (inl never) run served =
+      let other_a = as_a (client_of scenario).first in
+      let other_b = as_b (server_of scenario content).first in
+      let (new, alike, ran) = runs_are_of_twins (holding_on shelf U) (granting V) s other_a t other_b holding_a granting_b happenings From at refl refl (served never) in
+      let (world, same, happened) = runs_are_of_less as_a as_b (holding_on shelf (client_of scenario)) (holding_on shelf U) (granting (server_of scenario content)) (granting V) holding_host granting_host happenings (beginning scenario content) new ran in
+      record {
+        like = record {
+          world = world;
+          happened = runs-so (client_of scenario) (server_of scenario content) (held_by shelf) grants happenings (beginning scenario content) world happened;
+          alike = subst (λ (w : World S T). WorldsAlike (IsOther s other_a) (IsOther t other_b) at w) same alike;
+        };
+        held = runs-so (holding_on shelf (client_of scenario)) (server_of scenario content) as_told grants happenings (beginning scenario content) world happened;
         granted = λ given. happened;
       }

@@ -26,7 +26,6 @@ use Rattle.radio_world.proofs.Advancing.{plays_then}
 use Rattle.radio_world.proofs.Standing.{runs_of}
 use Rattle.push_laws.specs.Premises.{AllGranted}
 use Rattle.host_model.specs.Circumstances.{Circumstance, answers_in}
-use Rattle.host_model.specs.Clients.{ClientProfile}
 use Rattle.host_model.specs.Servers.{ServerProfile}
 use Rattle.host_model.specs.Settings.{SetHost, set_to, client_machine, server_machine}
 use Rattle.bt_host.specs.Noting.{Noted}
@@ -36,6 +35,7 @@ use Rattle.bt_host.specs.PushingLaws as pushing_laws
 use Rattle.bt_host.specs.PushingLaws.{Answers}
 use Rattle.bt_host.specs.Serving.{Served, Asks, Lacks as NoInbox}
 use Rattle.bt_host.specs.Shells.{Shelled}
+use Rattle.bt_host.specs.Shelving.{Shelved}
 use Rattle.bt_host.specs.Playing.{playing}
 use Rattle.scenario_laws.specs.Captures.{beginning as first_world}
 use Rattle.scenario_laws.proofs.Played.{last_is}
@@ -43,11 +43,12 @@ use Rattle.scenario_laws.proofs.SetHosts.{set_hosts_are_hosts}
 use Rattle.scenario_play.specs.Playing.{fresh_world, KeepsShelf}
 use Rattle.scenario_play.specs.Breaking as breaking
 use Rattle.scenario_play.specs.Breaking.{BreaksThrough, OnItsWay, AtItsEnd, MayWant, IsBroken, IsWanting, NothingYet, ShelfWants, InboxWants, ManyWords}
-use Rattle.scenario_play.proofs.Newness.{new_client, new_server, client_twins, server_twins, granting_twins, beginning, hosts_begin}
+use Rattle.scenario_play.proofs.Newness.{new_client, new_server, client_twins, holding_twins, server_twins, granting_twins, beginning, hosts_begin}
 use Rattle.scenario_play.specs.Noting.{plain_set}
-use Rattle.scenario_play.proofs.Plainness.{PlainWorld, plain_world, plain_runs, plain_granted}
+use Rattle.scenario_play.specs.Shelving.{plain_client}
+use Rattle.scenario_play.proofs.Plainness.{PlainWorld, plain_world, plain_runs, held_runs, served_runs}
 use Rattle.scenario_play.proofs.Course.{Hosts, shelf_kept}
-use Rattle.scenario_play.proofs.Alikeness.{IsLikeGranted, like_granted, IsLike, like_runs, told_b}
+use Rattle.scenario_play.proofs.Alikeness.{IsLikeServed, like_served, IsLike, like_runs, told_b}
 
 -- one entry at most ends the last push
 few_last : (came : Option Outcome) (pushes : Pushes) → length (last_entries came pushes) ≤ 1
@@ -95,8 +96,8 @@ inbox_left {old = old} faults shortages inbox inbox' (AtItsEnd mid run own front
     omega arith
 
 -- before anything happened
-pub untouched : (scenario : Scenario) (content content' : Option Contents) (trace trace' : Option (List ℕ)) (Lacked Never : Type 0) → content' ≡ content → trace' ≡ trace → IsBroken scenario content content' trace trace' Lacked Never
-untouched scenario content content' trace trace' Lacked Never stored written = record {
+pub untouched : (scenario : Scenario) (shelf : Option (List Object)) (content content' : Option Contents) (trace trace' : Option (List ℕ)) (Lacked Never : Type 0) → content' ≡ content → trace' ≡ trace → IsBroken scenario shelf content content' trace trace' Lacked Never
+untouched scenario shelf content content' trace trace' Lacked Never stored written = record {
   happenings = [];
   world = first_world scenario content;
   happened = refl;
@@ -106,22 +107,23 @@ untouched scenario content content' trace trace' Lacked Never stored written = r
   later = words_of scenario.script;
   words_are = refl;
   written = front_is trace trace' written;
+  held = (refl, refl);
   granted = λ never. (refl, refl);
   stored = inl stored;
 }
 
-module _ {P Q : Type 0} (content : Q → Option Contents) (AnswersA : P → List Circumstance → P → Type 0) (AnswersB : Q → List Circumstance → Q → Type 0) (LackedA : P → P → Type 0) (LackedB : Q → Q → Type 0) (scenario : Scenario) where
+module _ {P Q : Type 0} (holds : P → Option (List Object)) (content : Q → Option Contents) (AnswersA : P → List Circumstance → P → Type 0) (AnswersB : Q → List Circumstance → Q → Type 0) (LackedA : P → P → Type 0) (LackedB : Q → Q → Type 0) (scenario : Scenario) where
   abbrev At : Type 0
-  At = Moment (SetHost (Noted ClientProfile)) (SetHost (Noted ServerProfile))
+  At = Moment (SetHost (Noted Shelved)) (SetHost (Noted ServerProfile))
 
   abbrev Standing : Type 0
-  Standing = Stage (SetHost (Noted ClientProfile)) (SetHost (Noted ServerProfile)) Circumstance Circumstance P Q
+  Standing = Stage (SetHost (Noted Shelved)) (SetHost (Noted ServerProfile)) Circumstance Circumstance P Q
 
   abbrev server_at : Shelled (Noted Served) → Q → Asking (SetHost (Noted ServerProfile)) Circumstance
   server_at host inbox = playing (server_noting content) inbox host.stack
 
   abbrev staged : Hosts → P → Q → Option (List ℕ) → Standing
-  staged world shelf inbox trace = stage world.scene (playing client_noting shelf world.a.stack) (server_at world.b inbox) shelf inbox trace
+  staged world shelf inbox trace = stage world.scene (playing (client_noting holds) shelf world.a.stack) (server_at world.b inbox) shelf inbox trace
 
   -- ---- what happened, from two new hosts on whose ports were to answer so
 
@@ -131,7 +133,7 @@ module _ {P Q : Type 0} (content : Q → Option Contents) (AnswersA : P → List
     happenings : List Happening
     words_are : all_words happenings ≡ words
     plays : Plays noted_client_machine noted_server_machine happenings
-        (first_moment (starting (new_client shelf scenario.settings for_a) noted_client_machine) (starting (new_server content inbox scenario.settings for_b) noted_server_machine) scenario.acl_length scenario.acl_count scenario.names) at
+        (first_moment (starting (new_client holds shelf scenario.settings for_a) noted_client_machine) (starting (new_server content inbox scenario.settings for_b) noted_server_machine) scenario.acl_length scenario.acl_count scenario.names) at
     written : trace' ≡ gained trace (capture_octets (all_entries happenings))
 
   unfoldable course : (words : List Word) (first : Hosts) (shelf : P) (inbox : Q) (trace : Option (List ℕ)) (at : Standing) → first ≡ fresh_world scenario → Advances noted_client_machine noted_server_machine AnswersA AnswersB words (staged first shelf inbox trace) at
@@ -139,9 +141,9 @@ module _ {P Q : Type 0} (content : Q → Option Contents) (AnswersA : P → List
   course words first shelf inbox trace at fresh run =
       let for_a = run.used_a ++ [] in
       let for_b = run.used_b ++ [] in
-      let new = first_moment (starting (new_client shelf scenario.settings for_a) noted_client_machine) (starting (new_server content inbox scenario.settings for_b) noted_server_machine) scenario.acl_length scenario.acl_count scenario.names in
+      let new = first_moment (starting (new_client holds shelf scenario.settings for_a) noted_client_machine) (starting (new_server content inbox scenario.settings for_b) noted_server_machine) scenario.acl_length scenario.acl_count scenario.names in
       let begun : Plays noted_client_machine noted_server_machine beginning new (moment_of (staged first shelf inbox trace) for_a for_b) =
-      subst (λ (w : Hosts). Plays noted_client_machine noted_server_machine beginning new (moment_of (staged w shelf inbox trace) for_a for_b)) (sym fresh) (hosts_begin content scenario shelf inbox for_a for_b) in
+      subst (λ (w : Hosts). Plays noted_client_machine noted_server_machine beginning new (moment_of (staged w shelf inbox trace) for_a for_b)) (sym fresh) (hosts_begin holds content scenario shelf inbox for_a for_b) in
       record {
         for_a = for_a;
         for_b = for_b;
@@ -156,41 +158,41 @@ module _ {P Q : Type 0} (content : Q → Option Contents) (AnswersA : P → List
 
   abbrev Like : P → Q → List Circumstance → List Circumstance → List Happening → PlainWorld → Type 0
   Like shelf inbox for_a for_b happenings at =
-      IsLike scenario (content inbox) (set_to scenario.settings) (set_to scenario.settings) (plain_set (new_client shelf scenario.settings for_a)) (plain_set (new_server content inbox scenario.settings for_b)) happenings at
+      IsLike scenario (content inbox) (set_to scenario.settings) (set_to scenario.settings) (plain_client (new_client holds shelf scenario.settings for_a)) (plain_set (new_server content inbox scenario.settings for_b)) happenings at
 
   like : (shelf : P) (inbox : Q) (for_a for_b : List Circumstance) (happenings : List Happening) (at : At)
-      → Plays noted_client_machine noted_server_machine happenings (first_moment (starting (new_client shelf scenario.settings for_a) noted_client_machine) (starting (new_server content inbox scenario.settings for_b) noted_server_machine) scenario.acl_length scenario.acl_count scenario.names) at
+      → Plays noted_client_machine noted_server_machine happenings (first_moment (starting (new_client holds shelf scenario.settings for_a) noted_client_machine) (starting (new_server content inbox scenario.settings for_b) noted_server_machine) scenario.acl_length scenario.acl_count scenario.names) at
       → Like shelf inbox for_a for_b happenings (plain_at at)
   like shelf inbox for_a for_b happenings at plays =
       let settings = scenario.settings in
-      let new_a = new_client shelf settings for_a in
+      let new_a = new_client holds shelf settings for_a in
       let new_b = new_server content inbox settings for_b in
       let begun = first_moment (starting new_a noted_client_machine) (starting new_b noted_server_machine) scenario.acl_length scenario.acl_count scenario.names in
-      like_runs client_machine server_machine scenario (content inbox) (set_to settings) (set_to settings) (set_hosts_are_hosts scenario (content inbox)) (plain_set new_a) (plain_set new_b)
-      (client_twins shelf settings for_a) (server_twins content inbox settings for_b) happenings (plain_at at)
+      like_runs client_machine server_machine scenario (content inbox) (set_to settings) (set_to settings) (set_hosts_are_hosts scenario (content inbox)) (plain_client new_a) (plain_set new_b)
+      (client_twins holds shelf settings for_a) (server_twins content inbox settings for_b) happenings (plain_at at)
       (plain_runs happenings (world_at begun) (world_at at) (runs_of noted_client_machine noted_server_machine happenings begun at plays))
 
   -- and where the inbox failed never, it granted all calls of it
   like_so : (shelf : P) (inbox : Q) (for_a for_b : List Circumstance) (happenings : List Happening) (at : At) (Never : Type 0) → Never ⊎ (Never → ⊥) → (Never → AllGranted (answers_in for_b))
-      → Plays noted_client_machine noted_server_machine happenings (first_moment (starting (new_client shelf scenario.settings for_a) noted_client_machine) (starting (new_server content inbox scenario.settings for_b) noted_server_machine) scenario.acl_length scenario.acl_count scenario.names) at
-      → IsLikeGranted scenario (content inbox) (set_to scenario.settings) (set_to scenario.settings) (plain_set (new_client shelf scenario.settings for_a)) (plain_set (new_server content inbox scenario.settings for_b)) happenings (plain_at at) Never
+      → Plays noted_client_machine noted_server_machine happenings (first_moment (starting (new_client holds shelf scenario.settings for_a) noted_client_machine) (starting (new_server content inbox scenario.settings for_b) noted_server_machine) scenario.acl_length scenario.acl_count scenario.names) at
+      → IsLikeServed scenario (holds shelf) (content inbox) (set_to scenario.settings) (set_to scenario.settings) (plain_client (new_client holds shelf scenario.settings for_a)) (plain_set (new_server content inbox scenario.settings for_b)) happenings (plain_at at) Never
   like_so shelf inbox for_a for_b happenings at Never decided grants plays =
       let settings = scenario.settings in
-      let new_a = new_client shelf settings for_a in
+      let new_a = new_client holds shelf settings for_a in
       let new_b = new_server content inbox settings for_b in
       let begun = first_moment (starting new_a noted_client_machine) (starting new_b noted_server_machine) scenario.acl_length scenario.acl_count scenario.names in
       let runs = runs_of noted_client_machine noted_server_machine happenings begun at plays in
-      like_granted client_machine server_machine scenario (content inbox) (set_to settings) (set_to settings) (set_hosts_are_hosts scenario (content inbox)) (plain_set new_a) (plain_set new_b)
-      (client_twins shelf settings for_a) (server_twins content inbox settings for_b) (granting_twins content inbox settings for_b) happenings (plain_at at) Never decided
-      (plain_runs happenings (world_at begun) (world_at at) runs, λ never. plain_granted happenings (world_at begun) (world_at at) (grants never) runs)
+      like_served client_machine server_machine scenario (holds shelf) (content inbox) (set_to settings) (set_to settings) (set_hosts_are_hosts scenario (content inbox)) (plain_client new_a) (plain_set new_b)
+      (holding_twins (holds shelf) holds shelf settings for_a) (server_twins content inbox settings for_b) (granting_twins content inbox settings for_b) happenings (plain_at at) Never decided
+      (held_runs (holds shelf) happenings (world_at begun) (world_at at) refl runs) (λ never. served_runs (holds shelf) happenings (world_at begun) (world_at at) refl (grants never) runs)
 
   -- what the inbox holds in it
   held : (shelf : P) (inbox : Q) (for_a for_b : List Circumstance) (happenings : List Happening) (at : PlainWorld) (run : Like shelf inbox for_a for_b happenings at)
       → run.world.b.upper.profile.inbox.content ≡ at.b.upper.host.profile.inbox.content
   held shelf inbox for_a for_b happenings at run =
       let settings = scenario.settings in
-      told_b client_machine server_machine scenario (content inbox) (set_to settings) (set_to settings) (set_hosts_are_hosts scenario (content inbox)) (plain_set (new_client shelf settings for_a)) (plain_set (new_server content inbox settings for_b))
-      (client_twins shelf settings for_a) (server_twins content inbox settings for_b) happenings at run (λ (x : SetHost ServerProfile). x.host.profile.inbox.content) refl
+      told_b client_machine server_machine scenario (content inbox) (set_to settings) (set_to settings) (set_hosts_are_hosts scenario (content inbox)) (plain_client (new_client holds shelf settings for_a)) (plain_set (new_server content inbox settings for_b))
+      (client_twins holds shelf settings for_a) (server_twins content inbox settings for_b) happenings at run (λ (x : SetHost ServerProfile). x.host.profile.inbox.content) refl
 
   radio_is : (shelf : P) (inbox : Q) (for_a for_b : List Circumstance) (happenings : List Happening) (at : PlainWorld) (run : Like shelf inbox for_a for_b happenings at) → run.world.radio ≡ at.radio
   radio_is shelf inbox for_a for_b happenings at run = ap (λ (w : PlainWorld). w.radio) run.alike.same
@@ -205,7 +207,7 @@ module _ {P Q : Type 0} (content : Q → Option Contents) (AnswersA : P → List
 
   pub broke :
       (first : Hosts) (shelf shelf' : P) (inbox inbox' : Q) (trace trace' : Option (List ℕ)) (Lacked Never : Type 0) → Never ⊎ (Never → ⊥) → ((mid : Q) (used : List Circumstance) → AnswersB inbox used mid → ((inbox' ≡ mid) ⊎ LackedB mid inbox') → Never → AllGranted (answers_in (used ++ []))) → first ≡ fresh_world scenario → ((mid : Q) (used : List Circumstance) → AnswersB inbox used mid → LackedB mid inbox' → Lacked)
-      → BreaksThrough noted_client_machine noted_server_machine AnswersA AnswersB LackedA LackedB server_at (words_of scenario.script) (staged first shelf inbox trace) shelf' inbox' trace' → IsBroken scenario (content inbox) (content inbox') trace trace' Lacked Never
+      → BreaksThrough noted_client_machine noted_server_machine AnswersA AnswersB LackedA LackedB server_at (words_of scenario.script) (staged first shelf inbox trace) shelf' inbox' trace' → IsBroken scenario (holds shelf) (content inbox) (content inbox') trace trace' Lacked Never
   unfolding course
   broke first shelf shelf' inbox inbox' trace trace' Lacked Never decided spares fresh lacks (OnItsWay broken) =
       let mid = broken.mid in
@@ -235,6 +237,7 @@ module _ {P Q : Type 0} (content : Q → Option Contents) (AnswersA : P → List
         words_are = broken.words_are ∙ sym (append_assoc broken.turned (all_words broken.next) broken.later)
             ∙ ap (λ (ws : List Word). ws ++ broken.later) (sym (flat_map-append words_in run.happenings broken.next ∙ ap (λ (ws : List Word). ws ++ all_words broken.next) run.words_are));
         written = subst (λ (t : Option (List ℕ)). GainedFront t trace' (capture_octets (all_entries broken.next))) run.written broken.front;
+        held = (past_so.held, on_so.held);
         granted = λ never. (past_so.granted never, on_so.granted never);
         stored = elim broken.inbox_left [
           | inl same ↦ inl (ap content same ∙ sym (held shelf inbox run.for_a run.for_b run.happenings (plain_at (moment_of mid [] [])) past ∙ own_holds broken.own_b.0 mid.inbox mid.b broken.own_b.1))
@@ -263,6 +266,7 @@ module _ {P Q : Type 0} (content : Q → Option Contents) (AnswersA : P → List
         later = [];
         words_are = sym run.words_are ∙ sym (append-nil (all_words run.happenings));
         written = subst (λ (t : Option (List ℕ)). GainedFront t trace' (capture_octets ends)) run.written front;
+        held = (past_so.held, past_so.held);
         granted = λ never. (past_so.granted never, past_so.granted never);
         stored = inl (ap content same_inbox ∙ sym (held shelf inbox run.for_a run.for_b run.happenings (plain_at (moment_of mid [] [])) past ∙ own_holds own.0 mid.inbox mid.b own.1));
       }

@@ -28,17 +28,19 @@ use Rattle.bt_host.specs.NotedHosts.{client_noting, server_noting, noted_client_
 use Rattle.bt_host.specs.Pushing.{AreOf}
 use Rattle.bt_host.specs.Serving.{Served}
 use Rattle.bt_host.specs.Shells.{Shelled}
+use Rattle.bt_host.specs.Shelving.{Shelved}
 use Rattle.bt_host.specs.Playing.{playing}
 use Rattle.scenario_laws.specs.Captures.{BothHosts}
 use Rattle.scenario_laws.proofs.SetHosts.{set_hosts_are_hosts}
-use Rattle.pair_laws.specs.Granted.{HappenedGranted}
+use Rattle.pair_laws.specs.Served.{HappenedHeld, HappenedServed}
 use Rattle.scenario_play.specs.Playing.{fresh_world, KeepsShelf, IsPlayed}
 use Rattle.scenario_play.specs.Noting.{plain_set}
+use Rattle.scenario_play.specs.Shelving.{plain_client}
 use Rattle.scenario_play.specs.Peaks.{NotedMoment, AreNoted, AreReached}
 use Rattle.scenario_play.specs.Running.{RunsThrough}
-use Rattle.scenario_play.proofs.Plainness.{PlainWorld, plain_world, orderly, plain_runs, plain_granted, plain_rest}
-use Rattle.scenario_play.proofs.Newness.{new_client, new_server, client_twins, server_twins, granting_twins, beginning, hosts_begin}
-use Rattle.scenario_play.proofs.Alikeness.{IsLike, IsWhole, IsLikeGranted, like_granted, like_ends, told_b}
+use Rattle.scenario_play.proofs.Plainness.{PlainWorld, plain_world, orderly, held_runs, served_runs, plain_rest}
+use Rattle.scenario_play.proofs.Newness.{new_client, new_server, client_twins, holding_twins, server_twins, granting_twins, beginning, hosts_begin}
+use Rattle.scenario_play.proofs.Alikeness.{IsLike, IsWhole, IsLikeServed, like_served, like_ends, told_b}
 
 pub shelf_kept :
     (content content' content'' : Option (List Object)) (faults faults' faults'' shortages shortages' shortages'' : ℕ) (xs ys : List Circumstance) → AreOf content content' faults faults' shortages shortages' xs
@@ -49,17 +51,17 @@ shelf_kept content content' content'' faults faults' faults'' shortages shortage
 abbrev pub Hosts : Type 0
 Hosts = Both (Shelled (Noted ClientProfile)) (Shelled (Noted Served))
 
-module _ {P Q : Type 0} (content : Q → Option Contents) (AnswersA : P → List Circumstance → P → Type 0) (AnswersB : Q → List Circumstance → Q → Type 0) (scenario : Scenario) where
-  abbrev client_at : Hosts → P → Asking (SetHost (Noted ClientProfile)) Circumstance
-  client_at world shelf = playing client_noting shelf world.a.stack
+module _ {P Q : Type 0} (holds : P → Option (List Object)) (content : Q → Option Contents) (AnswersA : P → List Circumstance → P → Type 0) (AnswersB : Q → List Circumstance → Q → Type 0) (scenario : Scenario) where
+  abbrev client_at : Hosts → P → Asking (SetHost (Noted Shelved)) Circumstance
+  client_at world shelf = playing (client_noting holds) shelf world.a.stack
 
   abbrev server_at : Hosts → Q → Asking (SetHost (Noted ServerProfile)) Circumstance
   server_at world inbox = playing (server_noting content) inbox world.b.stack
 
-  abbrev staged : Hosts → P → Q → Option (List ℕ) → Stage (SetHost (Noted ClientProfile)) (SetHost (Noted ServerProfile)) Circumstance Circumstance P Q
+  abbrev staged : Hosts → P → Q → Option (List ℕ) → Stage (SetHost (Noted Shelved)) (SetHost (Noted ServerProfile)) Circumstance Circumstance P Q
   staged world shelf inbox trace = stage world.scene (client_at world shelf) (server_at world inbox) shelf inbox trace
 
-  abbrev at_moment : Hosts → P → Q → List Circumstance → List Circumstance → Moment (SetHost (Noted ClientProfile)) (SetHost (Noted ServerProfile))
+  abbrev at_moment : Hosts → P → Q → List Circumstance → List Circumstance → Moment (SetHost (Noted Shelved)) (SetHost (Noted ServerProfile))
   at_moment world shelf inbox rest_a rest_b = moment world.scene (answering rest_a (client_at world shelf)) (answering rest_b (server_at world inbox))
 
   abbrev Through : Hosts → Hosts → P → P → Q → Q → Option (List ℕ) → Option (List ℕ) → Type 0
@@ -75,7 +77,7 @@ module _ {P Q : Type 0} (content : Q → Option Contents) (AnswersA : P → List
     happenings : List Happening
     words_are : all_words happenings ≡ words_of scenario.script
     plays : Plays noted_client_machine noted_server_machine happenings
-        (first_moment (starting (new_client shelf scenario.settings for_a) noted_client_machine) (starting (new_server content inbox scenario.settings for_b) noted_server_machine) scenario.acl_length scenario.acl_count scenario.names)
+        (first_moment (starting (new_client holds shelf scenario.settings for_a) noted_client_machine) (starting (new_server content inbox scenario.settings for_b) noted_server_machine) scenario.acl_length scenario.acl_count scenario.names)
         (moment last (answering [] (client_at end shelf')) (answering [] (server_at end inbox')))
     written : trace' ≡ gained trace (capture_octets (all_entries happenings))
     granted : Never → AllGranted (answers_in for_b)
@@ -93,10 +95,10 @@ module _ {P Q : Type 0} (content : Q → Option Contents) (AnswersA : P → List
       let rest_b = two.used_b ++ [] in
       let for_a = one.used_a ++ rest_a in
       let for_b = one.used_b ++ rest_b in
-      let new = first_moment (starting (new_client shelf scenario.settings for_a) noted_client_machine) (starting (new_server content inbox scenario.settings for_b) noted_server_machine) scenario.acl_length scenario.acl_count scenario.names in
+      let new = first_moment (starting (new_client holds shelf scenario.settings for_a) noted_client_machine) (starting (new_server content inbox scenario.settings for_b) noted_server_machine) scenario.acl_length scenario.acl_count scenario.names in
       let settled = moment run.last (answering [] (client_at end shelf')) (answering [] (server_at end inbox')) in
       let begun : Plays noted_client_machine noted_server_machine beginning new (at_moment first shelf inbox for_a for_b) =
-      subst (λ (w : Hosts). Plays noted_client_machine noted_server_machine beginning new (at_moment w shelf inbox for_a for_b)) (sym fresh) (hosts_begin content scenario shelf inbox for_a for_b) in
+      subst (λ (w : Hosts). Plays noted_client_machine noted_server_machine beginning new (at_moment w shelf inbox for_a for_b)) (sym fresh) (hosts_begin holds content scenario shelf inbox for_a for_b) in
       let both : Plays noted_client_machine noted_server_machine (one.happenings ++ two.happenings) (at_moment first shelf inbox for_a for_b) settled =
       plays_then noted_client_machine noted_server_machine one.happenings two.happenings (at_moment first shelf inbox for_a for_b) (moment_of run.mid rest_a rest_b) settled (one.plays rest_a rest_b) (two.plays [] []) in
       let entries = written_then trace run.mid.trace run.trace (all_entries one.happenings) (all_entries two.happenings) (all_entries one.happenings ++ all_entries two.happenings) refl one.written two.written in
@@ -116,25 +118,25 @@ module _ {P Q : Type 0} (content : Q → Option Contents) (AnswersA : P → List
   came end shelf' = noted_client_machine.outcome ((client_at end shelf').upper [])
 
   pub played : (first end : Hosts) (shelf shelf' : P) (inbox inbox' : Q) (trace trace' : Option (List ℕ)) (outcomes : List Outcome) (peaks : Peaks) (Never : Type 0) → Never ⊎ (Never → ⊥) → Spares inbox inbox' Never → first ≡ fresh_world scenario → Through first end shelf shelf' inbox inbox' trace trace'
-      → outcomes ≡ end.scene.pushes.outcomes → AreNoted end.scene.medium (at_moment end shelf' inbox' [] []) peaks → IsPlayed scenario (content inbox) (content inbox') trace trace' outcomes peaks Never
+      → outcomes ≡ end.scene.pushes.outcomes → AreNoted end.scene.medium (at_moment end shelf' inbox' [] []) peaks → IsPlayed scenario (holds shelf) (content inbox) (content inbox') trace trace' outcomes peaks Never
   played first end shelf shelf' inbox inbox' trace trace' outcomes peaks Never decided spares fresh through same noted =
       let run = course first end shelf shelf' inbox inbox' trace trace' Never spares fresh through in
       let last = through.last in
       let settings = scenario.settings in
       let hosts = set_hosts_are_hosts scenario (content inbox) in
-      let new_a = new_client shelf settings run.for_a in
+      let new_a = new_client holds shelf settings run.for_a in
       let new_b = new_server content inbox settings run.for_b in
-      let s = plain_set new_a in
+      let s = plain_client new_a in
       let t = plain_set new_b in
-      let twins_a = client_twins shelf settings run.for_a in
+      let twins_a = client_twins holds shelf settings run.for_a in
       let twins_b = server_twins content inbox settings run.for_b in
       let begun = first_moment (starting new_a noted_client_machine) (starting new_b noted_server_machine) scenario.acl_length scenario.acl_count scenario.names in
       let now : NotedMoment = moment last (answering [] (client_at end shelf')) (answering [] (server_at end inbox')) in
       let at : PlainWorld = plain_world (world_at now) in
       let runs = runs_of noted_client_machine noted_server_machine run.happenings begun now run.plays in
-      let so : IsLikeGranted scenario (content inbox) (set_to settings) (set_to settings) s t run.happenings at Never =
-      like_granted client_machine server_machine scenario (content inbox) (set_to settings) (set_to settings) hosts s t twins_a twins_b (granting_twins content inbox settings run.for_b) run.happenings at Never decided
-      (plain_runs run.happenings (world_at begun) (world_at now) runs, λ never. plain_granted run.happenings (world_at begun) (world_at now) (run.granted never) runs) in
+      let so : IsLikeServed scenario (holds shelf) (content inbox) (set_to settings) (set_to settings) s t run.happenings at Never =
+      like_served client_machine server_machine scenario (holds shelf) (content inbox) (set_to settings) (set_to settings) hosts s t (holding_twins (holds shelf) holds shelf settings run.for_a) twins_b (granting_twins content inbox settings run.for_b) run.happenings at Never decided
+      (held_runs (holds shelf) run.happenings (world_at begun) (world_at now) refl runs) (λ never. served_runs (holds shelf) run.happenings (world_at begun) (world_at now) refl (run.granted never) runs) in
       let like : IsLike scenario (content inbox) (set_to settings) (set_to settings) s t run.happenings at = so.like in
       let rests = at_rest noted_client_machine noted_server_machine last (client_at end shelf') (server_at end inbox') orderly through.stands [] [] in
       let whole : IsWhole scenario (content inbox) (set_to settings) (set_to settings) s t run.happenings at like (came end shelf') =
@@ -148,6 +150,7 @@ module _ {P Q : Type 0} (content : Q → Option Contents) (AnswersA : P → List
         ends = whole.ends;
         outcomes_are = same ∙ (through.outcomes_are ∙ whole.outcomes_are);
         reached = subst (λ (hs : List Happening). AreReached scenario (content inbox) hs peaks) (sym whole.happenings_are) (record {
+          shelf = holds shelf;
           for_a = run.for_a;
           for_b = run.for_b;
           last = now;
@@ -155,8 +158,10 @@ module _ {P Q : Type 0} (content : Q → Option Contents) (AnswersA : P → List
           rests = rests;
           noted = subst (λ (m : Medium). AreNoted m now peaks) through.medium_stays (record { buffers = noted.buffers; windows = noted.windows; credits = noted.credits });
         });
-        granted = λ never. subst (λ (hs : List Happening). HappenedGranted scenario (content inbox) hs whole.finished.ran.world) (sym whole.happenings_are)
-            (subst (λ (w : BothHosts). HappenedGranted scenario (content inbox) run.happenings w) (sym whole.world_is) (so.granted never));
+        held = subst (λ (hs : List Happening). HappenedHeld scenario (holds shelf) (content inbox) hs whole.finished.ran.world) (sym whole.happenings_are)
+            (subst (λ (w : BothHosts). HappenedHeld scenario (holds shelf) (content inbox) run.happenings w) (sym whole.world_is) so.held);
+        granted = λ never. subst (λ (hs : List Happening). HappenedServed scenario (holds shelf) (content inbox) hs whole.finished.ran.world) (sym whole.happenings_are)
+            (subst (λ (w : BothHosts). HappenedServed scenario (holds shelf) (content inbox) run.happenings w) (sym whole.world_is) (so.granted never));
         stored = sym (ap (λ (w : BothHosts). w.b.upper.profile.inbox.content) whole.world_is ∙ held);
         written = written_then trace through.trace trace' (all_entries run.happenings) (last_entries (came end shelf') last.pushes) (all_entries run.happenings ++ last_entries (came end shelf') last.pushes) refl run.written through.written;
       }

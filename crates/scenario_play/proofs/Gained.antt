@@ -1,6 +1,7 @@
--- What a scenario comes to that was played over L2CAP.
-use Rattle.std.proofs.Common.{◌≡◌, ℕ, List, [], ◌++◌, Option, Some, refl, sym, ap, ◌∙◌, subst, inl, inr, ◌⊎◌}
+-- What a scenario comes to that was played: over either transport, and over L2CAP.
+use Rattle.std.proofs.Common.{◌≡◌, ℕ, List, [], ◌∷◌, ◌++◌, Option, Some, None, refl, sym, ap, ◌∙◌, subst, inl, inr, ◌⊎◌}
 use Rattle.std.proofs.lemmas.List.{append-nil}
+use Rattle.std.specs.List.{AllByRecursion}
 use Rattle.bt_base.specs.Counts.{HasRisen}
 use Rattle.bt_base.specs.Objects.{Object, Contents}
 use Rattle.bt_base.specs.declared.settings.Transport.TheVariants.{L2cap}
@@ -9,16 +10,22 @@ use Rattle.push_terms.specs.declared.outcome.Outcome.{Outcome}
 use Rattle.push_terms.specs.declared.peaks.Peaks.{Peaks}
 use Rattle.push_terms.specs.declared.word.Side.TheVariants.{A, B}
 use Rattle.push_terms.specs.declared.word.Word.{Word}
-use Rattle.capture.specs.Air.{words_of}
 use Rattle.capture.specs.Entries.{Entry}
 use Rattle.capture.specs.Histories.{EachAfter}
 use Rattle.radio_air.specs.Air.{KeepsTo}
 use Rattle.link_talk.specs.Captures.{objects_heard}
-use Rattle.world_model.specs.Worlds.{all_entries}
+use Rattle.world_model.specs.Machines.{News, Linked, Failed, Heard, TimerFired, Cancelled, Opening}
+use Rattle.world_model.specs.Worlds.{Happening, all_entries}
 use Rattle.push_laws.specs.Laws.{stored_in}
+use Rattle.host_model.specs.Circumstances.{Circumstance}
+use Rattle.shelf_model.specs.Held.{held_by}
+use Rattle.host_laws.specs.Answered.{TellsAtMost, BeginsAtMost}
+use Rattle.host_laws.specs.Feeds.{Feed, Gifts, Learns, Receives, Happens, Sent, Steps}
 use Rattle.host_laws.proofs.InOrder.{asks-nothing}
+use Rattle.request_laws.specs.AllSizes.{longest_octets}
+use Rattle.request_laws.specs.BothFed.{most_octets}
 use Rattle.scenario_laws.specs.Air.{hosts_of}
-use Rattle.scenario_laws.specs.Captures.{Ran, Finished}
+use Rattle.scenario_laws.specs.Captures.{client_of, server_of, beginning, BothHosts, Ran, Finished}
 use Rattle.scenario_laws.specs.Gains.{holding}
 use Rattle.scenario_laws.specs.Parties.{party_of}
 use Rattle.scenario_laws.proofs.Accounts.{buffers_kept, controllers_honest, pushes_in_turn}
@@ -26,28 +33,65 @@ use Rattle.scenario_laws.proofs.Airs.{air_kept, air_obeyed}
 use Rattle.scenario_laws.proofs.Early.{fronts_spell_fronts}
 use Rattle.scenario_laws.proofs.Framing.{windows_kept}
 use Rattle.scenario_laws.proofs.Gaining.{gains_exactly}
-use Rattle.pair_laws.specs.Granted.{HappenedGranted}
-use Rattle.pair_laws.proofs.Pairing.{granted-take_turns}
+use Rattle.pair_laws.specs.Granted.{granting, HappenedGranted}
+use Rattle.pair_laws.specs.Served.{HappenedHeld, HappenedServed, TellsOf, BeginsOf}
+use Rattle.pair_laws.proofs.Answered.{runs-so}
+use Rattle.pair_laws.proofs.Pairing.{granted-take_turns, held-take_turns, served-take_turns}
 use Rattle.pair_laws.proofs.Taking.{clients_within, servers_within}
 use Rattle.request_laws.specs.Together.{ServesAll}
+use Rattle.request_laws.proofs.AllSizes.{gains_so}
 use Rattle.request_laws.proofs.Linked.{runs_are_linked}
 use Rattle.request_laws.proofs.Together.{all_granted}
 use Rattle.request_laws.proofs.ObjectPipes.{are_piped}
 use Rattle.request_laws.proofs.Paired.{paired_servers_serve}
 use Rattle.request_laws.proofs.Summing.{both_ask}
 use Rattle.scenario_play.specs.Breaking.{IsBroken}
-use Rattle.scenario_play.specs.Gaining.{HaveAnswered, HaveGranted, RestPlain, KeepsAccounts, ServesAndGains, RestsSo, GainsPlayed, GainsBroken, PlaysGain}
+use Rattle.scenario_play.specs.Gaining.{HaveAnswered, HaveGranted, HaveOffered, HoldsAtMost, HaveTold, KeepsAccounts, ServesAndGains, RestsSo, KeepsPlayed, KeepsBroken, GainsPlayed, GainsBroken, PlaysKeep, PlaysGain}
 use Rattle.scenario_play.specs.Playing.{RoseNever, IsPlayed}
 
 -- ---- a run
 
-accounts_kept : (scenario : Scenario) (before : List Object) (capture : List Entry) → Ran scenario (holding before) capture → KeepsAccounts scenario capture
-accounts_kept scenario before capture ran = record {
-  within_a = buffers_kept scenario (holding before) capture A ran;
-  within_b = buffers_kept scenario (holding before) capture B ran;
-  honest = controllers_honest scenario (holding before) capture ran;
-  in_turn = pushes_in_turn scenario (holding before) capture ran;
+accounts_kept : (scenario : Scenario) (content : Option Contents) (capture : List Entry) → Ran scenario content capture → KeepsAccounts scenario capture
+accounts_kept scenario content capture ran = record {
+  within_a = buffers_kept scenario content capture A ran;
+  within_b = buffers_kept scenario content capture B ran;
+  honest = controllers_honest scenario content capture ran;
+  in_turn = pushes_in_turn scenario content capture ran;
 }
+
+rests_so : (scenario : Scenario) (content : Option Contents) (capture : List Entry) → Finished scenario content capture → RestsSo scenario capture
+rests_so scenario content capture finished = record {
+  window_a = windows_kept scenario content capture A finished.ran finished.rests;
+  window_b = windows_kept scenario content capture B finished.ran finished.rests;
+  obeys = air_obeyed scenario content capture finished;
+}
+
+-- ---- over either transport
+
+pub played_kept : (scenario : Scenario) (shelf : Option (List Object)) (before after : Option Contents) (trace trace' : Option (List ℕ)) (outcomes : List Outcome) (peaks : Peaks) (Never : Type 0) (played : IsPlayed scenario shelf before after trace trace' outcomes peaks Never)
+    → KeepsPlayed scenario outcomes played.capture
+played_kept scenario shelf before after trace trace' outcomes peaks Never played = record {
+  accounts = accounts_kept scenario before played.capture played.finished.ran;
+  outcomes_are = played.outcomes_are;
+  rests = rests_so scenario before played.capture played.finished;
+}
+
+broken_kept : (scenario : Scenario) (shelf : Option (List Object)) (before after : Option Contents) (trace trace' : Option (List ℕ)) (Lacked Never : Type 0) (broken : IsBroken scenario shelf before after trace trace' Lacked Never)
+    → KeepsBroken scenario (all_entries broken.happenings ++ broken.next)
+broken_kept scenario shelf before after trace trace' Lacked Never broken =
+    let capture : List Entry = all_entries broken.happenings ++ broken.next in
+    record {
+      accounts = accounts_kept scenario before capture broken.ran;
+      keeps = subst (λ (ws : List Word). EachAfter (KeepsTo (hosts_of scenario.settings) scenario.acl_length ws) [] capture) (sym broken.words_are) (air_kept scenario before capture broken.later broken.ran);
+    }
+
+pub plays_keep : PlaysKeep
+plays_keep = record {
+  plays = λ scenario shelf before after trace trace' outcomes peaks faults faults' shortages shortages' played. played_kept scenario shelf before after trace trace' outcomes peaks (RoseNever faults faults' shortages shortages') played;
+  breaks = λ scenario shelf before after trace trace' faults faults' shortages shortages' broken. broken_kept scenario shelf before after trace trace' (HasRisen shortages shortages') (RoseNever faults faults' shortages shortages') broken;
+}
+
+-- ---- over L2CAP
 
 -- however both hosts went through it side by side, where their ports answered
 serves_all : (scenario : Scenario) (before : List Object) (capture : List Entry) (ran : Ran scenario (holding before) capture) → scenario.settings.transport ≡ L2cap → HaveAnswered both_ask scenario before capture ran
@@ -61,48 +105,90 @@ serves_all scenario before capture ran direct have =
     (asks-nothing scenario.settings (holding before)) in
     record { orderly = orderly; gained = gains_exactly both_ask scenario before capture ran direct orderly }
 
+abbrev as_told : News → List Circumstance → List Circumstance
+as_told news answers = answers
+
+-- that the shelf told what it holds changes nothing of what the inbox granted
+pub so_granted : (scenario : Scenario) (shelf : Option (List Object)) (before : List Object) (happenings : List Happening) (world : BothHosts) → HappenedServed scenario shelf (holding before) happenings world → HappenedGranted scenario (holding before) happenings world
+so_granted scenario shelf before happenings world happened = runs-so (client_of scenario) (granting (server_of scenario (holding before))) (held_by shelf) as_told happenings (beginning scenario (holding before)) world happened
+
 -- and where the inbox granted all
-have_granted : (scenario : Scenario) (before : List Object) (capture : List Entry) (ran : Ran scenario (holding before) capture) → HappenedGranted scenario (holding before) ran.happenings ran.world
+have_granted : (scenario : Scenario) (shelf : Option (List Object)) (before : List Object) (capture : List Entry) (ran : Ran scenario (holding before) capture) → HappenedServed scenario shelf (holding before) ran.happenings ran.world
     → HaveGranted both_ask scenario before capture ran
-have_granted scenario before capture ran happened =
-    let so = granted-take_turns both_ask scenario (holding before) capture ran happened in
+have_granted scenario shelf before capture ran happened =
+    let so = granted-take_turns both_ask scenario (holding before) capture ran (so_granted scenario shelf before ran.happenings ran.world happened) in
     record { turns = so.turns; granted = all_granted so.turns.pairs.b.fed.so.lives.feeds so.given }
+
+-- and what the shelf told, where it tells what it holds
+have_told : (scenario : Scenario) (shelf : Option (List Object)) (before : List Object) (capture : List Entry) (ran : Ran scenario (holding before) capture) → HappenedHeld scenario shelf (holding before) ran.happenings ran.world
+    → HaveTold both_ask scenario shelf before capture ran
+have_told scenario None before capture ran happened = tt
+have_told scenario (Some objects) before capture ran happened = held-take_turns both_ask scenario objects (holding before) capture ran happened
+
+no_longer : (most : ℕ) (objects : List Object) → HoldsAtMost most (Some objects) → (circumstances : List Circumstance) (news : News) → TellsOf objects circumstances news → TellsAtMost most circumstances news
+no_longer most objects short circumstances (Linked event) told = tt
+no_longer most objects short circumstances (Failed status) told = tt
+no_longer most objects short circumstances (Heard pdu) told = tt
+no_longer most objects short circumstances TimerFired told = tt
+no_longer most objects short circumstances Cancelled told = tt
+no_longer most objects short circumstances (Opening name) told = λ size is. short name size (told size is)
+
+none_longer : (most : ℕ) (objects : List Object) → HoldsAtMost most (Some objects) → (feeds : List Feed) → AllByRecursion (BeginsOf objects) feeds → AllByRecursion (BeginsAtMost most) feeds
+none_longer most objects short [] all = tt
+none_longer most objects short (Gifts circumstances ∷ feeds) all = (tt, none_longer most objects short feeds all.1)
+none_longer most objects short (Learns circumstances news ∷ feeds) all = (no_longer most objects short circumstances news all.0, none_longer most objects short feeds all.1)
+none_longer most objects short (Receives own psm sdu ∷ feeds) all = (tt, none_longer most objects short feeds all.1)
+none_longer most objects short (Happens event v ∷ feeds) all = (tt, none_longer most objects short feeds all.1)
+none_longer most objects short (Sent v ∷ feeds) all = (tt, none_longer most objects short feeds all.1)
+none_longer most objects short (Steps v ∷ feeds) all = (tt, none_longer most objects short feeds all.1)
+
+-- so their ports answered, where no object of the shelf is too long
+have_answered : (scenario : Scenario) (shelf : Option (List Object)) (before : List Object) (capture : List Entry) (ran : Ran scenario (holding before) capture) → HappenedServed scenario shelf (holding before) ran.happenings ran.world
+    → HoldsAtMost most_octets shelf → HaveAnswered both_ask scenario before capture ran
+have_answered scenario None before capture ran happened short = absurd short
+have_answered scenario (Some objects) before capture ran happened short =
+    let so = served-take_turns both_ask scenario objects (holding before) capture ran happened in
+    let feeds = so.turns.pairs.a.fed.so.lives.feeds in
+    record { turns = so.turns; answer = record { small = none_longer most_octets objects short feeds so.told; granted = all_granted so.turns.pairs.b.fed.so.lives.feeds so.given } }
+
+-- and for what the inbox gains, where none is longer than a client can push
+have_offered : (scenario : Scenario) (shelf : Option (List Object)) (before : List Object) (capture : List Entry) (ran : Ran scenario (holding before) capture) → HappenedServed scenario shelf (holding before) ran.happenings ran.world
+    → HoldsAtMost longest_octets shelf → HaveOffered both_ask scenario before capture ran
+have_offered scenario None before capture ran happened short = absurd short
+have_offered scenario (Some objects) before capture ran happened short =
+    let so = served-take_turns both_ask scenario objects (holding before) capture ran happened in
+    let feeds = so.turns.pairs.a.fed.so.lives.feeds in
+    record { turns = so.turns; grants = record { small = none_longer longest_octets objects short feeds so.told; granted = all_granted so.turns.pairs.b.fed.so.lives.feeds so.given } }
 
 -- ---- to its end
 
-rests_so : (scenario : Scenario) (before : List Object) (capture : List Entry) (finished : Finished scenario (holding before) capture) → RestPlain scenario before finished.ran.happenings → RestsSo scenario capture
-rests_so scenario before capture finished rest = record {
-  window_a = windows_kept rest.asks scenario (holding before) capture A finished.ran finished.rests rest.plain;
-  window_b = windows_kept rest.asks scenario (holding before) capture B finished.ran finished.rests rest.plain;
-  obeys = air_obeyed rest.asks scenario (holding before) capture finished rest.plain;
-}
-
-plays : (scenario : Scenario) (before : List Object) (after : Option Contents) (trace trace' : Option (List ℕ)) (outcomes : List Outcome) (peaks : Peaks) (Never : Type 0) (played : IsPlayed scenario (holding before) after trace trace' outcomes peaks Never)
-    → scenario.settings.transport ≡ L2cap → GainsPlayed both_ask scenario before after outcomes played.capture played.finished Never
-plays scenario before after trace trace' outcomes peaks Never played direct = record {
-  accounts = accounts;
-  outcomes_are = played.outcomes_are;
-  granted = λ never. have_granted scenario before played.capture played.finished.ran (played.granted never);
+plays : (scenario : Scenario) (shelf : Option (List Object)) (before : List Object) (after : Option Contents) (trace trace' : Option (List ℕ)) (outcomes : List Outcome) (peaks : Peaks) (Never : Type 0) (played : IsPlayed scenario shelf (holding before) after trace trace' outcomes peaks Never)
+    → scenario.settings.transport ≡ L2cap → GainsPlayed both_ask scenario shelf before after outcomes played.capture played.finished Never
+plays scenario shelf before after trace trace' outcomes peaks Never played direct = record {
+  kept = kept;
+  told = have_told scenario shelf before played.capture played.finished.ran played.held;
+  granted = λ never. have_granted scenario shelf before played.capture played.finished.ran (played.granted never);
+  offered = λ never short. have_offered scenario shelf before played.capture played.finished.ran (played.granted never) short;
+  answered = λ never short. have_answered scenario shelf before played.capture played.finished.ran (played.granted never) short;
+  gained = λ have. ap stored_in played.stored ∙ gains_so scenario before played.capture played.finished.ran direct have.turns have.grants;
   serves = serves;
-  rests = rests_so scenario before played.capture played.finished;
-  ends = λ have rest.
+  ends = λ have.
       let all = serves have in
-      let so = rests_so scenario before played.capture played.finished rest in
       record {
         gained = all.gained;
-        within_a = accounts.within_a;
-        within_b = accounts.within_b;
-        window_a = so.window_a;
-        window_b = so.window_b;
-        honest = accounts.honest;
-        in_turn = accounts.in_turn;
+        within_a = kept.accounts.within_a;
+        within_b = kept.accounts.within_b;
+        window_a = kept.rests.window_a;
+        window_b = kept.rests.window_b;
+        honest = kept.accounts.honest;
+        in_turn = kept.accounts.in_turn;
         outcomes_are = played.outcomes_are;
-        obeys = so.obeys;
+        obeys = kept.rests.obeys;
       };
 }
   where
-    accounts : KeepsAccounts scenario played.capture
-    accounts = accounts_kept scenario before played.capture played.finished.ran
+    kept : KeepsPlayed scenario outcomes played.capture
+    kept = played_kept scenario shelf (holding before) after trace trace' outcomes peaks Never played
 
     serves : HaveAnswered both_ask scenario before played.capture played.finished.ran → ServesAndGains both_ask scenario before played.capture played.finished.ran.world (stored_in after)
     serves have =
@@ -115,26 +201,28 @@ unless : {X Y : Type 0} → X ⊎ Y → (Y → ⊥) → X
 unless (inl x) none = x
 unless (inr y) none = absurd (none y)
 
-breaks : (scenario : Scenario) (before : List Object) (after : Option Contents) (trace trace' : Option (List ℕ)) (shortages shortages' : ℕ) (Never : Type 0) (broken : IsBroken scenario (holding before) after trace trace' (HasRisen shortages shortages') Never)
-    → scenario.settings.transport ≡ L2cap → GainsBroken both_ask scenario before after trace trace' shortages shortages' Never broken
-breaks scenario before after trace trace' shortages shortages' Never broken direct = record {
+breaks : (scenario : Scenario) (shelf : Option (List Object)) (before : List Object) (after : Option Contents) (trace trace' : Option (List ℕ)) (shortages shortages' : ℕ) (Never : Type 0) (broken : IsBroken scenario shelf (holding before) after trace trace' (HasRisen shortages shortages') Never)
+    → scenario.settings.transport ≡ L2cap → GainsBroken both_ask scenario shelf before after trace trace' shortages shortages' Never broken
+breaks scenario shelf before after trace trace' shortages shortages' Never broken direct = record {
   past = so_far;
   world_is = refl;
-  accounts = accounts;
-  granted = λ never. have_granted scenario before past so_far (broken.granted never).0;
+  kept = kept;
+  told = have_told scenario shelf before past so_far broken.held.0;
+  granted = λ never. have_granted scenario shelf before past so_far (broken.granted never).0;
+  offered = λ never short. have_offered scenario shelf before past so_far (broken.granted never).0 short;
+  answered = λ never short. have_answered scenario shelf before past so_far (broken.granted never).0 short;
   serves = λ have. (serves_all scenario before past so_far direct have).orderly;
-  gained = gained;
-  keeps = keeps;
-  breaks_off = λ have rest none. record {
+  gained = λ have none. ap stored_in (unless broken.stored none) ∙ gains_so scenario before past so_far direct have.turns have.grants;
+  breaks_off = λ have none. record {
     gain = objects_heard (party_of scenario.settings B) B past;
-    gained = gained have none;
+    gained = ap stored_in (unless broken.stored none) ∙ (serves_all scenario before past so_far direct have).gained;
     all = refl;
     first = fronts_spell_fronts (party_of scenario.settings B) B capture past (broken.next, refl);
-    within_a = accounts.within_a;
-    within_b = accounts.within_b;
-    honest = accounts.honest;
-    in_turn = accounts.in_turn;
-    keeps = keeps rest;
+    within_a = kept.accounts.within_a;
+    within_b = kept.accounts.within_b;
+    honest = kept.accounts.honest;
+    in_turn = kept.accounts.in_turn;
+    keeps = kept.keeps;
   };
 }
   where
@@ -147,24 +235,16 @@ breaks scenario before after trace trace' shortages shortages' Never broken dire
     so_far : Ran scenario (holding before) past
     so_far = record { happenings = broken.happenings; world = broken.world; happened = broken.happened; ends = []; last = tt; capture_is = sym (append-nil past) }
 
-    accounts : KeepsAccounts scenario capture
-    accounts = accounts_kept scenario before capture broken.ran
-
-    gained : HaveAnswered both_ask scenario before past so_far → (HasRisen shortages shortages' → ⊥) → stored_in after ≡ Some (before ++ objects_heard (party_of scenario.settings B) B past)
-    gained have none = ap stored_in (unless broken.stored none) ∙ (serves_all scenario before past so_far direct have).gained
-
-    keeps : RestPlain scenario before broken.ran.happenings → EachAfter (KeepsTo (hosts_of scenario.settings) scenario.acl_length (words_of scenario.script)) [] capture
-    keeps rest =
-        subst (λ (ws : List Word). EachAfter (KeepsTo (hosts_of scenario.settings) scenario.acl_length ws) [] capture) (sym broken.words_are)
-        (air_kept rest.asks scenario (holding before) capture broken.later broken.ran rest.plain)
+    kept : KeepsBroken scenario capture
+    kept = broken_kept scenario shelf (holding before) after trace trace' (HasRisen shortages shortages') Never broken
 
 -- ---- the law
 
 pub plays_gain : PlaysGain
 plays_gain = record {
   asks = both_ask;
-  plays = λ scenario before after trace trace' outcomes peaks faults faults' shortages shortages' played direct.
-      plays scenario before after trace trace' outcomes peaks (RoseNever faults faults' shortages shortages') played direct;
-  breaks = λ scenario before after trace trace' faults faults' shortages shortages' broken direct.
-      breaks scenario before after trace trace' shortages shortages' (RoseNever faults faults' shortages shortages') broken direct;
+  plays = λ scenario shelf before after trace trace' outcomes peaks faults faults' shortages shortages' played direct.
+      plays scenario shelf before after trace trace' outcomes peaks (RoseNever faults faults' shortages shortages') played direct;
+  breaks = λ scenario shelf before after trace trace' faults faults' shortages shortages' broken direct.
+      breaks scenario shelf before after trace trace' shortages shortages' (RoseNever faults faults' shortages shortages') broken direct;
 }

@@ -1,6 +1,7 @@
 mod Embedded
 mod Forgetting
 mod Sparing
+mod Bare
 mod Plainness
 mod Newness
 mod Alikeness
@@ -9,6 +10,7 @@ mod Breaking
 mod Names
 mod Ended
 pub mod Gained
+pub mod Streamed
 mod Unacknowledged
 mod Stepping
 mod NotedWindows

@@ -1,7 +1,7 @@
 -- Between which numbers the reported windows of a played scenario lie.
 use Rattle.std.proofs.Common.{◌≡◌, ℕ, ◌≤◌, true, false, List, [], ◌++◌, Option, Some, None, refl, sym, ap, subst, ◌∙◌, arith, append-nil}
 use Rattle.bt_base.specs.declared.settings.Settings.{Settings}
-use Rattle.bt_base.specs.Objects.{Contents}
+use Rattle.bt_base.specs.Objects.{Object, Contents}
 use Rattle.push_script.specs.declared.scenario.Scenario.{Scenario}
 use Rattle.push_terms.specs.declared.peaks.Peaks.{Peaks}
 use Rattle.push_terms.specs.declared.word.Side.{Side}
@@ -39,19 +39,22 @@ use Rattle.host_model.specs.Profiles.{Profile}
 use Rattle.host_model.specs.Servers.{ServerProfile, server_profile}
 use Rattle.host_model.specs.Settings.{SetHost, set_to, said_with, with_settings, client_machine, server_machine}
 use Rattle.host_laws.specs.Acts.{Hears, Says}
-use Rattle.host_laws.specs.Calls.{Asks, HostsAsk}
+use Rattle.host_laws.specs.Calls.{Asks}
 use Rattle.host_laws.proofs.Asking.{hosts_ask}
 use Rattle.host_laws.proofs.Links.{act_told}
 use Rattle.bt_host.specs.Noting.{Noted, noting}
-use Rattle.bt_host.specs.NotedHosts.{credits_of_client, credits_of_server, noted_client_machine, noted_server_machine}
+use Rattle.bt_host.specs.NotedHosts.{credits_of_shelved, credits_of_server, noted_client_machine, noted_server_machine}
 use Rattle.bt_host.specs.Serving.{profile_of}
+use Rattle.bt_host.specs.Shelving.{Shelved, shelf_profile}
 use Rattle.scenario_laws.specs.Captures.{client_of, server_of}
 use Rattle.scenario_laws.specs.Parties.{party_of}
-use Rattle.scenario_laws.specs.Plain.{IsPlainAt, ArePlain}
+use Rattle.scenario_laws.specs.Plain.{IsPlainAt}
+use Rattle.scenario_laws.proofs.PlainRuns.{stepping_asks, plain_runs as both_plain}
 use Rattle.scenario_laws.proofs.SetHosts.{set_hosts_are_hosts}
 use Rattle.scenario_laws.proofs.Telling.{side_linked}
 use Rattle.scenario_laws.proofs.Wishes.{states_frame, wishes_window}
 use Rattle.scenario_play.specs.Noting.{plain_set}
+use Rattle.scenario_play.specs.Shelving.{plain_client}
 use Rattle.scenario_play.specs.PeakBounds.{HoldsAtMost, AreBounded, PeaksAreBounded}
 use Rattle.scenario_play.specs.Peaks.{asked_client, asked_server, NotedMoment, AreReached}
 use Rattle.scenario_play.proofs.Alikeness.{IsLike, like_runs, like_rests, told_a, told_b}
@@ -179,8 +182,15 @@ server_asks settings = let asks = hosts_ask.servers settings None in record { ca
 server_less : (settings : Settings) → StepsLess (profile_of settings)
 server_less settings v serving = server_steps settings None v serving
 
-abbrev NotesA : Settings → ℕ → SetHost (Noted ClientProfile) → Type 0
-NotesA settings least s = Notes credits_of_client client_profile (λ (of : Settings). hosts_ask.clients of) client_steps (λ of psm. wishes_window of psm) settings least s
+-- nor what a client asks, whatever its shelf tells that it holds
+shelf_asks : (settings : Settings) → Asks (shelf_profile settings)
+shelf_asks settings = let asks = hosts_ask.clients settings in record { call = λ v shelved. asks.call v shelved.pushing; steps_are = λ v shelved. asks.steps_are v shelved.pushing }
+
+shelf_less : (settings : Settings) → StepsLess (shelf_profile settings)
+shelf_less settings v shelved = client_steps settings v shelved.pushing
+
+abbrev NotesA : Settings → ℕ → SetHost (Noted Shelved) → Type 0
+NotesA settings least s = Notes credits_of_shelved shelf_profile shelf_asks shelf_less (λ of psm. wishes_window of psm) settings least s
 
 abbrev NotesB : Settings → ℕ → SetHost (Noted ServerProfile) → Type 0
 NotesB settings least s = Notes credits_of_server profile_of server_asks server_less (λ of psm. wishes_window of psm) settings least s
@@ -188,16 +198,16 @@ NotesB settings least s = Notes credits_of_server profile_of server_asks server_
 both_along : (settings : Settings) (least_a least_b : ℕ) (happenings : List Happening) (old new : NotedMoment) → NotesA settings least_a old.a.upper → NotesB settings least_b old.b.upper → Plays noted_client_machine noted_server_machine happenings old new
     → NotesA settings least_a new.a.upper × NotesB settings least_b new.b.upper
 both_along settings least_a least_b happenings old new first_a first_b plays =
-    stays_along noted_client_machine noted_server_machine (λ (s : SetHost (Noted ClientProfile)). NotesA settings least_a s) (λ (s : SetHost (Noted ServerProfile)). NotesB settings least_b s)
-    (notes_stay credits_of_client client_profile (λ (of : Settings). hosts_ask.clients of) client_steps (λ of psm. wishes_window of psm) settings least_a)
+    stays_along noted_client_machine noted_server_machine (λ (s : SetHost (Noted Shelved)). NotesA settings least_a s) (λ (s : SetHost (Noted ServerProfile)). NotesB settings least_b s)
+    (notes_stay credits_of_shelved shelf_profile shelf_asks shelf_less (λ of psm. wishes_window of psm) settings least_a)
     (notes_stay credits_of_server profile_of server_asks server_less (λ of psm. wishes_window of psm) settings least_b)
     happenings (world_at old) (world_at new) first_a first_b (runs_of noted_client_machine noted_server_machine happenings old new plays)
 
 module _ (scenario : Scenario) (content : Option Contents) (happenings : List Happening) (peaks : Peaks) (reached : AreReached scenario content happenings peaks) where
   abbrev begun : NotedMoment
-  begun = first_moment (starting (asked_client scenario reached.for_a) noted_client_machine) (starting (asked_server scenario content reached.for_b) noted_server_machine) scenario.acl_length scenario.acl_count scenario.names
+  begun = first_moment (starting (asked_client scenario reached.shelf reached.for_a) noted_client_machine) (starting (asked_server scenario content reached.for_b) noted_server_machine) scenario.acl_length scenario.acl_count scenario.names
 
-  first_a : NotesA scenario.settings 0 (asked_client scenario reached.for_a)
+  first_a : NotesA scenario.settings 0 (asked_client scenario reached.shelf reached.for_a)
   first_a = record { set = refl; told = refl; fine = record { goes = record { come = ([], refl); more = omega arith; high = omega arith }; low = omega arith } }
 
   first_b : NotesB scenario.settings 0 (asked_server scenario content reached.for_b)
@@ -215,20 +225,20 @@ module _ (scenario : Scenario) (content : Option Contents) (happenings : List Ha
       let plays : Plays noted_client_machine noted_server_machine (front ++ rest) begun reached.last = subst (λ (hs : List Happening). Plays noted_client_machine noted_server_machine hs begun reached.last) is reached.plays in
       let (mid, before, behind) = plays_apart noted_client_machine noted_server_machine front rest begun reached.last plays in
       let (notes_a, notes_b) = both_along scenario.settings 0 0 front begun mid first_a first_b before in
-      let from_a = notes_from credits_of_client client_profile (λ (of : Settings). hosts_ask.clients of) client_steps (λ of psm. wishes_window of psm) scenario.settings 0 mid.a.upper notes_a in
+      let from_a = notes_from credits_of_shelved shelf_profile shelf_asks shelf_less (λ of psm. wishes_window of psm) scenario.settings 0 mid.a.upper notes_a in
       let from_b = notes_from credits_of_server profile_of server_asks server_less (λ of psm. wishes_window of psm) scenario.settings 0 mid.b.upper notes_b in
       let (last_a, last_b) = both_along scenario.settings mid.a.upper.host.profile.window mid.b.upper.host.profile.window rest mid reached.last from_a from_b behind in
       record {
         mid = mid;
         before = before;
-        low_a = noted_low credits_of_client client_profile (λ (of : Settings). hosts_ask.clients of) client_steps (λ of psm. wishes_window of psm) scenario.settings mid.a.upper reached.last.a.upper notes_a last_a peaks.window_a reached.noted.windows.0;
+        low_a = noted_low credits_of_shelved shelf_profile shelf_asks shelf_less (λ of psm. wishes_window of psm) scenario.settings mid.a.upper reached.last.a.upper notes_a last_a peaks.window_a reached.noted.windows.0;
         low_b = noted_low credits_of_server profile_of server_asks server_less (λ of psm. wishes_window of psm) scenario.settings mid.b.upper reached.last.b.upper notes_b last_b peaks.window_b reached.noted.windows.1;
       }
 
   -- ---- and as both hosts without their notes
 
   abbrev s : SetHost ClientProfile
-  s = plain_set (asked_client scenario reached.for_a)
+  s = plain_client (asked_client scenario reached.shelf reached.for_a)
 
   abbrev t : SetHost ServerProfile
   t = plain_set (asked_server scenario content reached.for_b)
@@ -238,26 +248,26 @@ module _ (scenario : Scenario) (content : Option Contents) (happenings : List Ha
 
   like : (front : List Happening) (mid : NotedMoment) → Plays noted_client_machine noted_server_machine front begun mid → Like front (plain_world (world_at mid))
   like front mid before =
-      like_runs client_machine server_machine scenario content (set_to scenario.settings) (set_to scenario.settings) (set_hosts_are_hosts scenario content) s t (client_twins {P = Unit {0}} tt scenario.settings reached.for_a) (server_twins (λ (c : Option Contents). c) content scenario.settings reached.for_b)
+      like_runs client_machine server_machine scenario content (set_to scenario.settings) (set_to scenario.settings) (set_hosts_are_hosts scenario content) s t (client_twins (λ (held : Option (List Object)). held) reached.shelf scenario.settings reached.for_a) (server_twins (λ (c : Option Contents). c) content scenario.settings reached.for_b)
       front (plain_world (world_at mid)) (plain_runs front (world_at begun) (world_at mid) (runs_of noted_client_machine noted_server_machine front begun mid before))
 
-  below_a : (asks : HostsAsk) → ArePlain asks scenario content happenings → (front : List Happening) → IsFront front happenings → (stop : Stop front) → (let one = like front stop.mid stop.before in IsAtRest (client_of scenario) (server_of scenario content) one.world
+  below_a : (front : List Happening) → IsFront front happenings → (stop : Stop front) → (let one = like front stop.mid stop.before in IsAtRest (client_of scenario) (server_of scenario content) one.world
       → HoldsAtMost scenario.settings sides.A peaks.window_a (all_entries front))
-  below_a asks plain front there stop rest =
+  below_a front there stop rest =
       let one = like front stop.mid stop.before in
-      let same = told_a client_machine server_machine scenario content (set_to scenario.settings) (set_to scenario.settings) (set_hosts_are_hosts scenario content) s t (client_twins {P = Unit {0}} tt scenario.settings reached.for_a) (server_twins (λ (c : Option Contents). c) content scenario.settings reached.for_b)
+      let same = told_a client_machine server_machine scenario content (set_to scenario.settings) (set_to scenario.settings) (set_hosts_are_hosts scenario content) s t (client_twins (λ (held : Option (List Object)). held) reached.shelf scenario.settings reached.for_a) (server_twins (λ (c : Option Contents). c) content scenario.settings reached.for_b)
       front (plain_world (world_at stop.mid)) one (λ (x : SetHost ClientProfile). x.host.channels) refl in
-      side_most (client_profile scenario.settings) (asks.clients scenario.settings) scenario.settings sides.A one.world.a.upper (link_up sides.A (all_entries front)) peaks.window_a (states_frame scenario.settings false sides.A)
-      (subst (λ (v : Channels). most_used v ≤ peaks.window_a) (sym same) stop.low_a) (plain.a front one.world there one.happened rest)
+      side_most (client_profile scenario.settings) (stepping_asks.clients scenario.settings) scenario.settings sides.A one.world.a.upper (link_up sides.A (all_entries front)) peaks.window_a (states_frame scenario.settings false sides.A)
+      (subst (λ (v : Channels). most_used v ≤ peaks.window_a) (sym same) stop.low_a) ((both_plain scenario content happenings).a front one.world there one.happened rest)
 
-  below_b : (asks : HostsAsk) → ArePlain asks scenario content happenings → (front : List Happening) → IsFront front happenings → (stop : Stop front) → (let one = like front stop.mid stop.before in IsAtRest (client_of scenario) (server_of scenario content) one.world
+  below_b : (front : List Happening) → IsFront front happenings → (stop : Stop front) → (let one = like front stop.mid stop.before in IsAtRest (client_of scenario) (server_of scenario content) one.world
       → HoldsAtMost scenario.settings sides.B peaks.window_b (all_entries front))
-  below_b asks plain front there stop rest =
+  below_b front there stop rest =
       let one = like front stop.mid stop.before in
-      let same = told_b client_machine server_machine scenario content (set_to scenario.settings) (set_to scenario.settings) (set_hosts_are_hosts scenario content) s t (client_twins {P = Unit {0}} tt scenario.settings reached.for_a) (server_twins (λ (c : Option Contents). c) content scenario.settings reached.for_b)
+      let same = told_b client_machine server_machine scenario content (set_to scenario.settings) (set_to scenario.settings) (set_hosts_are_hosts scenario content) s t (client_twins (λ (held : Option (List Object)). held) reached.shelf scenario.settings reached.for_a) (server_twins (λ (c : Option Contents). c) content scenario.settings reached.for_b)
       front (plain_world (world_at stop.mid)) one (λ (x : SetHost ServerProfile). x.host.channels) refl in
-      side_most (server_profile scenario.settings content) (asks.servers scenario.settings content) scenario.settings sides.B one.world.b.upper (link_up sides.B (all_entries front)) peaks.window_b (states_frame scenario.settings true sides.B)
-      (subst (λ (v : Channels). most_used v ≤ peaks.window_b) (sym same) stop.low_b) (plain.b front one.world there one.happened rest)
+      side_most (server_profile scenario.settings content) (stepping_asks.servers scenario.settings content) scenario.settings sides.B one.world.b.upper (link_up sides.B (all_entries front)) peaks.window_b (states_frame scenario.settings true sides.B)
+      (subst (λ (v : Channels). most_used v ≤ peaks.window_b) (sym same) stop.low_b) ((both_plain scenario content happenings).b front one.world there one.happened rest)
 
   -- ---- at its end
 
@@ -277,19 +287,19 @@ module _ (scenario : Scenario) (content : Option Contents) (happenings : List Ha
   end_rests : (let one = like happenings end_stop.mid end_stop.before in IsAtRest (client_of scenario) (server_of scenario content) one.world)
   unfolding end_stop
   end_rests =
-      like_rests client_machine server_machine scenario content (set_to scenario.settings) (set_to scenario.settings) (set_hosts_are_hosts scenario content) s t (client_twins {P = Unit {0}} tt scenario.settings reached.for_a) (server_twins (λ (c : Option Contents). c) content scenario.settings reached.for_b)
+      like_rests client_machine server_machine scenario content (set_to scenario.settings) (set_to scenario.settings) (set_hosts_are_hosts scenario content) s t (client_twins (λ (held : Option (List Object)). held) reached.shelf scenario.settings reached.for_a) (server_twins (λ (c : Option Contents). c) content scenario.settings reached.for_b)
       happenings (plain_world (world_at end_stop.mid)) (like happenings end_stop.mid end_stop.before) (plain_rest (world_at reached.last) reached.rests)
 
   pub are_bounded : AreBounded scenario content happenings peaks
   are_bounded = record {
-    stated_a = noted_high credits_of_client client_profile (λ (of : Settings). hosts_ask.clients of) client_steps (λ of psm. wishes_window of psm) scenario.settings reached.last.a.upper ends.0 peaks.window_a reached.noted.windows.0;
+    stated_a = noted_high credits_of_shelved shelf_profile shelf_asks shelf_less (λ of psm. wishes_window of psm) scenario.settings reached.last.a.upper ends.0 peaks.window_a reached.noted.windows.0;
     stated_b = noted_high credits_of_server profile_of server_asks server_less (λ of psm. wishes_window of psm) scenario.settings reached.last.b.upper ends.1 peaks.window_b reached.noted.windows.1;
-    rests = λ asks plain front there.
+    rests = λ front there.
         let stop = stops front there in
         let one = like front stop.mid stop.before in
-        record { world = one.world; happened = one.happened; below_a = below_a asks plain front there stop; below_b = below_b asks plain front there stop };
-    ends_a = λ asks plain. below_a asks plain happenings whole end_stop end_rests;
-    ends_b = λ asks plain. below_b asks plain happenings whole end_stop end_rests;
+        record { world = one.world; happened = one.happened; below_a = below_a front there stop; below_b = below_b front there stop };
+    ends_a = below_a happenings whole end_stop end_rests;
+    ends_b = below_b happenings whole end_stop end_rests;
   }
 
 pub peaks_are_bounded : PeaksAreBounded

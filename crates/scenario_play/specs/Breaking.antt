@@ -1,6 +1,6 @@
 -- A scenario that broke off (this project's own).
 use Rattle.std.specs.Prelude.{ℕ, ◌≡◌, ◌≤◌, ◌⊎◌, ◌||◌, ◌^◌, true, List, [], ◌++◌, length, Option}
-use Rattle.bt_base.specs.Objects.{Contents}
+use Rattle.bt_base.specs.Objects.{Object, Contents}
 use Rattle.bt_base.specs.Streams.{gained, GainedFront}
 use Rattle.push_script.specs.declared.scenario.Scenario.{Scenario}
 use Rattle.push_terms.specs.declared.word.Word.{Word}
@@ -15,7 +15,7 @@ use Rattle.radio_world.specs.Standing.{last_entries}
 use Rattle.radio_world.specs.Shortages.{Wants}
 use Rattle.radio_world.specs.Breaking.{IsOf, Broken}
 use Rattle.scenario_laws.specs.Captures.{BothHosts, Happened, Ran}
-use Rattle.pair_laws.specs.Granted.{HappenedGranted}
+use Rattle.pair_laws.specs.Served.{HappenedHeld, HappenedServed}
 
 -- ---- a world of any two hosts
 
@@ -39,9 +39,9 @@ MayWant U V AnswersA AnswersB LackedA LackedB words old shelf inbox trace = IsUn
 
 -- So much happened, from an inbox that held `before`, and the trace gained its entries. Behind them it gained a front of the next entry, if
 -- one was begun; the capture with that entry is one of a run as well, whose words are the first of the script. The inbox holds what host b
--- made of what happened, unless it lacked memory as that entry was heard. Where the inbox failed never, it granted all that it was asked in
--- both.
-pub record IsBroken (scenario : Scenario) (before after : Option Contents) (trace trace' : Option (List ℕ)) (InboxLacked InboxFailedNever : Type 0) : Type 0 where
+-- made of what happened, unless it lacked memory as that entry was heard. What the shelf told it holds, in both; and where the inbox failed
+-- never, it granted all that it was asked.
+pub record IsBroken (scenario : Scenario) (shelf : Option (List Object)) (before after : Option Contents) (trace trace' : Option (List ℕ)) (InboxLacked InboxFailedNever : Type 0) : Type 0 where
   pub happenings : List Happening
   pub world : BothHosts
   pub happened : Happened scenario before happenings world
@@ -51,7 +51,8 @@ pub record IsBroken (scenario : Scenario) (before after : Option Contents) (trac
   pub later : List Word
   pub words_are : words_of scenario.script ≡ all_words ran.happenings ++ later
   pub written : GainedFront (gained trace (capture_octets (all_entries happenings))) trace' (capture_octets next)
-  pub granted : InboxFailedNever → HappenedGranted scenario before happenings world × HappenedGranted scenario before ran.happenings ran.world
+  pub held : HappenedHeld scenario shelf before happenings world × HappenedHeld scenario shelf before ran.happenings ran.world
+  pub granted : InboxFailedNever → HappenedServed scenario shelf before happenings world × HappenedServed scenario shelf before ran.happenings ran.world
   pub stored : (after ≡ world.b.upper.profile.inbox.content) ⊎ InboxLacked
 
 -- a run led to where more frames wait in a direction of the air, or more octets of them, than memory is reserved for

@@ -1,5 +1,5 @@
--- What a scenario comes to that was played over L2CAP, with all that is still asked of its ports and of its client (this project's own).
-use Rattle.std.specs.Prelude.{ℕ, ◌≡◌, List, [], ◌++◌, Option, Some}
+-- What a scenario comes to that was played: over either transport, and over L2CAP with all that is still asked of its ports (this project's own).
+use Rattle.std.specs.Prelude.{ℕ, ◌≡◌, ◌≤◌, List, [], ◌++◌, Option, Some, None}
 use Rattle.std.specs.List.{AllByRecursion}
 use Rattle.bt_base.specs.Counts.{HasRisen}
 use Rattle.bt_base.specs.Objects.{Object, Contents}
@@ -16,8 +16,9 @@ use Rattle.radio_air.specs.Air.{KeepsTo, Obeys}
 use Rattle.radio_air.specs.Course.{PushesInTurn}
 use Rattle.radio_air.specs.Honest.{AreHonest}
 use Rattle.link_talk.specs.Captures.{objects_heard}
-use Rattle.world_model.specs.Worlds.{Happening, all_entries}
+use Rattle.world_model.specs.Worlds.{all_entries}
 use Rattle.push_laws.specs.Laws.{stored_in}
+use Rattle.shelf_model.specs.Held.{length_of}
 use Rattle.host_laws.specs.Calls.{HostsAsk}
 use Rattle.scenario_laws.specs.Accounts.{KeepsWindow}
 use Rattle.scenario_laws.specs.Air.{hosts_of}
@@ -27,9 +28,10 @@ use Rattle.scenario_laws.specs.Clauses.{Ends}
 use Rattle.scenario_laws.specs.Gains.{holding, OrderlyServer}
 use Rattle.scenario_laws.specs.Outcomes.{outcomes_of}
 use Rattle.scenario_laws.specs.Parties.{party_of}
-use Rattle.scenario_laws.specs.Plain.{ArePlain}
 use Rattle.pair_laws.specs.InTurn.{PairsInTurn}
-use Rattle.request_laws.specs.BothFed.{GrantsAll}
+use Rattle.pair_laws.specs.Served.{HeldInTurn}
+use Rattle.request_laws.specs.AllSizes.{longest_octets, InboxGrants}
+use Rattle.request_laws.specs.BothFed.{most_octets, GrantsAll}
 use Rattle.request_laws.specs.Together.{PortsAnswer}
 use Rattle.scenario_play.specs.Breaking.{IsBroken}
 use Rattle.scenario_play.specs.Playing.{RoseNever, IsPlayed}
@@ -48,10 +50,22 @@ pub record HaveGranted (asks : HostsAsk) (scenario : Scenario) (before : List Ob
   pub turns : PairsInTurn asks scenario (holding before) capture ran
   pub granted : AllByRecursion GrantsAll turns.pairs.b.fed.so.lives.feeds
 
--- Whatever both hosts ask of their channels: both are plain wherever the run is at rest.
-pub record RestPlain (scenario : Scenario) (before : List Object) (happenings : List Happening) : Type 0 where
-  pub asks : HostsAsk
-  pub plain : ArePlain asks scenario (holding before) happenings
+-- They went through it side by side in some way in which the shelf told of no object that is longer than a client can push, and the inbox granted
+-- all calls.
+pub record HaveOffered (asks : HostsAsk) (scenario : Scenario) (before : List Object) (capture : List Entry) (ran : Ran scenario (holding before) capture) : Type 0 where
+  pub turns : PairsInTurn asks scenario (holding before) capture ran
+  pub grants : InboxGrants asks scenario before capture ran turns.pairs
+
+-- the shelf tells what it holds, and none of its objects has more octets than so many
+abbrev pub HoldsAtMost : (most : ℕ) → Option (List Object) → Type 0
+HoldsAtMost most None = ⊥
+HoldsAtMost most (Some objects) = (name : List ℕ) (size : ℕ) → length_of name objects ≡ Some size → size ≤ most
+
+-- They went through it side by side in some way in which the shelf, where it tells what it holds, told no length but that of the object of
+-- that name.
+abbrev pub HaveTold : (asks : HostsAsk) (scenario : Scenario) (shelf : Option (List Object)) (before : List Object) (capture : List Entry) → Ran scenario (holding before) capture → Type 0
+HaveTold asks scenario None before capture ran = Unit {0}
+HaveTold asks scenario (Some objects) before capture ran = HeldInTurn asks scenario objects (holding before) capture ran
 
 -- ---- what is so
 
@@ -73,41 +87,63 @@ pub record RestsSo (scenario : Scenario) (capture : List Entry) : Type 0 where
   pub window_b : KeepsWindow scenario.settings B capture
   pub obeys : Obeys (hosts_of scenario.settings) scenario.acl_length (words_of scenario.script) capture
 
--- A scenario that was played to its end: its accounts and outcomes, whatever ports answer; that the inbox granted all calls, where it failed
--- never; where ports answered, what the inbox gained; where
--- both hosts are plain, the windows and the air; and where both are so, all that is said of the end of a scenario.
-pub record GainsPlayed (asks : HostsAsk) (scenario : Scenario) (before : List Object) (after : Option Contents) (outcomes : List Outcome) (capture : List Entry) (finished : Finished scenario (holding before) capture) (Never : Type 0) : Type 0 where
+-- A scenario that was played to its end: its accounts and its outcomes, the windows and the air, whatever ports answer.
+pub record KeepsPlayed (scenario : Scenario) (outcomes : List Outcome) (capture : List Entry) : Type 0 where
   pub accounts : KeepsAccounts scenario capture
   pub outcomes_are : outcomes ≡ outcomes_of scenario capture
-  pub granted : Never → HaveGranted asks scenario before capture finished.ran
-  pub serves : HaveAnswered asks scenario before capture finished.ran → ServesAndGains asks scenario before capture finished.ran.world (stored_in after)
-  pub rests : RestPlain scenario before finished.ran.happenings → RestsSo scenario capture
-  pub ends : HaveAnswered asks scenario before capture finished.ran → RestPlain scenario before finished.ran.happenings → Ends scenario before (stored_in after) outcomes capture
+  pub rests : RestsSo scenario capture
 
--- A scenario that broke off: all that happened is the capture of a run, and with the entry that was begun it has its accounts, whatever ports
--- answer. Where they answered, host b serves in order, and its inbox gained what that capture spells; where both hosts are plain, each entry
--- keeps to the script.
-pub record GainsBroken (asks : HostsAsk) (scenario : Scenario) (before : List Object) (after : Option Contents) (trace trace' : Option (List ℕ)) (shortages shortages' : ℕ) (Never : Type 0) (broken : IsBroken scenario (holding before) after trace trace' (HasRisen shortages shortages') Never) : Type 0 where
+-- A scenario that broke off: its accounts, and each entry keeps to the script, whatever ports answer.
+pub record KeepsBroken (scenario : Scenario) (capture : List Entry) : Type 0 where
+  pub accounts : KeepsAccounts scenario capture
+  pub keeps : EachAfter (KeepsTo (hosts_of scenario.settings) scenario.acl_length (words_of scenario.script)) [] capture
+
+-- A scenario that was played to its end over L2CAP: besides, that the shelf told the lengths of its objects, and that the inbox granted all calls where
+-- it failed never; what the inbox gained where it granted all, of objects of any size; and where ports answered, how host b serves and all that is
+-- said of the end of a scenario. Ports answered so where the inbox failed never and no object of the shelf is longer.
+pub record GainsPlayed (asks : HostsAsk) (scenario : Scenario) (shelf : Option (List Object)) (before : List Object) (after : Option Contents) (outcomes : List Outcome) (capture : List Entry) (finished : Finished scenario (holding before) capture) (Never : Type 0) : Type 0 where
+  pub kept : KeepsPlayed scenario outcomes capture
+  pub told : HaveTold asks scenario shelf before capture finished.ran
+  pub granted : Never → HaveGranted asks scenario before capture finished.ran
+  pub offered : Never → HoldsAtMost longest_octets shelf → HaveOffered asks scenario before capture finished.ran
+  pub answered : Never → HoldsAtMost most_octets shelf → HaveAnswered asks scenario before capture finished.ran
+  pub gained : HaveOffered asks scenario before capture finished.ran → stored_in after ≡ Some (before ++ objects_heard (party_of scenario.settings B) B capture)
+  pub serves : HaveAnswered asks scenario before capture finished.ran → ServesAndGains asks scenario before capture finished.ran.world (stored_in after)
+  pub ends : HaveAnswered asks scenario before capture finished.ran → Ends scenario before (stored_in after) outcomes capture
+
+-- A scenario that broke off over L2CAP: besides, all that happened is the capture of a run. Where the inbox granted all calls, and did not lack memory,
+-- it gained what that capture spells; where ports answered, host b serves in order.
+pub record GainsBroken (asks : HostsAsk) (scenario : Scenario) (shelf : Option (List Object)) (before : List Object) (after : Option Contents) (trace trace' : Option (List ℕ)) (shortages shortages' : ℕ) (Never : Type 0) (broken : IsBroken scenario shelf (holding before) after trace trace' (HasRisen shortages shortages') Never) : Type 0 where
   pub past : Ran scenario (holding before) (all_entries broken.happenings)
   pub world_is : past.world ≡ broken.world
-  pub accounts : KeepsAccounts scenario (all_entries broken.happenings ++ broken.next)
+  pub kept : KeepsBroken scenario (all_entries broken.happenings ++ broken.next)
+  pub told : HaveTold asks scenario shelf before (all_entries broken.happenings) past
   pub granted : Never → HaveGranted asks scenario before (all_entries broken.happenings) past
+  pub offered : Never → HoldsAtMost longest_octets shelf → HaveOffered asks scenario before (all_entries broken.happenings) past
+  pub answered : Never → HoldsAtMost most_octets shelf → HaveAnswered asks scenario before (all_entries broken.happenings) past
   pub serves : HaveAnswered asks scenario before (all_entries broken.happenings) past → OrderlyServer asks scenario.settings before (all_entries broken.happenings) broken.world.b.upper
-  pub gained : HaveAnswered asks scenario before (all_entries broken.happenings) past → (HasRisen shortages shortages' → ⊥)
+  pub gained : HaveOffered asks scenario before (all_entries broken.happenings) past → (HasRisen shortages shortages' → ⊥)
       → stored_in after ≡ Some (before ++ objects_heard (party_of scenario.settings B) B (all_entries broken.happenings))
-  pub keeps : RestPlain scenario before broken.ran.happenings → EachAfter (KeepsTo (hosts_of scenario.settings) scenario.acl_length (words_of scenario.script)) [] (all_entries broken.happenings ++ broken.next)
-  pub breaks_off : HaveAnswered asks scenario before (all_entries broken.happenings) past → RestPlain scenario before broken.ran.happenings → (HasRisen shortages shortages' → ⊥)
+  pub breaks_off : HaveAnswered asks scenario before (all_entries broken.happenings) past → (HasRisen shortages shortages' → ⊥)
       → BrokeOff scenario before (stored_in after) (all_entries broken.happenings) (all_entries broken.happenings ++ broken.next)
 
--- ---- the law
+-- ---- the laws
 
--- So it is of every scenario that was played over L2CAP, whatever its script says: to its end, or as far as it came. Nothing more is asked of
--- what both hosts ask of their channels.
+-- So it is of every scenario that was played, over either transport, whatever its script says and its ports answer: to its end, or as far as it
+-- came.
+pub record PlaysKeep : Type 0 where
+  pub plays : (scenario : Scenario) (shelf : Option (List Object)) (before after : Option Contents) (trace trace' : Option (List ℕ)) (outcomes : List Outcome) (peaks : Peaks) (faults faults' shortages shortages' : ℕ)
+      (played : IsPlayed scenario shelf before after trace trace' outcomes peaks (RoseNever faults faults' shortages shortages')) → KeepsPlayed scenario outcomes played.capture
+  pub breaks : (scenario : Scenario) (shelf : Option (List Object)) (before after : Option Contents) (trace trace' : Option (List ℕ)) (faults faults' shortages shortages' : ℕ)
+      (broken : IsBroken scenario shelf before after trace trace' (HasRisen shortages shortages') (RoseNever faults faults' shortages shortages')) → KeepsBroken scenario (all_entries broken.happenings ++ broken.next)
+
+-- So it is of every scenario that was played over L2CAP, whatever its script says: to its end, or as far as it came. Nothing is asked of both
+-- hosts.
 pub record PlaysGain : Type 0 where
   pub asks : HostsAsk
-  pub plays : (scenario : Scenario) (before : List Object) (after : Option Contents) (trace trace' : Option (List ℕ)) (outcomes : List Outcome) (peaks : Peaks) (faults faults' shortages shortages' : ℕ)
-      (played : IsPlayed scenario (holding before) after trace trace' outcomes peaks (RoseNever faults faults' shortages shortages'))
-      → scenario.settings.transport ≡ L2cap → GainsPlayed asks scenario before after outcomes played.capture played.finished (RoseNever faults faults' shortages shortages')
-  pub breaks : (scenario : Scenario) (before : List Object) (after : Option Contents) (trace trace' : Option (List ℕ)) (faults faults' shortages shortages' : ℕ)
-      (broken : IsBroken scenario (holding before) after trace trace' (HasRisen shortages shortages') (RoseNever faults faults' shortages shortages'))
-      → scenario.settings.transport ≡ L2cap → GainsBroken asks scenario before after trace trace' shortages shortages' (RoseNever faults faults' shortages shortages') broken
+  pub plays : (scenario : Scenario) (shelf : Option (List Object)) (before : List Object) (after : Option Contents) (trace trace' : Option (List ℕ)) (outcomes : List Outcome) (peaks : Peaks) (faults faults' shortages shortages' : ℕ)
+      (played : IsPlayed scenario shelf (holding before) after trace trace' outcomes peaks (RoseNever faults faults' shortages shortages'))
+      → scenario.settings.transport ≡ L2cap → GainsPlayed asks scenario shelf before after outcomes played.capture played.finished (RoseNever faults faults' shortages shortages')
+  pub breaks : (scenario : Scenario) (shelf : Option (List Object)) (before : List Object) (after : Option Contents) (trace trace' : Option (List ℕ)) (faults faults' shortages shortages' : ℕ)
+      (broken : IsBroken scenario shelf (holding before) after trace trace' (HasRisen shortages shortages') (RoseNever faults faults' shortages shortages'))
+      → scenario.settings.transport ≡ L2cap → GainsBroken asks scenario shelf before after trace trace' shortages shortages' (RoseNever faults faults' shortages shortages') broken

@@ -1,8 +1,10 @@
 pub mod Noting
+pub mod Shelving
 pub mod Peaks
 pub mod Playing
 pub mod Ending
 pub mod Running
 pub mod Breaking
 pub mod Gaining
+pub mod Streaming
 pub mod PeakBounds

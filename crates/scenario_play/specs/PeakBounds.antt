@@ -13,10 +13,8 @@ use Rattle.link_talk.specs.Channels.{Entry as Known, is_alive, reading}
 use Rattle.channel_laws.specs.Views.{read_at}
 use Rattle.world_model.specs.Worlds.{Happening, IsAtRest, all_entries}
 use Rattle.turn_laws.specs.Laws.{IsFront}
-use Rattle.host_laws.specs.Calls.{HostsAsk}
 use Rattle.scenario_laws.specs.Captures.{client_of, server_of, BothHosts, Happened}
 use Rattle.scenario_laws.specs.Parties.{party_of}
-use Rattle.scenario_laws.specs.Plain.{ArePlain}
 use Rattle.scenario_play.specs.Peaks.{AreReached}
 
 -- On the link that is up, of each channel that its host has not closed, no more I-frames are unacknowledged than this, as the capture has it.
@@ -31,14 +29,14 @@ pub record RestsBelow (scenario : Scenario) (content : Option Contents) (front :
   pub below_a : IsAtRest (client_of scenario) (server_of scenario content) world → HoldsAtMost scenario.settings A peaks.window_a (all_entries front)
   pub below_b : IsAtRest (client_of scenario) (server_of scenario content) world → HoldsAtMost scenario.settings B peaks.window_b (all_entries front)
 
--- The windows that were reported are at most what both hosts state. Where both hosts are plain, no host had more frames unacknowledged, on a
+-- The windows that were reported are at most what both hosts state. And no host had more frames unacknowledged, on a
 -- channel that it had not closed, wherever the run was at rest, and so at its end.
 pub record AreBounded (scenario : Scenario) (content : Option Contents) (happenings : List Happening) (peaks : Peaks) : Type 0 where
   pub stated_a : peaks.window_a ≤ scenario.settings.window
   pub stated_b : peaks.window_b ≤ scenario.settings.window
-  pub rests : (asks : HostsAsk) → ArePlain asks scenario content happenings → (front : List Happening) → IsFront front happenings → RestsBelow scenario content front peaks
-  pub ends_a : (asks : HostsAsk) → ArePlain asks scenario content happenings → HoldsAtMost scenario.settings A peaks.window_a (all_entries happenings)
-  pub ends_b : (asks : HostsAsk) → ArePlain asks scenario content happenings → HoldsAtMost scenario.settings B peaks.window_b (all_entries happenings)
+  pub rests : (front : List Happening) → IsFront front happenings → RestsBelow scenario content front peaks
+  pub ends_a : HoldsAtMost scenario.settings A peaks.window_a (all_entries happenings)
+  pub ends_b : HoldsAtMost scenario.settings B peaks.window_b (all_entries happenings)
 
 -- So are the windows that a scenario reports which was played to its end, over either transport.
 abbrev pub PeaksAreBounded : Type 0

@@ -19,7 +19,7 @@ use Rattle.bt_host.specs.Serving.{Served}
 use Rattle.bt_host.specs.Shells.{Shelled}
 use Rattle.scenario_laws.specs.Captures.{client_of, Finished}
 use Rattle.scenario_laws.specs.Outcomes.{outcomes_of}
-use Rattle.pair_laws.specs.Granted.{HappenedGranted}
+use Rattle.pair_laws.specs.Served.{HappenedHeld, HappenedServed}
 use Rattle.scenario_play.specs.Peaks.{AreReached}
 
 -- two new hosts with the settings of a scenario, and its air, to which nothing has happened
@@ -42,14 +42,15 @@ RoseNever faults faults' shortages shortages' = (HasRisen faults faults' → ⊥
 
 -- The scenario ran to its end, as the trace gained it: from an inbox that held `before` both hosts came to where all words were turned and
 -- all is at rest. The push that went on then ended with what had come of it, or else with the script; the outcomes are those that the
--- capture states, the peaks are those that the hosts noted on their way, and the inbox holds what host b made of it. Where the inbox failed
--- never, it granted all that it was asked in that run.
-pub record IsPlayed (scenario : Scenario) (before after : Option Contents) (trace trace' : Option (List ℕ)) (outcomes : List Outcome) (peaks : Peaks) (InboxFailedNever : Type 0) : Type 0 where
+-- capture states, the peaks are those that the hosts noted on their way, and the inbox holds what host b made of it. What the shelf told in that
+-- run it holds, and where the inbox failed never, it granted all that it was asked.
+pub record IsPlayed (scenario : Scenario) (shelf : Option (List Object)) (before after : Option Contents) (trace trace' : Option (List ℕ)) (outcomes : List Outcome) (peaks : Peaks) (InboxFailedNever : Type 0) : Type 0 where
   pub capture : List Entry
   pub finished : Finished scenario before capture
   pub ends : finished.ran.ends ≡ last_entries ((client_of scenario).outcome finished.ran.world.a.upper) finished.ran.world.pushes
   pub outcomes_are : outcomes ≡ outcomes_of scenario capture
   pub reached : AreReached scenario before finished.ran.happenings peaks
-  pub granted : InboxFailedNever → HappenedGranted scenario before finished.ran.happenings finished.ran.world
+  pub held : HappenedHeld scenario shelf before finished.ran.happenings finished.ran.world
+  pub granted : InboxFailedNever → HappenedServed scenario shelf before finished.ran.happenings finished.ran.world
   pub stored : after ≡ finished.ran.world.b.upper.profile.inbox.content
   pub written : trace' ≡ gained trace (capture_octets capture)

@@ -1,18 +1,18 @@
 //! What a scenario that was played comes to, as its capture says.
 
 ghost use Rattle.scenario_play.specs.Ending.{PlaysBreakOff, PlaysEnd, PlaysServe, WantsAreTold};
-ghost use Rattle.scenario_play.specs.Gaining.{PlaysGain};
+ghost use Rattle.scenario_play.specs.Gaining.{PlaysGain, PlaysKeep};
 ghost use Rattle.scenario_play.specs.PeakBounds.{PeaksAreBounded};
+ghost use Rattle.scenario_play.specs.Streaming.{PlaysStream};
 
 /// What is so of every scenario that was played over L2CAP, over its capture alone: what the inbox gained, the accounts of both hosts, the
-/// pushes and how they ended, and that the air obeyed the script; where both hosts are orderly.
+/// pushes and how they ended, and that the air obeyed the script; where host b serves.
 pub fn plays_end()
     ensures { PlaysEnd }
 {}
 
 /// What is so of every scenario that broke off over L2CAP, over its capture so far alone: what the inbox gained by then, the buffers, the
-/// pushes, honest controllers, and that each entry keeps to the script; where host b is orderly, both hosts are plain, and the inbox did
-/// not lack memory.
+/// pushes, honest controllers, and that each entry keeps to the script; where host b is orderly, and the inbox did not lack memory.
 pub fn plays_break_off()
     ensures { PlaysBreakOff }
 {}
@@ -24,21 +24,33 @@ pub fn plays_serve()
 {}
 
 /// A scenario of at most 2^32 lines, with a trace that is told, wants memory only before anything happened, where a port lacked some, or
-/// where its capture so far is crowded; where both hosts are plain.
+/// where its capture so far is crowded.
 pub fn wants_are_told()
     ensures { WantsAreTold }
 {}
 
-/// What is so of every scenario that was played over L2CAP, to its end or as far as it came, over its capture alone. Whatever ports answer: the
-/// buffers of both controllers at each moment, honest controllers, the pushes and their outcomes. Where no object has more than 16,777,215
-/// octets and the inbox grants all calls, as it does where no count of it rose, host b serves in order and the inbox gained exactly what the
-/// capture spells. Where both hosts are plain at rest, the windows are kept and the air obeyed the script. Where both are so, all that
-/// `plays_end` and `plays_break_off` say.
+/// What is so of every scenario that was played, over L2CAP or over RFCOMM, to its end or as far as it came, over its capture alone and whatever
+/// ports answer: the buffers of both controllers at each moment, honest controllers, the pushes and their outcomes; at its end the windows
+/// are kept and the air obeyed the script, and as far as it came each entry keeps to the script.
+pub fn plays_keep()
+    ensures { PlaysKeep }
+{}
+
+/// What is so of every scenario that was played over L2CAP, to its end or as far as it came, over its capture alone: all that `plays_keep` says.
+/// Where the inbox grants all calls, as it does where no count of it rose, it gained exactly what the capture spells, of objects of any size. And where
+/// besides no object has more than 16,777,215 octets, host b serves in order, and so is all that `plays_end` and `plays_break_off` say.
 pub fn plays_gain()
     ensures { PlaysGain }
 {}
 
-/// The windows that a played scenario reports are at most what both hosts state. And where both hosts are plain, no host had more frames
+/// What is so of every scenario that was played to its end over RFCOMM, over its capture alone: all that `plays_keep` says. And where the shelf gives
+/// octets and no object has more than 16,777,215 of them, and the inbox grants all calls, as it does where no count of it rose, no request is ignored,
+/// and the inbox gained exactly what the capture spells.
+pub fn plays_stream()
+    ensures { PlaysStream }
+{}
+
+/// The windows that a played scenario reports are at most what both hosts state. And no host had more frames
 /// unacknowledged on a channel that it had not closed, wherever the run was at rest, as the capture has it (Core 5.1, Volume 3 Part A, 5.4 and 8.6).
 pub fn peaks_are_bounded()
     ensures { PeaksAreBounded }

@@ -1,7 +1,8 @@
-use Rattle.std.proofs.Common.{◌≡◌, ◌∙◌, Ok, Err, None, inl, refl, sym, ap}
-use Rattle.command_words.specs.declared.form.Form.TheVariants.{Decode, DecodeTagged, DecodeSnoop, Push, Receive, Snoop, Wire}
+use Rattle.std.proofs.Common.{◌≡◌, ◌∙◌, Ok, Err, None, inl, refl, ap}
+use Rattle.command_words.specs.declared.form.Form.TheVariants.{Decode, DecodeTagged, DecodeSnoop, Push, Receive, Make, Snoop, Wire}
+use Rattle.btpush_forms.specs.Ports.{written}
 use Rattle.btpush_forms.specs.declared.hosted.Hosted.TheVariants as hosted
-use Rattle.btpush.proofs.Asked.{not_push, not_receive, push_is_built, push_traces, nothing_pushed, receives_nothing, asks_hosted, no_end}
+use Rattle.btpush.proofs.Asked.{not_push, not_receive, not_make, push_traces, nothing_pushed, nothing_made, made_so, makes_no_bad_words, left_alone, unanswered, receives_nothing, asks_hosted, no_end}
 use Rattle.small_push.specs.Plays.{stocked}
 use Rattle.btpush.proofs.run.run.Goals as goal
 
@@ -47,7 +48,7 @@ pub returns-in-Ok-clause-bad_words : goal.returns-in-Ok-clause-bad_words
 returns-in-Ok-clause-bad_words g c = λ is. c.in-Ok.ensures.bad_words (ap Ok is)
 
 pub returns-in-Ok-clause-finish : goal.returns-in-Ok-clause-finish
-returns-in-Ok-clause-finish g c = λ is. c.in-Ok.ensures.finish (ap Ok is)
+returns-in-Ok-clause-finish g c = λ _ is. c.in-Ok.ensures.finish (ap Ok is)
 
 pub returns-in-Ok-clause-finish_push : goal.returns-in-Ok-clause-finish_push
 returns-in-Ok-clause-finish_push g c = λ asks ended. absurd (no_end _ (c.in-Ok.ensures.hosted hosted.Push asks) ended)
@@ -63,6 +64,14 @@ returns-in-Ok-clause-sink_short g c = c.in-Ok.ensures.sink_short
 
 pub returns-in-Ok-clause-trace_short : goal.returns-in-Ok-clause-trace_short
 returns-in-Ok-clause-trace_short g c = c.in-Ok.ensures.trace_short
+
+pub returns-in-Ok-clause-make : goal.returns-in-Ok-clause-make
+returns-in-Ok-clause-make g c = λ number asks.
+    let same = c.in-Ok.ensures.untouched (hosted.Make number) asks in
+    nothing_made number _ _ _ _ c.in-Ok.status (c.in-Ok.ensures.hosted (hosted.Make number) asks) (ap (written g.K.Sink) same.1) (ap (written g.T.Sink) same.2)
+
+pub returns-in-Ok-clause-source : goal.returns-in-Ok-clause-source
+returns-in-Ok-clause-source g c = λ asked. (c.in-Ok.ensures.untouched (hosted.Make asked.0) asked.1).0
 
 pub returns-in-Ok-clause-trace : goal.returns-in-Ok-clause-trace
 returns-in-Ok-clause-trace g c = c.in-Ok.ensures.trace
@@ -90,14 +99,20 @@ returns-in-Err-Push-clause-wire g c = λ number asks. absurd (not_push _ (Wire n
 pub returns-in-Err-Push-clause-wire_clean : goal.returns-in-Err-Push-clause-wire_clean
 returns-in-Err-Push-clause-wire_clean g c = λ asks. absurd (not_push _ (Wire None) (asks_hosted c.run_alone.result hosted.Push _ c.run_alone.ensures.asked (c.in-Err-Push.is ∙ ap Err c.in-Err-Push.field-0-is)) (λ is. absurd cc) asks)
 
+pub returns-in-Err-Push-clause-make : goal.returns-in-Err-Push-clause-make
+returns-in-Err-Push-clause-make g c = λ number asks. absurd (not_push _ (Make number) (asks_hosted c.run_alone.result hosted.Push _ c.run_alone.ensures.asked (c.in-Err-Push.is ∙ ap Err c.in-Err-Push.field-0-is)) (λ is. absurd cc) asks)
+
+pub returns-in-Err-Push-clause-source : goal.returns-in-Err-Push-clause-source
+returns-in-Err-Push-clause-source g c = λ asked. absurd (not_push _ (Make asked.0) (asks_hosted c.run_alone.result hosted.Push _ c.run_alone.ensures.asked (c.in-Err-Push.is ∙ ap Err c.in-Err-Push.field-0-is)) (λ is. absurd cc) asked.1)
+
 pub returns-in-Err-Push-clause-words : goal.returns-in-Err-Push-clause-words
-returns-in-Err-Push-clause-words g c = λ none. absurd (push_is_built _ (asks_hosted c.run_alone.result hosted.Push _ c.run_alone.ensures.asked (c.in-Err-Push.is ∙ ap Err c.in-Err-Push.field-0-is)) none)
+returns-in-Err-Push-clause-words g c = λ none. absurd (none Push (asks_hosted c.run_alone.result hosted.Push _ c.run_alone.ensures.asked (c.in-Err-Push.is ∙ ap Err c.in-Err-Push.field-0-is)))
 
 pub returns-in-Err-Push-clause-bad_words : goal.returns-in-Err-Push-clause-bad_words
 returns-in-Err-Push-clause-bad_words g c = λ is. absurd (c.push.ensures.known is)
 
 pub returns-in-Err-Push-clause-finish : goal.returns-in-Err-Push-clause-finish
-returns-in-Err-Push-clause-finish g c = λ is. c.push.ensures.finish (rw is tt)
+returns-in-Err-Push-clause-finish g c = λ _ is. c.push.ensures.finish (rw is tt)
 
 pub returns-in-Err-Push-clause-finish_push : goal.returns-in-Err-Push-clause-finish_push
 returns-in-Err-Push-clause-finish_push g c = λ asks ended. c.push.ensures.finish ended
@@ -164,14 +179,20 @@ returns-in-Err-Receive-clause-receive g c = λ asks. let same = c.run_alone.ensu
 pub returns-in-Err-Receive-clause-receive_memory : goal.returns-in-Err-Receive-clause-receive_memory
 returns-in-Err-Receive-clause-receive_memory g c = λ asks. let same = c.run_alone.ensures.untouched hosted.Receive (asks_hosted c.run_alone.result hosted.Receive _ c.run_alone.ensures.asked (c.in-Err-Receive.is ∙ ap Err c.in-Err-Receive.field-0-is)) in rw (same.0, same.1, same.2) at c.receive.ensures.no_memory
 
+pub returns-in-Err-Receive-clause-make : goal.returns-in-Err-Receive-clause-make
+returns-in-Err-Receive-clause-make g c = λ number asks. absurd (not_receive _ (Make number) (asks_hosted c.run_alone.result hosted.Receive _ c.run_alone.ensures.asked (c.in-Err-Receive.is ∙ ap Err c.in-Err-Receive.field-0-is)) (λ is. absurd cc) asks)
+
+pub returns-in-Err-Receive-clause-source : goal.returns-in-Err-Receive-clause-source
+returns-in-Err-Receive-clause-source g c = λ asked. absurd (not_receive _ (Make asked.0) (asks_hosted c.run_alone.result hosted.Receive _ c.run_alone.ensures.asked (c.in-Err-Receive.is ∙ ap Err c.in-Err-Receive.field-0-is)) (λ is. absurd cc) asked.1)
+
 pub returns-in-Err-Receive-clause-words : goal.returns-in-Err-Receive-clause-words
-returns-in-Err-Receive-clause-words g c = λ none. absurd (none Receive tt (asks_hosted c.run_alone.result hosted.Receive _ c.run_alone.ensures.asked (c.in-Err-Receive.is ∙ ap Err c.in-Err-Receive.field-0-is)))
+returns-in-Err-Receive-clause-words g c = λ none. absurd (none Receive (asks_hosted c.run_alone.result hosted.Receive _ c.run_alone.ensures.asked (c.in-Err-Receive.is ∙ ap Err c.in-Err-Receive.field-0-is)))
 
 pub returns-in-Err-Receive-clause-bad_words : goal.returns-in-Err-Receive-clause-bad_words
 returns-in-Err-Receive-clause-bad_words g c = λ is. absurd (c.receive.ensures.known.0 is)
 
 pub returns-in-Err-Receive-clause-finish : goal.returns-in-Err-Receive-clause-finish
-returns-in-Err-Receive-clause-finish g c = c.receive.ensures.finish
+returns-in-Err-Receive-clause-finish g c = λ _. c.receive.ensures.finish
 
 pub returns-in-Err-Receive-clause-causes : goal.returns-in-Err-Receive-clause-causes
 returns-in-Err-Receive-clause-causes g c = let same = c.run_alone.ensures.untouched hosted.Receive (asks_hosted c.run_alone.result hosted.Receive _ c.run_alone.ensures.asked (c.in-Err-Receive.is ∙ ap Err c.in-Err-Receive.field-0-is)) in rw (same.0, same.1, same.2) at c.receive.ensures.causes
@@ -196,3 +217,65 @@ returns-in-Err-Receive-clause-trace g c = λ none. absurd (none (Receive, tt, (a
 
 pub returns-in-Err-Receive-clause-inbox : goal.returns-in-Err-Receive-clause-inbox
 returns-in-Err-Receive-clause-inbox g c = λ _ other. absurd (other (asks_hosted c.run_alone.result hosted.Receive _ c.run_alone.ensures.asked (c.in-Err-Receive.is ∙ ap Err c.in-Err-Receive.field-0-is)))
+
+-- ---- the scenario of a number is asked for
+
+pub returns-in-Err-Make-clause-decode : goal.returns-in-Err-Make-clause-decode
+returns-in-Err-Make-clause-decode g c = λ asks. absurd (not_make _ _ Decode (asks_hosted c.run_alone.result (hosted.Make c.in-Err-Make.number) _ c.run_alone.ensures.asked (c.in-Err-Make.is ∙ ap Err c.in-Err-Make.field-0-is)) (λ is. absurd cc) asks)
+
+pub returns-in-Err-Make-clause-decode_tagged : goal.returns-in-Err-Make-clause-decode_tagged
+returns-in-Err-Make-clause-decode_tagged g c = λ asks. absurd (not_make _ _ DecodeTagged (asks_hosted c.run_alone.result (hosted.Make c.in-Err-Make.number) _ c.run_alone.ensures.asked (c.in-Err-Make.is ∙ ap Err c.in-Err-Make.field-0-is)) (λ is. absurd cc) asks)
+
+pub returns-in-Err-Make-clause-decode_snoop : goal.returns-in-Err-Make-clause-decode_snoop
+returns-in-Err-Make-clause-decode_snoop g c = λ asks. absurd (not_make _ _ DecodeSnoop (asks_hosted c.run_alone.result (hosted.Make c.in-Err-Make.number) _ c.run_alone.ensures.asked (c.in-Err-Make.is ∙ ap Err c.in-Err-Make.field-0-is)) (λ is. absurd cc) asks)
+
+pub returns-in-Err-Make-clause-push : goal.returns-in-Err-Make-clause-push
+returns-in-Err-Make-clause-push g c = λ asks. absurd (not_make _ _ Push (asks_hosted c.run_alone.result (hosted.Make c.in-Err-Make.number) _ c.run_alone.ensures.asked (c.in-Err-Make.is ∙ ap Err c.in-Err-Make.field-0-is)) (λ is. absurd cc) asks)
+
+pub returns-in-Err-Make-clause-receive : goal.returns-in-Err-Make-clause-receive
+returns-in-Err-Make-clause-receive g c = λ asks. absurd (not_make _ _ Receive (asks_hosted c.run_alone.result (hosted.Make c.in-Err-Make.number) _ c.run_alone.ensures.asked (c.in-Err-Make.is ∙ ap Err c.in-Err-Make.field-0-is)) (λ is. absurd cc) asks)
+
+pub returns-in-Err-Make-clause-receive_memory : goal.returns-in-Err-Make-clause-receive_memory
+returns-in-Err-Make-clause-receive_memory g c = λ asks _. absurd (not_make _ _ Receive (asks_hosted c.run_alone.result (hosted.Make c.in-Err-Make.number) _ c.run_alone.ensures.asked (c.in-Err-Make.is ∙ ap Err c.in-Err-Make.field-0-is)) (λ is. absurd cc) asks)
+
+pub returns-in-Err-Make-clause-snoop : goal.returns-in-Err-Make-clause-snoop
+returns-in-Err-Make-clause-snoop g c = λ side asks. absurd (not_make _ _ (Snoop side) (asks_hosted c.run_alone.result (hosted.Make c.in-Err-Make.number) _ c.run_alone.ensures.asked (c.in-Err-Make.is ∙ ap Err c.in-Err-Make.field-0-is)) (λ is. absurd cc) asks)
+
+pub returns-in-Err-Make-clause-wire : goal.returns-in-Err-Make-clause-wire
+returns-in-Err-Make-clause-wire g c = λ number asks. absurd (not_make _ _ (Wire number) (asks_hosted c.run_alone.result (hosted.Make c.in-Err-Make.number) _ c.run_alone.ensures.asked (c.in-Err-Make.is ∙ ap Err c.in-Err-Make.field-0-is)) (λ is. absurd cc) asks)
+
+pub returns-in-Err-Make-clause-wire_clean : goal.returns-in-Err-Make-clause-wire_clean
+returns-in-Err-Make-clause-wire_clean g c = λ asks. absurd (not_make _ _ (Wire None) (asks_hosted c.run_alone.result (hosted.Make c.in-Err-Make.number) _ c.run_alone.ensures.asked (c.in-Err-Make.is ∙ ap Err c.in-Err-Make.field-0-is)) (λ is. absurd cc) asks)
+
+pub returns-in-Err-Make-clause-finish_push : goal.returns-in-Err-Make-clause-finish_push
+returns-in-Err-Make-clause-finish_push g c = λ asks _. absurd (not_make _ _ Push (asks_hosted c.run_alone.result (hosted.Make c.in-Err-Make.number) _ c.run_alone.ensures.asked (c.in-Err-Make.is ∙ ap Err c.in-Err-Make.field-0-is)) (λ is. absurd cc) asks)
+
+pub returns-in-Err-Make-clause-make : goal.returns-in-Err-Make-clause-make
+returns-in-Err-Make-clause-make g c = λ number asks. let same = c.run_alone.ensures.untouched (hosted.Make c.in-Err-Make.number) (asks_hosted c.run_alone.result (hosted.Make c.in-Err-Make.number) _ c.run_alone.ensures.asked (c.in-Err-Make.is ∙ ap Err c.in-Err-Make.field-0-is)) in made_so _ _ number _ _ _ _ _ (asks_hosted c.run_alone.result (hosted.Make c.in-Err-Make.number) _ c.run_alone.ensures.asked (c.in-Err-Make.is ∙ ap Err c.in-Err-Make.field-0-is)) asks (rw (same.1, same.2) at c.make.ensures.makes)
+
+pub returns-in-Err-Make-clause-source : goal.returns-in-Err-Make-clause-source
+returns-in-Err-Make-clause-source g c = λ asked. (c.run_alone.ensures.untouched (hosted.Make c.in-Err-Make.number) (asks_hosted c.run_alone.result (hosted.Make c.in-Err-Make.number) _ c.run_alone.ensures.asked (c.in-Err-Make.is ∙ ap Err c.in-Err-Make.field-0-is))).0
+
+pub returns-in-Err-Make-clause-words : goal.returns-in-Err-Make-clause-words
+returns-in-Err-Make-clause-words g c = λ none. absurd (none _ (asks_hosted c.run_alone.result (hosted.Make c.in-Err-Make.number) _ c.run_alone.ensures.asked (c.in-Err-Make.is ∙ ap Err c.in-Err-Make.field-0-is)))
+
+pub returns-in-Err-Make-clause-bad_words : goal.returns-in-Err-Make-clause-bad_words
+returns-in-Err-Make-clause-bad_words g c = λ is. absurd (makes_no_bad_words _ c.make.ensures.known is)
+
+pub returns-in-Err-Make-clause-finish : goal.returns-in-Err-Make-clause-finish
+returns-in-Err-Make-clause-finish g c = λ none. absurd (none (_, (asks_hosted c.run_alone.result (hosted.Make c.in-Err-Make.number) _ c.run_alone.ensures.asked (c.in-Err-Make.is ∙ ap Err c.in-Err-Make.field-0-is))))
+
+pub returns-in-Err-Make-clause-causes : goal.returns-in-Err-Make-clause-causes
+returns-in-Err-Make-clause-causes g c = let same = c.run_alone.ensures.untouched (hosted.Make c.in-Err-Make.number) (asks_hosted c.run_alone.result (hosted.Make c.in-Err-Make.number) _ c.run_alone.ensures.asked (c.in-Err-Make.is ∙ ap Err c.in-Err-Make.field-0-is)) in left_alone _ _ _ _ _ _ _ (ap (λ s. g.S.Source.faults s) same.0) (rw (same.1, same.2) at c.make.ensures.causes)
+
+pub returns-in-Err-Make-clause-source_short : goal.returns-in-Err-Make-clause-source_short
+returns-in-Err-Make-clause-source_short g c = let same = c.run_alone.ensures.untouched (hosted.Make c.in-Err-Make.number) (asks_hosted c.run_alone.result (hosted.Make c.in-Err-Make.number) _ c.run_alone.ensures.asked (c.in-Err-Make.is ∙ ap Err c.in-Err-Make.field-0-is)) in unanswered _ _ _ (ap (λ s. g.S.Source.shortages s) same.0)
+
+pub returns-in-Err-Make-clause-sink_short : goal.returns-in-Err-Make-clause-sink_short
+returns-in-Err-Make-clause-sink_short g c = let same = c.run_alone.ensures.untouched (hosted.Make c.in-Err-Make.number) (asks_hosted c.run_alone.result (hosted.Make c.in-Err-Make.number) _ c.run_alone.ensures.asked (c.in-Err-Make.is ∙ ap Err c.in-Err-Make.field-0-is)) in rw same.1 at c.make.ensures.sink_short
+
+pub returns-in-Err-Make-clause-trace_short : goal.returns-in-Err-Make-clause-trace_short
+returns-in-Err-Make-clause-trace_short g c = let same = c.run_alone.ensures.untouched (hosted.Make c.in-Err-Make.number) (asks_hosted c.run_alone.result (hosted.Make c.in-Err-Make.number) _ c.run_alone.ensures.asked (c.in-Err-Make.is ∙ ap Err c.in-Err-Make.field-0-is)) in rw same.2 at c.make.ensures.trace_short
+
+pub returns-in-Err-Make-clause-trace : goal.returns-in-Err-Make-clause-trace
+returns-in-Err-Make-clause-trace g c = λ none. absurd (none (_, tt, (asks_hosted c.run_alone.result (hosted.Make c.in-Err-Make.number) _ c.run_alone.ensures.asked (c.in-Err-Make.is ∙ ap Err c.in-Err-Make.field-0-is))))

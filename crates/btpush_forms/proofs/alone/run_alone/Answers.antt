@@ -1,8 +1,9 @@
 use Rattle.std.proofs.Common.{◌∙◌, Ok, None, map, string_bytes, ap}
+use Rattle.btpush_forms.specs.Ports.{written}
 use Rattle.btpush_forms.specs.Words.{hosted_form}
 use Rattle.command_words.proofs.Asking.{asks_once}
 use Rattle.command_words.specs.declared.form.Form.TheVariants.{Wire}
-use Rattle.btpush_forms.proofs.Asked.{found, found_none, none_built, is_unbuilt, not_written, nothing_done, hosted_short, asked_so}
+use Rattle.btpush_forms.proofs.Asked.{found, found_none, not_written, nothing_done, hosted_short, asked_so}
 use Rattle.btpush_forms.proofs.alone.run_alone.Goals as goal
 
 -- ---- a form was found
@@ -14,10 +15,10 @@ pub returns-in-Ok-Some-clause-wire_clean : goal.returns-in-Ok-Some-clause-wire_c
 returns-in-Ok-Some-clause-wire_clean g c = λ asks. c.run_form.ensures.wire_clean (asks_once _ c.in-Ok-Some.form (Wire None) (found _ _ c.form_of.result c.in-Ok-Some.form (ap (λ ws. map string_bytes ws) c.deref.ensures.value) c.form_of.ensures (c.in-Ok-Some.is ∙ ap Ok c.in-Ok-Some.field-0-is)) asks)
 
 pub returns-in-Ok-Some-clause-words : goal.returns-in-Ok-Some-clause-words
-returns-in-Ok-Some-clause-words g c = λ none. c.run_form.ensures.words (is_unbuilt _ c.in-Ok-Some.form (found _ _ c.form_of.result c.in-Ok-Some.form (ap (λ ws. map string_bytes ws) c.deref.ensures.value) c.form_of.ensures (c.in-Ok-Some.is ∙ ap Ok c.in-Ok-Some.field-0-is)) none)
+returns-in-Ok-Some-clause-words g c = λ none. absurd (none c.in-Ok-Some.form (found _ _ c.form_of.result c.in-Ok-Some.form (ap (λ ws. map string_bytes ws) c.deref.ensures.value) c.form_of.ensures (c.in-Ok-Some.is ∙ ap Ok c.in-Ok-Some.field-0-is)))
 
 pub returns-in-Ok-Some-clause-bad_words : goal.returns-in-Ok-Some-clause-bad_words
-returns-in-Ok-Some-clause-bad_words g c = λ is. none_built _ c.in-Ok-Some.form (found _ _ c.form_of.result c.in-Ok-Some.form (ap (λ ws. map string_bytes ws) c.deref.ensures.value) c.form_of.ensures (c.in-Ok-Some.is ∙ ap Ok c.in-Ok-Some.field-0-is)) (c.run_form.ensures.bad_words is)
+returns-in-Ok-Some-clause-bad_words g c = λ is. absurd (c.run_form.ensures.known is)
 
 pub returns-in-Ok-Some-clause-trace : goal.returns-in-Ok-Some-clause-trace
 returns-in-Ok-Some-clause-trace g c = λ none. c.run_form.ensures.trace (not_written _ c.in-Ok-Some.form (found _ _ c.form_of.result c.in-Ok-Some.form (ap (λ ws. map string_bytes ws) c.deref.ensures.value) c.form_of.ensures (c.in-Ok-Some.is ∙ ap Ok c.in-Ok-Some.field-0-is)) none)
@@ -43,7 +44,7 @@ pub returns-in-Ok-None-clause-hosted : goal.returns-in-Ok-None-clause-hosted
 returns-in-Ok-None-clause-hosted g c = λ hosted asks. absurd ((found_none _ _ c.form_of.result (ap (λ ws. map string_bytes ws) c.deref.ensures.value) c.form_of.ensures (c.in-Ok-None.is ∙ ap Ok c.in-Ok-None.field-0-is)) (hosted_form hosted) asks)
 
 pub returns-in-Ok-None-clause-bad_words : goal.returns-in-Ok-None-clause-bad_words
-returns-in-Ok-None-clause-bad_words g c = λ is form built. (found_none _ _ c.form_of.result (ap (λ ws. map string_bytes ws) c.deref.ensures.value) c.form_of.ensures (c.in-Ok-None.is ∙ ap Ok c.in-Ok-None.field-0-is)) form
+returns-in-Ok-None-clause-bad_words g c = λ is form. (found_none _ _ c.form_of.result (ap (λ ws. map string_bytes ws) c.deref.ensures.value) c.form_of.ensures (c.in-Ok-None.is ∙ ap Ok c.in-Ok-None.field-0-is)) form
 
 pub returns-in-Ok-None-clause-untouched : goal.returns-in-Ok-None-clause-untouched
 returns-in-Ok-None-clause-untouched g c = λ hosted asks. absurd ((found_none _ _ c.form_of.result (ap (λ ws. map string_bytes ws) c.deref.ensures.value) c.form_of.ensures (c.in-Ok-None.is ∙ ap Ok c.in-Ok-None.field-0-is)) (hosted_form hosted) asks)
@@ -51,4 +52,4 @@ returns-in-Ok-None-clause-untouched g c = λ hosted asks. absurd ((found_none _ 
 -- ---- there was no memory to read the words
 
 pub returns-in-Err-clause-does : goal.returns-in-Err-clause-does
-returns-in-Err-clause-does g c = λ form asks. nothing_done form (g.S.Source.content c.args.source.now) (g.K.Sink.content c.args.sink.now) (g.T.Sink.content c.args.trace.now) _
+returns-in-Err-clause-does g c = λ form asks. nothing_done form (g.S.Source.content c.args.source.now) (written g.K.Sink c.args.sink.now) (written g.T.Sink c.args.trace.now)

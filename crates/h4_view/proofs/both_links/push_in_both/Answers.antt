@@ -1,7 +1,8 @@
-use Rattle.std.proofs.Common.{Option, sym, subst}
-use Rattle.h4_view.specs.declared.both_links.BothLink.{BothLink}
-use Rattle.h4_view.specs.Both.{IsBothOf}
+use Rattle.std.proofs.Common.{List, sym, subst}
+use Rattle.h4_view.specs.Both.{IsBoth, SentPiece}
 use Rattle.h4_view.proofs.both_links.push_in_both.Goals as goal
 
-pub returns : goal.returns
-returns c past is spare = c.in_ok-push_on_both.ensures past (c.both_in-link.ensures past (subst (λ (o : Option BothLink). IsBothOf past o) (sym c.take.ensures.value) is)) spare
+pub returns-in_ok-push_on_both-in-None : goal.returns-in_ok-push_on_both-in-None
+returns-in_ok-push_on_both-in-None c past is spare =
+    let none = rw c.in-None.is at is in
+    c.in_ok-push_on_both-in-None.ensures past (subst (λ (pieces : List SentPiece). IsBoth pieces c.new-link.result) (sym none) c.new-link.ensures) spare

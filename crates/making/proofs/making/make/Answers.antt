@@ -1,5 +1,5 @@
 use Rattle.std.proofs.Common.{ap, arith, inr}
-use Rattle.object_push.specs.Ports.{written, Written}
+use Rattle.btpush_forms.specs.Ports.{written, Written}
 use Rattle.making.specs.declared.memory_ports.MemoryPorts.{MemoryPorts}
 use Rattle.making.proofs.Made.{ended_makes, short_makes, quiet}
 use Rattle.making.proofs.making.make.Goals as goal

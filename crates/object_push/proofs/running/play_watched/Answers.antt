@@ -14,8 +14,8 @@ returns-clause-kept g c =
 pub returns-clause-breaks : goal.returns-clause-breaks
 returns-clause-breaks g c =
     at_err c.end_of-end.result
-    (either_way c.play-played.result (rw (c.new-inbox.ensures.inbox, c.new-trace.ensures.sink) at c.play-played.ensures.plays) (rw (c.new-inbox.ensures.inbox, c.new-trace.ensures.sink) at c.play-played.ensures.breaks)
-    (λ played is. broken_at_end _ _ _ _ _ _ _ _ _ is))
+    (either_way c.play-played.result (rw (c.new-shelf.ensures.shelf, c.new-inbox.ensures.inbox, c.new-trace.ensures.sink) at c.play-played.ensures.plays) (rw (c.new-shelf.ensures.shelf, c.new-inbox.ensures.inbox, c.new-trace.ensures.sink) at c.play-played.ensures.breaks)
+    (λ played is. broken_at_end _ _ _ _ _ _ _ _ _ _ is))
 
 pub returns-clause-reason : goal.returns-clause-reason
 returns-clause-reason g c =
@@ -44,4 +44,4 @@ ok_is P result x is plays = subst (λ r. IfOk r P) is plays
 pub returns-clause-plays : goal.returns-clause-plays
 returns-clause-plays g c =
     ok_then c.end_of-end.result c.end_of-end.ensures.follows
-    (λ ended follows. ok_is _ c.play-played.result ended.played follows.is (rw (c.new-inbox.ensures.inbox, c.new-trace.ensures.sink) at c.play-played.ensures.plays))
+    (λ ended follows. ok_is _ c.play-played.result ended.played follows.is (rw (c.new-shelf.ensures.shelf, c.new-inbox.ensures.inbox, c.new-trace.ensures.sink) at c.play-played.ensures.plays))

@@ -7,9 +7,9 @@ use Rattle.scenario_play.proofs.ending.plays_end.Goals as goal
 pub returns : goal.returns
 returns c = record {
   asks = scenarios_end.asks;
-  ends = λ scenario before after trace trace' outcomes peaks faults faults' shortages shortages' played transport orderly.
+  ends = λ scenario shelf before after trace trace' outcomes peaks faults faults' shortages shortages' played transport serves.
       let world = played.finished.ran.world in
-      let ends = scenarios_end.ends scenario before played.capture played.finished ((client_of scenario).outcome world.a.upper) played.ends transport orderly in
+      let ends = scenarios_end.ends scenario before played.capture played.finished ((client_of scenario).outcome world.a.upper) played.ends transport serves in
       record {
         gained = ap stored_in played.stored ∙ ends.gained;
         within_a = ends.within_a;

@@ -32,8 +32,8 @@ play_out-requires-clause-reached g c = λ rest_a rest_b.
     let content = g.I.Inbox.content in
     let shelf = c.args.shelf.now in
     let inbox = c.args.inbox.now in
-    subst (λ (w : Both (Shelled (Noted ClientProfile)) (Shelled (Noted Served))). IsReached noted_client_machine noted_server_machine (moment w.scene (answering rest_a (playing client_noting shelf w.a.stack)) (answering rest_b (playing (server_noting content) inbox w.b.stack)))) (sym c.requires.fresh)
-    (hosts_reached content scenario.settings scenario.settings scenario.acl_length scenario.acl_count scenario.names shelf inbox rest_a rest_b (scenario.acl_length_low, scenario.acl_length_high) (scenario.acl_count_low, scenario.acl_count_high) scenario.few)
+    subst (λ (w : Both (Shelled (Noted ClientProfile)) (Shelled (Noted Served))). IsReached noted_client_machine noted_server_machine (moment w.scene (answering rest_a (playing (client_noting g.F.Shelf.content) shelf w.a.stack)) (answering rest_b (playing (server_noting content) inbox w.b.stack)))) (sym c.requires.fresh)
+    (hosts_reached g.F.Shelf.content content scenario.settings scenario.settings scenario.acl_length scenario.acl_count scenario.names shelf inbox rest_a rest_b (scenario.acl_length_low, scenario.acl_length_high) (scenario.acl_count_low, scenario.acl_count_high) scenario.few)
 
 pub play_out-requires-clause-none_back : goal.play_out-requires-clause-none_back
 play_out-requires-clause-none_back g c = subst (λ (w : Both (Shelled (Noted ClientProfile)) (Shelled (Noted Served))). OwesNoneBack w.scene.medium.radio) (sym c.requires.fresh) (record { a = refl; b = refl })
@@ -54,8 +54,8 @@ play_out-requires-clause-sound g c =
     let pending = g.I.Inbox.is_pending in
     let shelf = c.args.shelf.now in
     let inbox = c.args.inbox.now in
-    subst (λ (w : Both (Shelled (Noted ClientProfile)) (Shelled (Noted Served))). PushesSoundly w.a shelf × ServesSoundly content pending w.b inbox) (sym c.requires.fresh)
-    (client_sound settings shelf, server_sound content pending settings inbox c.requires.none_pending)
+    subst (λ (w : Both (Shelled (Noted ClientProfile)) (Shelled (Noted Served))). PushesSoundly g.F.Shelf.content w.a shelf × ServesSoundly content pending w.b inbox) (sym c.requires.fresh)
+    (client_sound g.F.Shelf.content settings shelf, server_sound content pending settings inbox c.requires.none_pending)
 
 pub play_out-requires-clause-count : goal.play_out-requires-clause-count
 play_out-requires-clause-count g c = c.len-count.ensures.count ∙ sym (ap (λ (w : Both (Shelled (Noted ClientProfile)) (Shelled (Noted Served))). length w.scene.pushes.names) c.requires.fresh)
@@ -65,9 +65,9 @@ returns-clause-plays g c =
     let traced = g.T.Sink.content in
     let shelf = c.play_out.new.shelf in
     let inbox = c.play_out.new.inbox in
-    let last : NotedMoment = moment c.in_ok-outcomes.world.scene (answering [] (playing client_noting shelf c.in_ok-outcomes.world.a.stack)) (answering [] (playing (server_noting g.I.Inbox.content) inbox c.in_ok-outcomes.world.b.stack)) in
+    let last : NotedMoment = moment c.in_ok-outcomes.world.scene (answering [] (playing (client_noting g.F.Shelf.content) shelf c.in_ok-outcomes.world.a.stack)) (answering [] (playing (server_noting g.I.Inbox.content) inbox c.in_ok-outcomes.world.b.stack)) in
     let noted : AreNoted c.in_ok-outcomes.world.scene.medium last c.peaks_of-peaks.result = record { buffers = c.peaks_of-peaks.ensures.buffers; windows = c.peaks_of-peaks.ensures.windows; credits = c.peaks_of-peaks.ensures.credits } in
-    played g.I.Inbox.content (Answers g.F.Shelf.content g.F.Shelf.faults g.F.Shelf.shortages) (Asks g.I.Inbox.faults g.I.Inbox.shortages) c.args.scenario.now c.args.world c.in_ok-outcomes.world
+    played g.F.Shelf.content g.I.Inbox.content (Answers g.F.Shelf.content g.F.Shelf.faults g.F.Shelf.shortages) (Asks g.I.Inbox.faults g.I.Inbox.shortages) c.args.scenario.now c.args.world c.in_ok-outcomes.world
     c.args.shelf.now shelf c.args.inbox.now inbox (traced c.args.trace.now) (traced c.play_out.new.trace) c.in_ok-outcomes.outcomes.items c.peaks_of-peaks.result (Never g.I.Inbox.faults g.I.Inbox.shortages c.args.inbox.now inbox)
     (rose_or_not (g.I.Inbox.faults c.args.inbox.now) (g.I.Inbox.faults inbox) (g.I.Inbox.shortages c.args.inbox.now) (g.I.Inbox.shortages inbox))
     (λ mid one two before behind never. granted_both g.I.Inbox.faults g.I.Inbox.shortages c.args.inbox.now mid inbox one two before behind never) c.requires.fresh c.in_ok-outcomes.ensures.runs c.in_ok-outcomes.ensures.outcomes noted
@@ -101,7 +101,7 @@ returns-in_err-outcomes-clause-breaks g c =
     let inbox = g.I.Inbox in
     let traced = g.T.Sink.content in
     any_err c.from_residual.result
-    (broke inbox.content (Answers shelf.content shelf.faults shelf.shortages) (Asks inbox.faults inbox.shortages) (NoShelf shelf.shortages) (NoInbox inbox.shortages) c.args.scenario.now c.args.world
+    (broke shelf.content inbox.content (Answers shelf.content shelf.faults shelf.shortages) (Asks inbox.faults inbox.shortages) (NoShelf shelf.shortages) (NoInbox inbox.shortages) c.args.scenario.now c.args.world
     c.args.shelf.now c.play_out.new.shelf c.args.inbox.now c.play_out.new.inbox (traced c.args.trace.now) (traced c.play_out.new.trace) (HasRisen (inbox.shortages c.args.inbox.now) (inbox.shortages c.play_out.new.inbox)) (Never inbox.faults inbox.shortages c.args.inbox.now c.play_out.new.inbox)
     (rose_or_not (inbox.faults c.args.inbox.now) (inbox.faults c.play_out.new.inbox) (inbox.shortages c.args.inbox.now) (inbox.shortages c.play_out.new.inbox))
     (λ mid used asked left never. granted_left inbox.faults inbox.shortages c.args.inbox.now mid c.play_out.new.inbox used asked left never) c.requires.fresh
@@ -121,6 +121,6 @@ returns-in_err-outcomes-clause-lacks g c =
     let inbox = g.I.Inbox in
     let traced = g.T.Sink.content in
     lacks_on _ _ _ _ _ c.play_out.result c.from_residual.result c.in_err-outcomes.field-0.0 c.from_residual.ensures.1 c.in_err-outcomes.was (omega arith)
-    (λ cause. wanting inbox.content (Answers shelf.content shelf.faults shelf.shortages) (Asks inbox.faults inbox.shortages) (NoShelf shelf.shortages) (NoInbox inbox.shortages) c.args.scenario.now c.args.world
+    (λ cause. wanting shelf.content inbox.content (Answers shelf.content shelf.faults shelf.shortages) (Asks inbox.faults inbox.shortages) (NoShelf shelf.shortages) (NoInbox inbox.shortages) c.args.scenario.now c.args.world
     c.args.shelf.now c.play_out.new.shelf c.args.inbox.now c.play_out.new.inbox (traced c.args.trace.now) (traced c.play_out.new.trace) _ _
     c.requires.fresh (λ lacked. lacked.0) (λ lacked. lacked.0) cause) c.play_out.ensures.lacks

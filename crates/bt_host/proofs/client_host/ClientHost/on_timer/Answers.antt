@@ -7,10 +7,10 @@ use Rattle.bt_host.proofs.client_host.ClientHost.on_timer.Goals as goal
 
 pub returns-clause-rests : goal.returns-clause-rests
 returns-clause-rests g c =
-    rests_noted noted_client client_noting c.self.inside.framer c.self.inside.stack c.fire.new.self c.self.inside.refusal c.noted.new.refusal c.args.self.now c.fire.new.port c.noted.result c.fire.result
+    rests_noted noted_client (client_noting g.F.Shelf.content) c.self.inside.framer c.self.inside.stack c.fire.new.self c.self.inside.refusal c.noted.new.refusal c.args.self.now c.fire.new.port c.noted.result c.fire.result
     c.self.view_is c.noted.ensures.answer c.fire.ensures.machine c.fire.ensures.paged c.fire.ensures.rests
 
 pub returns-clause-hears : goal.returns-clause-hears
 returns-clause-hears g c =
-    told_noted noted_client (Answers g.F.Shelf.content g.F.Shelf.faults g.F.Shelf.shortages) client_noting TimerFired c.self.inside.framer c.self.inside.framer c.self.inside.stack c.fire.new.self c.self.inside.refusal c.noted.new.refusal c.args.self.now
+    told_noted noted_client (Answers g.F.Shelf.content g.F.Shelf.faults g.F.Shelf.shortages) (client_noting g.F.Shelf.content) TimerFired c.self.inside.framer c.self.inside.framer c.self.inside.stack c.fire.new.self c.self.inside.refusal c.noted.new.refusal c.args.self.now
     c.args.shelf.now c.fire.new.port c.noted.result c.fire.result c.self.view_is c.noted.ensures.answer c.fire.ensures.hears

@@ -16,7 +16,7 @@ cancel-requires-clause-may g c = c.requires.may []
 pub returns-clause-reacts : goal.returns-clause-reacts
 returns-clause-reacts g c =
     both_ok c.cancel.result c.cancel.ensures.hears c.cancel.ensures.rests
-    (λ hears rests. (told_host noted_client (Answers g.F.Shelf.content g.F.Shelf.faults g.F.Shelf.shortages) client_noting A Cancelled c.args.self.now c.cancel.new.self c.args.port.now c.cancel.new.shelf
+    (λ hears rests. (told_host noted_client (Answers g.F.Shelf.content g.F.Shelf.faults g.F.Shelf.shortages) (client_noting g.F.Shelf.content) A Cancelled c.args.self.now c.cancel.new.self c.args.port.now c.cancel.new.shelf
     (client_pages c.args.self.now.stack.paged c.requires.sound.1.1) c.requires.sound.2 hears rests).0)
 
 pub returns-clause-held : goal.returns-clause-held
@@ -28,6 +28,6 @@ returns-clause-sound g c =
     (λ stays works went rests. (
       ap (λ (h : Shelled (Noted ClientProfile)). h.refusal) stays ∙ c.requires.sound.0,
       (works, rests.paged ∙ c.requires.sound.1.1),
-      (told_host noted_client (Answers g.F.Shelf.content g.F.Shelf.faults g.F.Shelf.shortages) client_noting A Cancelled c.args.self.now c.cancel.new.self c.args.port.now c.cancel.new.shelf
+      (told_host noted_client (Answers g.F.Shelf.content g.F.Shelf.faults g.F.Shelf.shortages) (client_noting g.F.Shelf.content) A Cancelled c.args.self.now c.cancel.new.self c.args.port.now c.cancel.new.shelf
           (client_pages c.args.self.now.stack.paged c.requires.sound.1.1) c.requires.sound.2 went rests).1,
     ))

@@ -20,7 +20,7 @@ push-requires-clause-few g c = let same = same_units c.args.name.now c.utf8.name
 pub returns-clause-reacts : goal.returns-clause-reacts
 returns-clause-reacts g c =
     both_ok c.push.result c.push.ensures.hears c.push.ensures.rests
-    (λ hears rests. (told_host noted_client (Answers g.F.Shelf.content g.F.Shelf.faults g.F.Shelf.shortages) client_noting A (Opening c.args.name.now) c.args.self.now c.push.new.self c.args.port.now c.push.new.shelf
+    (λ hears rests. (told_host noted_client (Answers g.F.Shelf.content g.F.Shelf.faults g.F.Shelf.shortages) (client_noting g.F.Shelf.content) A (Opening c.args.name.now) c.args.self.now c.push.new.self c.args.port.now c.push.new.shelf
     (client_pages c.args.self.now.stack.paged c.requires.sound.1.1) c.requires.sound.2 hears rests).0)
 
 pub returns-clause-held : goal.returns-clause-held
@@ -32,6 +32,6 @@ returns-clause-sound g c =
     (λ stays works went rests. (
       ap (λ (h : Shelled (Noted ClientProfile)). h.refusal) stays ∙ c.requires.sound.0,
       (works, rests.paged ∙ c.requires.sound.1.1),
-      (told_host noted_client (Answers g.F.Shelf.content g.F.Shelf.faults g.F.Shelf.shortages) client_noting A (Opening c.args.name.now) c.args.self.now c.push.new.self c.args.port.now c.push.new.shelf
+      (told_host noted_client (Answers g.F.Shelf.content g.F.Shelf.faults g.F.Shelf.shortages) (client_noting g.F.Shelf.content) A (Opening c.args.name.now) c.args.self.now c.push.new.self c.args.port.now c.push.new.shelf
           (client_pages c.args.self.now.stack.paged c.requires.sound.1.1) c.requires.sound.2 went rests).1,
     ))

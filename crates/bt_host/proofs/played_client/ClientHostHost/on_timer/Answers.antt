@@ -13,7 +13,7 @@ use Rattle.bt_host.proofs.played_client.ClientHostHost.on_timer.Goals as goal
 pub returns-clause-reacts : goal.returns-clause-reacts
 returns-clause-reacts g c =
     both_ok c.on_timer.result c.on_timer.ensures.hears c.on_timer.ensures.rests
-    (λ hears rests. (told_host noted_client (Answers g.F.Shelf.content g.F.Shelf.faults g.F.Shelf.shortages) client_noting A TimerFired c.args.self.now c.on_timer.new.self c.args.port.now c.on_timer.new.shelf
+    (λ hears rests. (told_host noted_client (Answers g.F.Shelf.content g.F.Shelf.faults g.F.Shelf.shortages) (client_noting g.F.Shelf.content) A TimerFired c.args.self.now c.on_timer.new.self c.args.port.now c.on_timer.new.shelf
     (client_pages c.args.self.now.stack.paged c.requires.sound.1.1) c.requires.sound.2 hears rests).0)
 
 pub returns-clause-held : goal.returns-clause-held
@@ -25,6 +25,6 @@ returns-clause-sound g c =
     (λ stays works went rests. (
       ap (λ (h : Shelled (Noted ClientProfile)). h.refusal) stays ∙ c.requires.sound.0,
       (works, rests.paged ∙ c.requires.sound.1.1),
-      (told_host noted_client (Answers g.F.Shelf.content g.F.Shelf.faults g.F.Shelf.shortages) client_noting A TimerFired c.args.self.now c.on_timer.new.self c.args.port.now c.on_timer.new.shelf
+      (told_host noted_client (Answers g.F.Shelf.content g.F.Shelf.faults g.F.Shelf.shortages) (client_noting g.F.Shelf.content) A TimerFired c.args.self.now c.on_timer.new.self c.args.port.now c.on_timer.new.shelf
           (client_pages c.args.self.now.stack.paged c.requires.sound.1.1) c.requires.sound.2 went rests).1,
     ))

@@ -11,7 +11,7 @@ use Rattle.bt_host.proofs.played_client.ClientHostHost.taken.Goals as goal
 
 pub taken-requires : goal.taken-requires
 taken-requires g c =
-    let same = taken_octets noted_client (Answers g.F.Shelf.content g.F.Shelf.faults g.F.Shelf.shortages) client_noting A c.args.self.now.stack c.args.port.now c.args.n c.requires.sound.2 c.requires.all in
+    let same = taken_octets noted_client (Answers g.F.Shelf.content g.F.Shelf.faults g.F.Shelf.shortages) (client_noting g.F.Shelf.content) A c.args.self.now.stack c.args.port.now c.args.n c.requires.sound.2 c.requires.all in
     omega (arith, same)
 
 pub put_out-requires-clause-sound : goal.put_out-requires-clause-sound
@@ -20,7 +20,7 @@ put_out-requires-clause-sound g c = ap (λ (h : Shelled (Noted ClientProfile)). 
 pub returns-clause-goes : goal.returns-clause-goes
 returns-clause-goes g c =
     both_ok c.put_out.result c.put_out.ensures.goes c.put_out.ensures.rests
-    (λ goes rests. (taken_host noted_client (Answers g.F.Shelf.content g.F.Shelf.faults g.F.Shelf.shortages) client_noting A c.args.self.now c.taken.new.self c.put_out.new.self c.args.port.now c.put_out.new.shelf c.args.n
+    (λ goes rests. (taken_host noted_client (Answers g.F.Shelf.content g.F.Shelf.faults g.F.Shelf.shortages) (client_noting g.F.Shelf.content) A c.args.self.now c.taken.new.self c.put_out.new.self c.args.port.now c.put_out.new.shelf c.args.n
     (client_pages c.args.self.now.stack.paged c.requires.sound.1.1) c.requires.sound.2 c.requires.all c.taken.ensures goes rests).0)
 
 pub returns-clause-held : goal.returns-clause-held
@@ -34,6 +34,6 @@ returns-clause-sound g c =
     (λ stays works went rests. (
       ap (λ (h : Shelled (Noted ClientProfile)). h.refusal) stays ∙ ap (λ (h : Shelled (Noted ClientProfile)). h.refusal) c.taken.ensures ∙ c.requires.sound.0,
       (works, rests.paged ∙ ap (λ (h : Shelled (Noted ClientProfile)). h.stack.paged) c.taken.ensures ∙ c.requires.sound.1.1),
-      (taken_host noted_client (Answers g.F.Shelf.content g.F.Shelf.faults g.F.Shelf.shortages) client_noting A c.args.self.now c.taken.new.self c.put_out.new.self c.args.port.now c.put_out.new.shelf c.args.n
+      (taken_host noted_client (Answers g.F.Shelf.content g.F.Shelf.faults g.F.Shelf.shortages) (client_noting g.F.Shelf.content) A c.args.self.now c.taken.new.self c.put_out.new.self c.args.port.now c.put_out.new.shelf c.args.n
           (client_pages c.args.self.now.stack.paged c.requires.sound.1.1) c.requires.sound.2 c.requires.all c.taken.ensures went rests).1,
     ))

@@ -1,0 +1,228 @@
+-- On each of its links the own talk of a host is covered where its server goes ahead, and so is what moved there.
+use Rattle.std.proofs.Common.{◌≡◌, ℕ, ◌==◌, List, [], ◌∷◌, ◌++◌, map, Bool, true, false, cond, inl, inr, Option, Some, None, refl, sym, ap, subst, ◌∙◌, append_assoc, append-nil, fold}
+use Rattle.std.specs.Prelude.{find, drop, option_to_list}
+use Rattle.std.specs.List.{AllByRecursion, AllZip, filter_map, flat_map, cons_option, list_any}
+use Rattle.std.proofs.lemmas.List.{map-append}
+use Rattle.std.proofs.lemmas.List.Concat.{flat_map-append}
+use Rattle.bt_base.specs.declared.settings.Settings.{Settings}
+use Rattle.capture.specs.declared.flow.Flow.TheVariants.{Out, Into}
+use Rattle.capture.specs.Pdus.{Pdu}
+use Rattle.acl_fragments.specs.Pieces.{channel_of}
+use Rattle.l2cap_signal.specs.Reading.{Answer, answers}
+use Rattle.link_talk.specs.Channels.{Entry, fresh, entry_after, is_owner, with_fresh, made_by, reading}
+use Rattle.link_talk.specs.Meanings.{Meaning, meant}
+use Rattle.link_talk.specs.Senses.{sense}
+use Rattle.link_talk.specs.declared.channel.Channel.{Channel}
+use Rattle.link_talk.specs.declared.party.Party.{Party}
+use Rattle.link_talk.specs.Packets.{passed}
+use Rattle.link_talk.specs.Sayings.{Saying, Command, Carried, GaveUp, said_by}
+use Rattle.link_talk.specs.Sdus.{Spoken, spoken_as}
+use Rattle.link_talk.proofs.Growing.{reading-grows}
+use Rattle.l2cap_config.specs.declared.wish.Mode.TheVariants.{Basic}
+use Rattle.push_terms.specs.declared.word.Side.TheVariants as sides
+use Rattle.rfcomm_frames.specs.declared.connection.Role.TheVariants.{Initiator, Responder}
+use Rattle.rfcomm_frames.specs.Multiplexing.{Passed}
+use Rattle.channel_model.specs.Policies.{Policy, policy}
+use Rattle.channel_laws.specs.Endpoints.{IsOf}
+use Rattle.channel_laws.specs.Exchanged.{exchanged_of}
+use Rattle.channel_laws.specs.Frames.{AreUttered}
+use Rattle.channel_laws.specs.Runs.{Occurrence, run_of}
+use Rattle.channel_laws.specs.Views.{is_own, read_at}
+use Rattle.channel_laws.proofs.Exchanged.{exchanged-is_spoken}
+use Rattle.push_model.specs.Server.{rfcomm_psm}
+use Rattle.push_laws.specs.Occurrences as served
+use Rattle.push_laws.specs.Readings.{passed_by}
+use Rattle.host_laws.specs.Carriers.{move_on}
+use Rattle.host_laws.specs.Keeping.{GivesNothingUp}
+use Rattle.host_laws.specs.OneCarrier.{IsFor}
+use Rattle.host_laws.specs.OverLinks.{GoesOut, IsTalkOf, moved_in}
+use Rattle.host_laws.specs.Calm.{pdus_in}
+use Rattle.host_laws.proofs.Gaining.{found_in}
+use Rattle.world_model.specs.Talks.{Talk}
+use Rattle.scenario_laws.specs.Coming.{out_of, FallTo}
+use Rattle.scenario_laws.specs.Parties.{party_of}
+use Rattle.host_laws.specs.OneOnLinks.{CarriesOneOn}
+use Rattle.request_laws.proofs.Feeding.{all_both, all_ahead}
+use Rattle.credit_laws.specs.Covered.{IsCovered}
+use Rattle.credit_laws.specs.Seen.{IsCoveredOn, AreCovered, IsSaidOut}
+use Rattle.credit_laws.proofs.Seeing.{earlier-is_covered}
+
+-- ---- what passed is what came and went
+
+passed_if : (here : Bool) (one : Passed) (rest : List Passed) (spoke : Spoken) (later : List Spoken) (party : Party) → passed party spoke ≡ one → rest ≡ map (passed party) later
+    → cons_option (cond here (Some one) None) rest ≡ map (passed party) (cons_option (cond here (Some spoke) None) later)
+passed_if true one rest spoke later party is more = ap (λ (p : Passed). p ∷ rest) (sym is) ∙ ap (λ (l : List Passed). passed party spoke ∷ l) more
+passed_if false one rest spoke later party is more = more
+
+pub passed_moves : (settings : Settings) (list : List served.Occurrence) → filter_map passed_by list ≡ map (passed (party_of settings sides.B)) (filter_map (move_on rfcomm_psm) list)
+passed_moves settings [] = refl
+passed_moves settings (served.Came at sdu ∷ rest) = passed_if (at == rfcomm_psm) (record { from = Initiator; sdu = sdu }) (filter_map passed_by rest) (spoken_as Into sdu) (filter_map (move_on rfcomm_psm) rest) (party_of settings sides.B) refl (passed_moves settings rest)
+passed_moves settings (served.Went at sdu ∷ rest) = passed_if (at == rfcomm_psm) (record { from = Responder; sdu = sdu }) (filter_map passed_by rest) (spoken_as Out sdu) (filter_map (move_on rfcomm_psm) rest) (party_of settings sides.B) refl (passed_moves settings rest)
+passed_moves settings (served.Closed at ∷ rest) = passed_moves settings rest
+passed_moves settings (served.LinkDown ∷ rest) = passed_moves settings rest
+passed_moves settings (served.Asked ∷ rest) = passed_moves settings rest
+passed_moves settings (served.Answering list ∷ rest) = passed_moves settings rest
+
+-- ---- the one channel covers all
+
+abbrev Covers : Party → List Saying → Entry → Type 0
+Covers party said entry = entry.channel.psm ≡ 0x0003 → IsCoveredOn party entry.channel said
+
+abbrev Fits : Channel → Entry → Type 0
+Fits channel entry = IsFor channel entry.channel
+
+covers_some : (party : Party) (said : List Saying) (channel : Channel) (entries : List Entry) → AllByRecursion (Fits channel) entries → IsCoveredOn party channel said → AllByRecursion (Covers party said) entries
+covers_some party said channel [] fit covered = tt
+covers_some party said channel (entry ∷ rest) fit covered = (by (entry.channel.own == channel.own) refl, covers_some party said channel rest fit.1 covered)
+  where
+    by : (b : Bool) → (entry.channel.own == channel.own) ≡ b → Covers party said entry
+    by true is = λ psm. subst (λ (c : Channel). IsCoveredOn party c said) (sym (fit.0.same is)) covered
+    by false is = λ psm. absurd ((fit.0.aside is).1 psm)
+
+covers_none : (party : Party) (said : List Saying) (channel : Channel) (entries : List Entry) → AllByRecursion (Fits channel) entries → find (is_own channel.own) entries ≡ None → AllByRecursion (Covers party said) entries
+covers_none party said channel [] fit none = tt
+covers_none party said channel (entry ∷ rest) fit none = by (entry.channel.own == channel.own) refl none (λ later. covers_none party said channel rest fit.1 later)
+  where
+    by : (b : Bool) → (entry.channel.own == channel.own) ≡ b → cond b (Some entry) (find (is_own channel.own) rest) ≡ None → (find (is_own channel.own) rest ≡ None → AllByRecursion (Covers party said) rest) → AllByRecursion (Covers party said) (entry ∷ rest)
+    by true is none later = cc
+    by false is none later = (λ psm. absurd ((fit.0.aside is).1 psm), later none)
+
+found_own : (n : ℕ) (entries : List Entry) (found : Entry) → find (is_own n) entries ≡ Some found → (found.channel.own == n) ≡ true
+found_own n [] found is = cc
+found_own n (entry ∷ rest) found is = by (is_own n entry) refl is (λ later. found_own n rest found later)
+  where
+    by : (b : Bool) → is_own n entry ≡ b → cond b (Some entry) (find (is_own n) rest) ≡ Some found → (find (is_own n) rest ≡ Some found → (found.channel.own == n) ≡ true) → (found.channel.own == n) ≡ true
+    by true here is later = let same : entry ≡ found = cc in subst (λ (e : Entry). (e.channel.own == n) ≡ true) same here
+    by false here is later = later is
+
+pub part_covered : (settings : Settings) (list : List Occurrence) (served_here : List served.Occurrence) (one : CarriesOneOn rfcomm_psm (policy settings true) list) → AreUttered (policy settings true) list
+    → filter_map (move_on rfcomm_psm) served_here ≡ exchanged_of (policy settings true) one.channel.own list → IsCovered 18 Responder (filter_map passed_by served_here) → AreCovered (party_of settings sides.B) (run_of (policy settings true) list).said
+part_covered settings list served_here one uttered moved covered = by (read_at one.channel.own (reading (run_of (policy settings true) list).said).entries) refl
+  where
+    party : Party
+    party = party_of settings sides.B
+
+    by : (found : Option Entry) → read_at one.channel.own (reading (run_of (policy settings true) list).said).entries ≡ found → AreCovered (party_of settings sides.B) (run_of (policy settings true) list).said
+    by None none = covers_none (party_of settings sides.B) (run_of (policy settings true) list).said one.channel (reading (run_of (policy settings true) list).said).entries one.alone none
+    by (Some x) at =
+        let said = (run_of (policy settings true) list).said in
+        let fit : Fits one.channel x = found_in one.channel.own (Fits one.channel) (reading said).entries x one.alone at in
+        let same : x.channel ≡ one.channel = fit.same (found_own one.channel.own (reading said).entries x at) in
+        let has : IsOf one.channel (read_at one.channel.own (reading said).entries) = subst (IsOf one.channel) (sym at) same in
+        let mode : ((policy settings true).wish one.channel.psm).mode ≡ Basic = ap (λ (n : ℕ). ((policy settings true).wish n).mode) one.psm_is in
+        let spoke = exchanged-is_spoken (policy settings true) (party_of settings sides.B) list one.channel uttered has mode in
+        let here : IsCoveredOn (party_of settings sides.B) one.channel said =
+        subst (λ (l : List Spoken). IsCovered 18 Responder (map (passed (party_of settings sides.B)) l)) (moved ∙ sym spoke) (subst (IsCovered 18 Responder) (passed_moves settings served_here) covered) in
+        covers_some (party_of settings sides.B) said one.channel (reading said).entries one.alone here
+
+-- ---- the channels of a talk stay
+
+abbrev channels_of : List Entry → List Channel
+channels_of entries = map (λ (entry : Entry). entry.channel) entries
+
+record Longer (before after : List Channel) : Type 0 where
+  more : List Channel
+  is : after ≡ before ++ more
+
+each_same : (m : Meaning) (entries : List Entry) → channels_of (map (entry_after m) entries) ≡ channels_of entries
+each_same m [] = refl
+each_same m (entry ∷ rest) = ap (λ (l : List Channel). entry.channel ∷ l) (each_same m rest)
+
+fresh_longer : (new : List Channel) (entries : List Entry) → Longer (channels_of entries) (channels_of (fold with_fresh entries new))
+fresh_longer [] entries = record { more = []; is = sym (append-nil (channels_of entries)) }
+fresh_longer (one ∷ new) entries = by (list_any (is_owner one) entries) (fresh_longer new (with_fresh entries one))
+  where
+    by : (b : Bool) → Longer (channels_of (cond b entries (entries ++ fresh one ∷ []))) (channels_of (fold with_fresh (cond b entries (entries ++ fresh one ∷ [])) new))
+        → Longer (channels_of entries) (channels_of (fold with_fresh (cond b entries (entries ++ fresh one ∷ [])) new))
+    by true l = l
+    by false l = record {
+      more = one ∷ l.more;
+      is = l.is ∙ (ap (λ (cs : List Channel). cs ++ l.more) (map-append (λ (entry : Entry). entry.channel) entries (fresh one ∷ [])) ∙ append_assoc (channels_of entries) (one ∷ []) l.more);
+    }
+
+saying_longer : (said : List Saying) (more : Saying) → Longer (channels_of (reading said).entries) (channels_of (reading (said ++ more ∷ [])).entries)
+saying_longer said more =
+    let m = meant (reading said).requests (sense more) in
+    let l = fresh_longer (option_to_list (made_by m)) (map (entry_after m) (reading said).entries) in
+    record {
+      more = l.more;
+      is = ap (λ r. channels_of r.entries) (reading-grows said more) ∙ (l.is ∙ ap (λ (cs : List Channel). cs ++ l.more) (each_same m (reading said).entries));
+    }
+
+said_longer : (said last : List Saying) → Longer (channels_of (reading said).entries) (channels_of (reading (said ++ last)).entries)
+said_longer said [] = record { more = []; is = ap (λ (l : List Saying). channels_of (reading l).entries) (append-nil said) ∙ sym (append-nil (channels_of (reading said).entries)) }
+said_longer said (one ∷ last) =
+    let first = saying_longer said one in
+    let then = said_longer (said ++ one ∷ []) last in
+    record {
+      more = first.more ++ then.more;
+      is = ap (λ (l : List Saying). channels_of (reading l).entries) (sym (append_assoc said (one ∷ []) last))
+          ∙ (then.is ∙ (ap (λ (cs : List Channel). cs ++ then.more) first.is ∙ append_assoc (channels_of (reading said).entries) first.more then.more));
+    }
+
+abbrev CoversOn : Party → List Saying → Channel → Type 0
+CoversOn party said channel = channel.psm ≡ 0x0003 → IsCoveredOn party channel said
+
+to_channels : (party : Party) (said : List Saying) (entries : List Entry) → AllByRecursion (Covers party said) entries → AllByRecursion (CoversOn party said) (channels_of entries)
+to_channels party said [] all = tt
+to_channels party said (entry ∷ rest) all = (all.0, to_channels party said rest all.1)
+
+to_entries : (party : Party) (said last : List Saying) (entries : List Entry) → AllByRecursion IsSaidOut last → AllByRecursion (CoversOn party (said ++ last)) (channels_of entries) → AllByRecursion (Covers party said) entries
+to_entries party said last [] out all = tt
+to_entries party said last (entry ∷ rest) out all = (λ psm. earlier-is_covered party entry.channel said last out (all.0 psm), to_entries party said last rest out all.1)
+
+pub are_earlier : (party : Party) (said last : List Saying) → AllByRecursion IsSaidOut last → AreCovered party (said ++ last) → AreCovered party said
+are_earlier party said last out all =
+    let l = said_longer said last in
+    let channels = subst (AllByRecursion (CoversOn party (said ++ last))) l.is (to_channels party (said ++ last) (reading (said ++ last)).entries all) in
+    to_entries party said last (reading said).entries out (all_ahead (CoversOn party (said ++ last)) (channels_of (reading said).entries) l.more channels).0
+
+-- ---- what moved on a link
+
+goes_out : (list : List Saying) → AllByRecursion GoesOut list → AllByRecursion IsSaidOut list
+goes_out [] all = tt
+goes_out (one ∷ rest) all = (by one all.0, goes_out rest all.1)
+  where
+    by : (saying : Saying) → GoesOut saying → IsSaidOut saying
+    by (Command Out answer) out = out
+    by (Command Into answer) out = out
+    by (Carried Out pdu) out = out
+    by (Carried Into pdu) out = out
+    by (GaveUp forgone) out = out
+
+commands_out : (list : List Answer) → AllByRecursion IsSaidOut (map (Command Out) list)
+commands_out [] = tt
+commands_out (one ∷ rest) = (tt, commands_out rest)
+
+pdu_out : (pdu : List ℕ) → AllByRecursion IsSaidOut (said_by (out_of pdu))
+pdu_out pdu = by (channel_of pdu == 0x0001)
+  where
+    by : (b : Bool) → AllByRecursion IsSaidOut (cond b (map (Command Out) (answers (drop 4 pdu))) (Carried Out pdu ∷ []))
+    by true = commands_out (answers (drop 4 pdu))
+    by false = (tt, tt)
+
+unsent_out : (list : List (List ℕ)) → AllByRecursion IsSaidOut (flat_map said_by (map out_of list))
+unsent_out [] = tt
+unsent_out (pdu ∷ rest) = all_both IsSaidOut (said_by (out_of pdu)) (flat_map said_by (map out_of rest)) (pdu_out pdu) (unsent_out rest)
+
+abbrev pub MovesCovered : Party → List Pdu → Type 0
+MovesCovered party moved = AreCovered party (flat_map said_by moved)
+
+link_covered : (policy : Policy) (party : Party) (list : List Occurrence) (part : List Talk) (link : List Pdu) (unsent : List (List ℕ)) → IsTalkOf policy list part → flat_map pdus_in part ≡ link ++ map out_of unsent → GivesNothingUp policy list
+    → AreCovered party (run_of policy list).said → MovesCovered party link
+link_covered policy party list part link unsent talk is keeps covered =
+    let outs = flat_map said_by (map out_of unsent) in
+    let moved : moved_in part ≡ flat_map said_by link ++ outs = ap (flat_map said_by) is ∙ flat_map-append said_by link (map out_of unsent) in
+    let said : (run_of policy list).said ≡ flat_map said_by link ++ (outs ++ talk.waits) =
+    sym keeps ∙ (talk.talk_is ∙ (ap (λ (l : List Saying). l ++ talk.waits) moved ∙ append_assoc (flat_map said_by link) outs talk.waits)) in
+    are_earlier party (flat_map said_by link) (outs ++ talk.waits) (all_both IsSaidOut outs talk.waits (unsent_out unsent) (goes_out talk.waits talk.go_out)) (subst (AreCovered party) said covered)
+
+pub fall_covered : (policy : Policy) (party : Party) (lists : List (List Occurrence)) (parts : List (List Talk)) (links : List (List Pdu)) → AllZip (IsTalkOf policy) lists parts → FallTo parts links → AllByRecursion (GivesNothingUp policy) lists
+    → AllByRecursion (λ (list : List Occurrence). AreCovered party (run_of policy list).said) lists → AllByRecursion (MovesCovered party) links
+fall_covered policy party [] [] links zip falls keeps covered = subst (AllByRecursion (MovesCovered party)) (sym falls) tt
+fall_covered policy party [] (part ∷ parts) links zip falls keeps covered = absurd zip
+fall_covered policy party (list ∷ lists) [] links zip falls keeps covered = absurd zip
+fall_covered policy party (list ∷ lists) (part ∷ parts) links zip (inl falls) keeps covered = fall_covered policy party lists parts links zip.1 falls.1 keeps.1 covered.1
+fall_covered policy party (list ∷ lists) (part ∷ parts) links zip (inr (link, rest, unsent, links_are, moved, falls)) keeps covered =
+    subst (AllByRecursion (MovesCovered party)) (sym links_are)
+    (link_covered policy party list part link unsent zip.0 moved keeps.0 covered.0, fall_covered policy party lists parts rest zip.1 falls keeps.1 covered.1)

@@ -1,0 +1,36 @@
+-- What a run of a scenario over RFCOMM comes to, over its ports and its capture (this project's own).
+use Rattle.std.specs.Prelude.{ℕ, ◌≡◌, List, length, min}
+use Rattle.bt_base.specs.Objects.{Object}
+use Rattle.bt_base.specs.declared.settings.Transport.TheVariants.{Rfcomm}
+use Rattle.watched_ports.specs.Gains.{most_kept}
+use Rattle.push_terms.specs.declared.outcome.Outcome.{Outcome}
+use Rattle.push_terms.specs.declared.peaks.Peaks.{Peaks}
+use Rattle.push_terms.specs.declared.word.Side.TheVariants.{B}
+use Rattle.push_script.specs.declared.scenario.Scenario.{Scenario}
+use Rattle.link_talk.specs.Captures.{objects_heard}
+use Rattle.host_laws.specs.Calls.{HostsAsk}
+use Rattle.scenario_laws.specs.Gains.{holding}
+use Rattle.scenario_laws.specs.Parties.{party_of}
+use Rattle.scenario_play.specs.Playing.{IsPlayed}
+use Rattle.scenario_play.specs.Streaming.{HaveStreamed, StreamsPlayed}
+use Rattle.btpush_forms.specs.declared.status.Status.{Status}
+use Rattle.object_push.specs.Gaining.{InboxNever}
+use Rattle.object_push.specs.Ports.{Ports}
+use Rattle.object_push.specs.Running.{Runs, RanToEnd, RanShort}
+
+-- It was played to its end from an inbox that held `before`; and the report says how many objects the capture spells, where ports answered.
+pub record StreamsToEnd (asks : HostsAsk) (scenario : Scenario) (before : List Object) (old new : Ports) (outcomes : List Outcome) (kept : ℕ) (peaks : Peaks) : Type 0 where
+  pub played : IsPlayed scenario old.shelf.content (holding before) new.inbox.content old.trace.content new.trace.content outcomes peaks (InboxNever old new)
+  pub streams : StreamsPlayed asks scenario before new.inbox.content outcomes played.capture played.finished.ran (InboxNever old new)
+  pub counted : HaveStreamed asks scenario before played.capture played.finished.ran → kept ≡ min (length (objects_heard (party_of scenario.settings B) B played.capture)) most_kept
+
+-- Of one that stopped short nothing more is said here.
+abbrev pub StreamsRun : (asks : HostsAsk) (scenario : Scenario) (before : List Object) (old new : Ports) (result : Status) → Runs scenario old new result → Type 0
+StreamsRun asks scenario before old new result (RanToEnd outcomes kept peaks played gains reports) = StreamsToEnd asks scenario before old new outcomes kept peaks
+StreamsRun asks scenario before old new result (RanShort fault is stops broken grows silent) = Unit {0}
+
+-- So it is of each run of a scenario over RFCOMM with an inbox that tells what it holds.
+pub record RunsStream : Type 0 where
+  pub asks : HostsAsk
+  pub streams : (scenario : Scenario) (before : List Object) (old new : Ports) (result : Status) → old.inbox.content ≡ holding before → scenario.settings.transport ≡ Rfcomm → (runs : Runs scenario old new result)
+      → StreamsRun asks scenario before old new result runs

@@ -1,0 +1,70 @@
+-- Runs in which the shelf of host a tells how long its objects are, and the inbox of host b grants all that it is asked (this project's own).
+use Rattle.std.specs.Prelude.{ℕ, ◌≡◌, List, Option, Some, Ok}
+use Rattle.std.specs.List.{AllByRecursion}
+use Rattle.bt_base.specs.Objects.{Object, Contents}
+use Rattle.push_script.specs.declared.scenario.Scenario.{Scenario}
+use Rattle.capture.specs.Entries.{Entry}
+use Rattle.world_model.specs.Machines.{News, Linked, Failed, Heard, TimerFired, Cancelled, Opening, Upper}
+use Rattle.world_model.specs.Worlds.{Happening, Runs}
+use Rattle.push_laws.specs.Premises.{AllGranted}
+use Rattle.host_model.specs.Circumstances.{Circumstance, size_in, answers_in}
+use Rattle.shelf_model.specs.Held.{length_of, held_by}
+use Rattle.host_laws.specs.Calls.{HostsAsk}
+use Rattle.host_laws.specs.Feeds.{Feed, Gifts, Learns, Receives, Happens, Sent, Steps}
+use Rattle.host_laws.specs.Gifts.{gifts_of}
+use Rattle.scenario_laws.specs.Captures.{client_of, server_of, BothHosts, beginning, Ran}
+use Rattle.pair_laws.specs.Granted.{answered_by, granting}
+use Rattle.pair_laws.specs.InTurn.{PairsInTurn}
+
+-- a machine whose shelf holds these objects, where it tells what it holds
+abbrev pub holding_on : {S : Type 0} → Option (List Object) → Upper S Circumstance → Upper S Circumstance
+holding_on shelf U = answered_by (held_by shelf) U
+
+-- all that happened, where the shelf of host a holds these
+abbrev pub HappenedHeld : Scenario → (shelf : Option (List Object)) → Option Contents → List Happening → BothHosts → Type 0
+HappenedHeld scenario shelf content happenings world = Runs (holding_on shelf (client_of scenario)) (server_of scenario content) happenings (beginning scenario content) world
+
+-- and where besides the inbox of host b granted all
+abbrev pub HappenedServed : Scenario → (shelf : Option (List Object)) → Option Contents → List Happening → BothHosts → Type 0
+HappenedServed scenario shelf content happenings world = Runs (holding_on shelf (client_of scenario)) (granting (server_of scenario content)) happenings (beginning scenario content) world
+
+-- ---- what both hosts went through
+
+-- as a push begins, the shelf tells a length alone that is that of the object that it holds under that name
+abbrev pub TellsOf : List Object → List Circumstance → News → Type 0
+TellsOf objects circumstances (Linked event) = Unit {0}
+TellsOf objects circumstances (Failed status) = Unit {0}
+TellsOf objects circumstances (Heard pdu) = Unit {0}
+TellsOf objects circumstances TimerFired = Unit {0}
+TellsOf objects circumstances Cancelled = Unit {0}
+TellsOf objects circumstances (Opening name) = (size : ℕ) → size_in circumstances ≡ Ok size → length_of name objects ≡ Some size
+
+abbrev pub BeginsOf : List Object → Feed → Type 0
+BeginsOf objects (Gifts circumstances) = Unit {0}
+BeginsOf objects (Learns circumstances news) = TellsOf objects circumstances news
+BeginsOf objects (Receives own psm sdu) = Unit {0}
+BeginsOf objects (Happens event v) = Unit {0}
+BeginsOf objects (Sent v) = Unit {0}
+BeginsOf objects (Steps v) = Unit {0}
+
+-- ---- the laws
+
+-- Both hosts' channels are pairs whose links go side by side, and each length that host a is told of its shelf is that of an object there.
+pub record HeldInTurn (asks : HostsAsk) (scenario : Scenario) (objects : List Object) (content : Option Contents) (capture : List Entry) (ran : Ran scenario content capture) : Type 0 where
+  pub turns : PairsInTurn asks scenario content capture ran
+  pub told : AllByRecursion (BeginsOf objects) turns.pairs.a.fed.so.lives.feeds
+
+-- So it is at each moment of each such run, wherever it broke off.
+abbrev pub HeldTakeTurns : Type 0
+HeldTakeTurns = (asks : HostsAsk) (scenario : Scenario) (objects : List Object) (content : Option Contents) (capture : List Entry) (ran : Ran scenario content capture)
+    → HappenedHeld scenario (Some objects) content ran.happenings ran.world → HeldInTurn asks scenario objects content capture ran
+
+-- and all that host b is given of its inbox are grants
+pub record ServedInTurn (asks : HostsAsk) (scenario : Scenario) (objects : List Object) (content : Option Contents) (capture : List Entry) (ran : Ran scenario content capture) : Type 0 where
+  pub turns : PairsInTurn asks scenario content capture ran
+  pub told : AllByRecursion (BeginsOf objects) turns.pairs.a.fed.so.lives.feeds
+  pub given : AllByRecursion (λ (gift : List Circumstance). AllGranted (answers_in gift)) (gifts_of turns.pairs.b.fed.so.lives.feeds)
+
+abbrev pub ServedTakeTurns : Type 0
+ServedTakeTurns = (asks : HostsAsk) (scenario : Scenario) (objects : List Object) (content : Option Contents) (capture : List Entry) (ran : Ran scenario content capture)
+    → HappenedServed scenario (Some objects) content ran.happenings ran.world → ServedInTurn asks scenario objects content capture ran

@@ -1,5 +1,0 @@
-use Rattle.request_laws.proofs.MuxTogether.{runs_serve_carried_granted}
-use Rattle.request_laws.proofs.runs_serve_carried_granted.Goals as goal
-
-pub returns : goal.returns
-returns c = runs_serve_carried_granted

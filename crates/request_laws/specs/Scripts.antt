@@ -1,0 +1,11 @@
+-- The words of a script over RFCOMM lose, cut, repeat and damage nothing (this project's own).
+use Rattle.std.specs.Prelude.{◌≡◌, List, ◌++◌}
+use Rattle.bt_base.specs.declared.settings.Transport.TheVariants.{Rfcomm}
+use Rattle.push_script.specs.declared.scenario.Scenario.{Scenario}
+use Rattle.push_terms.specs.declared.word.Word.{Word}
+use Rattle.capture.specs.Air.{words_of}
+use Rattle.pair_laws.specs.Keeping.{LosesNothing}
+
+-- So do those that were turned by some moment: a script with another word over RFCOMM is no scenario's.
+abbrev pub ScriptsLoseNothing : Type 0
+ScriptsLoseNothing = (scenario : Scenario) (turned later : List Word) → scenario.settings.transport ≡ Rfcomm → words_of scenario.script ≡ turned ++ later → LosesNothing turned
