@@ -5,7 +5,8 @@
 
 The packets of a link are repeated up to a btsnoop file of LIMIT octets, 60 million where none is given,
 once with data of 1,000 octets and once with data of 20. tshark and `decode --snoop` show that file,
-`decode` the same packets as a stream, and `decode --tagged` the same packets as a capture of host a. What is
+`decode` the same packets as a stream, and `decode --tagged` the same packets as a capture of host a, and then as
+one of host b, whose objects it looks for. What is
 taken is processor time, of user and system together, so that other work on the machine counts for little; of
 three runs of each the shortest counts.
 """
@@ -38,11 +39,14 @@ def signal(code, identifier, payload):
 
 
 def begin():
-    """A connection to the OBEX channel of host a's peer."""
+    """A link that the host's peer asks for, and on it a channel of Object Push."""
     yield 2, bytes.fromhex("01030C00")
     yield 3, bytes.fromhex("040E0401030C00")
-    yield acl(False, signal(2, 1, struct.pack("<HH", 0x1021, 0x0040)))
-    yield acl(True, signal(3, 1, struct.pack("<HHHH", 0x0041, 0x0040, 0, 0)))
+    yield 3, bytes.fromhex("04040A") + bytes(9) + b"\1"
+    yield 2, bytes.fromhex("01090407") + bytes(6) + b"\1"
+    yield 3, bytes.fromhex("04030B000100") + bytes(6) + b"\1\0"
+    yield acl(True, signal(2, 1, struct.pack("<HH", 0x1001, 0x0041)))
+    yield acl(False, signal(3, 1, struct.pack("<HHHH", 0x0040, 0x0041, 0, 0)))
 
 
 def packets(size):
@@ -71,9 +75,10 @@ def stream_of(link):
     return b"".join(packet for _, packet in link)
 
 
-def capture_of(link):
+def capture_of(link, tag):
+    """The capture of the host whose packets have that tag where they go out."""
     return b"".join(
-        struct.pack(">BH", 1 + (flags & 1), len(packet)) + packet for flags, packet in link
+        struct.pack(">BH", tag + (flags & 1), len(packet)) + packet for flags, packet in link
     )
 
 
@@ -107,14 +112,14 @@ def main():
         file = file_of(link)
         theirs = seconds_of(file, ["tshark", "-r", None])
         print(f"data of {size} octets: {len(link)} packets, {len(file)} octets: tshark {theirs:.2f} s")
-        for words, octets in (
-            (["--snoop"], file),
-            ([], stream_of(link)),
-            (["--tagged"], capture_of(link)),
+        for name, words, octets in (
+            ("decode --snoop", ["--snoop"], file),
+            ("decode", [], stream_of(link)),
+            ("decode --tagged, host a", ["--tagged"], capture_of(link, 1)),
+            ("decode --tagged, host b", ["--tagged"], capture_of(link, 3)),
         ):
             ours = seconds_of(octets, [btpush, "decode", *words])
-            name = " ".join(["decode", *words])
-            print(f"    {name} {ours:.2f} s, {theirs / ours:.0f} times")
+            print(f"    {name} {ours:.3f} s, {theirs / ours:.0f} times")
 
 
 main()

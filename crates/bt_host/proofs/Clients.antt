@@ -4,6 +4,7 @@ use Rattle.std.specs.Prelude.{Option, Some, None, is_some, Result, Ok, Err, IsTr
 use Rattle.std.specs.List.{AllByRecursion, list_any}
 use Rattle.bt_base.specs.Counts.{HasRisen}
 use Rattle.bt_base.specs.Objects.{Object, octets_of, HasAt}
+use Rattle.bt_base.specs.Octets.{IsOctets}
 use Rattle.obex_session.specs.PutPackets.{place_of}
 use Rattle.push_model.proofs.LinkLaws as LinkLaws
 use Rattle.push_model.proofs.LinkLaws.{steps_keep}
@@ -161,9 +162,9 @@ parts_of : (used : List Octs) (rest : List Circumstance) → parts_in (map Part 
 parts_of [] rest = refl
 parts_of (answer ∷ used) rest = ap (λ xs. answer ∷ xs) (parts_of used rest)
 
-stands : (content : Option (List Object)) (name : List ℕ) (at : ℕ) (part : List ℕ) → IfSome content (λ objects. HasAt at part (octets_of name objects)) → IsOf content (Part (Ok part))
-stands None name at part is = tt
-stands (Some objects) name at part is = (name, at, is)
+stands : (content : Option (List Object)) (name : List ℕ) (at : ℕ) (part : List ℕ) → IsOctets part → IfSome content (λ objects. HasAt at part (octets_of name objects)) → IsOf content (Part (Ok part))
+stands None name at part are is = (are, tt)
+stands (Some objects) name at part are is = (are, (name, at, is))
 
 -- answers fit what was asked, and behind the step those that were left over are left, whichever they are
 record Fits (client : Client) (used rest : List Octs) (new : Client) (result : Step) : Type 0 where
@@ -173,7 +174,7 @@ record Fits (client : Client) (used rest : List Octs) (new : Client) (result : S
 
 module _ (client : Client) (content : Option (List Object)) (f f' s s' : ℕ) where
   one_is : (answer : Octs) → IsAnswer client content f f' s s' answer → IsOf content (Part answer)
-  one_is (Ok part) is = stands content client.name (place_of client.session.put) part is.1
+  one_is (Ok part) is = stands content client.name (place_of client.session.put) part is.1 is.2
   one_is (Err fault) is = tt
 
   one_fails : (answer : Octs) → IsAnswer client content f f' s s' answer → list_any is_failure (Part answer ∷ []) ≡ true → HasRisen f f'

@@ -1,5 +1,5 @@
 -- A push begins at the end of a client.
-use Rattle.std.proofs.Common.{◌≡◌, ◌∙◌, ◌≤◌, ◌&&◌, ◌||◌, not, ℕ, Bool, true, false, List, [], ◌∷◌, ◌++◌, length, refl, sym, ap, subst, true≢false, if◌then◌else◌}
+use Rattle.std.proofs.Common.{◌≡◌, ◌∙◌, ◌<◌, ◌≤◌, ◌^◌, ◌&&◌, ◌||◌, not, ℕ, Bool, true, false, List, [], ◌∷◌, ◌++◌, length, refl, sym, ap, subst, true≢false, if◌then◌else◌, map, arith}
 use Rattle.std.proofs.lemmas.Bool.{false≢true}
 use Rattle.std.specs.Prelude.{Option, Some, None, Result, Ok, Err, IfOk, IfSome}
 use Rattle.std.specs.List.{list_any}
@@ -26,7 +26,7 @@ use Rattle.host_model.specs.Circumstances.{Circumstance, Size, parts_in}
 use Rattle.host_model.specs.Clients as model
 use Rattle.host_model.specs.Clients.{ClientProfile, calls, after_call}
 use Rattle.host_model.specs.Shelves.{name_for, size_if, is_short}
-use Rattle.shelf_model.specs.Held.{held_by}
+use Rattle.shelf_model.specs.Held.{in_octets, held_by}
 use Rattle.host_model.proofs.Shelves.{name_stays, size_stays}
 use Rattle.bt_host.specs.Calls.{Does}
 use Rattle.bt_host.specs.Pushing.{pushing, Pushes, IsDue, IsOf, is_failure, AreOf}
@@ -169,13 +169,13 @@ after_with course.BreakLink client end parts = refl
 after_with (course.Ended outcome) client end parts = refl
 after_with course.NoMemory client end parts = refl
 
-told_size : (content : Option (List Object)) (name : List ℕ) (size : ℕ) → IfSome content (λ objects. option_map length (octets_of name objects) ≡ Some size) → IsOf content (Size (Ok size))
-told_size None name size is = tt
-told_size (Some objects) name size is = (name, is)
+told_size : (content : Option (List Object)) (name : List ℕ) (size : ℕ) → size < 2 ^ 32 → IfSome content (λ objects. option_map length (octets_of name objects) ≡ Some size) → IsOf content (Size (Ok size))
+told_size None name size few is = (omega (arith, few), tt)
+told_size (Some objects) name size few is = (omega (arith, few), (name, is))
 
-size_of : (size : Result ℕ PortFault) (content : Option (List Object)) (name : List ℕ) → IfOk size (λ n. IfSome content (λ objects. option_map length (octets_of name objects) ≡ Some n)) → IsOf content (Size size)
-size_of (Ok size) content name is = told_size content name size is
-size_of (Err fault) content name is = tt
+size_of : (size : Result ℕ PortFault) (content : Option (List Object)) (name : List ℕ) → IfOk size (λ n. n < 2 ^ 32) → IfOk size (λ n. IfSome content (λ objects. option_map length (octets_of name objects) ≡ Some n)) → IsOf content (Size size)
+size_of (Ok size) content name few is = told_size content name size few is
+size_of (Err fault) content name few is = tt
 
 size_fails : (size : Result ℕ PortFault) (f f' s s' : ℕ) → HasCause f f' s s' size → list_any is_failure (Size size ∷ []) ≡ true → HasRisen f f'
 size_fails (Ok size) f f' s s' cause some = absurd (false≢true some)
@@ -189,7 +189,7 @@ size_answered old new name content content' f f' s s' works b stays =
       content_stays = stays;
       faults_stay = cause.faults_stay;
       shortages_stay = cause.shortages_stay;
-      each = (size_of b.size content name (b.told works), tt);
+      each = (size_of b.size content name b.few (b.told works), tt);
       failed = λ some. size_fails b.size f f' s s' cause some;
     }
 
@@ -204,13 +204,14 @@ module _ {P : Type 0} (content : P → Option (List Object)) (faults shortages :
         (size_answered end.client mid name (content first) (content second) (faults first) (faults second) (shortages first) (shortages second) works b stays) behind;
     does = λ rest.
         let client_is : model.ended (begins b.size name end.client) ≡ after = ap model.ended (sym b.client) ∙ ended_is mid ∙ sym is in
-        let begun : model.told (held_by (content first) (Opening name) (Size b.size ∷ rest)) (Opening name) (pushing end (Size b.size ∷ rest)) ≡ pushing new rest =
-        ap (λ (s : Result ℕ PortFault). model.opens (size_if (is_short name) s) (name_for name) (record end { parts = parts_in rest })) (size_held (content first) name b.size rest (b.told works))
-        ∙ ap (λ (s : Result ℕ PortFault). model.opens s (name_for name) (record end { parts = parts_in rest })) (size_stays b.size name few)
-        ∙ ap (λ (n : List ℕ). model.opens b.size n (record end { parts = parts_in rest })) (name_stays name few)
-        ∙ ap (λ (c : Client). calls (record (opening end c) { parts = parts_in rest })) client_is
-        ∙ after_with (steps after []).step (steps after []).client (opening end after) (parts_in rest)
-        ∙ ap (λ (e : ClientProfile). record e { parts = parts_in rest }) (sym new_is) in
+        let begun : model.told (held_by (content first) (Opening name) (Size b.size ∷ rest)) (Opening name) (pushing end (map in_octets (Size b.size ∷ rest))) ≡ pushing new (map in_octets rest) =
+        let left = parts_in (map in_octets rest) in
+        ap (λ (s : Result ℕ PortFault). model.opens (size_if (is_short name) s) (name_for name) (record end { parts = left })) (size_held (content first) name b.size rest b.few (b.told works))
+        ∙ ap (λ (s : Result ℕ PortFault). model.opens s (name_for name) (record end { parts = left })) (size_stays b.size name few)
+        ∙ ap (λ (n : List ℕ). model.opens b.size n (record end { parts = left })) (name_stays name few)
+        ∙ ap (λ (c : Client). calls (record (opening end c) { parts = left })) client_is
+        ∙ after_with (steps after []).step (steps after []).client (opening end after) left
+        ∙ ap (λ (e : ClientProfile). record e { parts = left }) (sym new_is) in
         ap (λ (p : ClientProfile). with_pushing p (shelved_by content end first rest)) begun
-        ∙ ap (λ (c : Option (List Object)). let one : Shelved = record { pushing = pushing new rest; shelf = c } in one) (sym (behind.content_stays ∙ stays));
+        ∙ ap (λ (c : Option (List Object)). let one : Shelved = record { pushing = pushing new (map in_octets rest); shelf = c } in one) (sym (behind.content_stays ∙ stays));
   }

@@ -5,6 +5,7 @@ use Rattle.std.specs.Option.{option_map}
 use Rattle.bt_base.specs.Counts.{HasRisen}
 use Rattle.bt_base.specs.Numbers.{IsCid, IsPsm}
 use Rattle.bt_base.specs.Objects.{Object, octets_of, HasAt}
+use Rattle.bt_base.specs.Octets.{IsOctets}
 use Rattle.bt_base.specs.declared.settings.Settings.{Settings}
 use Rattle.host_link.specs.declared.role.Role.TheVariants.{Client}
 use Rattle.host_link.specs.PuttingOut.{started}
@@ -18,6 +19,7 @@ use Rattle.host_model.specs.Circumstances.{Circumstance, Size, Part, Stored, par
 use Rattle.host_model.specs.Clients as model
 use Rattle.host_model.specs.Clients.{ClientProfile, client_profile}
 use Rattle.host_model.specs.Endpoints.{Endpoint}
+use Rattle.shelf_model.specs.Held.{longest_octets}
 use Rattle.bt_host.specs.Noting.{Noted, unnoted}
 use Rattle.bt_host.specs.Stacks.{Stacked, usual_peer}
 use Rattle.bt_host.specs.declared.client_end.Bid.{Bid}
@@ -49,11 +51,11 @@ pub record IsDue (client : push.Client) : Type 0 where
 
 -- ---- the answers of a shelf
 
--- the length of an object that it has, or octets that stand in one
+-- the length of an object that it has, a number of four octets, or octets that stand in one
 abbrev pub IsOf : Option (List Object) → Circumstance → Type 0
-IsOf content (Size (Ok size)) = IfSome content (λ objects. (name : List ℕ) × (option_map length (octets_of name objects) ≡ Some size))
+IsOf content (Size (Ok size)) = (size ≤ longest_octets) × IfSome content (λ objects. (name : List ℕ) × (option_map length (octets_of name objects) ≡ Some size))
 IsOf content (Size (Err fault)) = Unit {0}
-IsOf content (Part (Ok part)) = IfSome content (λ objects. (name : List ℕ) × (at : ℕ) × HasAt at part (octets_of name objects))
+IsOf content (Part (Ok part)) = IsOctets part × IfSome content (λ objects. (name : List ℕ) × (at : ℕ) × HasAt at part (octets_of name objects))
 IsOf content (Part (Err fault)) = Unit {0}
 IsOf content (Stored answer) = ⊥
 

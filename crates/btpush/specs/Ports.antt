@@ -1,9 +1,8 @@
 -- The forms that need hosts, over all ports of the program (this project's own).
-use Rattle.std.specs.Prelude.{ℕ, ◌⊎◌, List, Option}
+use Rattle.std.specs.Prelude.{ℕ, List, Option}
 use Rattle.bt_base.specs.Counts.{HasRisen}
 use Rattle.btpush_forms.specs.declared.status.Status.{Status}
 use Rattle.object_push.specs.Ports.{Ports}
-use Rattle.receiving.specs.Receiving.{IsUntouched, AnyShort}
 use Rattle.small_push.specs.Plays.{Stocked, stocked}
 use Rattle.small_push.specs.Pushing.{Pushes}
 
@@ -15,9 +14,3 @@ stock_of ports = stocked ports.shelf.content ports.shelf.faults ports.shelf.abse
 abbrev pub PushesOver : (input : List ℕ) (left : Option (List ℕ)) (old new : Ports) (untouched : Type 0) → Status → Type 0
 PushesOver input left old new untouched result =
     Pushes input (stock_of old) (stock_of new) left old.sink.content new.sink.content old.trace.content new.trace.content (HasRisen old.trace.faults new.trace.faults) untouched result
-
--- Why a host that receives may want memory: nothing happened yet, or a port found none. `lacks` counts how often the source did.
-abbrev pub LacksSo : (source source' : Option (List ℕ)) (lacks lacks' : ℕ) (old new : Ports) → Type 0
-LacksSo source source' lacks lacks' old new =
-    IsUntouched source source' old.sink.content new.sink.content old.trace.content new.trace.content old.inbox.content new.inbox.content
-    ⊎ AnyShort lacks lacks' old.sink.shortages new.sink.shortages old.trace.shortages new.trace.shortages old.inbox.shortages new.inbox.shortages

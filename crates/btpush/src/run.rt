@@ -8,10 +8,12 @@ ghost use Rattle.btpush_forms.specs.Run.{Decodes, RefusesWords, HasCauses, HasEn
 ghost use Rattle.btpush_forms.specs.Words.{AskForTrace, AskToMake};
 ghost use Rattle.btpush_forms.specs.Snooping.{Snoops};
 ghost use Rattle.btpush_forms.specs.Carrying.{IsWell};
-ghost use Rattle.btpush.specs.Ports.{PushesOver, LacksSo};
+ghost use Rattle.btpush.specs.Ports.{PushesOver};
 ghost use Rattle.command_words.specs.Forms.{AsksFor, AsksForNone};
 ghost use Rattle.making.specs.Making.{Makes};
 ghost use Rattle.object_push.specs.Ports.{ports_of};
+ghost use Rattle.receiving.specs.Ports as received;
+ghost use Rattle.receiving.specs.Ports.{LacksMemory};
 ghost use Rattle.receiving.specs.Receiving.{Receives};
 ghost use Rattle.three_wire.specs.Carrying.{WriteRose, IsWholeInput};
 ghost use Rattle.h4_view.specs.View.{IsAnswered};
@@ -61,7 +63,7 @@ pub fn run<S: Source, K: Sink, T: Sink, F: Shelf, B: Inbox>(
     // `receive` feeds the input to a host: the sink gains what this says, and the inbox what it stores. It wants memory before
     // anything happens, or where a port found none.
     ensures receive { AsksFor (map string_bytes words.now.items) Form.Receive → Receives (S.content source.old) (S.content source.new) (K.content sink.old) (K.content sink.new) (T.content trace.old) (T.content trace.new) (B.content inbox.old) (B.content inbox.new) result }
-    ensures receive_memory { AsksFor (map string_bytes words.now.items) Form.Receive → result ≡ Status.NoMemory → let at = ports_of K.Sink T.Sink F.Shelf B.Inbox in LacksSo (S.content source.old) (S.content source.new) (S.shortages source.old) (S.shortages source.new) (at sink.old trace.old shelf.old inbox.old) (at sink.new trace.new shelf.new inbox.new) }
+    ensures receive_memory { AsksFor (map string_bytes words.now.items) Form.Receive → result ≡ Status.NoMemory → let at = received.ports_of S.Source K.Sink T.Sink B.Inbox in LacksMemory (at source.old sink.old trace.old inbox.old) (at source.new sink.new trace.new inbox.new) }
     // `make` runs the scenario of the number over ports in memory: the trace gains its capture, and the sink its summary.
     ensures make { (number : ℕ) → AsksFor (map string_bytes words.now.items) (Form.Make number) → Makes number (written K.Sink sink.old) (written K.Sink sink.new) (written T.Sink trace.old) (written T.Sink trace.new) result }
     // `snoop` writes the packets of a host to the sink as a btsnoop file, or tells where the input is no capture.

@@ -27,16 +27,15 @@ use Rattle.link_talk.specs.Sdus.{Spoken, spoken_as, sdus_of, spoken_with, spoken
 use Rattle.link_talk.proofs.Growing.{stretch-grows}
 use Rattle.channel_model.specs.Value.{Own, Unasked, Asking, Granted, Carrier, Plain, Retransmitting, Setup, Stage, Requested, Connected, Leaving, Closing, Crossed, Held, Channels}
 use Rattle.channel_model.specs.Policies.{Policy}
-use Rattle.channel_model.specs.Changing.{has_own, held_at, is_open, is_stated, setup_of}
-use Rattle.channel_model.specs.Carrying.{Nothing, Received, sdu_with, sdu_at, up_by, up_on, up_at, takes}
+use Rattle.channel_model.specs.Changing.{held_at, is_open, is_stated, setup_of}
+use Rattle.channel_model.specs.Carrying.{Nothing, sdu_with, sdu_at, up_by, up_on, up_at, takes}
 use Rattle.channel_model.specs.Giving.{Given, Signal, Whole, Framed, headed, carrier_gives, next_given}
 use Rattle.channel_model.specs.Calls.{setup_on, carrier_if, open_carrier, carrier_at, connected, asks_features, disconnected}
 use Rattle.channel_model.proofs.Lookups.{own_of, eqb-same, found-has, and_off}
 use Rattle.channel_laws.specs.OwnTalk.{asked_between, said_with_all}
 use Rattle.channel_laws.specs.Runs.{Occurrence, Comes, Connects, AsksFeatures, Disconnects, Sends, Gives, Fires, Tells, peer_at, said_by_carrier, said_as, said_in, Run, new_link, run_on, run_of}
 use Rattle.channel_laws.specs.Views.{peer_of, life_of, read_at}
-use Rattle.channel_laws.specs.Frames.{IsSpelled, IsUttered, AreUttered}
-use Rattle.channel_laws.specs.Endpoints.{IsOf}
+use Rattle.channel_laws.specs.Frames.{IsSpelled, IsUttered}
 use Rattle.channel_laws.specs.Taken.{is_free}
 use Rattle.channel_laws.specs.Exchanged.{heard_in, exchanged_in, exchanged_of, ExchangedIsSpoken}
 use Rattle.channel_laws.proofs.Both.{and-left, and-right}

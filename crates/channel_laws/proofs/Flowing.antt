@@ -54,17 +54,17 @@ pub turned-piped : (party : Party) (t : Terms) (channel : Channel) (pair : Pair)
 turned-piped party t channel pair h = joined-swapped pair.near.policy pair.far.policy t channel.own channel.peer _ _ _ pair.near.run.value pair.far.run.value h
 
 -- both hosts have the channel as it is
-record Common (t : Terms) (channel : Channel) (pair : Pair) : Type 0 where
-  near_mate : IsMate t.mine channel.own channel.peer pair.near.run.value
-  far_mate : IsMate t.other channel.peer channel.own pair.far.run.value
+pub record Common (t : Terms) (channel : Channel) (pair : Pair) : Type 0 where
+  pub near_mate : IsMate t.mine channel.own channel.peer pair.near.run.value
+  pub far_mate : IsMate t.other channel.peer channel.own pair.far.run.value
 
-record Fair (t : Terms) (channel : Channel) : Type 0 where
-  own_high : 0x0040 ≤ channel.own
-  peer_high : 0x0040 ≤ channel.peer
-  there : Suits t.mine t.other
-  back : Suits t.other t.mine
+pub record Fair (t : Terms) (channel : Channel) : Type 0 where
+  pub own_high : 0x0040 ≤ channel.own
+  pub peer_high : 0x0040 ≤ channel.peer
+  pub there : Suits t.mine t.other
+  pub back : Suits t.other t.mine
 
-side_piped : (near far : Policy) (party : Party) (t : Terms) (channel : Channel) (pair : Pair) (side : Side) (happening : Happening) → Fair t channel → BothRun IsUttered near far pair → Common t channel pair → Common t channel (happens_at side happening pair)
+pub side_piped : (near far : Policy) (party : Party) (t : Terms) (channel : Channel) (pair : Pair) (side : Side) (happening : Happening) → Fair t channel → BothRun IsUttered near far pair → Common t channel pair → Common t channel (happens_at side happening pair)
     → DoesSo IsUttered happening (end_at side pair) → IsCarried happening (end_at side pair) → Piped party t channel pair → Piped party t channel (happens_at side happening pair)
 side_piped near far party t channel pair Near happening fair runs before after uttered carried' h =
     near-piped party t channel pair happening fair.own_high fair.there (record { high = fair.peer_high; sound = sound-of IsUttered near pair.near runs.near_runs; mate = before.near_mate }) after.near_mate uttered carried' h
@@ -94,7 +94,7 @@ all_piped near far party t channel all past (turn ∷ rest) fair common is (now,
     further : all ≡ (past ++ turn ∷ []) ++ rest
     further = is ∙ sym (append_assoc past (turn ∷ []) rest)
 
-first_piped : (near far : Policy) (party : Party) (t : Terms) (channel : Channel) → Suits t.mine t.other → Suits t.other t.mine → Piped party t channel (new_pair near far)
+pub first_piped : (near far : Policy) (party : Party) (t : Terms) (channel : Channel) → Suits t.mine t.other → Suits t.other t.mine → Piped party t channel (new_pair near far)
 first_piped near far party t channel there back = record {
   pair = record { a = new_machine_end t.mine; b = new_machine_end t.other };
   joins = record {
@@ -103,6 +103,8 @@ first_piped near far party t channel there back = record {
     far_tells = record { put_is = refl; short = tt };
     near_flies = tt;
     far_flies = tt;
+    near_by = refl;
+    far_by = refl;
   };
   near_at = record { held = tt; before = λ above. (refl, refl); front = ([], refl) };
   far_at = record { held = tt; before = λ above. (refl, refl); front = ([], refl) };
@@ -162,7 +164,7 @@ near_pipe t channel pair piped party mode =
     (front-of_front (sdus_up channel.own pair.near.run.up) h.pair.a.up (sdus_of (picked 0 said)) h.near_at.front (tells-pipe t.mine.receive_mps h.pair.b h.pair.a said (swapped h.joins.stands) h.joins.far_tells))
 
 -- each host has it as it is, whenever
-common_at : (near far : Policy) (turns : List Turn) (channel : Channel) (near_bond : Bond near far turns Near channel.psm channel.own) (far_bond : Bond near far turns Far channel.psm channel.peer) → AreRead near far turns → HaveChannel near far turns channel → OneWishes near far channel.psm Enhanced
+pub common_at : (near far : Policy) (turns : List Turn) (channel : Channel) (near_bond : Bond near far turns Near channel.psm channel.own) (far_bond : Bond near far turns Far channel.psm channel.peer) → AreRead near far turns → HaveChannel near far turns channel → OneWishes near far channel.psm Enhanced
     → (front behind : List Turn) → turns ≡ front ++ behind → (let t : Terms = record { mine = near_bond.agreed; other = far_bond.agreed } in Common t channel (pair_of near far front))
 common_at near far turns channel near_bond far_bond read have wish front behind is = record {
   near_mate = mates-at near far near front behind Near channel near_bond.agreed whole
@@ -189,7 +191,7 @@ enhanced-accepted setup is = by (is_enhanced setup.asked) setup.accepted is
     by true (Some Enhanced) is = refl
 
 -- so the other host wishes that mode
-other_wishes : (near far : Policy) (turns : List Turn) → AreRead near far turns → (side : Side) (channel : Channel) → IsOf channel (read_at channel.own (reading (said_at side (pair_of near far turns))).entries) → mode_of channel (said_at side (pair_of near far turns)) ≡ Enhanced
+pub other_wishes : (near far : Policy) (turns : List Turn) → AreRead near far turns → (side : Side) (channel : Channel) → IsOf channel (read_at channel.own (reading (said_at side (pair_of near far turns))).entries) → mode_of channel (said_at side (pair_of near far turns)) ≡ Enhanced
     → ((policy_of side far near).wish channel.psm).mode ≡ Enhanced
 other_wishes near far turns read side channel has mode = by (read_at channel.own (reading (said_at side (pair_of near far turns))).entries) refl has mode
   where
@@ -201,32 +203,31 @@ other_wishes near far turns read side channel has mode = by (read_at channel.own
 abbrev pub terms_of : (near far : Policy) (turns : List Turn) (channel : Channel) → Bond near far turns Near channel.psm channel.own → Bond near far turns Far channel.psm channel.peer → Terms
 terms_of near far turns channel near_bond far_bond = record { mine = near_bond.agreed; other = far_bond.agreed }
 
+-- both endpoints are of channels, and what each agreed on suits the other
+pub fair-by : (near far : Policy) (turns : List Turn) (channel : Channel) → HaveChannel near far turns channel → CanStateBoth near far channel.psm → (near_bond : Bond near far turns Near channel.psm channel.own) (far_bond : Bond near far turns Far channel.psm channel.peer)
+    → Fair (terms_of near far turns channel near_bond far_bond) channel
+fair-by near far turns channel have can near_bond far_bond = record {
+  own_high = high-at near (pair_of near far turns).near.run channel channel.own runs.0 have.near_has;
+  peer_high = high-at far (pair_of near far turns).far.run (mirrored channel) channel.peer runs.1 have.far_has;
+  there = within-suits (near.wish channel.psm) (far.wish channel.psm) near_bond.agreed far_bond.agreed can.far_can near_bond.within far_bond.within;
+  back = within-suits (far.wish channel.psm) (near.wish channel.psm) far_bond.agreed near_bond.agreed can.near_can far_bond.within near_bond.within;
+}
+  where
+    runs : IsRunOf near (pair_of near far turns).near.run × IsRunOf far (pair_of near far turns).far.run
+    runs = each-end_runs near far turns
+
 -- where one host wishes enhanced mode, its two ends are two ends in order
 pub piped-by : (near far : Policy) (turns : List Turn) → AreFair near far turns → AreRead near far turns → AreCarried near far turns → (channel : Channel) → HaveChannel near far turns channel → CanStateBoth near far channel.psm
     → (near_bond : Bond near far turns Near channel.psm channel.own) (far_bond : Bond near far turns Far channel.psm channel.peer) → OneWishes near far channel.psm Enhanced → (party : Party)
     → Piped party (terms_of near far turns channel near_bond far_bond) channel (pair_of near far turns)
 piped-by near far turns uttered read passes channel have can near_bond far_bond wish party =
-    all_piped near far party t channel turns [] turns fair (common_at near far turns channel near_bond far_bond read have wish) refl uttered passes (first-runs IsUttered near far) (first_piped near far party t channel there back)
+    all_piped near far party t channel turns [] turns fair (common_at near far turns channel near_bond far_bond read have wish) refl uttered passes (first-runs IsUttered near far) (first_piped near far party t channel fair.there fair.back)
   where
     t : Terms
     t = terms_of near far turns channel near_bond far_bond
 
-    there : Suits t.mine t.other
-    there = within-suits (near.wish channel.psm) (far.wish channel.psm) near_bond.agreed far_bond.agreed can.far_can near_bond.within far_bond.within
-
-    back : Suits t.other t.mine
-    back = within-suits (far.wish channel.psm) (near.wish channel.psm) far_bond.agreed near_bond.agreed can.near_can far_bond.within near_bond.within
-
-    runs : IsRunOf near (pair_of near far turns).near.run × IsRunOf far (pair_of near far turns).far.run
-    runs = each-end_runs near far turns
-
     fair : Fair t channel
-    fair = record {
-      own_high = high-at near (pair_of near far turns).near.run channel channel.own runs.0 have.near_has;
-      peer_high = high-at far (pair_of near far turns).far.run (mirrored channel) channel.peer runs.1 have.far_has;
-      there = there;
-      back = back;
-    }
+    fair = fair-by near far turns channel have can near_bond far_bond
 
 pub enhanced-are_pipes : EnhancedChannelsArePipes
 enhanced-are_pipes near far turns channel uttered read passes have can = (

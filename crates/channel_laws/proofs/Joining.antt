@@ -18,7 +18,7 @@ use Rattle.channel_model.specs.Changing.{held_at, is_open}
 use Rattle.channel_model.proofs.Going.{IsAccepted, CarrierGoes}
 use Rattle.channel_laws.specs.Pipes.{IsFront}
 use Rattle.channel_laws.proofs.Keeping.{OfCarrier, StageKeeps, HeldKeeps, AllKeep, KeepsOn, Keeps}
-use Rattle.channel_laws.proofs.Attending.{IsNew, new-carrier}
+use Rattle.channel_laws.proofs.Attending.{IsNew, new-carrier, fires-aside}
 use Rattle.channel_laws.proofs.Passing.{Fired, fired-same}
 use Rattle.channel_laws.proofs.Piping.{Tells, tells-fires}
 
@@ -77,6 +77,9 @@ pub record Joins (t : Terms) (d : Seen) (p : Pair) : Type 0 where
   pub far_tells : Tells t.mine.receive_mps p.b d.far_said
   pub near_flies : AreSpelled d.to_far p.a.queue
   pub far_flies : AreSpelled d.to_near p.b.queue
+  -- each goes by what it agreed on
+  pub near_by : p.a.machine.agreed ≡ t.mine
+  pub far_by : p.b.machine.agreed ≡ t.other
 
 -- a host's machine is that end, once its channel is open; before that both are new
 abbrev pub Holds : Agreed → End → (opened : Bool) → Option Carrier → Type 0
@@ -116,6 +119,8 @@ joined-swapped near far t n f d near_up far_up v w h = record {
     far_tells = h.joins.near_tells;
     near_flies = h.joins.far_flies;
     far_flies = h.joins.near_flies;
+    near_by = h.joins.far_by;
+    far_by = h.joins.near_by;
   };
   near_at = h.far_at;
   far_at = h.near_at;
@@ -169,6 +174,8 @@ goes_on far t d f near_up far_up w wish leaving opened opened' (Retransmitting m
           far_tells = joins.far_tells;
           near_flies = joins.near_flies;
           far_flies = joins.far_flies;
+          near_by = (fires-aside p.a.machine (subst (λ (x : Ertm). (timed x).closed ≡ None) is still)).agreed_same ∙ joins.near_by;
+          far_by = joins.far_by;
         },
         at,
         front,
@@ -322,6 +329,8 @@ joined-loses near far t n f d near_up far_up v w pdu rest is h = by h.pair.b.que
         far_tells = record { put_is = h.joins.far_tells.put_is; short = h.joins.far_tells.short };
         near_flies = h.joins.near_flies;
         far_flies = subst (AreSpelled rest) (sym (ap behind_front first)) spelled;
+        near_by = h.joins.near_by;
+        far_by = h.joins.far_by;
       };
       near_at = h.near_at;
       far_at = gone_at far t.other f far_up h.pair.b w sent queue first h.far_at;

@@ -105,6 +105,7 @@ pub mod Lingering
 pub mod Agreements
 pub mod HandingUp
 pub mod Wholeness
+pub mod Windowing
 pub mod Mild
 pub mod PlainReplies
 pub mod OwnModes
@@ -123,6 +124,8 @@ pub mod Shown
 pub mod Assents
 pub mod Assenting
 pub mod Trusting
+mod Identifiers
+mod Identifying
 pub mod Hushed
 pub mod Ordered
 pub mod PlainTaken
@@ -138,4 +141,4 @@ pub mod Ready
 mod UnderWay
 mod Recalling
 mod ConnectionsMet
-mod NamedApart
+pub mod NamedApart

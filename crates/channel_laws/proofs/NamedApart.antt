@@ -1,33 +1,36 @@
--- A host that asks for each of its channels with a new identifier asks for no two with one.
-use Rattle.std.proofs.Common.{◌≡◌, ℕ, ◌≤◌, List, [], ◌∷◌, ◌++◌, length, Bool, true, false, cond, eqb, ◌&&◌, ◌||◌, Some, refl, sym, ap, subst, ◌∙◌, ◌⊎◌, inl, inr, append_assoc, append-nil, arith, lt-ltb, length-append}
+-- A host that offers no channel, and asks for few, asks for no two with one identifier.
+use Rattle.std.proofs.Common.{◌≡◌, ℕ, ◌+◌, ◌<◌, ◌≤◌, List, [], ◌∷◌, ◌++◌, length, Bool, true, false, cond, ◌&&◌, Some, refl, sym, ap, subst, ◌∙◌, ◌⊎◌, inl, inr, append_assoc, append-nil, arith, lt-ltb, length-append}
 use Rattle.std.specs.Prelude.{nat_lt, find}
-use Rattle.std.specs.List.{list_any}
 use Rattle.std.proofs.lemmas.Bool.{ltb-true}
 use Rattle.std.proofs.lemmas.List.Sums.{fold-append}
 use Rattle.capture.specs.Histories.{EachAfter}
 use Rattle.capture.specs.declared.flow.Flow.TheVariants.{Out}
-use Rattle.l2cap_signal.specs.Commands.{connection_request}
+use Rattle.l2cap_signal.specs.Commands.{Command, connection_request}
 use Rattle.link_talk.specs.declared.call.Call.{Call}
 use Rattle.link_talk.specs.declared.call.Wanted.{Wanted}
 use Rattle.link_talk.specs.Sayings.{Saying}
+use Rattle.channel_model.specs.declared.errand.Errand.{Errand}
+use Rattle.channel_model.specs.declared.errand.Errand.TheVariants as errands
 use Rattle.channel_model.specs.declared.errand.Errand.TheVariants.{Connection}
 use Rattle.channel_model.specs.Asking.{new_request, asks}
 use Rattle.channel_model.specs.Calls.{can_connect}
 use Rattle.channel_model.specs.Changing.{has_own}
 use Rattle.channel_model.specs.Following.{with_channel}
-use Rattle.channel_model.specs.Giving.{connection_at, on_held}
+use Rattle.channel_model.specs.Giving.{connection_at, on_held, command_of}
 use Rattle.channel_model.specs.Policies.{Policy}
-use Rattle.channel_model.specs.Value.{Requested, Held, Channels}
-use Rattle.channel_model.proofs.Lookups.{eqb-same}
+use Rattle.channel_model.specs.Value.{Requested, Held, Channels, no_channels}
 use Rattle.channel_laws.specs.Belonging.{HasAsked}
-use Rattle.channel_laws.specs.Connections.{NamesApart, is_called_by, AsksAnew, NamesAreApart}
+use Rattle.channel_laws.specs.Connections.{NamesApart, requests_by, requests_for, NamesAreApart}
+use Rattle.channel_laws.specs.Named.{HaveNames, RequestsHaveNames}
 use Rattle.channel_laws.specs.OwnTalk.{spoken, command_with, asked_between}
-use Rattle.channel_laws.specs.Runs.{Occurrence, Comes, Connects, AsksFeatures, Disconnects, Sends, Gives, Fires, Tells, said_in, Run, new_link, run_on, run_of}
+use Rattle.channel_laws.specs.Runs.{Occurrence, Comes, Connects, AsksFeatures, Disconnects, Sends, Gives, Fires, Tells, said_in, value_after, Run, new_link, run_on, run_of}
 use Rattle.channel_laws.specs.Signals.{StandsIn}
 use Rattle.channel_laws.specs.Singly.{calls_that_went, IsAgain, IsFresh, AreOneByOne, AsksSo}
 use Rattle.channel_laws.proofs.Asking.{newest-asks, asked-one}
 use Rattle.channel_laws.proofs.Calling.{own_call}
 use Rattle.channel_laws.proofs.Conversing.{conversed-on}
+use Rattle.channel_laws.proofs.Identifiers.{all_left, TakesFew, next-more}
+use Rattle.channel_laws.proofs.Identifying.{one-spends}
 use Rattle.channel_laws.proofs.Inviting.{held_here}
 use Rattle.channel_laws.proofs.OneByOne.{Holds, Allows, one_by_one, first_holds, each_allowed}
 use Rattle.channel_laws.proofs.Questions.{asked-none}
@@ -41,6 +44,10 @@ use Rattle.channel_laws.proofs.Sound.{wanted_by}
 -- no two of them have one identifier
 abbrev CallsApart : List Call → Type 0
 CallsApart calls = (one other : Call) → StandsIn one calls → StandsIn other calls → one.identifier ≡ other.identifier → one ≡ other
+
+-- they were made before the identifier that is given next
+abbrev CallsBelow : (next : ℕ) → List Call → Type 0
+CallsBelow next calls = (one : Call) → StandsIn one calls → one.identifier < next
 
 -- as before, where there are fewer than so many before
 abbrev fits_below : (Fits : ℕ → List Call → Bool) (most : ℕ) → ℕ → List Call → Bool
@@ -82,28 +89,16 @@ all_again Fits [] old all one stands = stands
 all_again Fits (first ∷ new) old (now, later) one (inl same) = all_again Fits new old later one (subst (λ (c : Call). StandsIn c (new ++ old)) same (first_again Fits first new old now))
 all_again Fits (first ∷ new) old (now, later) one (inr rest) = all_again Fits new old later one rest
 
-called_now : (identifier : ℕ) (first one : Call) → first ≡ one → one.identifier ≡ identifier → eqb first.identifier identifier ≡ true
-called_now identifier first one here same = ap (λ (c : Call). eqb c.identifier identifier) here ∙ (ap (λ (n : ℕ). eqb n identifier) same ∙ eqb-same identifier)
-
-not_first : (a b : Bool) → (a || b) ≡ false → a ≡ true → ⊥
-not_first true b none is = cc
-not_first false b none is = cc
-
-not_later : (a b : Bool) → (a || b) ≡ false → b ≡ false
-not_later true b none = cc
-not_later false b none = none
-
-none_called : (identifier : ℕ) (calls : List Call) (one : Call) → list_any (is_called_by identifier) calls ≡ false → StandsIn one calls → one.identifier ≡ identifier → ⊥
-none_called identifier [] one none stands same = stands
-none_called identifier (first ∷ calls) one none (inl here) same = not_first (eqb first.identifier identifier) (list_any (is_called_by identifier) calls) none (called_now identifier first one here same)
-none_called identifier (first ∷ calls) one none (inr there) same = none_called identifier calls one (not_later (eqb first.identifier identifier) (list_any (is_called_by identifier) calls) none) there same
-
 -- one more with an identifier that none had
-apart_more : (call : Call) (calls : List Call) → list_any (is_called_by call.identifier) calls ≡ false → CallsApart calls → CallsApart (call ∷ calls)
-apart_more call calls none apart one other (inl first) (inl second) same = sym first ∙ second
-apart_more call calls none apart one other (inl first) (inr second) same = absurd (none_called call.identifier calls other none second (sym same ∙ ap (λ (c : Call). c.identifier) (sym first)))
-apart_more call calls none apart one other (inr first) (inl second) same = absurd (none_called call.identifier calls one none first (same ∙ ap (λ (c : Call). c.identifier) (sym second)))
-apart_more call calls none apart one other (inr first) (inr second) same = apart one other first second same
+apart_more : (call : Call) (calls : List Call) → CallsBelow call.identifier calls → CallsApart calls → CallsApart (call ∷ calls)
+apart_more call calls below apart one other (inl first) (inl second) same = sym first ∙ second
+apart_more call calls below apart one other (inl first) (inr second) same = let less = below other second in absurd (omega (arith, less, same, ap (λ (c : Call). c.identifier) first))
+apart_more call calls below apart one other (inr first) (inl second) same = let less = below one first in absurd (omega (arith, less, same, ap (λ (c : Call). c.identifier) second))
+apart_more call calls below apart one other (inr first) (inr second) same = apart one other first second same
+
+below_more : (call : Call) (calls : List Call) (next : ℕ) → call.identifier < next → CallsBelow call.identifier calls → CallsBelow next (call ∷ calls)
+below_more call calls next now below one (inl first) = omega (arith, now, ap (λ (c : Call). c.identifier) first)
+below_more call calls next now below one (inr later) = let less = below one later in omega (arith, less, now)
 
 -- ---- what is said is called
 
@@ -143,9 +138,18 @@ is_connecting Tells = false
 run_more : (policy : Policy) (past : List Occurrence) (more : Occurrence) → run_of policy (past ++ more ∷ []) ≡ run_on policy (run_of policy past) more
 run_more policy past more = fold-append (run_on policy) new_link past (more ∷ [])
 
+pub requests-more : (past : List Occurrence) (more : Occurrence) → requests_for (past ++ more ∷ []) ≡ requests_by more + requests_for past
+requests-more [] more = omega arith
+requests-more (one ∷ past) more = let later = requests-more past more in omega (arith, later)
+
+-- what holds of them while identifiers do not come round
+record AreNamed (run : Run) : Type 0 where
+  apart : CallsApart (calls_of run)
+  below : CallsBelow run.value.identifier (calls_of run)
+
 -- it is asked for a channel
-connects_apart : (policy : Policy) (past : List Occurrence) (psm : ℕ) → AsksAnew (Connects psm) (run_of policy past) → CallsApart (calls_of (run_of policy past)) → CallsApart (calls_of (run_on policy (run_of policy past) (Connects psm)))
-connects_apart policy past psm anew apart = subst CallsApart (sym (calls-more Out run.said (said_in policy (Connects psm) v))) (by (can_connect v) refl)
+connects_named : (policy : Policy) (past : List Occurrence) (psm : ℕ) → (run_of policy past).value.identifier ≤ 254 → AreNamed (run_of policy past) → AreNamed (run_on policy (run_of policy past) (Connects psm))
+connects_named policy past psm low named = by (can_connect v) refl
   where
     run : Run
     run = run_of policy past
@@ -153,25 +157,49 @@ connects_apart policy past psm anew apart = subst CallsApart (sym (calls-more Ou
     v : Channels
     v = run.value
 
-    by : (can : Bool) → can_connect v ≡ can → CallsApart (calls_that_went Out (asked_between v (cond can (asks (Connection v.next) (with_channel psm (Requested (new_request v)) v)) v)) ++ calls_of run)
-    by false is = subst (λ (said : List Saying). CallsApart (calls_that_went Out said ++ calls_of run)) (sym (asked-none v v refl)) apart
-    by true is = subst (λ (said : List Saying). CallsApart (calls_that_went Out said ++ calls_of run)) (sym said) (apart_more (own_call v.identifier psm v.next) (calls_of run) anew apart)
-      where
-        w : Channels
-        w = asks (Connection v.next) (with_channel psm (Requested (new_request v)) v)
+    w : Channels
+    w = asks (Connection v.next) (with_channel psm (Requested (new_request v)) v)
 
-        new : Held
-        new = record { psm = psm; own = v.next; stage = Requested (new_request v) }
+    one : Call
+    one = own_call v.identifier psm v.next
 
-        said : asked_between v w ≡ spoken (command_with v.identifier (connection_request psm v.next)) ∷ []
-        said =
-            let sound : IsSound policy run = all-sound policy past in
-            let here : find (has_own v.next) w.held ≡ Some new = held_here v.held new (sound.core.held_below v.next (omega arith)) in
-            asked-one v w (Connection v.next) (command_with v.identifier (connection_request psm v.next)) refl (newest-asks (Connection v.next) (with_channel psm (Requested (new_request v)) v)) (ap (on_held (λ h. connection_at h.stage h)) here)
+    new : Held
+    new = record { psm = psm; own = v.next; stage = Requested (new_request v) }
+
+    said : asked_between v w ≡ spoken (command_with v.identifier (connection_request psm v.next)) ∷ []
+    said =
+        let sound : IsSound policy run = all-sound policy past in
+        let here : find (has_own v.next) w.held ≡ Some new = held_here v.held new (sound.core.held_below v.next (omega arith)) in
+        asked-one v w (Connection v.next) (command_with v.identifier (connection_request psm v.next)) refl (newest-asks (Connection v.next) (with_channel psm (Requested (new_request v)) v)) (ap (on_held (λ h. connection_at h.stage h)) here)
+
+    by : (can : Bool) → can_connect v ≡ can → AreNamed (run_on policy run (Connects psm))
+    by false is =
+        let value_is : value_after policy (Connects psm) v ≡ v = ap (λ (c : Bool). cond c w v) is in
+        let calls_are : calls_of (run_on policy run (Connects psm)) ≡ calls_of run =
+        calls-more Out run.said (said_in policy (Connects psm) v) ∙ ap (λ (said : List Saying). calls_that_went Out said ++ calls_of run) (ap (asked_between v) value_is ∙ asked-none v v refl) in
+        record {
+          apart = subst CallsApart (sym calls_are) named.apart;
+          below = subst (λ (u : Channels). CallsBelow u.identifier (calls_of (run_on policy run (Connects psm)))) (sym value_is) (subst (CallsBelow v.identifier) (sym calls_are) named.below);
+        }
+    by true is =
+        let value_is : value_after policy (Connects psm) v ≡ w = ap (λ (c : Bool). cond c w v) is in
+        let calls_are : calls_of (run_on policy run (Connects psm)) ≡ one ∷ calls_of run =
+        calls-more Out run.said (said_in policy (Connects psm) v) ∙ ap (λ (said : List Saying). calls_that_went Out said ++ calls_of run) (ap (asked_between v) value_is ∙ said) in
+        let next : w.identifier ≡ v.identifier + 1 = next-more v.identifier low in
+        record {
+          apart = subst CallsApart (sym calls_are) (apart_more one (calls_of run) named.below named.apart);
+          below =
+              subst (λ (u : Channels). CallsBelow u.identifier (calls_of (run_on policy run (Connects psm)))) (sym value_is)
+              (subst (CallsBelow w.identifier) (sym calls_are) (below_more one (calls_of run) w.identifier (omega (arith, next)) named.below));
+        }
 
 -- nothing else calls anew
-still_apart : (policy : Policy) (Fits : ℕ → List Call → Bool) (past : List Occurrence) (more : Occurrence) → is_connecting more ≡ false → Holds Fits (run_of policy past).said (run_of policy past).value → CallsApart (calls_of (run_of policy past)) → CallsApart (calls_of (run_on policy (run_of policy past) more))
-still_apart policy Fits past more calm holds apart one other first second same = apart one other (all one (subst (StandsIn one) whole first)) (all other (subst (StandsIn other) whole second)) same
+still_named : (policy : Policy) (Fits : ℕ → List Call → Bool) (past : List Occurrence) (more : Occurrence) → is_connecting more ≡ false → Holds Fits (run_of policy past).said (run_of policy past).value
+    → (run_of policy past).value.identifier ≤ (value_after policy more (run_of policy past).value).identifier → AreNamed (run_of policy past) → AreNamed (run_on policy (run_of policy past) more)
+still_named policy Fits past more calm holds rises named = record {
+  apart = λ one other first second same. named.apart one other (all one (subst (StandsIn one) whole first)) (all other (subst (StandsIn other) whole second)) same;
+  below = λ one stands. let less = named.below one (all one (subst (StandsIn one) whole stands)) in omega (arith, less, rises);
+}
   where
     run : Run
     run = run_of policy past
@@ -205,23 +233,68 @@ still_apart policy Fits past more calm holds apart one other first second same =
     all : (call : Call) → StandsIn call (new ++ old) → StandsIn call old
     all = all_again Fits new old (subst (AreOneByOne (fits_below Fits (length old))) (ap calls_of (run_more policy past more) ∙ whole) after.calls)
 
-one_apart : (policy : Policy) (Fits : ℕ → List Call → Bool) (past : List Occurrence) (more : Occurrence) → AsksAnew more (run_of policy past) → Holds Fits (run_of policy past).said (run_of policy past).value → CallsApart (calls_of (run_of policy past)) → CallsApart (calls_of (run_on policy (run_of policy past) more))
-one_apart policy Fits past (Comes pdu) anew holds apart = still_apart policy Fits past (Comes pdu) refl holds apart
-one_apart policy Fits past (Connects psm) anew holds apart = connects_apart policy past psm anew apart
-one_apart policy Fits past AsksFeatures anew holds apart = still_apart policy Fits past AsksFeatures refl holds apart
-one_apart policy Fits past (Disconnects own) anew holds apart = still_apart policy Fits past (Disconnects own) refl holds apart
-one_apart policy Fits past (Sends own sdu) anew holds apart = still_apart policy Fits past (Sends own sdu) refl holds apart
-one_apart policy Fits past (Gives pdu) anew holds apart = still_apart policy Fits past (Gives pdu) refl holds apart
-one_apart policy Fits past Fires anew holds apart = still_apart policy Fits past Fires refl holds apart
-one_apart policy Fits past Tells anew holds apart = still_apart policy Fits past Tells refl holds apart
+module _ (policy : Policy) (Fits : ℕ → List Call → Bool) (none : (psm : ℕ) → policy.offers psm ≡ false) where
+  -- what is taken of identifiers
+  abbrev IsWithin : List Occurrence → Type 0
+  IsWithin past = (run_of policy past).value.identifier + all_left (run_of policy past).value.held ≤ 1 + requests_for past
 
-all_apart : (policy : Policy) (Fits : ℕ → List Call → Bool) (past list : List Occurrence) → EachAfter (λ front one. AsksSo Fits one (run_of policy front)) past list → EachAfter (λ front one. AsksAnew one (run_of policy front)) past list
-    → Holds Fits (run_of policy past).said (run_of policy past).value → CallsApart (calls_of (run_of policy past)) → CallsApart (calls_of (run_of policy (past ++ list)))
-all_apart policy Fits past [] asks anew holds apart = subst (λ (l : List Occurrence). CallsApart (calls_of (run_of policy l))) (sym (append-nil past)) apart
-all_apart policy Fits past (more ∷ list) (now, asks) (new, anew) holds apart =
-    let after = conversed-on policy (Allows Fits) (λ v. Unit {0}) (Holds Fits) (one_by_one Fits policy) past (more ∷ []) tt holds (each_allowed policy Fits past (more ∷ []) (now, tt)) in
-    subst (λ (l : List Occurrence). CallsApart (calls_of (run_of policy l))) (append_assoc past (more ∷ []) list)
-    (all_apart policy Fits (past ++ more ∷ []) list asks anew after (subst (λ (run : Run). CallsApart (calls_of run)) (sym (run_more policy past more)) (one_apart policy Fits past more new holds apart)))
+  takes : (past : List Occurrence) (more : Occurrence) → TakesFew (requests_by more) (run_of policy past).value (value_after policy more (run_of policy past).value)
+  takes past more =
+      let sound : IsSound policy (run_of policy past) = all-sound policy past in
+      one-spends policy none more (run_of policy past).value (sound.core.held_below (run_of policy past).value.next (omega arith)) sound.core.lone
+
+  rises : (past : List Occurrence) (more : Occurrence) → IsWithin past → requests_by more + requests_for past ≤ 254 → (run_of policy past).value.identifier ≤ (value_after policy more (run_of policy past).value).identifier
+  rises past more within few = (takes past more).rises (omega (arith, within, few))
+
+  within_more : (past : List Occurrence) (more : Occurrence) → IsWithin past → IsWithin (past ++ more ∷ [])
+  within_more past more within =
+      let whole = requests-more past more in
+      let less = (takes past more).less in
+      subst (λ (run : Run). run.value.identifier + all_left run.value.held ≤ 1 + requests_for (past ++ more ∷ [])) (sym (run_more policy past more)) (omega (arith, whole, less, within))
+
+  one_named : (past : List Occurrence) (more : Occurrence) → requests_by more + requests_for past ≤ 254 → Holds Fits (run_of policy past).said (run_of policy past).value → IsWithin past → AreNamed (run_of policy past) → AreNamed (run_on policy (run_of policy past) more)
+  one_named past (Comes pdu) few holds within named = still_named policy Fits past (Comes pdu) refl holds (rises past (Comes pdu) within few) named
+  one_named past (Connects psm) few holds within named = connects_named policy past psm (omega (arith, within, few)) named
+  one_named past AsksFeatures few holds within named = still_named policy Fits past AsksFeatures refl holds (rises past AsksFeatures within few) named
+  one_named past (Disconnects own) few holds within named = still_named policy Fits past (Disconnects own) refl holds (rises past (Disconnects own) within few) named
+  one_named past (Sends own sdu) few holds within named = still_named policy Fits past (Sends own sdu) refl holds (rises past (Sends own sdu) within few) named
+  one_named past (Gives pdu) few holds within named = still_named policy Fits past (Gives pdu) refl holds (rises past (Gives pdu) within few) named
+  one_named past Fires few holds within named = still_named policy Fits past Fires refl holds (rises past Fires within few) named
+  one_named past Tells few holds within named = still_named policy Fits past Tells refl holds (rises past Tells within few) named
+
+  all_named : (past list : List Occurrence) → EachAfter (λ front one. AsksSo Fits one (run_of policy front)) past list → requests_for list + requests_for past ≤ 254
+      → IsWithin past → Holds Fits (run_of policy past).said (run_of policy past).value → AreNamed (run_of policy past) → AreNamed (run_of policy (past ++ list))
+  all_named past [] asks few within holds named = subst (λ (l : List Occurrence). AreNamed (run_of policy l)) (sym (append-nil past)) named
+  all_named past (more ∷ list) (now, asks) few within holds named =
+      let whole = requests-more past more in
+      let after = conversed-on policy (Allows Fits) (λ v. Unit {0}) (Holds Fits) (one_by_one Fits policy) past (more ∷ []) tt holds (each_allowed policy Fits past (more ∷ []) (now, tt)) in
+      subst (λ (l : List Occurrence). AreNamed (run_of policy l)) (append_assoc past (more ∷ []) list)
+      (all_named (past ++ more ∷ []) list asks (omega (arith, few, whole)) (within_more past more within) after (subst AreNamed (sym (run_more policy past more)) (one_named past more (omega (arith, few)) holds within named)))
 
 pub names-are_apart : NamesAreApart
-names-are_apart policy Fits list asks anew = calls_apart (run_of policy list).said (all_apart policy Fits [] list asks anew (first_holds Fits) (λ one other none. elim none [ ]))
+names-are_apart policy Fits list none asks few =
+    calls_apart (run_of policy list).said (all_named policy Fits none [] list asks (omega (arith, few)) (omega arith) (first_holds Fits) (record { apart = λ one other in_none. elim in_none [ ]; below = λ one in_none. elim in_none [ ] })).apart
+
+-- ---- the requests that wait
+
+none_waits : HaveNames no_channels
+none_waits = record { below = λ errand command is. absurd (none errand command is); apart = λ one other first second is also equal. absurd (none one first is) }
+  where
+    none : (errand : Errand) (command : Command) → command_of errand no_channels ≡ Some command → ⊥
+    none (errands.Connection own) command is = cc
+    none (errands.Configuration own) command is = cc
+    none (errands.Disconnection own) command is = cc
+    none errands.Features command is = cc
+
+all_have_names : (policy : Policy) (none : (psm : ℕ) → policy.offers psm ≡ false) (past list : List Occurrence) → requests_for list + requests_for past ≤ 254 → (run_of policy past).value.identifier + all_left (run_of policy past).value.held ≤ 1 + requests_for past
+    → HaveNames (run_of policy past).value → HaveNames (run_of policy (past ++ list)).value
+all_have_names policy none past [] few within names = subst (λ (l : List Occurrence). HaveNames (run_of policy l).value) (sym (append-nil past)) names
+all_have_names policy none past (more ∷ list) few within names =
+    let any : ℕ → List Call → Bool = λ psm calls. true in
+    let whole = requests-more past more in
+    subst (λ (l : List Occurrence). HaveNames (run_of policy l).value) (append_assoc past (more ∷ []) list)
+    (all_have_names policy none (past ++ more ∷ []) list (omega (arith, few, whole)) (within_more policy any none past more within)
+    (subst (λ (run : Run). HaveNames run.value) (sym (run_more policy past more)) ((takes policy any none past more).named (omega (arith, few, within)) names)))
+
+pub requests-have_names : RequestsHaveNames
+requests-have_names policy list none few = all_have_names policy none [] list (omega (arith, few)) (omega arith) none_waits

@@ -1,5 +1,5 @@
 -- One of two hosts hears on the channel that they have in common, sends on it and gives its frames.
-use Rattle.std.proofs.Common.{◌≡◌, ℕ, zero, suc, ◌+◌, ◌≤◌, List, [], ◌∷◌, ◌++◌, length, Bool, true, false, cond, ◌&&◌, Option, Some, None, Err, refl, sym, ap, subst, ◌∙◌, ◌⊎◌, inl, inr, arith, append-nil, append_assoc}
+use Rattle.std.proofs.Common.{◌≡◌, ℕ, zero, suc, ◌+◌, ◌≤◌, List, [], ◌∷◌, ◌++◌, length, Bool, true, false, cond, ◌&&◌, Option, Some, None, Ok, Err, refl, sym, ap, subst, ◌∙◌, ◌⊎◌, inl, inr, arith, append-nil, append_assoc}
 use Rattle.std.specs.Prelude.{find, option_map, option_to_list, is_some, slice_get}
 use Rattle.std.specs.List.{AllByRecursion}
 use Rattle.l2cap_config.specs.declared.wish.Agreed.{Agreed}
@@ -169,6 +169,8 @@ hears-frame t d pdu rest is p joins open' = by p.b.queue refl (subst (λ pdus. A
             far_tells = joins.far_tells;
             near_flies = subst (AreSpelled d.to_far) (sym (same_queue sent.frame p.a)) joins.near_flies;
             far_flies = joins.far_flies;
+            near_by = ap (λ (m : Ertm). m.agreed) (heard-machine sent.frame p.a) ∙ (heard-agreed (Ok sent.frame) p.a.machine ∙ joins.near_by);
+            far_by = joins.far_by;
           };
           far_is = refl;
           machine_is = heard-machine sent.frame p.a;
@@ -331,6 +333,8 @@ submitted_pair t d p sdu fit is short joins = record {
   far_tells = joins.far_tells;
   near_flies = subst (AreSpelled d.to_far) (sym (by (is_busy p.a.machine))) joins.near_flies;
   far_flies = joins.far_flies;
+  near_by = ap (λ (m : Ertm). m.agreed) (took-machine sdu p.a) ∙ ((submits-aside sdu p.a.machine).agreed_same ∙ is);
+  far_by = joins.far_by;
 }
   where
     by : (busy : Bool) → (cond busy p.a (took sdu p.a)).queue ≡ p.a.queue
@@ -429,6 +433,8 @@ gives_pair near far t f d near_up far_up v w held setup machine pdu (Some giving
           far_tells = h.joins.far_tells;
           near_flies = spelled_more d.to_far h.pair.a.queue pdu (record { frame = given_frame giving' h.pair.a.machine; number = acknowledged_by h.pair.a + h.pair.a.machine.sender.next; asks = accepted_by h.pair.a }) (subst (Reads pdu) (sym frame_is) reads) h.joins.near_flies;
           far_flies = h.joins.far_flies;
+          near_by = sym (ap (λ g. (after_by g h.pair.a.machine).agreed) mine) ∙ ((gives-aside h.pair.a.machine).agreed_same ∙ h.joins.near_by);
+          far_by = h.joins.far_by;
         })
         h.far_at h.near_at.front
         (up, inr (ap after_frame same ∙ ap (λ g. after_by g h.pair.a.machine) mine, and-right (is_some setup.carrier) (is_granted setup.own) opened, (gives-aside machine).open_still was_open))

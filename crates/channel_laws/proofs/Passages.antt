@@ -35,7 +35,7 @@ use Rattle.channel_laws.proofs.Passing.{heard_in}
 pub passed-more : (party : Party) (channel : Channel) (past : List Saying) (more : Saying) → frames_passed party channel (past ++ more ∷ []) ≡ frames_passed party channel past ++ filter_map (passage_in party) (carried is_passed channel past more)
 passed-more party channel past more = ap (filter_map (passage_in party)) (passages-grow channel past more) ∙ filter_map-append (passage_in party) (passages channel past) (carried is_passed channel past more)
 
-none_more : (party : Party) (channel : Channel) (past : List Saying) (more : Saying) → carried is_passed channel past more ≡ [] → frames_passed party channel (past ++ more ∷ []) ≡ frames_passed party channel past
+pub none_more : (party : Party) (channel : Channel) (past : List Saying) (more : Saying) → carried is_passed channel past more ≡ [] → frames_passed party channel (past ++ more ∷ []) ≡ frames_passed party channel past
 none_more party channel past more none = passed-more party channel past more ∙ (ap (λ cs. frames_passed party channel past ++ filter_map (passage_in party) cs) none ∙ append-nil (frames_passed party channel past))
 
 bare_one : (party : Party) (channel : Channel) (past : List Saying) (more : Saying) → is_carried more ≡ false → frames_passed party channel (past ++ more ∷ []) ≡ frames_passed party channel past

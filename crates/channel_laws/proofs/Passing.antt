@@ -54,12 +54,12 @@ passing_new frame frames opened agreed small mps none = record {
 
 -- ---- one event more
 
-ins_in : (frames : List Passage) (frame : PlainFrame) → ins (frames ++ In frame ∷ []) ≡ ins frames ++ frame ∷ []
+pub ins_in : (frames : List Passage) (frame : PlainFrame) → ins (frames ++ In frame ∷ []) ≡ ins frames ++ frame ∷ []
 ins_in [] frame = refl
 ins_in (Out other ∷ frames) frame = ins_in frames frame
 ins_in (In other ∷ frames) frame = ap (λ fs. other ∷ fs) (ins_in frames frame)
 
-ins_out : (frames : List Passage) (frame : PlainFrame) → ins (frames ++ Out frame ∷ []) ≡ ins frames
+pub ins_out : (frames : List Passage) (frame : PlainFrame) → ins (frames ++ Out frame ∷ []) ≡ ins frames
 ins_out [] frame = refl
 ins_out (Out other ∷ frames) frame = ins_out frames frame
 ins_out (In other ∷ frames) frame = ap (λ fs. other ∷ fs) (ins_out frames frame)

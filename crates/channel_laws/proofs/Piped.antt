@@ -1,7 +1,7 @@
 -- An enhanced channel that two hosts have in common is a pipe of SDUs.
 use Rattle.std.proofs.Common.{◌≡◌, ℕ, ◌<◌, ◌≤◌, List, [], ◌∷◌, ◌++◌, length, Bool, true, false, cond, eqb, ◌&&◌, Option, Some, None, refl, sym, ap, subst, ◌∙◌, inr, append_assoc, append-nil}
 use Rattle.std.specs.Prelude.{find, filter, drop, map, option_map, option_to_list, unwrap_or}
-use Rattle.std.specs.List.{filter_map, cons_option}
+use Rattle.std.specs.List.{cons_option}
 use Rattle.std.proofs.lemmas.Bool.{eqb-true}
 use Rattle.std.proofs.lemmas.List.Elements.{filter_map-append}
 use Rattle.bt_base.proofs.OctetLemmas.{le16-number}
@@ -19,7 +19,7 @@ use Rattle.link_talk.specs.Sayings.{Saying, Carried}
 use Rattle.link_talk.specs.Setups.{is_set}
 use Rattle.link_talk.specs.Channels.{Entry, is_there, reading}
 use Rattle.link_talk.specs.Carriages.{is_passed, is_held, carried}
-use Rattle.link_talk.specs.Accounts.{passage_in, frames_passed}
+use Rattle.link_talk.specs.Accounts.{frames_passed}
 use Rattle.channel_model.specs.Value.{Carrier, Plain, Retransmitting, Setup, Stage, Requested, Connected, Leaving, Closing, Crossed, Held, Channels}
 use Rattle.channel_model.specs.Policies.{Policy}
 use Rattle.channel_model.specs.Changing.{has_own, held_at, is_open, setup_of}
@@ -47,7 +47,7 @@ use Rattle.channel_laws.proofs.Carriages.{goes_over, carried-none, counted_in}
 use Rattle.channel_laws.proofs.Taking.{takes-others}
 use Rattle.channel_laws.proofs.Receiving.{up-nothing}
 use Rattle.channel_laws.proofs.Passing.{Fired, heard_in}
-use Rattle.channel_laws.proofs.Passages.{passed-more, bare-passes, into-other, into-own}
+use Rattle.channel_laws.proofs.Passages.{none_more, bare-passes, into-other, into-own}
 use Rattle.channel_laws.proofs.Joining.{Seen, Terms, Joined, Kept, keeps-kept, joined-walks, joined-same}
 use Rattle.channel_laws.proofs.Partaking.{IsSole, IsMate, Agrees, CanHear, sdu_for, joined-takes, IsShort, SendsShort, joined-sends}
 
@@ -73,9 +73,6 @@ Piped party t channel pair =
     Next party t channel pair (frames_said party channel pair.near.run.said) (under_way channel.own pair.near.coming) (under_way channel.peer pair.far.coming) (sdus_up channel.own pair.near.run.up) pair.near.run.value
 
 -- ---- what is said elsewhere
-
-nothing_more : (party : Party) (channel : Channel) (past : List Saying) (more : Saying) → carried is_passed channel past more ≡ [] → frames_said party channel (past ++ more ∷ []) ≡ frames_said party channel past
-nothing_more party channel past more none = ap outs (passed-more party channel past more ∙ (ap (λ cs. frames_passed party channel past ++ filter_map (passage_in party) cs) none ∙ append-nil (frames_passed party channel past)))
 
 -- for another endpoint than the channel's
 pub carried-elsewhere : (policy : Policy) (channel : Channel) (past : List Saying) (v : Channels) (pdu : List ℕ) → Sound policy (reading past) v → IsSole channel.own channel.peer v → eqb channel.peer (channel_of pdu) ≡ false → carried is_passed channel past (Carried Out pdu) ≡ []
@@ -105,9 +102,13 @@ carried-elsewhere policy channel past v pdu sound sole away = carried-none is_pa
     by None (Some x) at is reads = not_there x (ap is_there reads)
     by (Some held) (Some x) at is reads = on held (peer_of held.stage) x at refl reads
 
+pub passed-elsewhere : (policy : Policy) (party : Party) (channel : Channel) (past : List Saying) (v : Channels) (pdu : List ℕ) → Sound policy (reading past) v → IsSole channel.own channel.peer v → eqb channel.peer (channel_of pdu) ≡ false
+    → frames_passed party channel (past ++ Carried Out pdu ∷ []) ≡ frames_passed party channel past
+passed-elsewhere policy party channel past v pdu sound sole away = none_more party channel past (Carried Out pdu) (carried-elsewhere policy channel past v pdu sound sole away)
+
 pub said-elsewhere : (policy : Policy) (party : Party) (channel : Channel) (past : List Saying) (v : Channels) (pdu : List ℕ) → Sound policy (reading past) v → IsSole channel.own channel.peer v → eqb channel.peer (channel_of pdu) ≡ false
     → frames_said party channel (past ++ Carried Out pdu ∷ []) ≡ frames_said party channel past
-said-elsewhere policy party channel past v pdu sound sole away = nothing_more party channel past (Carried Out pdu) (carried-elsewhere policy channel past v pdu sound sole away)
+said-elsewhere policy party channel past v pdu sound sole away = ap outs (passed-elsewhere policy party channel past v pdu sound sole away)
 
 -- what comes in is not said
 said_with_heard : (party : Party) (channel : Channel) (past : List Saying) (pdu : List ℕ) → frames_said party channel (past ++ Carried Into pdu ∷ []) ≡ frames_said party channel past
@@ -169,10 +170,10 @@ peered held (Closing peer request checked) setup is has = cc
 peered held (Crossed peer request) setup is has = cc
 
 -- an SDU that is sent on the channel, or on another one
-sends_said : (t : Agreed) (party : Party) (channel : Channel) (pair : Pair) (own : ℕ) (sdu : List ℕ) → IsSound pair.near.policy pair.near.run → IsMate t channel.own channel.peer pair.near.run.value → peer_at (held_at own pair.near.run.value) < 65536
+pub sends-passed : (t : Agreed) (party : Party) (channel : Channel) (pair : Pair) (own : ℕ) (sdu : List ℕ) → IsSound pair.near.policy pair.near.run → IsMate t channel.own channel.peer pair.near.run.value → peer_at (held_at own pair.near.run.value) < 65536
     → (let v : Channels = pair.near.run.value in let past : List Saying = pair.near.run.said in
-    frames_said party channel (past ++ said_by_carrier (carrier_at own v) (peer_at (held_at own v)) sdu) ≡ frames_said party channel past)
-sends_said t party channel pair own sdu sound mate fits = of (held_at own v) refl fits
+    frames_passed party channel (past ++ said_by_carrier (carrier_at own v) (peer_at (held_at own v)) sdu) ≡ frames_passed party channel past)
+sends-passed t party channel pair own sdu sound mate fits = of (held_at own v) refl fits
   where
     v : Channels
     v = pair.near.run.value
@@ -180,8 +181,8 @@ sends_said t party channel pair own sdu sound mate fits = of (held_at own v) ref
     past : List Saying
     past = pair.near.run.said
 
-    silent : frames_said party channel (past ++ []) ≡ frames_said party channel past
-    silent = ap (frames_said party channel) (append-nil past)
+    silent : frames_passed party channel (past ++ []) ≡ frames_passed party channel past
+    silent = ap (frames_passed party channel) (append-nil past)
 
     -- a basic channel is another one, so its peer's endpoint is another one
     apart : (held : Held) (setup : Setup) (agreed : Agreed) (waiting : Option (List ℕ)) (peer : ℕ) → find (has_own held.own) v.held ≡ Some held → setup_of held.stage ≡ Some setup → setup.carrier ≡ Some (Plain agreed waiting) → peer_of held.stage ≡ Some peer → eqb channel.peer peer ≡ false
@@ -194,23 +195,23 @@ sends_said t party channel pair own sdu sound mate fits = of (held_at own v) ref
             absurd (mate.enhanced held setup (Plain agreed waiting) (ap (λ n. find (has_own n) v.held) (sym one) ∙ found) has is)
 
     carries : (held : Held) (setup : Setup) (carrier : Option Carrier) → find (has_own held.own) v.held ≡ Some held → setup_of held.stage ≡ Some setup → setup.carrier ≡ carrier → peer_at (Some held) < 65536
-        → frames_said party channel (past ++ said_by_carrier carrier (peer_at (Some held)) sdu) ≡ frames_said party channel past
+        → frames_passed party channel (past ++ said_by_carrier carrier (peer_at (Some held)) sdu) ≡ frames_passed party channel past
     carries held setup None found has is fits = silent
     carries held setup (Some (Retransmitting machine)) found has is fits = silent
     carries held setup (Some (Plain agreed (Some waiting))) found has is fits = silent
     carries held setup (Some (Plain agreed None)) found has is fits =
-        said-elsewhere pair.near.policy party channel past v (headed (peer_at (Some held)) sdu) sound mate.sole
+        passed-elsewhere pair.near.policy party channel past v (headed (peer_at (Some held)) sdu) sound mate.sole
         (ap (eqb channel.peer) (le16-number (peer_at (Some held)) sdu fits) ∙ apart held setup agreed None (peer_at (Some held)) found has is (peered held held.stage setup refl has))
 
-    opens : (held : Held) (setup : Setup) (opened : Bool) → find (has_own held.own) v.held ≡ Some held → setup_of held.stage ≡ Some setup → peer_at (Some held) < 65536 → frames_said party channel (past ++ said_by_carrier (carrier_if opened setup) (peer_at (Some held)) sdu) ≡ frames_said party channel past
+    opens : (held : Held) (setup : Setup) (opened : Bool) → find (has_own held.own) v.held ≡ Some held → setup_of held.stage ≡ Some setup → peer_at (Some held) < 65536 → frames_passed party channel (past ++ said_by_carrier (carrier_if opened setup) (peer_at (Some held)) sdu) ≡ frames_passed party channel past
     opens held setup true found has fits = carries held setup setup.carrier found has refl fits
     opens held setup false found has fits = silent
 
-    on_setup : (held : Held) (setup : Option Setup) → find (has_own held.own) v.held ≡ Some held → setup_of held.stage ≡ setup → peer_at (Some held) < 65536 → frames_said party channel (past ++ said_by_carrier (open_carrier setup) (peer_at (Some held)) sdu) ≡ frames_said party channel past
+    on_setup : (held : Held) (setup : Option Setup) → find (has_own held.own) v.held ≡ Some held → setup_of held.stage ≡ setup → peer_at (Some held) < 65536 → frames_passed party channel (past ++ said_by_carrier (open_carrier setup) (peer_at (Some held)) sdu) ≡ frames_passed party channel past
     on_setup held None found has fits = silent
     on_setup held (Some setup) found has fits = opens held setup (is_open setup) found has fits
 
-    of : (held : Option Held) → held_at own v ≡ held → peer_at held < 65536 → frames_said party channel (past ++ said_by_carrier (open_carrier (setup_on held)) (peer_at held) sdu) ≡ frames_said party channel past
+    of : (held : Option Held) → held_at own v ≡ held → peer_at held < 65536 → frames_passed party channel (past ++ said_by_carrier (open_carrier (setup_on held)) (peer_at held) sdu) ≡ frames_passed party channel past
     of None found fits = silent
     of (Some held) found fits = on_setup held (setup_of held.stage) (found-own own v held found) refl fits
 
@@ -229,7 +230,7 @@ sends-others own other sdu v away = by (held_at own v) refl
 sends_next : (party : Party) (t : Terms) (channel : Channel) (pair : Pair) (own : ℕ) (sdu : List ℕ) → Suits t.mine t.other → IsSound pair.near.policy pair.near.run → IsMate t.mine channel.own channel.peer pair.near.run.value → peer_at (held_at own pair.near.run.value) < 65536
     → ((most : ℕ) → peer_mtu own pair.near.run.value ≡ Some most → length sdu ≤ most) → Piped party t channel pair → Piped party t channel (with_near (occurs (Sends own sdu) pair.near) pair)
 sends_next party t channel pair own sdu suits sound mate fits short h =
-    subst (λ s. Next party t channel pair s (under_way channel.own pair.near.coming) (under_way channel.peer pair.far.coming) (sdus_up channel.own (pair.near.run.up ++ Nothing ∷ [])) (sends own sdu pair.near.run.value)) (sym (sends_said t.mine party channel pair own sdu sound mate fits))
+    subst (λ s. Next party t channel pair s (under_way channel.own pair.near.coming) (under_way channel.peer pair.far.coming) (sdus_up channel.own (pair.near.run.up ++ Nothing ∷ [])) (sends own sdu pair.near.run.value)) (sym (ap outs (sends-passed t.mine party channel pair own sdu sound mate fits)))
     (subst (λ u. Next party t channel pair (frames_said party channel pair.near.run.said) (under_way channel.own pair.near.coming) (under_way channel.peer pair.far.coming) u (sends own sdu pair.near.run.value)) (sym (up-nothing channel.own pair.near.run.up Nothing refl)) (by (eqb own channel.own) refl))
   where
     v : Channels

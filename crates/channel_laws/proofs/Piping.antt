@@ -36,7 +36,7 @@ pub record Tells (most : ℕ) (x : End) (said : List PlainFrame) : Type 0 where
   pub short : AllByRecursion (λ (s : Segment). length s.octets ≤ most) x.put
 
 -- as many as were given
-tells_many : {most : ℕ} {x y : End} {said : List PlainFrame} (h : Stands x y) → Tells most x said → length (picked 0 said) ≡ h.there.a + length x.machine.sender.unacked
+pub tells_many : {most : ℕ} {x y : End} {said : List PlainFrame} (h : Stands x y) → Tells most x said → length (picked 0 said) ≡ h.there.a + length x.machine.sender.unacked
 tells_many {x = x} {said = said} h tells =
     let long = put-length h.there.sends in
     let same = ap length tells.put_is ∙ length-append (picked 0 said) x.machine.sender.fresh in

@@ -8,7 +8,7 @@ use Rattle.ertm_frames.specs.Answers.{Answer}
 use Rattle.ertm_frames.specs.Reading.{answer_in, frame_by, frames_in}
 use Rattle.ertm_frames.specs.Segments.{Segment}
 use Rattle.ertm_frames.specs.Joining.{At, joined, ended, sdus_of}
-use Rattle.ertm_frames.specs.Picking.{has_number, segments_in, picked, last_req, Passage, Out, In, outs, ins}
+use Rattle.ertm_frames.specs.Picking.{has_number, segments_in, picked, last_req, Passage, Out, outs, ins}
 use Rattle.ertm_frames.proofs.Longest.{ended-append, sdu_joins}
 use Rattle.ertm_frames.proofs.Telling.{picked_one, picked-more, outs-more}
 use Rattle.ertm_model.specs.declared.reason.ErtmReason.{ErtmReason}
@@ -27,7 +27,7 @@ use Rattle.ertm_model.proofs.Reading.{none-more}
 use Rattle.ertm_model.proofs.Standing.{no_fresh}
 use Rattle.channel_model.specs.Carrying.{machine_heard}
 use Rattle.channel_laws.specs.Pipes.{IsFront}
-use Rattle.channel_laws.proofs.Passing.{Passing, passing-used}
+use Rattle.channel_laws.proofs.Passing.{Passing, ins_out, passing-used}
 
 -- the segments of what it took are those that its frames say, and behind them those that it never gave; while its channel is not open
 -- there are none
@@ -67,10 +67,9 @@ req_small mps (pdu ∷ pdus) req small = req_by (answer_in mps pdu) (frames_in m
 
 -- ---- it gives its next frame
 
-ins_out : (frames : List Passage) (frame : PlainFrame) → ins (frames ++ Out frame ∷ []) ≡ ins frames
-ins_out [] frame = refl
-ins_out (Out other ∷ frames) frame = ins_out frames frame
-ins_out (In other ∷ frames) frame = ap (λ fs. other ∷ fs) (ins_out frames frame)
+-- the last ReqSeq that came in fits its field
+pub passed-small : (mps : ℕ) (frames : List Passage) (opened : Bool) (m : Ertm) → Passing mps frames opened m → last_req 0 (ins frames) < 64
+passed-small mps frames opened m p = subst (λ fs. last_req 0 fs < 64) p.came_is (req_small p.agreed.receive_mps (all_happen p.events (new_course p.agreed)).came 0 (omega arith))
 
 -- how many were given
 record Counts (frames : List Passage) (frame : PlainFrame) (m after : Ertm) : Type 0 where
@@ -82,7 +81,7 @@ record Counts (frames : List Passage) (frame : PlainFrame) (m after : Ertm) : Ty
 counts : (mps : ℕ) (frames : List Passage) (frame : PlainFrame) (opened opened' : Bool) (m after : Ertm) → Passing mps frames opened m → Passing mps (frames ++ Out frame ∷ []) opened' after → Counts frames frame m after
 counts mps frames frame opened opened' m after p q = record {
   req = last_req 0 (ins frames);
-  small = subst (λ fs. last_req 0 fs < 64) p.came_is (req_small p.agreed.receive_mps (all_happen p.events (new_course p.agreed)).came 0 (omega arith));
+  small = passed-small mps frames opened m p;
   before = (passing-used mps frames opened m p).0;
   behind = (passing-used mps (frames ++ Out frame ∷ []) opened' after q).0
       ∙ (ap (λ fs. (length (picked 0 fs) + 64 - last_req 0 (ins (frames ++ Out frame ∷ []))) % 64) (outs-more frames frame)

@@ -1,8 +1,6 @@
 -- That a request for a channel is responded to, and that the response ends its wait (Core 5.1, Volume 3 Part A, 4, 4.2 and 4.3).
-use Rattle.std.specs.Prelude.{ℕ, ◌≡◌, ◌==◌, Bool, false, List, []}
-use Rattle.std.specs.List.{list_any}
+use Rattle.std.specs.Prelude.{ℕ, ◌≡◌, ◌≤◌, ◌+◌, Bool, false, List, [], ◌∷◌}
 use Rattle.capture.specs.Histories.{EachAfter}
-use Rattle.capture.specs.declared.flow.Flow.TheVariants.{Out}
 use Rattle.link_talk.specs.declared.call.Call.{Call}
 use Rattle.link_talk.specs.Sayings.{Saying}
 use Rattle.channel_model.specs.declared.errand.Errand.TheVariants.{Connection}
@@ -11,8 +9,8 @@ use Rattle.channel_laws.specs.Adverse.{AreRoomy}
 use Rattle.channel_laws.specs.Belonging.{AreRead, said_at, HasAsked}
 use Rattle.channel_laws.specs.Heeded.{AreMet}
 use Rattle.channel_laws.specs.Pairs.{Side, Turn, pair_of}
-use Rattle.channel_laws.specs.Runs.{Occurrence, Comes, Connects, AsksFeatures, Disconnects, Sends, Gives, Fires, Tells, Run, run_of}
-use Rattle.channel_laws.specs.Singly.{calls_that_went, AsksSo}
+use Rattle.channel_laws.specs.Runs.{Occurrence, Comes, Connects, AsksFeatures, Disconnects, Sends, Gives, Fires, Tells, run_of}
+use Rattle.channel_laws.specs.Singly.{AsksSo}
 
 -- An end asked for no two channels with one identifier: these come round after 255 requests, and one that is used again could be taken for
 -- that of the request before.
@@ -26,21 +24,24 @@ ConnectionsAreMet = (near far : Policy) (turns : List Turn) → AreRead near far
 
 -- ---- identifiers
 
-abbrev pub is_called_by : (identifier : ℕ) → Call → Bool
-is_called_by identifier one = one.identifier == identifier
+-- How many requests may come of what a host asks for: five of a channel, as its options are asked for three times at most (4 and 7.1; three times is this
+-- project's own), and one for the peer's features.
+abbrev pub requests_by : Occurrence → ℕ
+requests_by (Comes pdu) = 0
+requests_by (Connects psm) = 5
+requests_by AsksFeatures = 1
+requests_by (Disconnects own) = 0
+requests_by (Sends own sdu) = 0
+requests_by (Gives pdu) = 0
+requests_by Fires = 0
+requests_by Tells = 0
 
--- a host asks for its next channel with an identifier that no request of it for a channel had
-abbrev pub AsksAnew : Occurrence → Run → Type 0
-AsksAnew (Comes pdu) run = Unit {0}
-AsksAnew (Connects psm) run = list_any (is_called_by run.value.identifier) (calls_that_went Out run.said) ≡ false
-AsksAnew AsksFeatures run = Unit {0}
-AsksAnew (Disconnects own) run = Unit {0}
-AsksAnew (Sends own sdu) run = Unit {0}
-AsksAnew (Gives pdu) run = Unit {0}
-AsksAnew Fires run = Unit {0}
-AsksAnew Tells run = Unit {0}
+abbrev pub requests_for : List Occurrence → ℕ
+requests_for [] = 0
+requests_for (more ∷ list) = requests_by more + requests_for list
 
--- Where it asks so, for one channel after the other, it asks for no two with one identifier, however often its timer repeats them.
+-- Where a host offers no channel, asks for one after the other, and for so few that its identifiers do not come round, it asks for no two with one
+-- identifier, however often its timer repeats them.
 abbrev pub NamesAreApart : Type 0
-NamesAreApart = (policy : Policy) (Fits : ℕ → List Call → Bool) (list : List Occurrence) → EachAfter (λ front one. AsksSo Fits one (run_of policy front)) [] list → EachAfter (λ front one. AsksAnew one (run_of policy front)) [] list
+NamesAreApart = (policy : Policy) (Fits : ℕ → List Call → Bool) (list : List Occurrence) → ((psm : ℕ) → policy.offers psm ≡ false) → EachAfter (λ front one. AsksSo Fits one (run_of policy front)) [] list → requests_for list ≤ 254
     → NamesApart (run_of policy list).said

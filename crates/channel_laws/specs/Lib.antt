@@ -42,3 +42,5 @@ pub mod Responding
 pub mod Decisive
 pub mod Exchanged
 pub mod Connections
+pub mod Windows
+pub mod Named

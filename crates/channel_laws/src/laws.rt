@@ -19,6 +19,7 @@ ghost use Rattle.channel_laws.specs.Frames.{FramesAreHeld};
 ghost use Rattle.channel_laws.specs.Heeded.{MetIsHeeded};
 ghost use Rattle.channel_laws.specs.Laws.{ChannelsAreRead, EndpointsAreNew};
 ghost use Rattle.channel_laws.specs.Modes.{ModesAreOwn};
+ghost use Rattle.channel_laws.specs.Named.{RequestsHaveNames};
 ghost use Rattle.channel_laws.specs.Pace.{OptionsKeepPace};
 ghost use Rattle.channel_laws.specs.Pairs.{EachEndRuns};
 ghost use Rattle.channel_laws.specs.PlainTaken.{PlainTakenGoesOut};
@@ -31,6 +32,8 @@ ghost use Rattle.channel_laws.specs.Signals.{AnswersAreSaid};
 ghost use Rattle.channel_laws.specs.Taken.{TakenGoesOut};
 ghost use Rattle.channel_laws.specs.Whole.{SdusAreHandedUp};
 ghost use Rattle.channel_laws.specs.Tries.{FiringsAloneRepeat, FiringsAreCounted, FiringsAreCountedSince, TriesAreKept};
+
+pub mod pipes;
 
 /// What a host holds of each of its endpoints is what its own talk says, whatever it asks for, whatever
 /// PDUs come in on whatever channels, and whenever its timer fires: which channels there are, how far each
@@ -276,8 +279,14 @@ pub fn connections_are_met()
     ensures { ConnectionsAreMet }
 {}
 
-/// A host that asks for one channel after the other, each with an identifier that no request of it for a channel had, asks for no two with one,
+/// A host that offers no channel, and asks for one after the other, so few that its identifiers do not come round, asks for no two with one identifier,
 /// however often its timer repeats them.
 pub fn names_are_apart()
     ensures { NamesAreApart }
+{}
+
+/// Of a host that offers no channel, and makes so few requests that its identifiers do not come round, each request that waits has an identifier below
+/// the next one, and no other that waits has it.
+pub fn requests_have_names()
+    ensures { RequestsHaveNames }
 {}

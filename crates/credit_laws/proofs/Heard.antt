@@ -1,35 +1,42 @@
--- A server that hears what may come spends what it is granted on a link, as its credits are read.
-use Rattle.std.proofs.Common.{arith, ◌≡◌, ◌≤◌, ◌-◌, ℕ, ◌+◌, ◌==◌, Bool, true, false, cond, List, [], ◌∷◌, ◌++◌, Option, Some, None, Ok, Err, refl, sym, ap, subst, ◌∙◌, append-nil, append_assoc}
-use Rattle.std.specs.Prelude.{ℤ, pos, ◌+ℤ◌, ◌-ℤ◌}
-use Rattle.std.specs.List.{AllByRecursion, filter_map, cons_option}
+-- What comes and goes for a server on the channel of its multiplexer is covered on each link, where its credits since the last closing are a number at each moment.
+use Rattle.std.proofs.Common.{arith, ◌≡◌, ◌≤◌, ◌-◌, ℕ, ◌+◌, ◌==◌, Bool, true, false, ◌&&◌, ◌||◌, cond, List, [], ◌∷◌, ◌++◌, Option, Some, None, Ok, Err, refl, sym, ap, subst, ◌∙◌, append-nil, append_assoc}
+use Rattle.std.specs.Prelude.{ℤ, pos, ◌+ℤ◌, not, if◌then◌else◌}
+use Rattle.std.specs.List.{AllByRecursion, flat_map, filter_map, cons_option}
 use Rattle.std.proofs.Math.IntN.{pos-+ℤ-pos, -ℤ-+ℤ_cancel}
 use Rattle.std.proofs.lemmas.List.Elements.{filter_map-append}
 use Rattle.bt_base.specs.declared.settings.Settings.{Settings}
-use Rattle.bt_base.specs.Objects.{Object}
+use Rattle.bt_base.specs.declared.settings.Transport.{Transport}
+use Rattle.bt_base.specs.Objects.{Object, Contents}
+use Rattle.obex_session.specs.InboxCalls.{Answer as Granting}
+use Rattle.rfcomm_frames.specs.declared.connection.Role.{Role}
 use Rattle.rfcomm_frames.specs.declared.connection.Role.TheVariants.{Responder}
 use Rattle.rfcomm_frames.specs.Answers.{Answer}
-use Rattle.rfcomm_frames.specs.Ending.{no_course, to_closing}
+use Rattle.rfcomm_frames.specs.Ending.{is_closed_by, Course, no_course, course_after, is_last, has_last, to_closing}
 use Rattle.rfcomm_frames.specs.FrameReading.{frame_answer}
-use Rattle.rfcomm_frames.specs.Multiplexing.{Passed, Framed, framed, frames, no_connections, granted, spent}
+use Rattle.rfcomm_frames.specs.Frames.{PlainFrame}
+use Rattle.rfcomm_frames.specs.Multiplexing.{Passed, Framed, framed, frames, Connections, no_connections, connections_after, is_role, granted_by, granted, spent_by, spent}
 use Rattle.rfcomm_frames.specs.UserChannel.{live_frames, credits_held}
 use Rattle.rfcomm_model.specs.ClosedSides.{IsOrderly}
 use Rattle.rfcomm_model.specs.Machine.{new_mux}
-use Rattle.rfcomm_model.proofs.Reading.{spent_more}
+use Rattle.rfcomm_model.proofs.Ended.{to_all, to_more, to_over}
+use Rattle.rfcomm_model.proofs.Reading.{granted_more, spent_more, own_grants}
 use Rattle.push_model.specs.Server.{Reacted, rfcomm_psm}
+use Rattle.push_model.specs.Service.{Service}
 use Rattle.push_laws.specs.Faults.{unmarked}
 use Rattle.push_laws.specs.Laws.{new_over}
-use Rattle.push_laws.specs.Occurrences.{Occurrence, Came, Went, Closed, LinkDown, Asked, Answering, done, all_done}
+use Rattle.push_laws.specs.Occurrences.{Occurrence, Came, Went, Closed, LinkDown, Asked, Answering, done, all_done, begun}
 use Rattle.push_laws.specs.Parties.{sdu_if}
-use Rattle.push_laws.specs.Premises.{AllMayCome}
+use Rattle.push_laws.specs.Premises.{AllGranted, NoneShort, IsHeard, IsAlone, AllCome, AllMayCome, AllMayMiss}
 use Rattle.push_laws.specs.Readings.{closes, since, since_from, passed_by}
 use Rattle.push_laws.proofs.Frames.{carries_credits}
-use Rattle.push_laws.proofs.Gaining.{clean, clean_same, clear_all, first_holds}
+use Rattle.push_laws.proofs.Gaining.{clean, clean_same, clear_all, first_holds, credits-are_read}
 use Rattle.request_laws.specs.Carried.{NoneComesBehind}
+use Rattle.request_laws.specs.Streams.{come_on}
 use Rattle.credit_laws.specs.Covered.{IsCovered}
-use Rattle.credit_laws.specs.Serving.{ends_link, shut_by}
+use Rattle.credit_laws.specs.Serving.{AllGoQuietly}
 use Rattle.credit_laws.proofs.Paying.{new_pays, paid_covers, pays_covered, frames_more}
-use Rattle.credit_laws.proofs.Quietly.{NoneYet, yet_by}
-use Rattle.credit_laws.proofs.Serving.{IsOwnSdu, own_both, spent_nothing, free_covered}
+use Rattle.credit_laws.proofs.Serving.{servers-are_covered}
+use Rattle.credit_laws.proofs.Spans.{ends_link}
 
 abbrev pub passed_in : List Occurrence → List Passed
 passed_in list = filter_map passed_by list
@@ -39,7 +46,7 @@ from_own sdu = record { from = Responder; sdu = sdu }
 
 -- ---- credits that are a number
 
-abbrev HoldsNumber : List Passed → Type 0
+abbrev pub HoldsNumber : List Passed → Type 0
 HoldsNumber list = (left : ℕ) × (credits_held 18 Responder list ≡ pos left)
 
 pos_same : (m n : ℕ) → pos m ≡ pos n → m ≡ n
@@ -53,9 +60,9 @@ number_covers list (left, held) =
     let same = pos_same g (left + s) back in
     paid_covers 18 Responder list (omega (arith, same))
 
-pub come_front : (settings : Settings) (xs ys past : List Occurrence) (at : Reacted) → AllMayCome settings past at (xs ++ ys) → AllMayCome settings past at xs
-come_front settings [] ys past at all = tt
-come_front settings (x ∷ xs) ys past at all = (all.0, come_front settings xs ys (past ++ x ∷ []) (done x at) all.1)
+come_front : (Are : List Granting → Type 0) (Comes : List Occurrence → Service → Transport → List ℕ → Type 0) (settings : Settings) (xs ys past : List Occurrence) (at : Reacted) → AllCome Are Comes settings past at (xs ++ ys) → AllCome Are Comes settings past at xs
+come_front Are Comes settings [] ys past at all = tt
+come_front Are Comes settings (x ∷ xs) ys past at all = (all.0, come_front Are Comes settings xs ys (past ++ x ∷ []) (done x at) all.1)
 
 all_orderly : (settings : Settings) (occurrences past : List Occurrence) (at : Reacted) → IsOrderly at.server.mux.closed → AllMayCome settings past at occurrences → IsOrderly (all_done occurrences at).server.mux.closed
 all_orderly settings [] past at orderly all = orderly
@@ -67,6 +74,122 @@ number_held settings before occurrences all =
     let c = clear_all settings before occurrences [] (new_over settings before) (record { holds = first_holds settings before; spared = refl; same = refl }) all in
     let has = carries_credits (settings.mtu - 6) settings.credits (passed_in (since rfcomm_psm (unmarked (clean settings before occurrences)))) c.holds.got at.server.mux at.server.frame c.holds.upholds.carries (all_orderly settings occurrences [] (new_over settings before) tt all) in
     (at.server.mux.account.held + has.spare, ap (λ (os : List Occurrence). credits_held 18 Responder (passed_in (since rfcomm_psm os))) (sym (clean_same settings before occurrences)) ∙ has.credits)
+
+-- at each moment, on the channel since it was last closed
+abbrev pub AllHold : List Occurrence → Type 0
+AllHold list = (front later : List Occurrence) → front ++ later ≡ list → HoldsNumber (passed_in (since rfcomm_psm front))
+
+pub hold_front : (xs ys : List Occurrence) → AllHold (xs ++ ys) → AllHold xs
+hold_front xs ys all front later is = all front (later ++ ys) (sym (append_assoc front later ys) ∙ ap (λ (l : List Occurrence). l ++ ys) is)
+
+-- where the server goes quietly
+quiet_front : (xs ys : List Occurrence) (at : Reacted) → AllGoQuietly at (xs ++ ys) → AllGoQuietly at xs
+quiet_front [] ys at all = tt
+quiet_front (x ∷ xs) ys at all = (all.0, quiet_front xs ys (done x at) all.1)
+
+pub quiet_hold : (settings : Settings) (content : Option Contents) (list : List Occurrence) → AllGoQuietly (begun settings content) list → AllHold list
+quiet_hold settings content list all front later is =
+    let covered = servers-are_covered settings content front (quiet_front front later (begun settings content) (subst (AllGoQuietly (begun settings content)) (sym is) all)) in
+    (covered.left, covered.held)
+
+-- where each request is heard, or requests are missed and calls of the inbox fail, but not for want of memory
+pub heard_hold : (settings : Settings) (before : List Object) (list : List Occurrence) → AllMayCome settings [] (new_over settings before) list → AllHold list
+heard_hold settings before list all front later is =
+    number_held settings before front (come_front AllGranted (IsHeard settings) settings front later [] (new_over settings before) (subst (AllMayCome settings [] (new_over settings before)) (sym is) all))
+
+pub missed_hold : (settings : Settings) (before : List Object) (list : List Occurrence) → AllMayMiss settings [] (new_over settings before) list → AllHold list
+missed_hold settings before list all front later is =
+    let has = credits-are_read settings before front (come_front NoneShort (IsAlone settings) settings front later [] (new_over settings before) (subst (AllMayMiss settings [] (new_over settings before)) (sym is) all)) in
+    ((all_done front (new_over settings before)).server.mux.account.held + has.spare, has.credits)
+
+-- ---- own frames behind the closing cost nothing
+
+abbrev IsOwnSdu : Passed → Type 0
+IsOwnSdu one = one.from ≡ Responder
+
+abbrev IsOwnFrame : Framed → Type 0
+IsOwnFrame f = f.from ≡ Responder
+
+own_last : (course : Course) (f : Framed) → IsOwnFrame f → is_last 18 Responder course f ≡ false
+own_last course f own = ap (λ (r : Role). not (is_role Responder r) && is_closed_by 18 f.from course.lines course.closing f.frame.kind f.frame.dlci f.frame.pf) own
+
+none_last : (course : Course) (fs : List Framed) → AllByRecursion IsOwnFrame fs → has_last 18 Responder course fs ≡ false
+none_last course [] all = refl
+none_last course (f ∷ fs) all = ap (λ (b : Bool). b || has_last 18 Responder (course_after 18 Responder course f) fs) (own_last course f all.0) ∙ none_last (course_after 18 Responder course f) fs all.1
+
+none_granted : (lines : Connections) (fs : List Framed) → AllByRecursion IsOwnFrame fs → granted 18 Responder lines fs ≡ 0
+none_granted lines [] all = refl
+none_granted lines (f ∷ fs) all =
+    let here : granted_by 18 Responder lines f ≡ 0 = subst (λ (r : Role). granted_by 18 Responder lines (record { from = r; frame = f.frame }) ≡ 0) (sym all.0) (own_grants 18 Responder lines f.frame) in
+    let later = none_granted (connections_after 18 lines f) fs all.1 in
+    omega (arith, here, later)
+
+frames_own : (list : List Passed) → AllByRecursion IsOwnSdu list → AllByRecursion IsOwnFrame (frames list)
+frames_own [] all = tt
+frames_own (one ∷ rest) all = by (frame_answer one.sdu) (frames_own rest all.1)
+  where
+    by : (a : Answer) → AllByRecursion IsOwnFrame (frames rest) → AllByRecursion IsOwnFrame (cons_option (framed one.from a) (frames rest))
+    by (Ok f) later = (all.0, later)
+    by (Err refusal) later = later
+
+own_both : (xs ys : List Passed) → AllByRecursion IsOwnSdu xs → AllByRecursion IsOwnSdu ys → AllByRecursion IsOwnSdu (xs ++ ys)
+own_both [] ys one two = two
+own_both (x ∷ xs) ys one two = (one.0, own_both xs ys one.1 two)
+
+-- what was said there spent nothing
+spent_nothing : (list : List Passed) → AllByRecursion IsOwnSdu list → IsCovered 18 Responder list → spent 18 Responder (frames list) ≡ 0
+spent_nothing list own covered =
+    let all = frames_own list own in
+    let live = to_all 18 Responder no_course (frames list) (none_last no_course (frames list) all) in
+    let less : spent 18 Responder (frames list) ≤ granted 18 Responder no_connections (frames list) = subst (λ (xs : List Framed). spent 18 Responder xs ≤ granted 18 Responder no_connections xs) live covered.covered in
+    let none = none_granted no_connections (frames list) all in
+    omega (arith, less, none)
+
+free_covered : (passed : List Passed) (f : PlainFrame) (sdu : List ℕ) → frame_answer sdu ≡ Ok f → spent_by 18 Responder (record { from = Responder; frame = f }) ≡ 0 → IsCovered 18 Responder passed → IsCovered 18 Responder (passed ++ record { from = Responder; sdu = sdu } ∷ [])
+free_covered passed f sdu reads free covered = paid_covers 18 Responder (passed ++ record { from = Responder; sdu = sdu } ∷ []) (subst (λ (xs : List Framed). spent 18 Responder (to_closing 18 Responder no_course xs) ≤ granted 18 Responder no_connections (to_closing 18 Responder no_course xs)) (sym more) (by (has_last 18 Responder no_course (frames passed)) refl))
+  where
+    more : frames (passed ++ record { from = Responder; sdu = sdu } ∷ []) ≡ frames passed ++ record { from = Responder; frame = f } ∷ []
+    more = frames_more passed (record { from = Responder; sdu = sdu } ∷ []) ∙ ap (λ (a : Answer). frames passed ++ cons_option (framed Responder a) []) reads
+
+    by : (b : Bool) → has_last 18 Responder no_course (frames passed) ≡ b → spent 18 Responder (to_closing 18 Responder no_course (frames passed ++ record { from = Responder; frame = f } ∷ [])) ≤ granted 18 Responder no_connections (to_closing 18 Responder no_course (frames passed ++ record { from = Responder; frame = f } ∷ []))
+    by true over = subst (λ (xs : List Framed). spent 18 Responder xs ≤ granted 18 Responder no_connections xs) (sym (to_over 18 Responder no_course (frames passed) (record { from = Responder; frame = f } ∷ []) over)) covered.covered
+    by false none =
+        let before : spent 18 Responder (frames passed) ≤ granted 18 Responder no_connections (frames passed) = subst (λ (xs : List Framed). spent 18 Responder xs ≤ granted 18 Responder no_connections xs) (to_all 18 Responder no_course (frames passed) none) covered.covered in
+        let spends = spent_more 18 Responder (frames passed) (record { from = Responder; frame = f }) in
+        let grants = granted_more 18 Responder no_connections (frames passed) (record { from = Responder; frame = f }) in
+        subst (λ (xs : List Framed). spent 18 Responder xs ≤ granted 18 Responder no_connections xs) (sym (to_more 18 Responder no_course (frames passed) (record { from = Responder; frame = f }) none)) (omega (arith, before, spends, grants, free))
+
+-- ---- the channel is closed on a link
+
+abbrev shut_by : Bool → Occurrence → Bool
+shut_by shut (Came psm sdu) = shut
+shut_by shut (Went psm sdu) = shut
+shut_by shut (Closed psm) = if psm == rfcomm_psm then true else shut
+shut_by shut LinkDown = false
+shut_by shut Asked = shut
+shut_by shut (Answering answers) = shut
+
+abbrev coming : List Occurrence → List (List ℕ)
+coming list = flat_map (come_on rfcomm_psm) list
+
+behind_none : (ahead rest : List (List ℕ)) → ahead ++ rest ≡ [] → rest ≡ []
+behind_none [] rest none = none
+behind_none (one ∷ ahead) rest none = cc
+
+abbrev NoneYet : (shut : Bool) → List Occurrence → Type 0
+NoneYet shut list = shut ≡ true → coming list ≡ []
+
+yet_by : (shut : Bool) (one : Occurrence) (rest : List Occurrence) → NoneYet shut (one ∷ rest) → (closes rfcomm_psm one ≡ true → coming rest ≡ []) → NoneYet (shut_by shut one) rest
+yet_by shut (Came psm sdu) rest none behind = λ is. behind_none (come_on rfcomm_psm (Came psm sdu)) (coming rest) (none is)
+yet_by shut (Went psm sdu) rest none behind = none
+yet_by shut (Closed psm) rest none behind = by (psm == rfcomm_psm) refl
+  where
+    by : (here : Bool) → (psm == rfcomm_psm) ≡ here → NoneYet (cond here true shut) rest
+    by true is = λ now. behind is
+    by false is = none
+yet_by shut LinkDown rest none behind = λ is. let never : false ≡ true = is in cc
+yet_by shut Asked rest none behind = none
+yet_by shut (Answering answers) rest none behind = none
 
 -- ---- what is so on a link
 
@@ -176,11 +299,10 @@ walk base whole held shut kept (one ∷ rest) is k none behind stays =
     let later : (kept ++ one ∷ []) ++ rest ≡ whole = append_assoc kept (one ∷ []) rest ∙ is in
     walk base whole held (shut_by shut one) (kept ++ one ∷ []) rest later (step base kept one rest shut stays.0 none (held (kept ++ one ∷ []) rest later) k) (yet_by shut one rest none behind.0) behind.1 stays.1
 
-pub heard_covered : (settings : Settings) (before : List Object) (ahead here : List Occurrence) → passed_in (since rfcomm_psm ahead) ≡ [] → AllMayCome settings [] (new_over settings before) (ahead ++ here) → NoneComesBehind rfcomm_psm here
-    → AllByRecursion (λ (one : Occurrence). ends_link one ≡ false) here → IsCovered 18 Responder (passed_in here)
-heard_covered settings before ahead here fresh all behind stays =
+pub heard_covered : (ahead here : List Occurrence) → passed_in (since rfcomm_psm ahead) ≡ [] → AllHold (ahead ++ here) → NoneComesBehind rfcomm_psm here → AllByRecursion (λ (one : Occurrence). ends_link one ≡ false) here → IsCovered 18 Responder (passed_in here)
+heard_covered ahead here fresh all behind stays =
     walk (since rfcomm_psm ahead) here
     (λ front after is.
     subst (λ (l : List Occurrence). HoldsNumber (passed_in l)) (since_both [] ahead front)
-    (number_held settings before (ahead ++ front) (come_front settings (ahead ++ front) after [] (new_over settings before) (subst (AllMayCome settings [] (new_over settings before)) (sym (append_assoc ahead front after ∙ ap (λ (l : List Occurrence). ahead ++ l) is)) all))))
+    (all (ahead ++ front) after (append_assoc ahead front after ∙ ap (λ (l : List Occurrence). ahead ++ l) is)))
     false [] here refl (record { covered = pays_covered 18 Responder (new_mux Responder 18 0 0 0) [] (new_pays 18 Responder 0 0 0); so = fresh }) (λ is. let never : false ≡ true = is in cc) behind stays

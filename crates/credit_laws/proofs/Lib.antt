@@ -2,14 +2,16 @@ pub mod Granting
 pub mod Affording
 pub mod Owing
 pub mod Paying
+pub mod Takers
+pub mod GivenUp
+pub mod Moves
 pub mod Seeing
 pub mod Serving
-pub mod Quietly
+pub mod Spans
 pub mod Heard
-pub mod Moving
-pub mod Linking
 pub mod Parts
 mod Alone
 pub mod Runs
-pub mod HeardRuns
+pub mod Fronts
+pub mod Staying
 pub mod Clients

@@ -1,5 +1,5 @@
 -- What goes out last spends, and grants nothing.
-use Rattle.std.proofs.Common.{arith, ◌≡◌, ◌≤◌, ℕ, ◌==◌, ◌+◌, Bool, true, false, ◌&&◌, cond, List, [], ◌∷◌, ◌++◌, map, Option, Some, None, Ok, Err, refl, sym, ap, subst, ◌∙◌, append-nil, append_assoc}
+use Rattle.std.proofs.Common.{arith, ◌≡◌, ◌≤◌, ℕ, ◌==◌, Bool, true, false, ◌&&◌, cond, List, [], ◌∷◌, ◌++◌, map, Option, Some, None, Ok, Err, refl, sym, ap, subst, ◌∙◌, append-nil, append_assoc}
 use Rattle.std.specs.Prelude.{pos}
 use Rattle.std.specs.List.{AllByRecursion, filter_map, cons_option}
 use Rattle.std.proofs.lemmas.Bool.{eqb-true}
@@ -7,7 +7,7 @@ use Rattle.std.proofs.lemmas.List.{map-append}
 use Rattle.std.specs.Option.{option_or}
 use Rattle.capture.specs.Channels.{last_of}
 use Rattle.capture.specs.declared.flow.Flow.TheVariants.{Out, Into}
-use Rattle.link_talk.specs.Accounts.{carries_rfcomm, credits_on, credits}
+use Rattle.link_talk.specs.Accounts.{carries_rfcomm, credits_on}
 use Rattle.link_talk.specs.Carriages.{Carriage, is_heard, is_on, taker, carried, stretch, mode_of}
 use Rattle.link_talk.specs.Channels.{Entry, is_alive, reading}
 use Rattle.link_talk.specs.declared.channel.Channel.{Channel}
@@ -96,7 +96,7 @@ says_own party channel said (Command Out answer) out = tt
 says_own party channel said (Command Into answer) out = absurd out
 says_own party channel said (Carried Out pdu) out = goes_own party (mode_of channel said) (ears_so_far party (stretch channel said)) pdu (is_on channel (taker is_heard Out pdu (reading said).entries))
 says_own party channel said (Carried Into pdu) out = absurd out
-says_own party channel said (GaveUp forgone) out = absurd out
+says_own party channel said (GaveUp forgone) out = tt
 
 saying_back : (party : Party) (channel : Channel) (said : List Saying) (more : Saying) → IsSaidOut more → IsCoveredOn party channel (said ++ more ∷ []) → IsCoveredOn party channel said
 saying_back party channel said more out covered =

@@ -1,6 +1,8 @@
 pub mod Covered
 pub mod Seen
 pub mod Serving
+pub mod Kept
+pub mod Fronts
 pub mod Runs
-pub mod HeardRuns
+pub mod Staying
 pub mod Clients

@@ -10,6 +10,8 @@ use Rattle.link_talk.specs.declared.party.Party.{Party}
 use Rattle.link_talk.specs.Packets.{passed}
 use Rattle.link_talk.specs.Sayings.{Saying, Command, Carried, GaveUp}
 use Rattle.link_talk.specs.Sdus.{spoken}
+use Rattle.host_laws.specs.Seen.{spoken_of}
+use Rattle.host_laws.specs.Spoken.{IsServed}
 use Rattle.credit_laws.specs.Covered.{IsCovered}
 
 -- the SDUs on a channel of a talk grant the host at least what it spent
@@ -20,13 +22,13 @@ IsCoveredOn party channel said = IsCovered party.dlci party.role (map (passed pa
 abbrev pub AreCovered : Party → List Saying → Type 0
 AreCovered party said = AllByRecursion (λ (entry : Entry). entry.channel.psm ≡ 0x0003 → IsCoveredOn party entry.channel said) (reading said).entries
 
--- it goes out
+-- it goes out, or nobody hears it
 abbrev pub IsSaidOut : Saying → Type 0
 IsSaidOut (Command Out answer) = Unit {0}
 IsSaidOut (Command Into answer) = ⊥
 IsSaidOut (Carried Out pdu) = Unit {0}
 IsSaidOut (Carried Into pdu) = ⊥
-IsSaidOut (GaveUp forgone) = ⊥
+IsSaidOut (GaveUp forgone) = Unit {0}
 
 -- Where they do behind all that the host said, they did so before it said the last of it: only what came in grants something.
 abbrev pub EarlierIsCovered : Type 0
@@ -39,3 +41,7 @@ pub record HoldsSome (party : Party) (said : List Saying) : Type 0 where
 
 abbrev pub CoveredHoldSome : Type 0
 CoveredHoldSome = (party : Party) (said : List Saying) → AreCovered party said → HoldsSome party said
+
+-- What a host gave up takes none of them: they are those by what moved, where it asks for no channel and its peer gives each of its endpoints to one.
+abbrev pub CreditsMove : Type 0
+CreditsMove = (party : Party) (said : List Saying) → IsServed (spoken_of said) → credits party said ≡ credits party (spoken_of said)

@@ -3,10 +3,11 @@
 
 ghost use Rattle.credit_laws.specs.Clients.{ClientsAreCovered};
 ghost use Rattle.credit_laws.specs.Covered.{GrantsCoverSpending};
-ghost use Rattle.credit_laws.specs.HeardRuns.{HeardRunsHoldCredits};
-ghost use Rattle.credit_laws.specs.Runs.{RunsHoldCredits};
+ghost use Rattle.credit_laws.specs.Fronts.{CreditsAreKept};
+ghost use Rattle.credit_laws.specs.Runs.{HeardRunsHoldCredits, RunsHoldCredits};
 ghost use Rattle.credit_laws.specs.Serving.{ServersAreCovered};
-ghost use Rattle.credit_laws.specs.Seen.{CoveredHoldSome, EarlierIsCovered};
+ghost use Rattle.credit_laws.specs.Staying.{RunsStaySolvent};
+ghost use Rattle.credit_laws.specs.Seen.{CoveredHoldSome, CreditsMove, EarlierIsCovered};
 
 /// At every moment, whatever the peer sends and whatever is asked of a side, also where it refuses its peer or ignores something for want of
 /// room: the SDUs that passed grant it at least what it spent. So the credits that it holds, a whole number, are never below nothing.
@@ -25,23 +26,39 @@ pub fn covered_hold_some()
     ensures { CoveredHoldSome }
 {}
 
-/// On each link of a server, at each moment, what came on the channel of its multiplexer granted it at least what it spent there, whatever
-/// came: where what goes is what it lends, its inbox does not lack memory, no frame waits where one comes, and nothing comes behind the
-/// closing of the channel.
+/// At each moment what came to a server on the channel of its multiplexer since that was last closed granted it at least what it spent there, whatever
+/// came: where what goes is what it lends, its inbox does not lack memory, and no frame waits where one comes.
 pub fn servers_are_covered()
     ensures { ServersAreCovered }
 {}
 
-/// In each run of a scenario, wherever it broke off, the credits that host b holds by the capture over RFCOMM are not below nothing: where
-/// no request was given up on any link; where what goes is what its server lends, and its inbox does not lack memory; and where no frame waits as
-/// one comes.
+/// What a host gave up takes none of the credits that it holds: they are those by what moved, where it asks for no channel and its peer gives each
+/// of its endpoints to one.
+pub fn credits_move()
+    ensures { CreditsMove }
+{}
+
+/// In each run of a scenario, wherever it broke off and whatever was given up, the credits that host b holds by the capture over RFCOMM are not below
+/// nothing: where what goes is what its server lends, and its inbox does not lack memory; and where no frame waits as one comes.
 pub fn runs_hold_credits()
     ensures { RunsHoldCredits }
 {}
 
-/// So it is as well where all that happened to its server may come: frames may wait then while some others come.
+/// So it is as well where each request is heard, or where requests may be missed and calls of its inbox fail, but not for want of memory: frames may
+/// wait then while some others come.
 pub fn heard_runs_hold_credits()
     ensures { HeardRunsHoldCredits }
+{}
+
+/// Where a host holds credits at the end of each run whose ports answer so and whose words lose nothing, it holds some at each moment of such a run.
+pub fn credits_are_kept()
+    ensures { CreditsAreKept }
+{}
+
+/// At each moment of each run over RFCOMM whose words lose nothing, wherever it broke off and whatever its ports answer, the credits that host b holds by
+/// the capture are not below nothing: its shelf answers in octets, and its inbox does not lack memory.
+pub fn runs_stay_solvent()
+    ensures { RunsStaySolvent }
 {}
 
 /// A client over RFCOMM, from the opening of its channel on, whatever it hears and whenever it is asked, and whatever its shelf answers: where each

@@ -1,5 +1,5 @@
 -- What a piece gives stands under its packet's line, and is known afterwards.
-use Rattle.std.proofs.Common.{◌≡◌, ℕ, List, [], ◌∷◌, ◌++◌, Option, Some, None, Bool, true, false, cond, fold, refl, sym, ap, subst, ◌∙◌, append_assoc, codes}
+use Rattle.std.proofs.Common.{◌≡◌, ℕ, List, [], ◌∷◌, ◌++◌, Option, Some, None, is_some, Bool, true, false, not, cond, fold, refl, sym, ap, subst, ◌∙◌, append_assoc, codes}
 use Rattle.std.specs.List.{AllByRecursion}
 use Rattle.std.proofs.lemmas.List.{append-nil}
 use Rattle.std.proofs.lemmas.List.Sums.{fold-append}
@@ -8,8 +8,9 @@ use Rattle.acl_fragments.specs.declared.joined.Joined.{Joined}
 use Rattle.acl_fragments.specs.declared.joined.Got.{Got}
 use Rattle.acl_fragments.specs.declared.joined.Got.TheVariants as lent
 use Rattle.acl_fragments.specs.Pieces.{Piece, starts}
-use Rattle.acl_fragments.specs.Answers.{Answer, Pdu, More, Dropped, open_after, answer, leaves_unfinished, kept}
+use Rattle.acl_fragments.specs.Answers.{Answer, Pdu, More, Dropped, open_after, answer, leaves_unfinished, kept, held_after}
 use Rattle.acl_fragments.specs.Joiners.{Held, HoldsOpen, Joins, plain_answer}
+use Rattle.acl_fragments.proofs.Holding.{open_after-append}
 use Rattle.seen_channels.specs.declared.direction.Direction.{Direction}
 use Rattle.seen_channels.specs.declared.channels.Channels.{Channels}
 use Rattle.seen_channels.specs.Tellings.{Learnt}
@@ -17,7 +18,7 @@ use Rattle.seen_channels.specs.Tables.{Keeps}
 use Rattle.h4_view.specs.Pdus.{Said, pdu_limit, turned, direction_after, goes, given, said_in, said_from, said, with_pdu, known, learnt}
 use Rattle.h4_view.specs.declared.links.Link.{Link}
 use Rattle.h4_view.specs.Details.{answer_text, joined_text, IsJoinerOf, IsSpare, IsLink, HeardPdus, goes_on}
-use Rattle.h4_view.specs.Lanes.{lane_text, learnt_with, LaneShown, LaneKept}
+use Rattle.h4_view.specs.Lanes.{lane_text, learnt_with, IsGiven, LaneShown, LaneKept}
 
 -- which way the pieces go with one more
 pub direction-last : (past : List Piece) (p : Piece) → direction_after (past ++ p ∷ []) ≡ goes past p
@@ -110,3 +111,38 @@ lane_kept past known direction p text text' kept lane lane' joiner joiner' chann
     let shown = show past known j.0 (j.1 ∙ ap (λ (k : ℕ). open_after k past) (sym j.0)) keeps in
     let done = kept_by past p lane' joiner' js1 js2 on shown.limit shown.holds shown.ends lane-is js-is (first spare) in
     (record { written = shown.written; joiner = done.0; channels = shown.channels }, done.1)
+
+pub none_is : (lane : Option Held) (none : Bool) → is_some lane ≡ not none → none ≡ true → lane ≡ None
+none_is None none is set = refl
+none_is (Some joiner) none is set = let no : true ≡ false = is ∙ ap not set in absurd cc
+
+-- no start comes while a group is open where none is
+none_unfinished : (start : Bool) → leaves_unfinished [] start ≡ false
+none_unfinished true = refl
+none_unfinished false = refl
+
+ends_kept : (a : Answer) (octets : List ℕ) (got : Got) → plain_answer got ≡ a → goes_on got ≡ false → kept a octets ≡ []
+ends_kept (Pdu channel pdu) octets got is ends = refl
+ends_kept More octets got is ends = let on : true ≡ false = sym (more_goes_on got is) ∙ ends in absurd cc
+ends_kept (Dropped reason) octets got is ends = refl
+
+-- a piece that is shown where no group is open, and leaves none open
+pub alone_kept : (past : List Piece) (known : Learnt) (direction : Direction) (p : Piece) (text text' : List ℕ) (lane : Option Held) (channels channels' : Channels) (got : Got) → lane ≡ None
+    → IsGiven (answer pdu_limit [] (starts p.boundary) p.octets) (Some got) → HeardPdus direction (plain_answer got) text text' channels channels' → IsJoinerOf past lane → Keeps known channels
+    → LaneKept past known direction p text text' lane channels'
+alone_kept past known direction p text text' lane channels channels' got none (is, ends) heard joiner keeps =
+    let closed : open_after pdu_limit past ≡ [] = subst (λ (o : Option Held). IsJoinerOf past o) none joiner in
+    let same : plain_answer got ≡ given past p = is ∙ sym (ap (λ (held : List ℕ). answer pdu_limit held (starts p.boundary) p.octets) closed) in
+    let shown = heard known keeps in
+    let first : leaves_unfinished (open_after pdu_limit past) (starts p.boundary) ≡ false = ap (λ (held : List ℕ). leaves_unfinished held (starts p.boundary)) closed ∙ none_unfinished (starts p.boundary) in
+    record {
+      written =
+          shown.0
+          ∙ ap (λ (a : Answer). text ++ answer_text known direction a) same
+          ∙ ap (λ (b : Bool). text ++ (cond b (codes "  unfinished\n") [] ++ answer_text known direction (given past p))) (sym first);
+      joiner = subst (λ (o : Option Held). IsJoinerOf (past ++ p ∷ []) o) (sym none) (
+          open_after-append pdu_limit past p
+          ∙ ap (λ (held : List ℕ). held_after pdu_limit held (starts p.boundary) p.octets) closed
+          ∙ ends_kept (answer pdu_limit [] (starts p.boundary) p.octets) _ got is ends);
+      channels = subst (λ (a : Answer). Keeps (fold with_pdu known (said_in direction a)) channels') same shown.1;
+    }

@@ -15,4 +15,3 @@ pub mod SnoopEnds
 pub mod OneTagged
 pub mod OneSnoop
 pub mod EachSnoop
-pub mod KeptViews

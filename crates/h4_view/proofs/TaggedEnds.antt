@@ -3,6 +3,9 @@ use Rattle.std.proofs.Common.{◌≡◌, ℕ, ◌+◌, ◌-◌, ◌<◌, ◌≤�
 use Rattle.std.proofs.lemmas.List.{append-nil}
 use Rattle.bt_base.specs.Streams.{gained, GainedFront}
 use Rattle.capture.specs.declared.entry_refusal.EntryRefusal.TheVariants as entry
+use Rattle.push_terms.specs.declared.word.Side.TheVariants as sides
+use Rattle.capture.specs.Entries.{Entry, IsCapture, capture_octets}
+use Rattle.capture.proofs.EntryLaws.{one_capture}
 use Rattle.capture.specs.EntryReading.{record_octets, IsFront}
 use Rattle.capture.proofs.FrontLaws.{cut_at_once}
 use Rattle.tagged_entries.specs.Records.{least_length}
@@ -13,12 +16,13 @@ use Rattle.item_stream.specs.Running.{input_limit, Told, GoesPast, Within, Behin
 use Rattle.btsnoop.specs.Converting.{read_of}
 use Rattle.h4_view.specs.declared.refusal.ViewRefusal.{ViewRefusal}
 use Rattle.h4_view.specs.declared.refusal.ViewRefusal.TheVariants.{Truncated, TooLong, BadTag, BadRecord}
-use Rattle.h4_view.specs.declared.refusal.ViewFault.TheVariants.{Refused, ReadFault}
+use Rattle.h4_view.specs.declared.refusal.ViewFault.TheVariants.{ReadFault}
 use Rattle.h4_view.specs.declared.tagged.TaggedView.{TaggedView}
 use Rattle.h4_view.specs.Tagged.{Stops, BeginsWith, tagged_capture, TaggedViews}
 use Rattle.h4_view.specs.Viewing.{FrontShown, OfLines}
 use Rattle.btsnoop.proofs.Limits.{some_behind, all_read, read_more}
 use Rattle.h4_view.proofs.Viewing.{Shows}
+use Rattle.h4_view.specs.Keeping.{of_side}
 use Rattle.h4_view.specs.TaggedTelling.{HasShown, Finds, VerdictOf, IsNew}
 
 -- entries that were shown begin the input
@@ -98,4 +102,17 @@ pub none_begins : (all : List ℕ) → BeginsWith all []
 none_begins all = record { each = tt; within = omega arith; rest = all; whole = refl }
 
 pub new_shown : (view : TaggedView) → IsNew view → HasShown view view [] []
-new_shown view is = record { entries = []; each = tt; whole = refl; lines = λ within. refl; place = λ within. is.place; knows = is.knows }
+new_shown view is = record { entries = []; each = tt; whole = refl; lines = λ within. refl; place = λ within. is.place; knows = is.knows; kept = is.empty }
+
+-- ---- a whole capture
+
+none_some : {X : Type 0} {x : X} → None ≡ Some x → ⊥
+none_some {X} {x} e = cc
+
+-- of a capture that is shown to its end the packets of host b are kept
+pub all_kept : (first now : TaggedView) (input : List ℕ) (old new : Option (List ℕ)) (ends : Ending) (verdict : Option (ViewRefusal × ℕ)) → VerdictOf now ends verdict → verdict ≡ None → Ends (HasShown first) Finds now input old new ends
+    → (entries : List Entry) → IsCapture input entries → now.kept.items ≡ capture_octets (of_side sides.B entries)
+all_kept first now input old new ending.Whole verdict is none (t, done) entries capture = t.told.kept ∙ ap (λ es. capture_octets (of_side sides.B es)) (one_capture input t.told.entries entries (record { each = t.told.each; whole = t.told.whole }) capture)
+all_kept first now input old new (ending.Truncated place) verdict is none e entries capture = absurd (none_some (sym none ∙ is))
+all_kept first now input old new ending.TooLong verdict is none e entries capture = absurd (none_some (sym none ∙ is))
+all_kept first now input old new (ending.Refused place) verdict is none e entries capture = absurd (none_some (sym none ∙ is))

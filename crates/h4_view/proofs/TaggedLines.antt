@@ -1,8 +1,8 @@
 -- How the lines of a capture grow with its entries.
-use Rattle.std.proofs.Common.{◌≡◌, ℕ, ◌+◌, ◌<◌, ◌≤◌, List, [], ◌∷◌, ◌++◌, length, take, codes, decimal, refl, sym, ap, subst, ◌∙◌, append_assoc, arith, length-append}
+use Rattle.std.proofs.Common.{◌≡◌, ℕ, ◌+◌, ◌<◌, ◌≤◌, Bool, true, false, cond, List, [], ◌∷◌, ◌++◌, length, take, codes, decimal, refl, sym, ap, subst, ◌∙◌, append_assoc, arith, length-append}
 use Rattle.std.proofs.lemmas.List.{append-nil, take_at}
 use Rattle.std.proofs.lemmas.Grind.{flat_map-append}
-use Rattle.std.proofs.lemmas.List.Elements.{filter_map-append}
+use Rattle.std.proofs.lemmas.List.Elements.{filter_map-append, filter-append}
 use Rattle.h4_framing.specs.Packets.{Packet}
 use Rattle.push_terms.specs.declared.word.Side.{Side}
 use Rattle.push_terms.specs.declared.word.Side.TheVariants as sides
@@ -17,6 +17,7 @@ use Rattle.h4_view.specs.declared.tagged.TaggedView.{TaggedView}
 use Rattle.h4_view.specs.Lines.{packet_text}
 use Rattle.h4_view.specs.Both.{Sent, KnowsBoth, under_by}
 use Rattle.h4_view.specs.Tagged.{direction_of, flow_text, entry_text, sent_in, sent_of, entry_under, entry_lines, tagged_lines}
+use Rattle.h4_view.specs.Keeping.{is_of, of_side, kept_of}
 use Rattle.h4_view.specs.TaggedTelling.{KnowsHosts, BehindOffset, EntryShown, HasShown, Finds}
 use Rattle.h4_view.proofs.Viewing.{each_more, lines_more}
 
@@ -63,17 +64,19 @@ behind_blank front text t1 t2 text' body under e1 e2 e3 =
 pub entry_shown : (e : Entry) (old new : TaggedView) (text t1 t2 text' : List ℕ) → t1 ≡ text ++ decimal old.place → t2 ≡ t1 ++ codes " " → BehindOffset e old new t2 text' → EntryShown e old new text text'
 entry_shown e old new text t1 t2 text' e1 e2 behind = (
   behind.0,
+  behind.1,
   λ past knows.
-      let here = behind.1 past knows in
+      let here = behind.2 past knows in
       (behind_blank (decimal old.place) text t1 t2 text' (entry_text e) (entry_under past e) e1 e2 here.0, here.1),
 )
 
 -- a packet of host a
 pub of_a : (flow : Flow) (p : Packet) (mark : List ℕ) (d : Direction) (old new : TaggedView) (text text' : List ℕ)
     → ((past : List Sent) → KnowsBoth past old.a → (text' ≡ text ++ ((((mark ++ codes " ") ++ packet_text p) ++ codes "\n") ++ under_by past d p)) × KnowsBoth (past ++ record { direction = d; packet = p } ∷ []) new.a)
-    → mark ≡ side_text sides.A ++ flow_text flow → d ≡ direction_of flow → new.b ≡ old.b → new.place ≡ old.place → BehindOffset (Moved sides.A flow p) old new text text'
-of_a flow p mark d old new text text' shown m-is d-is b place = (
+    → mark ≡ side_text sides.A ++ flow_text flow → d ≡ direction_of flow → new.b ≡ old.b → new.place ≡ old.place → new.kept ≡ old.kept → BehindOffset (Moved sides.A flow p) old new text text'
+of_a flow p mark d old new text text' shown m-is d-is b place kept = (
   place,
+  kept,
   λ past knows.
       let Says = λ (w : Direction) (m : List ℕ). (text' ≡ text ++ ((((m ++ codes " ") ++ packet_text p) ++ codes "\n") ++ under_by (sent_of sides.A past) w p)) × KnowsBoth (sent_of sides.A past ++ record { direction = w; packet = p } ∷ []) new.a in
       let here : Says (direction_of flow) (side_text sides.A ++ flow_text flow) = subst (λ (w : Direction). Says w (side_text sides.A ++ flow_text flow)) d-is (subst (λ (m : List ℕ). Says d m) m-is (shown (sent_of sides.A past) knows.a)) in
@@ -83,9 +86,10 @@ of_a flow p mark d old new text text' shown m-is d-is b place = (
 -- a packet of host b
 pub of_b : (flow : Flow) (p : Packet) (mark : List ℕ) (d : Direction) (old new : TaggedView) (text text' : List ℕ)
     → ((past : List Sent) → KnowsBoth past old.b → (text' ≡ text ++ ((((mark ++ codes " ") ++ packet_text p) ++ codes "\n") ++ under_by past d p)) × KnowsBoth (past ++ record { direction = d; packet = p } ∷ []) new.b)
-    → mark ≡ side_text sides.B ++ flow_text flow → d ≡ direction_of flow → new.a ≡ old.a → new.place ≡ old.place → BehindOffset (Moved sides.B flow p) old new text text'
-of_b flow p mark d old new text text' shown m-is d-is a place = (
+    → mark ≡ side_text sides.B ++ flow_text flow → d ≡ direction_of flow → new.a ≡ old.a → new.place ≡ old.place → new.kept ≡ old.kept → BehindOffset (Moved sides.B flow p) old new text text'
+of_b flow p mark d old new text text' shown m-is d-is a place kept = (
   place,
+  kept,
   λ past knows.
       let Says = λ (w : Direction) (m : List ℕ). (text' ≡ text ++ ((((m ++ codes " ") ++ packet_text p) ++ codes "\n") ++ under_by (sent_of sides.B past) w p)) × KnowsBoth (sent_of sides.B past ++ record { direction = w; packet = p } ∷ []) new.b in
       let here : Says (direction_of flow) (side_text sides.B ++ flow_text flow) = subst (λ (w : Direction). Says w (side_text sides.B ++ flow_text flow)) d-is (subst (λ (m : List ℕ). Says d m) m-is (shown (sent_of sides.B past) knows.b)) in
@@ -95,6 +99,7 @@ of_b flow p mark d old new text text' shown m-is d-is a place = (
 -- an entry that is no packet
 pub of_none : (e : Entry) (view : TaggedView) (text text' : List ℕ) → text' ≡ text ++ (entry_text e ++ codes "\n") → sent_of sides.A (e ∷ []) ≡ [] → sent_of sides.B (e ∷ []) ≡ [] → ((past : List Entry) → entry_under past e ≡ []) → BehindOffset e view view text text'
 of_none e view text text' added a b under = (
+  refl,
   refl,
   λ past knows.
       (added ∙ ap (λ (t : List ℕ). text ++ t) (sym (append-nil (entry_text e ++ codes "\n")) ∙ ap (λ (t : List ℕ). (entry_text e ++ codes "\n") ++ t) (sym (under past))), knows_other past e view a b knows),
@@ -114,17 +119,27 @@ five_added t t1 t2 t3 t4 t5 a b c d e e1 e2 e3 e4 e5 =
 
 -- ---- an entry more in a view
 
+one_kept : (e : Entry) (of_it : Bool) → capture_octets (cond of_it (e ∷ []) []) ≡ cond of_it (entry_octets e) []
+one_kept e true = append-nil (entry_octets e)
+one_kept e false = refl
+
+kept_more : (es : List Entry) (e : Entry) → capture_octets (of_side sides.B (es ++ e ∷ [])) ≡ capture_octets (of_side sides.B es) ++ kept_of sides.B e (entry_octets e)
+kept_more es e =
+    ap capture_octets (filter-append (is_of sides.B) es (e ∷ []))
+    ∙ flat_map-append entry_octets (of_side sides.B es) (of_side sides.B (e ∷ []))
+    ∙ ap (λ (t : List ℕ). capture_octets (of_side sides.B es) ++ t) (one_kept e (is_of sides.B e))
+
 some_octets : (e : Entry) → 0 < length (entry_octets e)
 some_octets e = omega arith
 
 pub shows_entry : (old mid new : TaggedView) (octets text text' rest : List ℕ) (e : Entry) (n : ℕ) → IsEntry e → octets ≡ entry_octets e ++ rest → n ≡ length (entry_octets e) → EntryShown e old mid text text' → new.a ≡ mid.a → new.b ≡ mid.b
-    → (old.place + n ≤ input_limit → new.place ≡ old.place + n) → Tells HasShown Finds old new octets text text' (Item n)
-shows_entry old mid new octets text text' rest e n is whole size shown a b place =
+    → new.kept.items ≡ mid.kept.items ++ kept_of sides.B e (take n octets) → (old.place + n ≤ input_limit → new.place ≡ old.place + n) → Tells HasShown Finds old new octets text text' (Item n)
+shows_entry old mid new octets text text' rest e n is whole size shown a b kept place =
     let front : take n octets ≡ entry_octets e = ap (take n) whole ∙ take_at (entry_octets e) rest n (sym size) in (
       omega (arith, size, some_octets e),
       omega (arith, ap length whole, length-append (entry_octets e) rest, size),
       λ first before said h.
-          let here = shown.1 h.entries h.knows in
+          let here = shown.2 h.entries h.knows in
           let long : length (before ++ take n octets) ≡ length before + n = length-append before (take n octets) ∙ ap (λ (t : List ℕ). length before + length t) front ∙ ap (λ (k : ℕ). length before + k) (sym size) in (
             entry_lines h.entries old.place e,
             here.0,
@@ -144,6 +159,10 @@ shows_entry old mid new octets text text' rest e n is whole size shown a b place
                 a = subst (λ l. KnowsBoth (sent_of sides.A (h.entries ++ e ∷ [])) l) (sym a) here.1.a;
                 b = subst (λ l. KnowsBoth (sent_of sides.B (h.entries ++ e ∷ [])) l) (sym b) here.1.b;
               };
+              kept = kept
+                  ∙ ap (λ (t : List ℕ). t ++ kept_of sides.B e (take n octets)) (ap (λ k. k.items) shown.1 ∙ h.kept)
+                  ∙ ap (λ (t : List ℕ). capture_octets (of_side sides.B h.entries) ++ kept_of sides.B e t) front
+                  ∙ sym (kept_more h.entries e);
             },
           ),
     )

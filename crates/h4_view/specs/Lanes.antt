@@ -1,14 +1,16 @@
 -- What a piece gives where its link's pieces of the same direction, and what is known of the link's channels, are given.
-use Rattle.std.specs.Prelude.{ℕ, ◌≡◌, List, [], ◌∷◌, ◌++◌, Bool, false, cond, fold, codes, Option}
+use Rattle.std.specs.Prelude.{ℕ, ◌≡◌, List, [], ◌∷◌, ◌++◌, Bool, false, cond, fold, codes, Option, Some, None}
+use Rattle.hci_packets.specs.declared.acl.Boundary.{Boundary}
+use Rattle.acl_fragments.specs.declared.joined.Got.{Got}
 use Rattle.acl_fragments.specs.Pieces.{Piece, starts}
-use Rattle.acl_fragments.specs.Answers.{open_after, leaves_unfinished}
-use Rattle.acl_fragments.specs.Joiners.{Held, HoldsOpen}
+use Rattle.acl_fragments.specs.Answers.{Answer, More, answer, start_answer, open_after, leaves_unfinished}
+use Rattle.acl_fragments.specs.Joiners.{Held, HoldsOpen, plain_answer}
 use Rattle.seen_channels.specs.declared.direction.Direction.{Direction}
 use Rattle.seen_channels.specs.declared.channels.Channels.{Channels}
 use Rattle.seen_channels.specs.Tellings.{Learnt}
 use Rattle.seen_channels.specs.Tables.{Keeps}
 use Rattle.h4_view.specs.Pdus.{pdu_limit, given, said_in, with_pdu}
-use Rattle.h4_view.specs.Details.{answer_text, IsJoinerOf}
+use Rattle.h4_view.specs.Details.{answer_text, goes_on, IsJoinerOf}
 
 -- what stands under the line of a piece that goes that way: first whether it leaves a group unfinished
 abbrev pub lane_text : List Piece → Learnt → Direction → Piece → List ℕ
@@ -32,3 +34,16 @@ pub record LaneKept (past : List Piece) (known : Learnt) (direction : Direction)
   pub written : text' ≡ text ++ lane_text past known direction piece
   pub joiner : IsJoinerOf (past ++ piece ∷ []) lane'
   pub channels : Keeps (learnt_with past known direction piece) channels'
+
+-- this is given, and its group does not go on; none is given where the group does
+abbrev pub IsGiven : Answer → Option Got → Type 0
+IsGiven wanted None = wanted ≡ More
+IsGiven wanted (Some got) = (plain_answer got ≡ wanted) × (goes_on got ≡ false)
+
+-- what a piece gives where no group is open
+abbrev pub IsAlone : Boundary → List ℕ → Option Got → Type 0
+IsAlone boundary octets got = IsGiven (answer pdu_limit [] (starts boundary) octets) got
+
+-- what a start gives, which is judged by itself
+abbrev pub IsWholeStart : List ℕ → Option Got → Type 0
+IsWholeStart octets got = IsGiven (start_answer pdu_limit octets) got

@@ -15,6 +15,7 @@ use Rattle.h4_view.specs.declared.refusal.ViewRefusal.{ViewRefusal}
 use Rattle.h4_view.specs.declared.refusal.ViewRefusal.TheVariants.{Truncated, TooLong, BadTag, BadRecord}
 use Rattle.h4_view.specs.declared.tagged.TaggedView.{TaggedView}
 use Rattle.h4_view.specs.Both.{KnowsBoth}
+use Rattle.h4_view.specs.Keeping.{of_side}
 use Rattle.h4_view.specs.Tagged.{sent_of, entry_text, entry_under, entry_lines, tagged_lines}
 
 -- what is kept of the links of both hosts is what these entries say
@@ -25,13 +26,14 @@ pub record KnowsHosts (past : List Entry) (view : TaggedView) : Type 0 where
 -- what stands behind the offset of an entry was shown
 abbrev pub BehindOffset : Entry → TaggedView → TaggedView → List ℕ → List ℕ → Type 0
 BehindOffset entry old new text text' =
-    (new.place ≡ old.place) × ((past : List Entry) → KnowsHosts past old → (text' ≡ text ++ ((entry_text entry ++ codes "\n") ++ entry_under past entry)) × KnowsHosts (past ++ entry ∷ []) new)
+    (new.place ≡ old.place) × (new.kept ≡ old.kept) × ((past : List Entry) → KnowsHosts past old → (text' ≡ text ++ ((entry_text entry ++ codes "\n") ++ entry_under past entry)) × KnowsHosts (past ++ entry ∷ []) new)
 
 -- an entry after some others was shown
 abbrev pub EntryShown : Entry → TaggedView → TaggedView → List ℕ → List ℕ → Type 0
-EntryShown entry old new text text' = (new.place ≡ old.place) × ((past : List Entry) → KnowsHosts past old → (text' ≡ text ++ entry_lines past old.place entry) × KnowsHosts (past ++ entry ∷ []) new)
+EntryShown entry old new text text' = (new.place ≡ old.place) × (new.kept ≡ old.kept) × ((past : List Entry) → KnowsHosts past old → (text' ≡ text ++ entry_lines past old.place entry) × KnowsHosts (past ++ entry ∷ []) new)
 
--- Since the view began it took entries with these octets and told this of them. Offsets count up to the greatest length of an input.
+-- Since the view began it took entries with these octets and told this of them, and it keeps those of host b. Offsets count up to
+-- the greatest length of an input.
 pub record HasShown (first now : TaggedView) (octets said : List ℕ) : Type 0 where
   pub entries : List Entry
   pub each : AllByRecursion IsEntry entries
@@ -39,6 +41,7 @@ pub record HasShown (first now : TaggedView) (octets said : List ℕ) : Type 0 w
   pub lines : length octets ≤ input_limit → said ≡ tagged_lines [] 0 entries
   pub place : length octets ≤ input_limit → now.place ≡ length octets
   pub knows : KnowsHosts entries now
+  pub kept : now.kept.items ≡ capture_octets (of_side sides.B entries)
 
 -- what it finds where no whole entry stands
 abbrev pub Finds : TaggedView → List ℕ → Front → Type 0
@@ -58,3 +61,4 @@ VerdictOf view (RefusedAt place) verdict = verdict ≡ Some (view.refusal, place
 pub record IsNew (view : TaggedView) : Type 0 where
   pub knows : KnowsHosts [] view
   pub place : view.place ≡ 0
+  pub empty : view.kept.items ≡ []

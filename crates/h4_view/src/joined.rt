@@ -10,16 +10,20 @@ ghost use Rattle.seen_channels.specs.Tellings.{Learnt};
 ghost use Rattle.seen_channels.specs.Tables.{Keeps};
 ghost use Rattle.h4_view.specs.Pdus.{pdu_limit, turned, with_pdu};
 ghost use Rattle.h4_view.specs.Details.{drop_name, joined_text, link_of, under, IsJoinerOf, IsSpare, IsLink, IsLinkOf, Knows, HeardPdus, goes_on};
-ghost use Rattle.h4_view.specs.Lanes.{LaneShown, LaneKept};
+ghost use Rattle.h4_view.specs.Lanes.{LaneShown, LaneKept, IsAlone, IsWholeStart};
 
 use crate::line::{Text, push_decimal, push_hex, push_reason, push_text};
 use crate::links::{Link, Links, keep_joiner, take_joiner};
 use crate::nested::{SIGNALLING, payload_of, push_nested};
 use acl_fragments::{DropReason, Got, Joiner};
 use bt_base::NoMemory;
+use byteorder::{ByteOrder, LittleEndian};
 use hci_packets::{Boundary, acl_word};
 use seen_channels::{Channels, Direction};
 use std::alloc::Global;
+
+/// How many octets stand before the payload of a PDU: its length and its channel.
+const HEADER_LENGTH: usize = 4;
 
 /// The name of a reason to drop a piece.
 fn drop_name(reason: DropReason) -> &'static str
@@ -133,8 +137,35 @@ fn push_joined(
     Ok(on)
 }
 
-/// Adds what a piece gives that goes that way. What holds the open group of its direction is taken
-/// from its place, and put there again while a group is open.
+/// What a piece gives where no group is open: none where it begins a PDU that is cut.
+fn take_alone<'a>(boundary: Boundary, piece: &'a [u8]) -> Option<Got<'a>>
+    ensures { IsAlone boundary piece.now result }
+{
+    match boundary {
+        Boundary::First | Boundary::FirstFromController => take_start(piece),
+        Boundary::Continuing => Some(Got::Dropped(DropReason::StrayContinuation)),
+    }
+}
+
+/// What a start gives: none where it begins a PDU that is cut.
+fn take_start<'a>(piece: &'a [u8]) -> Option<Got<'a>>
+    ensures { IsWholeStart piece.now result }
+{
+    if piece.len() < HEADER_LENGTH {
+        return Some(Got::Dropped(DropReason::ShortStart));
+    }
+    let length = HEADER_LENGTH + usize::from(LittleEndian::read_u16(piece));
+    if length < piece.len() {
+        return Some(Got::Dropped(DropReason::Overrun));
+    }
+    if length > piece.len() {
+        return None;
+    }
+    Some(Got::Pdu(LittleEndian::read_u16(&piece[2..]), piece))
+}
+
+/// Adds what a piece gives that goes that way. A joiner is there while a group is open, so room is taken where a PDU
+/// is cut: it is taken from its place, and put there again while the group goes on.
 pub(crate) fn push_on_lane(
     alloc: Global,
     text: &mut Text,
@@ -148,6 +179,12 @@ pub(crate) fn push_on_lane(
     ensures { OnOk result ((past : List Piece) (known : Learnt) → IsJoinerOf past lane.old → Keeps known channels.old → AllByRecursion IsSpare spare.old.items →
         LaneKept past known direction (record { boundary = boundary; octets = octets.now }) text.old.items text.new.items lane.new channels.new × AllByRecursion IsSpare spare.new.items) }
 {
+    if lane.is_none()
+        && let Some(got) = take_alone(boundary, octets)
+    {
+        push_got(text, channels, direction, got)?;
+        return Ok(());
+    }
     let mut joiner = take_joiner(alloc, lane.take(), spare)?;
     let goes_on = push_joined(text, channels, &mut joiner, direction, boundary, octets)?;
     *lane = keep_joiner(spare, joiner, goes_on)?;

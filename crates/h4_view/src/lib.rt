@@ -4,7 +4,6 @@
 mod both_links;
 mod details;
 mod joined;
-mod keeping;
 pub mod laws;
 mod line;
 mod links;

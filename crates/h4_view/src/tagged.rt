@@ -2,19 +2,19 @@
 
 ghost use Rattle.std.specs.Prelude.{◌≡◌, ◌++◌, ◌∷◌, List, [], codes, decimal, OnOk, IfOk, IfSome, IsErrOf};
 ghost use Rattle.h4_framing.specs.Packets.{packet};
+ghost use Rattle.push_terms.specs.declared.word.Side.TheVariants as sides;
 ghost use Rattle.push_terms.specs.Words.{word_text, side_text};
 ghost use Rattle.push_terms.specs.Outcomes.{outcome_text};
 ghost use Rattle.capture.specs.Lent.{plain_entry};
 ghost use Rattle.h4_view.specs.Lines.{packet_text};
 ghost use Rattle.h4_view.specs.Both.{Sent, KnowsBoth, under_by};
 ghost use Rattle.h4_view.specs.Tagged.{direction_of, flow_text};
-ghost use Rattle.h4_view.specs.Keeping.{ShowsAndKeeps};
+ghost use Rattle.h4_view.specs.Keeping.{kept_of, ShowsAndKeeps};
 ghost use Rattle.h4_view.specs.View.{Blames, IsAnswered};
 ghost use Rattle.h4_view.specs.TaggedTelling.{BehindOffset, EntryShown, VerdictOf, IsNew};
 ghost use Rattle.capture.specs.Entries.{Moved};
 
 use crate::both_links::{BothLinks, push_both_lines};
-use crate::keeping::new_kept;
 use crate::line::{Text, push_decimal, push_text};
 use crate::raw::refuse;
 use crate::refusal::{ViewFault, ViewRefusal};
@@ -33,13 +33,14 @@ const INPUT_LIMIT: u64 = 67_108_864;
 /// How many octets the text of a word or of an outcome has at most.
 const LONGEST_TEXT: usize = 24;
 
-/// A view of a capture under way: what is kept of the links of both hosts, the offset of the next
-/// entry, and why an entry was refused, where one was.
+/// A view of a capture under way: what is kept of the links of both hosts, the octets of all packets of
+/// host b, the offset of the next entry, and why an entry was refused, where one was.
 #[derive(Drop)]
 pub(crate) struct TaggedView {
     alloc: Global,
     a: BothLinks,
     b: BothLinks,
+    kept: Vec<u8>,
     place: u64,
     refusal: ViewRefusal,
 }
@@ -167,6 +168,18 @@ fn push_entry(view: &mut TaggedView, text: &mut Text, entry: &Entry<'_>) -> Resu
     Ok(())
 }
 
+/// Keeps the octets of an entry that is a packet of host b.
+fn keep(kept: &mut Vec<u8>, entry: &Entry<'_>, octets: &[u8]) -> Result<(), NoMemory>
+    ensures { OnOk result (kept.new.items ≡ kept.old.items ++ kept_of sides.B (plain_entry entry.now) octets.now) }
+{
+    match *entry {
+        Entry::Moved { side: Side::B, .. } => kept.extend_from_slice(octets)?,
+        Entry::Moved { side: Side::A, .. } => {}
+        Entry::Acted { .. } | Entry::Begun(_) | Entry::Ended(_, _) => {}
+    }
+    Ok(())
+}
+
 impl Teller for TaggedView {
     ghost use Rattle.h4_view.specs.TaggedTelling.{HasShown, Finds};
 
@@ -181,6 +194,7 @@ impl Teller for TaggedView {
         match entry_of(octets) {
             Ok((entry, used)) => {
                 push_entry(self, text, &entry)?;
+                keep(&mut self.kept, &entry, &octets[..used])?;
                 self.place = self.place.saturating_add(used as u64);
                 Ok(Front::Item(used))
             }
@@ -207,6 +221,7 @@ pub(crate) fn new_view(alloc: Global) -> Result<TaggedView, NoMemory>
         alloc,
         a,
         b,
+        kept: Vec::new(alloc),
         place: 0,
         refusal: ViewRefusal::BadTag,
     })
@@ -225,7 +240,7 @@ fn verdict_of(view: &TaggedView, ending: Ending) -> Option<(ViewRefusal, u64)>
 }
 
 /// Shows a capture of two hosts: the lines of each entry up to the first fault, and one for the fault. It
-/// answers the octets of the capture.
+/// answers the octets of all packets of host b.
 ///
 /// A line begins with the offset of the entry's tag. Packets stand with their host and the way that they
 /// went, and with what stands under them in the view of a stream: each host, handle and direction has
@@ -242,7 +257,8 @@ pub fn view_entries<S: Source, K: Sink>(
     source: &mut S,
     sink: &mut K,
 ) -> Result<Vec<u8>, ViewFault>
-    // What the sink gains is the view of what the source had left. A fault of the source loses nothing.
+    // What the sink gains is the view of what the source had left, whose packets of host b are answered. A fault of the
+    // source loses nothing.
     ensures views { IfSome (S.content source.old) (λ input. ShowsAndKeeps input (S.content source.new) (K.content sink.old) (K.content sink.new) result) }
     // The input was read to its end.
     ensures finish { OnOk result (IfSome (S.content source.new) (λ left. left ≡ [])) }
@@ -251,11 +267,11 @@ pub fn view_entries<S: Source, K: Sink>(
     ensures source_short { IsAnswered (S.shortages source.old) (S.shortages source.new) (IsErrOf result ViewFault.NoMemory) }
     ensures sink_short { IsAnswered (K.shortages sink.old) (K.shortages sink.new) (IsErrOf result ViewFault.NoMemory) }
 {
-    let Ok(mut view) = new_kept(alloc) else {
+    let Ok(mut view) = new_view(alloc) else {
         return Err(ViewFault::NoMemory);
     };
     match tell_all(alloc, &[], &mut view, source, sink) {
-        Ok(ending) => match verdict_of(&view.view, ending) {
+        Ok(ending) => match verdict_of(&view, ending) {
             None => Ok(view.kept),
             Some((refusal, place)) => Err(refuse(alloc, sink, refusal, place)),
         },

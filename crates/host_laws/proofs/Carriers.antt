@@ -28,11 +28,12 @@ use Rattle.talk_laws.proofs.Objects.{objects-append, objects-grow}
 use Rattle.talk_laws.proofs.Passes.{drop_front}
 use Rattle.push_model.specs.Client.{own_maximum}
 use Rattle.push_model.specs.Server.{object_psm, rfcomm_psm}
+use Rattle.push_laws.specs.Gains as clear
 use Rattle.push_laws.specs.Gains.{objects_over, objects_with}
 use Rattle.push_laws.specs.Occurrences.{Occurrence, Came, Went, Closed, LinkDown, Asked, Answering}
 use Rattle.push_laws.specs.Readings.{came_on, passed_by, packets_over}
 use Rattle.push_laws.proofs.Readings.{read, read_more, read_same, read_closed, drop_same}
-use Rattle.host_laws.specs.Carriers.{links_from, move_on, ComesAside, ClosesLast, reader, CarriedLink, IsReadOn, objects_moved, HostsGainByCarriers}
+use Rattle.host_laws.specs.Carriers.{links_from, links_of, move_on, ComesAside, ClosesLast, reader, CarriedLink, IsReadOn, objects_moved, HostsGainByCarriers}
 use Rattle.host_laws.specs.Serving.{served}
 use Rattle.host_laws.proofs.Gains.{state, state_is}
 use Rattle.host_laws.proofs.OneCarrier.{one_carrier_gains}
@@ -386,9 +387,12 @@ module _ (settings : Settings) (frame : ℕ) where
   all_links (Asked ∷ list) now links stays are = ap (gain [] []) (sym (append_assoc now (Asked ∷ []) list)) ∙ all_links list (now ++ Asked ∷ []) links (stays_with now Asked stays tt) are
   all_links (Answering answers ∷ list) now links stays are = ap (gain [] []) (sym (append_assoc now (Answering answers ∷ []) list)) ∙ all_links list (now ++ Answering answers ∷ []) links (stays_with now (Answering answers) stays tt) are
 
+-- what the packets spell that came is what the PDUs spell that moved
+pub read_by_carriers : (settings : Settings) (frame : ℕ) (list : List Occurrence) (links : List CarriedLink) → AllZip (IsReadOn settings frame) (links_of list) links → clear.objects settings list ≡ objects_moved settings frame links
+read_by_carriers settings frame list links are = gains_after settings frame [] list [] refl ∙ all_links settings frame list [] links tt are
+
 pub hosts_gain_by_carriers : HostsGainByCarriers
 hosts_gain_by_carriers settings before frame asks marks host lives may links are =
     let content : Option Contents = Some (record { stored = before; pending = None }) in
-    let list = served settings content asks marks host lives in
     hosts_gain settings before asks marks host lives may
-    ∙ ap (λ (gained : List Object). Some (before ++ gained)) (gains_after settings frame [] list [] refl ∙ all_links settings frame list [] links tt are)
+    ∙ ap (λ (gained : List Object). Some (before ++ gained)) (read_by_carriers settings frame (served settings content asks marks host lives) links are)

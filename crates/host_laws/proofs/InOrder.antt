@@ -33,6 +33,7 @@ use Rattle.host_laws.specs.Feeds.{Feed, Gifts, Learns, Receives, Happens, Sent, 
 use Rattle.host_laws.specs.Gaining.{IsDirect, ClosesItself, OneObjectChannel}
 use Rattle.host_laws.specs.GainingOver.{CarriedOne, CarriesOne}
 use Rattle.host_laws.specs.InOrder.{AsksForOneObject, AsksNoChannels, ServersAskNothing, IsWhole, ServersAreServedInOrder}
+use Rattle.host_laws.specs.Keeping.{IsLent, AsksForNothing, ServersAskForNothing}
 use Rattle.host_laws.specs.Lives.{Mark, Span, Lives, end_tidings, span_tidings, all_tidings}
 use Rattle.host_laws.specs.OneCarrier.{IsFor, CarriesAlone}
 use Rattle.host_laws.specs.OverLinks.{parts, moved_in, talk_marks, IsTalkOf}
@@ -58,6 +59,42 @@ all_right : {X : Type 0} (P : X → Type 0) (xs ys : List X) → AllByRecursion 
 all_right P [] ys all = all
 all_right P (x ∷ xs) ys all = all_right P xs ys all.1
 
+-- ---- what it never asks for
+
+-- what is so of all that a host's profile does not ask for
+abbrev IsNeverAsked : (Occurrence → Type 0) → Type 0
+IsNeverAsked Q = ((pdu : List ℕ) → Q (Comes pdu)) × ((pdu : List ℕ) → Q (Gives pdu)) × Q Fires × Q Tells
+
+module _ (Q : Occurrence → Type 0) (never : IsNeverAsked Q) where
+  feed_asks : {P : Type 0} (A : Profile P) (asks : Asks A) → ((v : Channels) (p : P) → AllByRecursion Q (from_call (asks.call v p))) → (p : P) (feed : Feed) → AllByRecursion Q (asked_with A asks p feed)
+  feed_asks A asks so p (Gifts circumstances) = tt
+  feed_asks A asks so p (Learns circumstances news) = tt
+  feed_asks A asks so p (Receives own psm sdu) = tt
+  feed_asks A asks so p (Happens event v) = tt
+  feed_asks A asks so p (Sent v) = tt
+  feed_asks A asks so p (Steps v) = so v p
+
+  feeds_ask : {P : Type 0} (A : Profile P) (asks : Asks A) → ((v : Channels) (p : P) → AllByRecursion Q (from_call (asks.call v p))) → (p : P) (feeds : List Feed) → AllByRecursion Q (asked_from A asks p feeds)
+  feeds_ask A asks so p [] = tt
+  feeds_ask A asks so p (feed ∷ feeds) = all_both Q (asked_with A asks p feed) (asked_from A asks (fed A p feed) feeds) (feed_asks A asks so p feed) (feeds_ask A asks so (fed A p feed) feeds)
+
+  list_asks : (list : List Occurrence) → AllByRecursion Q (filter_map asked list) → AllByRecursion Q list
+  list_asks [] so = tt
+  list_asks (Comes pdu ∷ list) so = (never.0 pdu, list_asks list so)
+  list_asks (Connects psm ∷ list) so = (so.0, list_asks list so.1)
+  list_asks (AsksFeatures ∷ list) so = (so.0, list_asks list so.1)
+  list_asks (Disconnects own ∷ list) so = (so.0, list_asks list so.1)
+  list_asks (Sends own sdu ∷ list) so = (so.0, list_asks list so.1)
+  list_asks (Gives pdu ∷ list) so = (never.1 pdu, list_asks list so)
+  list_asks (Fires ∷ list) so = (never.2, list_asks list so)
+  list_asks (Tells ∷ list) so = (never.3, list_asks list so)
+
+  spans_ask : (spans : List Span) → AllByRecursion Q (flat_map (λ (span : Span). filter_map asked span.list) spans) → AllByRecursion (λ (span : Span). AllByRecursion Q span.list) spans
+  spans_ask [] so = tt
+  spans_ask (span ∷ spans) so =
+      let rest = flat_map (λ (one : Span). filter_map asked one.list) spans in
+      (list_asks span.list (all_left Q (filter_map asked span.list) rest so), spans_ask spans (all_right Q (filter_map asked span.list) rest so))
+
 -- ---- it asks for no channel
 
 called_none : (call : Option Call) → ((psm : ℕ) → call ≡ Some (Connect psm) → ⊥) → AllByRecursion AsksForNoChannel (from_call call)
@@ -67,34 +104,8 @@ called_none (Some AskFeatures) never = (tt, tt)
 called_none (Some (Disconnect own)) never = (tt, tt)
 called_none (Some (Send own sdu)) never = (tt, tt)
 
-feed_none : {P : Type 0} (A : Profile P) (asks : Asks A) → AsksNoChannels A asks → (p : P) (feed : Feed) → AllByRecursion AsksForNoChannel (asked_with A asks p feed)
-feed_none A asks none p (Gifts circumstances) = tt
-feed_none A asks none p (Learns circumstances news) = tt
-feed_none A asks none p (Receives own psm sdu) = tt
-feed_none A asks none p (Happens event v) = tt
-feed_none A asks none p (Sent v) = tt
-feed_none A asks none p (Steps v) = called_none (asks.call v p) (λ psm is. none v p psm is)
-
-feeds_none : {P : Type 0} (A : Profile P) (asks : Asks A) → AsksNoChannels A asks → (p : P) (feeds : List Feed) → AllByRecursion AsksForNoChannel (asked_from A asks p feeds)
-feeds_none A asks none p [] = tt
-feeds_none A asks none p (feed ∷ feeds) = all_both AsksForNoChannel (asked_with A asks p feed) (asked_from A asks (fed A p feed) feeds) (feed_none A asks none p feed) (feeds_none A asks none (fed A p feed) feeds)
-
-list_none : (list : List Occurrence) → AllByRecursion AsksForNoChannel (filter_map asked list) → AllByRecursion AsksForNoChannel list
-list_none [] none = tt
-list_none (Comes pdu ∷ list) none = (tt, list_none list none)
-list_none (Connects psm ∷ list) none = absurd none.0
-list_none (AsksFeatures ∷ list) none = (tt, list_none list none.1)
-list_none (Disconnects own ∷ list) none = (tt, list_none list none.1)
-list_none (Sends own sdu ∷ list) none = (tt, list_none list none.1)
-list_none (Gives pdu ∷ list) none = (tt, list_none list none)
-list_none (Fires ∷ list) none = (tt, list_none list none)
-list_none (Tells ∷ list) none = (tt, list_none list none)
-
-spans_none : (spans : List Span) → AllByRecursion AsksForNoChannel (flat_map (λ (span : Span). filter_map asked span.list) spans) → AllByRecursion (λ (span : Span). AllByRecursion AsksForNoChannel span.list) spans
-spans_none [] none = tt
-spans_none (span ∷ spans) none =
-    let rest = flat_map (λ (one : Span). filter_map asked one.list) spans in
-    (list_none span.list (all_left AsksForNoChannel (filter_map asked span.list) rest none), spans_none spans (all_right AsksForNoChannel (filter_map asked span.list) rest none))
+no_channels_asked : IsNeverAsked AsksForNoChannel
+no_channels_asked = (λ pdu. tt, λ pdu. tt, tt, tt)
 
 -- a server in particular
 pub asks-nothing : (settings : Settings) (content : Option Contents) → AsksNoChannels (server_profile settings content) (hosts_ask.servers settings content)
@@ -366,9 +377,29 @@ pub record AskNone (spans : List Span) (now : List Occurrence) : Type 0 where
 
 pub links-ask_none : {P : Type 0} (A : Profile P) (asks : Asks A) (marks : List Mark) (now : Host P) (lives : Lives A asks marks now) → AsksNoChannels A asks → AskNone lives.spans lives.now
 links-ask_none A asks marks now lives nothing =
-    let none = subst (AllByRecursion AsksForNoChannel) (sym lives.asked_are) (feeds_none A asks nothing A.first lives.feeds) in
+    let none = subst (AllByRecursion AsksForNoChannel) (sym lives.asked_are) (feeds_ask AsksForNoChannel no_channels_asked A asks (λ v p. called_none (asks.call v p) (λ psm is. nothing v p psm is)) A.first lives.feeds) in
     let past = flat_map (λ (span : Span). filter_map asked span.list) lives.spans in
-    record { before = spans_none lives.spans (all_left AsksForNoChannel past (filter_map asked lives.now) none); last = list_none lives.now (all_right AsksForNoChannel past (filter_map asked lives.now) none) }
+    record { before = spans_ask AsksForNoChannel no_channels_asked lives.spans (all_left AsksForNoChannel past (filter_map asked lives.now) none); last = list_asks AsksForNoChannel no_channels_asked lives.now (all_right AsksForNoChannel past (filter_map asked lives.now) none) }
+
+-- on each link
+on_each : (Q : Occurrence → Type 0) (spans : List Span) (now : List Occurrence) → AllByRecursion (λ (span : Span). AllByRecursion Q span.list) spans → AllByRecursion Q now → AllByRecursion (AllByRecursion Q) (map (λ (span : Span). span.list) spans ++ now ∷ [])
+on_each Q [] now before last = (last, tt)
+on_each Q (span ∷ spans) now before last = (before.0, on_each Q spans now before.1 last)
+
+lent_alone : (serving : ServerProfile) (call : Option Call) → ((one : Call) → call ≡ Some one → IsLent serving one) → AllByRecursion AsksForNothing (from_call call)
+lent_alone serving None lent = tt
+lent_alone serving (Some (Connect psm)) lent = absurd (lent (Connect psm) refl)
+lent_alone serving (Some AskFeatures) lent = absurd (lent AskFeatures refl)
+lent_alone serving (Some (Disconnect own)) lent = absurd (lent (Disconnect own) refl)
+lent_alone serving (Some (Send own sdu)) lent = (tt, tt)
+
+pub servers-ask_for_nothing : ServersAskForNothing
+servers-ask_for_nothing settings content asks marks host lives sends =
+    let A = server_profile settings content in
+    let never : IsNeverAsked AsksForNothing = (λ pdu. tt, λ pdu. tt, tt, tt) in
+    let all = subst (AllByRecursion AsksForNothing) (sym lives.asked_are) (feeds_ask AsksForNothing never A asks (λ v serving. lent_alone serving (asks.call v serving) (λ one is. sends v serving one is)) A.first lives.feeds) in
+    let past = flat_map (λ (span : Span). filter_map asked span.list) lives.spans in
+    on_each AsksForNothing lives.spans lives.now (spans_ask AsksForNothing never lives.spans (all_left AsksForNothing past (filter_map asked lives.now) all)) (list_asks AsksForNothing never lives.now (all_right AsksForNothing past (filter_map asked lives.now) all))
 
 pub servers-are_served_in_order : ServersAreServedInOrder
 servers-are_served_in_order settings content asks talk now so nothing sought whole =

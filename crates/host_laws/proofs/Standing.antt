@@ -1,5 +1,5 @@
 -- Where the push of a client stands, by what its host holds on its link: nothing at all where `Unheld`, one channel at most where `Single`, and
--- none that is only asked for where `Settled`.
+-- none that is only asked for where `Settled`; nor where `Told`, when it asked for the peer's features.
 use Rattle.std.proofs.Common.{◌≡◌, ℕ, Bool, true, false, eqb, ◌-◌, ◌&&◌, ◌||◌, not, bit_and, is_some, min, nat_lt, List, [], Option, Some, None, Result, Ok, Err, refl, sym, ap, subst, ◌∙◌, ◌⊎◌, inl, inr, if◌then◌else◌}
 use Rattle.std.proofs.lemmas.Bool.{and_parts}
 use Rattle.bt_base.specs.declared.ports.PortFault.{PortFault}
@@ -39,76 +39,86 @@ abbrev pub EndsSearch : (Settled : Type 0) → Option Outcome → Type 0
 EndsSearch Settled None = Settled
 EndsSearch Settled (Some outcome) = Unit {0}
 
-abbrev pub At : (Unheld Single Settled : Type 0) → Stage → Option Outcome → Type 0
-At Unheld Single Settled Rest cause = Unit {0}
-At Unheld Single Settled (Link point) cause = Unit {0}
-At Unheld Single Settled (SearchChannel Due) cause = Unheld
-At Unheld Single Settled (SearchChannel Asked) cause = Single
-At Unheld Single Settled Search cause = Settled
-At Unheld Single Settled (SearchEnd point) cause = EndsSearch Settled cause
-At Unheld Single Settled (Features point) cause = Settled
-At Unheld Single Settled (ObjectChannel Due) cause = Settled
-At Unheld Single Settled (ObjectChannel Asked) cause = Unit {0}
-At Unheld Single Settled Object cause = Unit {0}
-At Unheld Single Settled (ObjectEnd point) cause = Unit {0}
-At Unheld Single Settled (LinkEnd point) cause = Unit {0}
-At Unheld Single Settled Over cause = Unit {0}
+abbrev pub At : (Unheld Single Settled Told : Type 0) → Stage → Option Outcome → Type 0
+At Unheld Single Settled Told Rest cause = Unit {0}
+At Unheld Single Settled Told (Link point) cause = Unit {0}
+At Unheld Single Settled Told (SearchChannel Due) cause = Unheld
+At Unheld Single Settled Told (SearchChannel Asked) cause = Single
+At Unheld Single Settled Told Search cause = Settled
+At Unheld Single Settled Told (SearchEnd point) cause = EndsSearch Settled cause
+At Unheld Single Settled Told (Features Due) cause = Settled
+At Unheld Single Settled Told (Features Asked) cause = Told
+At Unheld Single Settled Told (ObjectChannel Due) cause = Told
+At Unheld Single Settled Told (ObjectChannel Asked) cause = Unit {0}
+At Unheld Single Settled Told Object cause = Unit {0}
+At Unheld Single Settled Told (ObjectEnd point) cause = Unit {0}
+At Unheld Single Settled Told (LinkEnd point) cause = Unit {0}
+At Unheld Single Settled Told Over cause = Unit {0}
 
 -- the channel of its object has a PSM for packets over its transport, once one is found
-pub record Stands (T : Transport) (Unheld Single Settled : Type 0) (client : Client) : Type 0 where
+pub record Stands (T : Transport) (Unheld Single Settled Told : Type 0) (client : Client) : Type 0 where
   pub direct : client.transport ≡ T
   pub named : may_name T client.psm ≡ true
-  pub at : At Unheld Single Settled client.stage client.cause
+  pub at : At Unheld Single Settled Told client.stage client.cause
 
 -- a step asks for a channel
-pub record Opening (T : Transport) (Unheld Settled : Type 0) (psm : ℕ) (client : Client) : Type 0 where
+pub record Opening (T : Transport) (Unheld Told : Type 0) (psm : ℕ) (client : Client) : Type 0 where
   pub direct : client.transport ≡ T
   pub named : may_name T client.psm ≡ true
-  pub how : (Unheld × (psm ≡ 0x0001) × (client.stage ≡ SearchChannel Asked)) ⊎ (Settled × (may_name T psm ≡ true) × (client.stage ≡ ObjectChannel Asked))
+  pub how : (Unheld × (psm ≡ 0x0001) × (client.stage ≡ SearchChannel Asked)) ⊎ (Told × (may_name T psm ≡ true) × (client.stage ≡ ObjectChannel Asked))
 
-abbrev pub StandsBehind : (T : Transport) (Unheld Single Settled : Type 0) → Step → Client → Type 0
-StandsBehind T Unheld Single Settled Wait client = Stands T Unheld Single Settled client
-StandsBehind T Unheld Single Settled MakeLink client = Stands T Unheld Single Settled client
-StandsBehind T Unheld Single Settled AskFeatures client = Stands T Unheld Single Settled client
-StandsBehind T Unheld Single Settled (OpenChannel psm) client = Opening T Unheld Settled psm client
-StandsBehind T Unheld Single Settled (SendSdu psm payload) client = Stands T Unheld Single Settled client
-StandsBehind T Unheld Single Settled (CloseChannel psm) client = Stands T Unheld Single Settled client
-StandsBehind T Unheld Single Settled BreakLink client = Stands T Unheld Single Settled client
-StandsBehind T Unheld Single Settled (Ended outcome) client = Stands T Unheld Single Settled client
-StandsBehind T Unheld Single Settled NoMemory client = Stands T Unheld Single Settled client
+-- a step asks for the peer's features
+pub record Questioning (T : Transport) (Settled : Type 0) (client : Client) : Type 0 where
+  pub direct : client.transport ≡ T
+  pub named : may_name T client.psm ≡ true
+  pub settled : Settled
+  pub stage_is : client.stage ≡ Features Asked
+
+abbrev pub StandsBehind : (T : Transport) (Unheld Single Settled Told : Type 0) → Step → Client → Type 0
+StandsBehind T Unheld Single Settled Told Wait client = Stands T Unheld Single Settled Told client
+StandsBehind T Unheld Single Settled Told MakeLink client = Stands T Unheld Single Settled Told client
+StandsBehind T Unheld Single Settled Told AskFeatures client = Questioning T Settled client
+StandsBehind T Unheld Single Settled Told (OpenChannel psm) client = Opening T Unheld Told psm client
+StandsBehind T Unheld Single Settled Told (SendSdu psm payload) client = Stands T Unheld Single Settled Told client
+StandsBehind T Unheld Single Settled Told (CloseChannel psm) client = Stands T Unheld Single Settled Told client
+StandsBehind T Unheld Single Settled Told BreakLink client = Stands T Unheld Single Settled Told client
+StandsBehind T Unheld Single Settled Told (Ended outcome) client = Stands T Unheld Single Settled Told client
+StandsBehind T Unheld Single Settled Told NoMemory client = Stands T Unheld Single Settled Told client
 
 -- where all may be, and where one level leads to another
-pub at-each : (Unheld Single Settled Unheld' Single' Settled' : Type 0) → (Unheld → Unheld') → (Single → Single') → (Settled → Settled') → (stage : Stage) (cause : Option Outcome) → At Unheld Single Settled stage cause → At Unheld' Single' Settled' stage cause
-at-each Unheld Single Settled Unheld' Single' Settled' u o n Rest cause at = tt
-at-each Unheld Single Settled Unheld' Single' Settled' u o n (Link point) cause at = tt
-at-each Unheld Single Settled Unheld' Single' Settled' u o n (SearchChannel Due) cause at = u at
-at-each Unheld Single Settled Unheld' Single' Settled' u o n (SearchChannel Asked) cause at = o at
-at-each Unheld Single Settled Unheld' Single' Settled' u o n Search cause at = n at
-at-each Unheld Single Settled Unheld' Single' Settled' u o n (SearchEnd point) None at = n at
-at-each Unheld Single Settled Unheld' Single' Settled' u o n (SearchEnd point) (Some outcome) at = tt
-at-each Unheld Single Settled Unheld' Single' Settled' u o n (Features point) cause at = n at
-at-each Unheld Single Settled Unheld' Single' Settled' u o n (ObjectChannel Due) cause at = n at
-at-each Unheld Single Settled Unheld' Single' Settled' u o n (ObjectChannel Asked) cause at = tt
-at-each Unheld Single Settled Unheld' Single' Settled' u o n Object cause at = tt
-at-each Unheld Single Settled Unheld' Single' Settled' u o n (ObjectEnd point) cause at = tt
-at-each Unheld Single Settled Unheld' Single' Settled' u o n (LinkEnd point) cause at = tt
-at-each Unheld Single Settled Unheld' Single' Settled' u o n Over cause at = tt
+pub at-each : (Unheld Single Settled Told Unheld' Single' Settled' Told' : Type 0) → (Unheld → Unheld') → (Single → Single') → (Settled → Settled') → (Told → Told') → (stage : Stage) (cause : Option Outcome) → At Unheld Single Settled Told stage cause → At Unheld' Single' Settled' Told' stage cause
+at-each Unheld Single Settled Told Unheld' Single' Settled' Told' u o n t Rest cause at = tt
+at-each Unheld Single Settled Told Unheld' Single' Settled' Told' u o n t (Link point) cause at = tt
+at-each Unheld Single Settled Told Unheld' Single' Settled' Told' u o n t (SearchChannel Due) cause at = u at
+at-each Unheld Single Settled Told Unheld' Single' Settled' Told' u o n t (SearchChannel Asked) cause at = o at
+at-each Unheld Single Settled Told Unheld' Single' Settled' Told' u o n t Search cause at = n at
+at-each Unheld Single Settled Told Unheld' Single' Settled' Told' u o n t (SearchEnd point) None at = n at
+at-each Unheld Single Settled Told Unheld' Single' Settled' Told' u o n t (SearchEnd point) (Some outcome) at = tt
+at-each Unheld Single Settled Told Unheld' Single' Settled' Told' u o n t (Features Due) cause at = n at
+at-each Unheld Single Settled Told Unheld' Single' Settled' Told' u o n t (Features Asked) cause at = t at
+at-each Unheld Single Settled Told Unheld' Single' Settled' Told' u o n t (ObjectChannel Due) cause at = t at
+at-each Unheld Single Settled Told Unheld' Single' Settled' Told' u o n t (ObjectChannel Asked) cause at = tt
+at-each Unheld Single Settled Told Unheld' Single' Settled' Told' u o n t Object cause at = tt
+at-each Unheld Single Settled Told Unheld' Single' Settled' Told' u o n t (ObjectEnd point) cause at = tt
+at-each Unheld Single Settled Told Unheld' Single' Settled' Told' u o n t (LinkEnd point) cause at = tt
+at-each Unheld Single Settled Told Unheld' Single' Settled' Told' u o n t Over cause at = tt
 
-pub at-all : (Unheld Single Settled : Type 0) → Unheld → Single → Settled → (stage : Stage) (cause : Option Outcome) → At Unheld Single Settled stage cause
-at-all Unheld Single Settled u o n Rest cause = tt
-at-all Unheld Single Settled u o n (Link point) cause = tt
-at-all Unheld Single Settled u o n (SearchChannel Due) cause = u
-at-all Unheld Single Settled u o n (SearchChannel Asked) cause = o
-at-all Unheld Single Settled u o n Search cause = n
-at-all Unheld Single Settled u o n (SearchEnd point) None = n
-at-all Unheld Single Settled u o n (SearchEnd point) (Some outcome) = tt
-at-all Unheld Single Settled u o n (Features point) cause = n
-at-all Unheld Single Settled u o n (ObjectChannel Due) cause = n
-at-all Unheld Single Settled u o n (ObjectChannel Asked) cause = tt
-at-all Unheld Single Settled u o n Object cause = tt
-at-all Unheld Single Settled u o n (ObjectEnd point) cause = tt
-at-all Unheld Single Settled u o n (LinkEnd point) cause = tt
-at-all Unheld Single Settled u o n Over cause = tt
+pub at-all : (Unheld Single Settled Told : Type 0) → Unheld → Single → Settled → Told → (stage : Stage) (cause : Option Outcome) → At Unheld Single Settled Told stage cause
+at-all Unheld Single Settled Told u o n t Rest cause = tt
+at-all Unheld Single Settled Told u o n t (Link point) cause = tt
+at-all Unheld Single Settled Told u o n t (SearchChannel Due) cause = u
+at-all Unheld Single Settled Told u o n t (SearchChannel Asked) cause = o
+at-all Unheld Single Settled Told u o n t Search cause = n
+at-all Unheld Single Settled Told u o n t (SearchEnd point) None = n
+at-all Unheld Single Settled Told u o n t (SearchEnd point) (Some outcome) = tt
+at-all Unheld Single Settled Told u o n t (Features Due) cause = n
+at-all Unheld Single Settled Told u o n t (Features Asked) cause = t
+at-all Unheld Single Settled Told u o n t (ObjectChannel Due) cause = t
+at-all Unheld Single Settled Told u o n t (ObjectChannel Asked) cause = tt
+at-all Unheld Single Settled Told u o n t Object cause = tt
+at-all Unheld Single Settled Told u o n t (ObjectEnd point) cause = tt
+at-all Unheld Single Settled Told u o n t (LinkEnd point) cause = tt
+at-all Unheld Single Settled Told u o n t Over cause = tt
 
 -- a service over L2CAP has a PSM of its own
 other_psm : (psm : ℕ) → is_service_psm psm ≡ true → may_name L2cap psm ≡ true
@@ -118,13 +128,13 @@ other_psm psm is = off (eqb psm 0x0001) (not (eqb psm 0x0003)) (and_parts (not (
     off true b is = refl
     off false b is = is
 
-module _ (T : Transport) (Unheld Single Settled : Type 0) where
+module _ (T : Transport) (Unheld Single Settled Told : Type 0) (settles : Settled → Told) where
   abbrev So : Client → Type 0
-  So client = Stands T Unheld Single Settled client
+  So client = Stands T Unheld Single Settled Told client
 
   -- ---- an end
 
-  once_at : (stage : Stage) (cause : Option Outcome) → At Unheld Single Settled (at_once stage) cause
+  once_at : (stage : Stage) (cause : Option Outcome) → At Unheld Single Settled Told (at_once stage) cause
   once_at Rest cause = tt
   once_at (Link Due) cause = tt
   once_at (Link Asked) cause = tt
@@ -138,7 +148,7 @@ module _ (T : Transport) (Unheld Single Settled : Type 0) where
   once_at (LinkEnd point) cause = tt
   once_at Over cause = tt
 
-  order_at : (stage : Stage) (o : Outcome) → At Unheld Single Settled (in_order stage) (Some o)
+  order_at : (stage : Stage) (o : Outcome) → At Unheld Single Settled Told (in_order stage) (Some o)
   order_at Rest o = tt
   order_at (Link Due) o = tt
   order_at (Link Asked) o = tt
@@ -154,7 +164,7 @@ module _ (T : Transport) (Unheld Single Settled : Type 0) where
   order_at (LinkEnd point) o = tt
   order_at Over o = tt
 
-  ending_at : (ending : Ending) (stage : Stage) (o : Outcome) → At Unheld Single Settled (stage_after ending stage) (Some o)
+  ending_at : (ending : Ending) (stage : Stage) (o : Outcome) → At Unheld Single Settled Told (stage_after ending stage) (Some o)
   ending_at InOrder stage o = order_at stage o
   ending_at AtOnce stage o = once_at stage (Some o)
 
@@ -209,7 +219,7 @@ module _ (T : Transport) (Unheld Single Settled : Type 0) where
   object_opens L2cap mtu client s = either So (nat_lt mtu 255) (ends small_channel client) (record client { stage = Object; limit = min mtu 32767 }) (ends_stand small_channel client s) (record { direct = s.direct; named = s.named; at = tt })
   object_opens Rfcomm mtu client s = record { direct = s.direct; named = s.named; at = tt }
 
-  opened_stands : (Single → Settled) → (stage : Stage) (psm mtu : ℕ) (client : Client) → At Unheld Single Settled stage client.cause → So client → So (events.opened_at stage psm mtu client)
+  opened_stands : (Single → Settled) → (stage : Stage) (psm mtu : ℕ) (client : Client) → At Unheld Single Settled Told stage client.cause → So client → So (events.opened_at stage psm mtu client)
   opened_stands one (SearchChannel Asked) psm mtu client at s = either So (eqb psm events.search_psm) (record client { stage = Search }) client (record { direct = s.direct; named = s.named; at = one at }) s
   opened_stands one (ObjectChannel Asked) psm mtu client at s = either So (eqb psm client.psm) (events.object_opened client.transport mtu client) client (object_opens client.transport mtu client s) s
   opened_stands one Rest psm mtu client at s = s
@@ -224,9 +234,9 @@ module _ (T : Transport) (Unheld Single Settled : Type 0) where
   opened_stands one (LinkEnd point) psm mtu client at s = s
   opened_stands one Over psm mtu client at s = s
 
-  behind_at : (t : Transport) (cause : Option Outcome) → Settled → At Unheld Single Settled (events.stage_behind t) cause
+  behind_at : (t : Transport) (cause : Option Outcome) → Settled → At Unheld Single Settled Told (events.stage_behind t) cause
   behind_at L2cap cause none = none
-  behind_at Rfcomm cause none = none
+  behind_at Rfcomm cause none = settles none
 
   left_stands : (cause : Option Outcome) (client : Client) → EndsSearch Settled cause → So client → So (events.search_left cause client)
   left_stands None client at s = record { direct = s.direct; named = s.named; at = behind_at client.transport client.cause at }
@@ -236,7 +246,7 @@ module _ (T : Transport) (Unheld Single Settled : Type 0) where
   search_closed_stands None client at s = left_stands client.cause client at s
   search_closed_stands (Some o) client at s = ends_stand o client s
 
-  closed_stands : (stage : Stage) (psm : ℕ) (cause : CloseCause) (client : Client) → At Unheld Single Settled stage client.cause → So client → So (events.closed_at stage psm cause client)
+  closed_stands : (stage : Stage) (psm : ℕ) (cause : CloseCause) (client : Client) → At Unheld Single Settled Told stage client.cause → So client → So (events.closed_at stage psm cause client)
   closed_stands (SearchChannel Asked) psm cause client at s = either So (eqb psm events.search_psm) (ends_if (cause_of_close cause) client) client (ends_if_stand (cause_of_close cause) client s) s
   closed_stands Search psm cause client at s = either So (eqb psm events.search_psm) (ends_if (cause_of_close cause) client) client (ends_if_stand (cause_of_close cause) client s) s
   closed_stands (SearchEnd point) psm cause client at s = either So (eqb psm events.search_psm) (events.search_closed (cause_of_close cause) client) client (search_closed_stands (cause_of_close cause) client at s) s
@@ -251,7 +261,7 @@ module _ (T : Transport) (Unheld Single Settled : Type 0) where
   closed_stands (LinkEnd point) psm cause client at s = s
   closed_stands Over psm cause client at s = s
 
-  told_stands : (stage : Stage) (client : Client) → At Unheld Single Settled stage client.cause → So client → So (if events.is_asking_features stage then record client { stage = ObjectChannel Due } else client)
+  told_stands : (stage : Stage) (client : Client) → At Unheld Single Settled Told stage client.cause → So client → So (if events.is_asking_features stage then record client { stage = ObjectChannel Due } else client)
   told_stands (Features Asked) client at s = record { direct = s.direct; named = s.named; at = at }
   told_stands (Features Due) client at s = s
   told_stands Rest client at s = s
@@ -309,7 +319,7 @@ module _ (T : Transport) (Unheld Single Settled : Type 0) where
   finds_stand NoService client none s = ends_stand outcomes.NoService client s
   finds_stand (Refused reason) client none s = ends_if_stand (cause_of_query reason) client s
 
-  late_at : (stage : Stage) (cause : Option Outcome) → IsLate stage → At Unheld Single Settled stage cause
+  late_at : (stage : Stage) (cause : Option Outcome) → IsLate stage → At Unheld Single Settled Told stage cause
   late_at Object cause late = tt
   late_at (ObjectEnd point) cause late = tt
   late_at (LinkEnd point) cause late = tt
@@ -331,7 +341,7 @@ module _ (T : Transport) (Unheld Single Settled : Type 0) where
   outside_stands L2cap client s = ends_stand unawaited_response client s
   outside_stands Rfcomm client s = s
 
-  sdu_stands : (stage : Stage) (psm : ℕ) (sdu : List ℕ) (client : Client) → stage ≡ client.stage → At Unheld Single Settled stage client.cause → So client → So (events.sdu_at stage psm sdu client)
+  sdu_stands : (stage : Stage) (psm : ℕ) (sdu : List ℕ) (client : Client) → stage ≡ client.stage → At Unheld Single Settled Told stage client.cause → So client → So (events.sdu_at stage psm sdu client)
   sdu_stands Search psm sdu client is at s =
       let asked : Client = record client { query = after_reply client.query sdu } in
       either So (eqb psm events.search_psm) (events.hears_reply sdu client) client (finds_stand (found_at client.query sdu) asked at (record { direct = s.direct; named = s.named; at = s.at })) s
@@ -370,16 +380,16 @@ module _ (T : Transport) (Unheld Single Settled : Type 0) where
   -- ---- steps
 
   abbrev Behind : Stepped → Type 0
-  Behind one = StandsBehind T Unheld Single Settled one.step one.client
+  Behind one = StandsBehind T Unheld Single Settled Told one.step one.client
 
   one_of : (test : Bool) (a b : Stepped) → Behind a → Behind b → Behind (if test then a else b)
   one_of true a b x y = x
   one_of false a b x y = y
 
-  quiet_behind : (step : Step) (client : Client) → way_in step ≡ [] → So client → StandsBehind T Unheld Single Settled step client
+  quiet_behind : (step : Step) (client : Client) → way_in step ≡ [] → So client → StandsBehind T Unheld Single Settled Told step client
   quiet_behind Wait client none s = s
   quiet_behind MakeLink client none s = s
-  quiet_behind AskFeatures client none s = s
+  quiet_behind AskFeatures client none s = cc
   quiet_behind (OpenChannel psm) client none s = cc
   quiet_behind (SendSdu psm payload) client none s = s
   quiet_behind (CloseChannel psm) client none s = s
@@ -391,7 +401,7 @@ module _ (T : Transport) (Unheld Single Settled : Type 0) where
   tells_behind None client parts s = s
   tells_behind (Some outcome) client parts s = record { direct = s.direct; named = s.named; at = tt }
 
-  at_behind : (stage : Stage) (client : Client) (parts : List Part) → stage ≡ client.stage → At Unheld Single Settled stage client.cause → So client → Behind (steps_at stage client parts)
+  at_behind : (stage : Stage) (client : Client) (parts : List Part) → stage ≡ client.stage → At Unheld Single Settled Told stage client.cause → So client → Behind (steps_at stage client parts)
   at_behind Rest client parts is at s = s
   at_behind (Link Due) client parts is at s = record { direct = s.direct; named = s.named; at = tt }
   at_behind (Link Asked) client parts is at s = s
@@ -402,7 +412,7 @@ module _ (T : Transport) (Unheld Single Settled : Type 0) where
       one_of (is_due client.query) (sends_sdu events.search_psm (Octets (request_octets client.query)) asked parts) (rests client parts) (record { direct = s.direct; named = s.named; at = s.at }) s
   at_behind (SearchEnd Due) client parts is at s = record { direct = s.direct; named = s.named; at = at }
   at_behind (SearchEnd Asked) client parts is at s = s
-  at_behind (Features Due) client parts is at s = record { direct = s.direct; named = s.named; at = at }
+  at_behind (Features Due) client parts is at s = record { direct = s.direct; named = s.named; settled = at; stage_is = refl }
   at_behind (Features Asked) client parts is at s = s
   at_behind (ObjectChannel Due) client parts is at s = record { direct = s.direct; named = s.named; how = inr (at, s.named, refl) }
   at_behind (ObjectChannel Asked) client parts is at s = s
@@ -420,7 +430,7 @@ module _ (T : Transport) (Unheld Single Settled : Type 0) where
       one_of client.failed (record { client = client; step = NoMemory; left = parts }) (if client.given then rests client parts else steps_at client.stage client parts) s
       (one_of client.given (rests client parts) (steps_at client.stage client parts) s (at_behind client.stage client parts refl s.at s))
 
-  end_stands : (step : Step) (after before : Client) → StandsBehind T Unheld Single Settled step after → So before → So (after_end step after before)
+  end_stands : (step : Step) (after before : Client) → StandsBehind T Unheld Single Settled Told step after → So before → So (after_end step after before)
   end_stands Wait after before behind s = s
   end_stands MakeLink after before behind s = s
   end_stands AskFeatures after before behind s = s

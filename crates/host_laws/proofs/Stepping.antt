@@ -19,7 +19,7 @@ closed_is : (found : Option ℕ) → closes_on found ≡ closed_call found
 closed_is None = refl
 closed_is (Some own) = refl
 
-asked_is : (step : Step) (v : Channels) (after : ClientProfile) → asked step v after ≡ step_call step v after
+pub asked_is : (step : Step) (v : Channels) (after : ClientProfile) → asked step v after ≡ step_call step v after
 asked_is Wait v after = refl
 asked_is MakeLink v after = refl
 asked_is AskFeatures v after = refl
@@ -30,7 +30,7 @@ asked_is BreakLink v after = refl
 asked_is (Ended outcome) v after = refl
 asked_is NoMemory v after = refl
 
-clients_step : (settings : Settings) → AsksAsItSteps settings (hosts_ask.clients settings)
+pub clients_step : (settings : Settings) → AsksAsItSteps settings (hosts_ask.clients settings)
 clients_step settings v pushing = let one = steps pushing.client (fitted pushing) in hosts-call settings v pushing ∙ asked_is one.step v (record pushing { client = one.client; parts = unused one.left pushing.parts })
 
 pub hosts_ask_as_they_step : HostsAskAsTheyStep

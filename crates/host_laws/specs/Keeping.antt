@@ -1,7 +1,7 @@
 -- What hosts give up they are told; and servers that give up no request while their link goes on, and wait for no services (Core 5.1, Volume 3
 -- Part A, 4.6 and 6.2; Part B, 4.2).
 use Rattle.std.specs.Prelude.{◌≡◌, Bool, true, false, List, [], Option, Some, None}
-use Rattle.std.specs.List.{list_any}
+use Rattle.std.specs.List.{AllByRecursion, list_any}
 use Rattle.bt_base.specs.declared.settings.Settings.{Settings}
 use Rattle.bt_base.specs.Objects.{Contents}
 use Rattle.capture.specs.Histories.{EachAfter}
@@ -24,7 +24,7 @@ use Rattle.host_model.specs.Servers.{ServerProfile, server_profile}
 use Rattle.host_laws.specs.Armed.{AwaitsServices}
 use Rattle.host_laws.specs.Calls.{Call, Connect, AskFeatures, Disconnect, Send, Asks, HostsAsk}
 use Rattle.host_laws.specs.Leaving.{is_off}
-use Rattle.host_laws.specs.Lives.{Mark, Lives}
+use Rattle.host_laws.specs.Lives.{Mark, Lives, on_links}
 use Rattle.host_laws.specs.Seen.{spoken_of}
 use Rattle.host_laws.specs.Woven.{Woven}
 
@@ -108,6 +108,22 @@ pub record ServersSendAsTheyLend : Type 0 where
   pub sends : (settings : Settings) (content : Option Contents) → SendsAsItLends settings content (asks.servers settings content)
 
 -- ---- the laws
+
+-- On none of its links it asks for a channel, for its peer's features, or for the end of a channel: what requests it makes follow from those of its peer, and
+-- from what fails.
+abbrev pub AsksForNothing : Occurrence → Type 0
+AsksForNothing (Comes pdu) = Unit {0}
+AsksForNothing (Connects psm) = ⊥
+AsksForNothing AsksFeatures = ⊥
+AsksForNothing (Disconnects own) = ⊥
+AsksForNothing (Sends own sdu) = Unit {0}
+AsksForNothing (Gives pdu) = Unit {0}
+AsksForNothing Fires = Unit {0}
+AsksForNothing Tells = Unit {0}
+
+abbrev pub ServersAskForNothing : Type 0
+ServersAskForNothing = (settings : Settings) (content : Option Contents) (asks : Asks (server_profile settings content)) (marks : List Mark) (host : Host ServerProfile) (lives : Lives (server_profile settings content) asks marks host)
+    → SendsAsItLends settings content asks → AllByRecursion (AllByRecursion AsksForNothing) (on_links (server_profile settings content) asks marks host lives)
 
 -- What a server gives up is the end of a channel that it closed, and then it ends its link: so where it does not, it gave up nothing.
 abbrev pub ServersKeepOn : Type 0

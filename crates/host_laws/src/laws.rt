@@ -11,7 +11,7 @@ ghost use Rattle.host_laws.specs.Gaining.{HostsGainTalk};
 ghost use Rattle.host_laws.specs.GainingOver.{HostsGainOverLinks, HostsReadOverLinks};
 ghost use Rattle.host_laws.specs.InOrder.{ClientsCallInOrder, ServersAreServedInOrder, ServersAskNothing};
 ghost use Rattle.host_laws.specs.Fed.{HostsTalkFed};
-ghost use Rattle.host_laws.specs.Keeping.{ClientsKeepOn, LossesAreTold, ServersAwaitNothing, ServersKeepOn, ServersSendAsTheyLend};
+ghost use Rattle.host_laws.specs.Keeping.{ClientsKeepOn, LossesAreTold, ServersAskForNothing, ServersAwaitNothing, ServersKeepOn, ServersSendAsTheyLend};
 ghost use Rattle.host_laws.specs.Leaving.{LeavesAtLosses};
 ghost use Rattle.host_laws.specs.Lives.{HostsRun};
 ghost use Rattle.host_laws.specs.Memory.{ClientsHaveMemory};
@@ -203,6 +203,11 @@ pub fn hosts_gain_by_carriers()
     ensures { HostsGainByCarriers }
 {}
 
+/// A server that sends what it lends, and does nothing else, asks on none of its links for a channel, for its peer's features, or for the end of a channel.
+pub fn servers_ask_for_nothing()
+    ensures { ServersAskForNothing }
+{}
+
 /// A server asks for no channel.
 pub fn servers_ask_nothing()
     ensures { ServersAskNothing }
@@ -221,7 +226,7 @@ pub fn clients_call_in_order()
 {}
 
 /// A client asks for its next channel when no other one is only asked for: for that of service discovery, and for one besides on each link. Over
-/// RFCOMM that is the channel of its multiplexer, and over L2CAP it is not RFCOMM's.
+/// RFCOMM that is the channel of its multiplexer, and over L2CAP it is not RFCOMM's. And so few are its requests that their identifiers do not come round.
 pub fn clients_ask_in_order()
     ensures { ClientsAskInOrder }
 {}

@@ -1,3 +1,4 @@
 pub mod Keeping
 pub mod Granting
 pub mod Owning
+pub mod Spending

@@ -2,6 +2,7 @@
 #![tactic(auto)]
 
 ghost use Rattle.inbox_laws.specs.Owned.{GrantedRunsAreGranted, OwnRestsAreRests, OwnRunsAreRuns};
+ghost use Rattle.inbox_laws.specs.Spending.{GivesWhatIsLeft, SpendsWhatIsGiven};
 
 /// What happens to both hosts, where the server keeps the answers of its inbox from its first moment on and uses them up one by one, happens
 /// where it is given them with each thing that it hears.
@@ -17,4 +18,15 @@ pub fn own_rests_are_rests()
 /// Where all answers that it keeps are grants, it happens to a server whose inbox grants whatever it is asked.
 pub fn granted_runs_are_granted()
     ensures { GrantedRunsAreGranted }
+{}
+
+/// Where a server is given all answers of its inbox with the first thing that it hears, and then what is left of them, its calls use up no more faults than
+/// there are in that list.
+pub fn spends_what_is_given()
+    ensures { SpendsWhatIsGiven }
+{}
+
+/// And where none of those answers is want of memory, none that it is given is.
+pub fn gives_what_is_left()
+    ensures { GivesWhatIsLeft }
 {}

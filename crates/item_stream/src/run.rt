@@ -54,7 +54,8 @@ fn tell_held<T: Teller>(
     ensures { IfOk result (TellsAll T.has_told T.finds teller.old teller.new held.old.items held.new.items text.old.items text.new.items) }
 {
     let (used, front) = tell_items(teller, held, text)?;
-    let _told_of = held.drain(..used);
+    held.copy_within(used.., 0);
+    held.truncate(held.len() - used);
     Ok(front)
 }
 

@@ -15,9 +15,11 @@ use Rattle.link_talk.specs.Captures.{objects_heard}
 use Rattle.h4_view.specs.declared.refusal.ViewFault.{ViewFault}
 use Rattle.h4_view.specs.declared.refusal.ViewFault.TheVariants.{Refused, ReadFault, WriteFault, NoMemory}
 use Rattle.h4_view.specs.View.{IsOfSink}
+use Rattle.h4_view.specs.Keeping.{of_side}
 use Rattle.h4_view.specs.Tagged.{IsTaggedView, TaggedViews, tagged_lines}
 use Rattle.object_lines.specs.Lines.{viewed, lines_of, object_lines}
 use Rattle.object_lines.specs.Viewing.{FrontOfAll, CaptureViews}
+use Rattle.object_lines.proofs.Hearing.{hear_by_their_own, own_capture}
 
 ok_err : {X Y : Type 0} {x : X} {y : Y} → Ok x ≡ Err y → ⊥
 ok_err {X} {Y} {x} {y} e = cc
@@ -66,8 +68,12 @@ pub written_views : (input : List ℕ) (left old mid new : Option (List ℕ)) (t
 written_views input left old mid new text (Ok done) views lines ok front is = ok_views input left old mid new text views lines ok
 written_views input left old mid new text (Err fault) views lines ok front is = err_views input left old mid new text fault views lines front is
 
+-- the lines of the packets of host b are those of all
+lines_of_own : (input octets text : List ℕ) (entries : List Entry) → IsCapture input entries → octets ≡ capture_octets (of_side sides.B entries) → ((own : List Entry) → IsCapture octets own → text ≡ object_lines own) → text ≡ object_lines entries
+lines_of_own input octets text entries capture kept lines = lines (of_side sides.B entries) (own_capture sides.B octets entries capture.each kept) ∙ ap lines_of (hear_by_their_own viewed sides.B entries)
+
 -- the text that was made of the octets kept is that of the input
-pub kept_views : (input octets : List ℕ) (left old mid new : Option (List ℕ)) (text : List ℕ) (result : Result (Unit {0}) ViewFault) → TaggedViews input left old mid (Ok tt) → octets ≡ input → ((entries : List Entry) → IsCapture octets entries → text ≡ object_lines entries) → OnOk result (new ≡ gained mid text)
-    → GainedFront mid new text → IfErr result IsOfSink → CaptureViews input left old new result
+pub kept_views : (input octets : List ℕ) (left old mid new : Option (List ℕ)) (text : List ℕ) (result : Result (Unit {0}) ViewFault) → TaggedViews input left old mid (Ok tt) → ((entries : List Entry) → IsCapture input entries → octets ≡ capture_octets (of_side sides.B entries))
+    → ((entries : List Entry) → IsCapture octets entries → text ≡ object_lines entries) → OnOk result (new ≡ gained mid text) → GainedFront mid new text → IfErr result IsOfSink → CaptureViews input left old new result
 kept_views input octets left old mid new text result views kept lines ok front is =
-    written_views input left old mid new text result views (λ entries capture. lines entries (subst (λ (o : List ℕ). IsCapture o entries) (sym kept) capture)) ok front is
+    written_views input left old mid new text result views (λ entries capture. lines_of_own input octets text entries capture (kept entries capture) lines) ok front is

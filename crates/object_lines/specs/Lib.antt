@@ -1,3 +1,4 @@
 pub mod Lines
 pub mod Viewing
 pub mod Alone
+pub mod Laws

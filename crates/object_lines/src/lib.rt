@@ -2,6 +2,7 @@
 #![tactic(auto)]
 
 mod alone;
+pub mod laws;
 mod line;
 mod objects;
 mod viewing;

@@ -46,11 +46,11 @@ pub fn view_tagged<S: Source, K: Sink>(
     ensures source_short { IsAnswered (S.shortages source.old) (S.shortages source.new) (IsErrOf result ViewFault.NoMemory) }
     ensures sink_short { IsAnswered (K.shortages sink.old) (K.shortages sink.new) (IsErrOf result ViewFault.NoMemory) }
 {
-    let octets = match view_entries(alloc, source, sink) {
-        Ok(octets) => octets,
+    let of_b = match view_entries(alloc, source, sink) {
+        Ok(of_b) => of_b,
         Err(fault) => return Err(fault),
     };
-    let Ok(text) = object_lines(alloc, &octets) else {
+    let Ok(text) = object_lines(alloc, &of_b) else {
         return Err(ViewFault::NoMemory);
     };
     write_text(sink, &text)

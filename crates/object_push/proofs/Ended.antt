@@ -2,6 +2,7 @@
 use Rattle.std.proofs.Common.{◌≡◌, ℕ, ◌≤◌, Bool, true, false, cond, List, [], ◌∷◌, ◌++◌, length, Option, unwrap_or, inl, refl, sym, ap, subst, ◌∙◌, arith}
 use Rattle.std.proofs.lemmas.List.{append-nil}
 use Rattle.std.proofs.lemmas.Grind.{flat_map-append}
+use Rattle.std.specs.List.{AllByRecursion}
 use Rattle.bt_base.specs.Objects.{Object, Contents}
 use Rattle.bt_base.specs.Streams.{gained, GainedFront}
 use Rattle.bt_base.proofs.PortLaws.{gained-gained, front_whole}
@@ -10,7 +11,7 @@ use Rattle.push_terms.specs.declared.outcome.Outcome.{Outcome}
 use Rattle.push_terms.specs.declared.outcome.Outcome.TheVariants.{ScriptEnded}
 use Rattle.push_terms.specs.declared.peaks.Peaks.{Peaks}
 use Rattle.push_terms.specs.declared.word.Word.{Word}
-use Rattle.capture.specs.Entries.{Entry, Ended, entry_octets, capture_octets}
+use Rattle.capture.specs.Entries.{Entry, Ended, entry_octets, capture_octets, IsEntry}
 use Rattle.world_model.specs.Pushes.{Pushes}
 use Rattle.world_model.specs.Worlds.{all_entries, all_words}
 use Rattle.radio_world.specs.Standing.{last_entries}
@@ -42,9 +43,12 @@ broken_at_end scenario shelf before after trace trace' outcomes peaks Lacked Nev
       next = ran.ends;
       few = subst (λ (es : List Entry). length es ≤ 1) (sym played.ends) (few_last ((client_of scenario).outcome ran.world.a.upper) ran.world.pushes);
       ran = record { happenings = ran.happenings; world = ran.world; happened = ran.happened; ends = ran.ends; last = ran.last; capture_is = refl };
+      more = [];
+      goes_on = sym (append-nil ran.happenings);
       later = [];
       words_are = sym played.finished.words_are ∙ sym (append-nil (all_words ran.happenings));
       written = written_behind trace trace' (all_entries ran.happenings) ran.ends played.capture ran.capture_is played.written;
+      entries_are = subst (λ (es : List Entry). AllByRecursion IsEntry es) ran.capture_is played.entries_are;
       held = (played.held, played.held);
       granted = λ never. (played.granted never, played.granted never);
       stored = inl played.stored;

@@ -8,3 +8,4 @@ pub mod Taking
 mod Gaining
 pub mod Keeping
 pub mod Streaming
+pub mod Telling

@@ -1,9 +1,11 @@
 -- What a run of a scenario over RFCOMM comes to.
 use Rattle.std.proofs.Common.{◌≡◌, ℕ, List, Option, subst}
+use Rattle.bt_base.specs.Counts.{HasRisen}
 use Rattle.bt_base.specs.Objects.{Object, Contents}
 use Rattle.bt_base.specs.declared.settings.Transport.TheVariants.{Rfcomm}
 use Rattle.push_script.specs.declared.scenario.Scenario.{Scenario}
 use Rattle.scenario_laws.specs.Gains.{holding}
+use Rattle.scenario_play.specs.Breaking.{IsBroken}
 use Rattle.scenario_play.specs.Playing.{IsPlayed}
 use Rattle.scenario_play.specs.Streaming.{PlaysStream}
 use Rattle.scenario_play.proofs.Streamed.{plays_stream}
@@ -24,7 +26,10 @@ streams_from law scenario before old new result held muxed (RanToEnd outcomes ke
     let so = law.plays scenario old.shelf.content before new.inbox.content old.trace.content new.trace.content outcomes peaks old.inbox.faults new.inbox.faults old.inbox.shortages new.inbox.shortages over muxed in
     let more : Gains (holding before) kept new.inbox.content = subst (λ (c : Option Contents). Gains c kept new.inbox.content) held gains in
     record { played = over; streams = so; counted = λ have. counted before _ kept new.inbox.content more (so.gained have) }
-streams_from law scenario before old new result held muxed (RanShort fault is stops broken grows silent) = tt
+streams_from law scenario before old new result held muxed (RanShort fault is stops broken grows silent) =
+    let over : IsBroken scenario old.shelf.content (holding before) new.inbox.content old.trace.content new.trace.content (HasRisen old.inbox.shortages new.inbox.shortages) (InboxNever old new) =
+    subst (λ (c : Option Contents). IsBroken scenario old.shelf.content c new.inbox.content old.trace.content new.trace.content (HasRisen old.inbox.shortages new.inbox.shortages) (InboxNever old new)) held broken in
+    record { broken = over; streams = law.breaks scenario old.shelf.content before new.inbox.content old.trace.content new.trace.content old.inbox.faults new.inbox.faults old.inbox.shortages new.inbox.shortages over muxed }
 
 pub runs_stream : RunsStream
 runs_stream = record { asks = plays_stream.asks; streams = streams_from plays_stream }

@@ -7,3 +7,4 @@ pub mod Pushing
 pub mod Gaining
 pub mod Keeping
 pub mod Streaming
+pub mod Told

@@ -3,6 +3,7 @@
 ghost use Rattle.object_push.specs.Gaining.{RunsGain};
 ghost use Rattle.object_push.specs.Keeping.{RunsKeep};
 ghost use Rattle.object_push.specs.Streaming.{RunsStream};
+ghost use Rattle.object_push.specs.Told.{RunsTell};
 
 /// What is so of each run of a scenario over L2CAP, over its ports and its capture alone: what the inbox gained and how many objects the report
 /// counts, the accounts of both hosts, the pushes and their outcomes, and that the air obeyed the script; where it stopped short, as far as it
@@ -18,8 +19,16 @@ pub fn runs_keep()
     ensures { RunsKeep }
 {}
 
-/// What is so besides of each run of a scenario over RFCOMM that was played to its end, with an inbox that tells what it holds: where its ports
-/// answered, no request was ignored, the inbox gained exactly what the capture spells, and the report counts these objects.
+/// What is so besides of each run of a scenario over RFCOMM, with an inbox that tells what it holds: where the inbox granted all calls, as it did where no
+/// count of it rose, no request was ignored, the inbox gained exactly what the capture spells, and the report counts these objects; where it stopped short,
+/// as far as it came.
 pub fn runs_stream()
     ensures { RunsStream }
+{}
+
+/// What each run of a scenario comes to, over L2CAP or over RFCOMM, over its ports and its capture alone: what the trace gained, which can be read in one
+/// way; what the inbox gained, exactly what the capture spells where neither count of it rose, and how much of it was counted; what both hosts kept to and
+/// held at most; what was reported; and where it stopped short, why, and the same as far as it came. No object may be pending in the inbox at first.
+pub fn runs_tell()
+    ensures { RunsTell }
 {}

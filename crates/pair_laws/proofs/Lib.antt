@@ -18,3 +18,4 @@ pub mod Fronts
 pub mod PlainPipes
 pub mod Paying
 pub mod Given
+pub mod Windows

@@ -1,8 +1,11 @@
 -- The channels of both hosts on each link of a run are the two ends of a pair.
-use Rattle.std.proofs.Common.{◌≡◌, ◌≤◌, ◌+◌, arith, ℕ, Bool, true, false, Option, Some, List, [], ◌∷◌, ◌++◌, map, length, refl, sym, ap, subst, ◌∙◌, append-nil}
+use Rattle.std.proofs.Common.{◌≡◌, ◌≤◌, ◌+◌, arith, ℕ, Bool, true, false, Option, Some, None, Ok, Err, List, [], ◌∷◌, ◌++◌, map, length, refl, sym, ap, subst, ◌∙◌, append-nil}
+use Rattle.std.specs.Prelude.{IfSome}
 use Rattle.std.specs.List.{AllByRecursion}
 use Rattle.std.proofs.lemmas.Bool.{cases_eq}
 use Rattle.bt_base.specs.Objects.{Object, Contents}
+use Rattle.bt_base.specs.declared.ports.PortFault.TheVariants as faults
+use Rattle.obex_session.specs.InboxCalls.{Answer}
 use Rattle.push_script.specs.declared.scenario.Scenario.{Scenario}
 use Rattle.push_terms.specs.declared.word.Side.{Side}
 use Rattle.push_terms.specs.declared.word.Side.TheVariants as sides
@@ -26,8 +29,8 @@ use Rattle.world_model.specs.PerLink.{linkage, captured}
 use Rattle.world_model.specs.Worlds.{Happening as Done, Runs, IsAtRest, all_entries, all_words}
 use Rattle.host_model.specs.Hosts.{Host}
 use Rattle.host_model.specs.Profiles.{Profile}
-use Rattle.push_laws.specs.Premises.{AllGranted}
-use Rattle.host_model.specs.Circumstances.{Circumstance, Size, Part, Stored, answers_in}
+use Rattle.push_laws.specs.Premises.{AllGranted, NoneShort}
+use Rattle.host_model.specs.Circumstances.{Circumstance, Size, Part, Stored, size_in, answers_in}
 use Rattle.host_model.specs.Clients.{ClientProfile, client_profile}
 use Rattle.host_model.specs.Servers.{ServerProfile, server_profile}
 use Rattle.host_model.specs.Machines.{upper}
@@ -53,17 +56,19 @@ use Rattle.scenario_laws.proofs.UnlinkedServers.{KnowsNone, servers_keep}
 use Rattle.turn_laws.proofs.Ordering.{at}
 use Rattle.turn_laws.proofs.Recounting.{HoldsAtRests}
 use Rattle.world_model.specs.Machines.{LinkEvent, News, Linked, Failed, Heard, TimerFired, Cancelled, Opening, Upper}
-use Rattle.shelf_model.specs.Held.{held_by}
-use Rattle.shelf_model.proofs.Sizes.{sizes-are_of_objects}
+use Rattle.shelf_model.specs.Held.{in_octets, length_of, held_by}
+use Rattle.shelf_model.proofs.Sizes.{shelves-give_octets, sizes-are_of_objects}
 use Rattle.pair_laws.specs.Granted.{answered_by, granted, GrantedTakeTurns}
 use Rattle.pair_laws.specs.InTurn.{PairsInTurn, HostsTakeTurns}
+use Rattle.pair_laws.specs.Enough.{with_memory, remembered, EnoughKeepOrder}
 use Rattle.pair_laws.specs.GrantedOrder.{GrantedKeepOrder}
 use Rattle.pair_laws.specs.Keeping.{LosesNothing, PairsKeepOrder, RunsKeepOrder}
 use Rattle.pair_laws.specs.Changes.{AreChanged, IsSeenThere, DamageIsSeen}
 use Rattle.pair_laws.specs.Costs.{adverse_in, DisturbancesCostWords}
 use Rattle.pair_laws.specs.OnLinks.{LivedOver, happened_on, IsInAir, HostsArePairs}
 use Rattle.pair_laws.specs.Pairs.{TakesAll, PairOnLink}
-use Rattle.pair_laws.specs.Served.{TellsOf, BeginsOf, HeldTakeTurns, ServedTakeTurns}
+use Rattle.pair_laws.specs.Served.{TellsOf, AnswersOf, HeldTakeTurns, ServedTakeTurns}
+use Rattle.pair_laws.specs.ServedOrder.{HeldKeepOrder, ServedKeepOrder}
 use Rattle.pair_laws.specs.Seen.{IsAddressedAt, AreAddressed}
 use Rattle.pair_laws.proofs.Abreast.{IsShort}
 use Rattle.pair_laws.proofs.Answered.{runs-so, rest-so, rest-back, fits-so, rests-so as carriage_rest}
@@ -268,17 +273,31 @@ module _ (whole : Bool) (asks : HostsAsk) (scenario : Scenario) (content : Optio
 pub hosts-take_turns : HostsTakeTurns
 hosts-take_turns asks scenario content capture ran = (takes_turns false asks scenario content as_it_is Always any_allowed as_it_is Always any_allowed capture ran ran.happened (λ on. cc)).turns
 
--- ---- the inbox grants all
+-- ---- the inbox answers so
 
-abbrev IsGrant : List Circumstance → Type 0
-IsGrant gift = AllGranted (answers_in gift)
+-- of all that a server goes through, what it is given of its inbox is so
+abbrev AreGiven : (List Answer → Type 0) → Feed → Type 0
+AreGiven Are feed = AllByRecursion (λ (gift : List Circumstance). Are (answers_in gift)) (gifts_in feed)
+
+silent_given : (Are : List Answer → Type 0) (feed : Feed) → IsSilent feed → AreGiven Are feed
+silent_given Are (Gifts circumstances) silent = absurd silent
+silent_given Are (Learns circumstances news) silent = tt
+silent_given Are (Receives own psm sdu) silent = tt
+silent_given Are (Happens event v) silent = tt
+silent_given Are (Sent v) silent = tt
+silent_given Are (Steps v) silent = tt
+
+all_given : (Are : List Answer → Type 0) (feeds : List Feed) → AllByRecursion (AreGiven Are) feeds → AllByRecursion (λ (gift : List Circumstance). Are (answers_in gift)) (gifts_of feeds)
+all_given Are [] all = tt
+all_given Are (feed ∷ feeds) all = all_both (λ (gift : List Circumstance). Are (answers_in gift)) (gifts_in feed) (gifts_of feeds) all.0 (all_given Are feeds all.1)
+
+-- ---- it grants all
 
 abbrev grants : News → List Circumstance → List Circumstance
 grants news answers = map granted answers
 
--- of all that a server goes through, its inbox grants what it is given
 abbrev AreGrants : Feed → Type 0
-AreGrants feed = AllByRecursion IsGrant (gifts_in feed)
+AreGrants = AreGiven AllGranted
 
 granted_all : (gifts : List Circumstance) → AllGranted (answers_in (map granted gifts))
 granted_all [] = tt
@@ -286,64 +305,78 @@ granted_all (Size answer ∷ gifts) = granted_all gifts
 granted_all (Part answer ∷ gifts) = granted_all gifts
 granted_all (Stored answer ∷ gifts) = (refl, granted_all gifts)
 
-silent_grants : (feed : Feed) → IsSilent feed → AreGrants feed
-silent_grants (Gifts circumstances) silent = absurd silent
-silent_grants (Learns circumstances news) silent = tt
-silent_grants (Receives own psm sdu) silent = tt
-silent_grants (Happens event v) silent = tt
-silent_grants (Sent v) silent = tt
-silent_grants (Steps v) silent = tt
-
 grants_allowed : Allows grants AreGrants
-grants_allowed = record { silent = silent_grants; given = λ news answers. (granted_all answers, tt); told = λ news answers. tt }
+grants_allowed = record { silent = silent_given AllGranted; given = λ news answers. (granted_all answers, tt); told = λ news answers. tt }
 
-all_grants : (feeds : List Feed) → AllByRecursion AreGrants feeds → AllByRecursion IsGrant (gifts_of feeds)
-all_grants [] all = tt
-all_grants (feed ∷ feeds) all = all_both IsGrant (gifts_in feed) (gifts_of feeds) all.0 (all_grants feeds all.1)
+-- ---- it does not lack memory
+
+abbrev remembers : News → List Circumstance → List Circumstance
+remembers news answers = map remembered answers
+
+abbrev AreEnough : Feed → Type 0
+AreEnough = AreGiven NoneShort
+
+not_short : (answer : Answer) → with_memory answer ≡ Err faults.NoMemory → ⊥
+not_short (Ok done) is = cc
+not_short (Err faults.Failed) is = cc
+not_short (Err faults.NoMemory) is = cc
+
+none_short : (gifts : List Circumstance) → NoneShort (answers_in (map remembered gifts))
+none_short [] = tt
+none_short (Size answer ∷ gifts) = none_short gifts
+none_short (Part answer ∷ gifts) = none_short gifts
+none_short (Stored answer ∷ gifts) = (not_short answer, none_short gifts)
+
+enough_allowed : Allows remembers AreEnough
+enough_allowed = record { silent = silent_given NoneShort; given = λ news answers. (none_short answers, tt); told = λ news answers. tt }
 
 pub granted-take_turns : GrantedTakeTurns
 granted-take_turns asks scenario content capture ran happened =
     let so = takes_turns false asks scenario content as_it_is Always any_allowed grants AreGrants grants_allowed capture ran happened (λ on. cc) in
-    record { turns = so.turns; given = all_grants so.turns.pairs.b.fed.so.lives.feeds so.given }
+    record { turns = so.turns; given = all_given AllGranted so.turns.pairs.b.fed.so.lives.feeds so.given }
 
--- ---- the shelf tells how long its objects are
+-- ---- the shelf answers in octets, and tells how long its objects are
 
-tells_of : (objects : List Object) (news : News) (answers : List Circumstance) → TellsOf objects (held_by (Some objects) news answers) news
-tells_of objects (Linked event) answers = tt
-tells_of objects (Failed status) answers = tt
-tells_of objects (Heard pdu) answers = tt
-tells_of objects TimerFired answers = tt
-tells_of objects Cancelled answers = tt
-tells_of objects (Opening name) answers = λ size is. sizes-are_of_objects objects name answers size is
+tells_object : (shelf : Option (List Object)) (name : List ℕ) (answers : List Circumstance) (size : ℕ) → size_in (held_by shelf (Opening name) answers) ≡ Ok size → IfSome shelf (λ objects. length_of name objects ≡ Some size)
+tells_object None name answers size is = tt
+tells_object (Some objects) name answers size is = sizes-are_of_objects objects name (map in_octets answers) size is
 
-silent_news : (objects : List Object) (circumstances : List Circumstance) (news : News) → IsSilentNews news → TellsOf objects circumstances news
-silent_news objects circumstances (Linked event) silent = tt
-silent_news objects circumstances (Failed status) silent = tt
-silent_news objects circumstances (Heard pdu) silent = tt
-silent_news objects circumstances TimerFired silent = tt
-silent_news objects circumstances Cancelled silent = tt
-silent_news objects circumstances (Opening name) silent = absurd silent
+tells_of : (shelf : Option (List Object)) (news : News) (answers : List Circumstance) → TellsOf shelf (held_by shelf news answers) news
+tells_of shelf (Linked event) answers = tt
+tells_of shelf (Failed status) answers = tt
+tells_of shelf (Heard pdu) answers = tt
+tells_of shelf TimerFired answers = tt
+tells_of shelf Cancelled answers = tt
+tells_of shelf (Opening name) answers = λ size is. (shelves-give_octets.sizes shelf (Opening name) answers size is, tells_object shelf name answers size is)
 
-silent_begins : (objects : List Object) (feed : Feed) → IsSilent feed → BeginsOf objects feed
-silent_begins objects (Gifts circumstances) silent = absurd silent
-silent_begins objects (Learns circumstances news) silent = silent_news objects circumstances news silent
-silent_begins objects (Receives own psm sdu) silent = tt
-silent_begins objects (Happens event v) silent = tt
-silent_begins objects (Sent v) silent = tt
-silent_begins objects (Steps v) silent = tt
+silent_news : (shelf : Option (List Object)) (circumstances : List Circumstance) (news : News) → IsSilentNews news → TellsOf shelf circumstances news
+silent_news shelf circumstances (Linked event) silent = tt
+silent_news shelf circumstances (Failed status) silent = tt
+silent_news shelf circumstances (Heard pdu) silent = tt
+silent_news shelf circumstances TimerFired silent = tt
+silent_news shelf circumstances Cancelled silent = tt
+silent_news shelf circumstances (Opening name) silent = absurd silent
 
-begins_allowed : (objects : List Object) → Allows (held_by (Some objects)) (BeginsOf objects)
-begins_allowed objects = record { silent = silent_begins objects; given = λ news answers. tt; told = tells_of objects }
+silent_answers : (shelf : Option (List Object)) (feed : Feed) → IsSilent feed → AnswersOf shelf feed
+silent_answers shelf (Gifts circumstances) silent = absurd silent
+silent_answers shelf (Learns circumstances news) silent = silent_news shelf circumstances news silent
+silent_answers shelf (Receives own psm sdu) silent = tt
+silent_answers shelf (Happens event v) silent = tt
+silent_answers shelf (Sent v) silent = tt
+silent_answers shelf (Steps v) silent = tt
+
+answers_allowed : (shelf : Option (List Object)) → Allows (held_by shelf) (AnswersOf shelf)
+answers_allowed shelf = record { silent = silent_answers shelf; given = shelves-give_octets.parts shelf; told = tells_of shelf }
 
 pub held-take_turns : HeldTakeTurns
-held-take_turns asks scenario objects content capture ran happened =
-    let so = takes_turns false asks scenario content (held_by (Some objects)) (BeginsOf objects) (begins_allowed objects) as_it_is Always any_allowed capture ran happened (λ on. cc) in
+held-take_turns asks scenario shelf content capture ran happened =
+    let so = takes_turns false asks scenario content (held_by shelf) (AnswersOf shelf) (answers_allowed shelf) as_it_is Always any_allowed capture ran happened (λ on. cc) in
     record { turns = so.turns; told = so.told }
 
 pub served-take_turns : ServedTakeTurns
-served-take_turns asks scenario objects content capture ran happened =
-    let so = takes_turns false asks scenario content (held_by (Some objects)) (BeginsOf objects) (begins_allowed objects) grants AreGrants grants_allowed capture ran happened (λ on. cc) in
-    record { turns = so.turns; told = so.told; given = all_grants so.turns.pairs.b.fed.so.lives.feeds so.given }
+served-take_turns asks scenario shelf content capture ran happened =
+    let so = takes_turns false asks scenario content (held_by shelf) (AnswersOf shelf) (answers_allowed shelf) grants AreGrants grants_allowed capture ran happened (λ on. cc) in
+    record { turns = so.turns; told = so.told; given = all_given AllGranted so.turns.pairs.b.fed.so.lives.feeds so.given }
 
 pub disturbances-cost_words : DisturbancesCostWords
 disturbances-cost_words asks scenario content capture ran =
@@ -371,15 +404,38 @@ ordered side (turn ∷ turns) kept = by (same_side turn.side side) (ordered side
     by true rest = way_kept turn.happening (IsOrdered side turns) (IsBroken side turns) kept.0 rest
     by false rest = rest
 
-module _ (asks : HostsAsk) (scenario : Scenario) (content : Option Contents) (to_b : News → List Circumstance → List Circumstance) (G : Feed → Type 0) (allows_b : Allows to_b G) where
-  abbrev in_order : (capture : List Entry) (ran : Ran scenario content capture) → TurnsSo true asks scenario content as_it_is Always any_allowed to_b G allows_b capture ran → PairsKeepOrder asks scenario content capture ran
+module _ (asks : HostsAsk) (scenario : Scenario) (content : Option Contents) (to_a : News → List Circumstance → List Circumstance) (E : Feed → Type 0) (allows_a : Allows to_a E) (to_b : News → List Circumstance → List Circumstance) (G : Feed → Type 0) (allows_b : Allows to_b G) where
+  abbrev in_order : (capture : List Entry) (ran : Ran scenario content capture) → TurnsSo true asks scenario content to_a E allows_a to_b G allows_b capture ran → PairsKeepOrder asks scenario content capture ran
   in_order capture ran all = record { turns = all.turns; near = λ number. ordered Near (all.turns.pairs.pairs number).turns (all.kept number); far = λ number. ordered Far (all.turns.pairs.pairs number).turns (all.kept number) }
 
 pub runs-keep_order : RunsKeepOrder
 runs-keep_order asks scenario content capture ran gentle =
-    in_order asks scenario content as_it_is Always any_allowed capture ran (takes_turns true asks scenario content as_it_is Always any_allowed as_it_is Always any_allowed capture ran ran.happened (λ on. gentle))
+    in_order asks scenario content as_it_is Always any_allowed as_it_is Always any_allowed capture ran (takes_turns true asks scenario content as_it_is Always any_allowed as_it_is Always any_allowed capture ran ran.happened (λ on. gentle))
 
 pub granted-keep_order : GrantedKeepOrder
 granted-keep_order asks scenario content capture ran happened gentle =
     let all = takes_turns true asks scenario content as_it_is Always any_allowed grants AreGrants grants_allowed capture ran happened (λ on. gentle) in
-    record { order = in_order asks scenario content grants AreGrants grants_allowed capture ran all; given = all_grants all.turns.pairs.b.fed.so.lives.feeds all.given }
+    record { order = in_order asks scenario content as_it_is Always any_allowed grants AreGrants grants_allowed capture ran all; given = all_given AllGranted all.turns.pairs.b.fed.so.lives.feeds all.given }
+
+pub held-keep_order : HeldKeepOrder
+held-keep_order asks scenario shelf content capture ran happened gentle =
+    let all = takes_turns true asks scenario content (held_by shelf) (AnswersOf shelf) (answers_allowed shelf) as_it_is Always any_allowed capture ran happened (λ on. gentle) in
+    record { order = in_order asks scenario content (held_by shelf) (AnswersOf shelf) (answers_allowed shelf) as_it_is Always any_allowed capture ran all; told = all.told }
+
+pub served-keep_order : ServedKeepOrder
+served-keep_order asks scenario shelf content capture ran happened gentle =
+    let all = takes_turns true asks scenario content (held_by shelf) (AnswersOf shelf) (answers_allowed shelf) grants AreGrants grants_allowed capture ran happened (λ on. gentle) in
+    record {
+      order = in_order asks scenario content (held_by shelf) (AnswersOf shelf) (answers_allowed shelf) grants AreGrants grants_allowed capture ran all;
+      told = all.told;
+      given = all_given AllGranted all.turns.pairs.b.fed.so.lives.feeds all.given;
+    }
+
+pub enough-keep_order : EnoughKeepOrder
+enough-keep_order asks scenario shelf content capture ran happened gentle =
+    let all = takes_turns true asks scenario content (held_by shelf) (AnswersOf shelf) (answers_allowed shelf) remembers AreEnough enough_allowed capture ran happened (λ on. gentle) in
+    record {
+      order = in_order asks scenario content (held_by shelf) (AnswersOf shelf) (answers_allowed shelf) remembers AreEnough enough_allowed capture ran all;
+      told = all.told;
+      enough = all_given NoneShort all.turns.pairs.b.fed.so.lives.feeds all.given;
+    }

@@ -91,10 +91,11 @@ module _ (near far : Policy) (one other : List Occurrence) (pair : PairOnLink ne
 
 -- ---- of a run
 
-at_place : (own : Policy) (lists : List (List Occurrence)) → AllByRecursion (AreUttered own) lists → (number : ℕ) → AreUttered own (get_or lists number [])
-at_place own [] all number = tt
-at_place own (list ∷ lists) all zero = all.0
-at_place own (list ∷ lists) all (suc number) = at_place own lists all.1 number
+-- of each link what is so of all, and of one on which nothing happened yet
+pub at_number : (P : List Occurrence → Type 0) → P [] → (lists : List (List Occurrence)) → AllByRecursion P lists → (number : ℕ) → P (get_or lists number [])
+at_number P none [] all number = none
+at_number P none (list ∷ lists) all zero = all.0
+at_number P none (list ∷ lists) all (suc number) = at_number P none lists all.1 number
 
 pub plain-pairs_are_pipes : PlainPairsArePipes
 plain-pairs_are_pipes asks scenario content capture ran order within number =
@@ -102,5 +103,5 @@ plain-pairs_are_pipes asks scenario content capture ran order within number =
     let B = server_profile scenario.settings content in
     let pairs = order.turns.pairs in
     plain_pipes A.policy B.policy _ _ (pairs.pairs number) (pairs-are_carried asks scenario content capture ran pairs within number)
-    (at_place A.policy (on_links A (asks.clients scenario.settings) (flat_map talk_marks pairs.a.came.talk) ran.world.a.upper pairs.a.fed.so.lives) pairs.a.uttered number)
-    (at_place B.policy (on_links B (asks.servers scenario.settings content) (flat_map talk_marks pairs.b.came.talk) ran.world.b.upper pairs.b.fed.so.lives) pairs.b.uttered number) (order.near number) (order.far number)
+    (at_number (AreUttered A.policy) tt (on_links A (asks.clients scenario.settings) (flat_map talk_marks pairs.a.came.talk) ran.world.a.upper pairs.a.fed.so.lives) pairs.a.uttered number)
+    (at_number (AreUttered B.policy) tt (on_links B (asks.servers scenario.settings content) (flat_map talk_marks pairs.b.came.talk) ran.world.b.upper pairs.b.fed.so.lives) pairs.b.uttered number) (order.near number) (order.far number)

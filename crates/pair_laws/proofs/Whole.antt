@@ -54,7 +54,7 @@ whole_run policy list run is hands channel broken party states =
     subst (λ (r : Run). HandsAllUp policy r) is hands party channel states ∙ sdus_run policy channel.own list
 
 -- each of a list has it where each place of it has
-all_places : (P : List Occurrence → Type 0) (lists : List (List Occurrence)) → ((number : ℕ) → P (get_or lists number [])) → AllByRecursion P lists
+pub all_places : (P : List Occurrence → Type 0) (lists : List (List Occurrence)) → ((number : ℕ) → P (get_or lists number [])) → AllByRecursion P lists
 all_places P [] each = tt
 all_places P (list ∷ lists) each = (each 0, all_places P lists (λ number. each (suc number)))
 

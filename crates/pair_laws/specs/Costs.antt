@@ -1,6 +1,7 @@
 -- How often a host of a run gives its own requests on a link, against the words of the run (Core 5.1, Volume 3 Part A, 6.2.1; which words
 -- are adverse is this project's own).
-use Rattle.std.specs.Prelude.{ℕ, ◌≡◌, ◌≤◌, ◌+◌, Bool, true, false, List, [], ◌∷◌, Option, Some}
+use Rattle.std.specs.Prelude.{ℕ, ◌≡◌, ◌<◌, ◌≤◌, ◌+◌, Bool, true, false, List, [], ◌∷◌, Option, Some}
+use Rattle.std.specs.List.{AllByRecursion}
 use Rattle.bt_base.specs.Objects.{Contents}
 use Rattle.push_script.specs.declared.scenario.Scenario.{Scenario}
 use Rattle.push_terms.specs.declared.word.Side.TheVariants as sides
@@ -12,7 +13,6 @@ use Rattle.channel_model.specs.declared.errand.Errand.TheVariants as errands
 use Rattle.channel_model.specs.Policies.{Policy}
 use Rattle.channel_model.specs.Value.{Request}
 use Rattle.channel_laws.specs.Adverse.{disturbances, AreRoomy}
-use Rattle.channel_laws.specs.Connections.{NamesApart}
 use Rattle.channel_laws.specs.Heeded.{AreMet}
 use Rattle.channel_laws.specs.Pairs.{Near, Far, new_pair}
 use Rattle.channel_laws.specs.Runs.{Occurrence, run_of}
@@ -21,6 +21,8 @@ use Rattle.world_model.specs.Worlds.{all_words}
 use Rattle.host_model.specs.Clients.{client_profile}
 use Rattle.host_model.specs.Servers.{server_profile}
 use Rattle.host_laws.specs.Calls.{HostsAsk}
+use Rattle.host_laws.specs.Keeping.{AsksForNothing, SendsAsItLends}
+use Rattle.host_laws.specs.Searching.{AsksAsItSteps}
 use Rattle.scenario_laws.specs.Captures.{Ran}
 use Rattle.pair_laws.specs.InTurn.{PairsInTurn}
 use Rattle.pair_laws.specs.OnLinks.{happened_on}
@@ -62,25 +64,26 @@ DisturbancesCostWords = (asks : HostsAsk) (scenario : Scenario) (content : Optio
 abbrev pub IsPaidBy : (adverse : ℕ) → Policy → List Occurrence → Errand → Type 0
 IsPaidBy adverse policy list errand = (request : Request) → request_of errand (run_of policy list).value ≡ Some request → copies errand (run_of policy list).value.queue + request.given ≤ 1 + adverse
 
--- On each link of both hosts the question for features is given for the t-th time only behind t - 1 adverse words of the run; so are requests for
--- channels, where the host asked for no two of them with one identifier; and so is each request of which each copy that comes in is responded to
--- and each response ends the wait.
+-- On each link of both hosts each request of a kind is given for the t-th time only behind t - 1 adverse words of the run. So are host a's question for
+-- features and its requests for channels. Of host b there are none of these: its profile asks for nothing. And so is each request for options, or for the end
+-- of a channel, of which, while fewer words were adverse than the hosts try, each copy that comes in is responded to and each response ends the wait.
 pub record RequestsPaid (asks : HostsAsk) (scenario : Scenario) (content : Option Contents) (capture : List Entry) (ran : Ran scenario content capture) : Type 0 where
   pub pairs : PairsCost asks scenario content capture ran
   pub near_features : (number : ℕ) → IsPaidBy (adverse_in (all_words ran.happenings)) (client_profile scenario.settings).policy
       (happened_on (client_profile scenario.settings) (asks.clients scenario.settings) sides.A capture ran.world.a.upper pairs.turns.pairs.a number) errands.Features
-  pub far_features : (number : ℕ) → IsPaidBy (adverse_in (all_words ran.happenings)) (server_profile scenario.settings content).policy
-      (happened_on (server_profile scenario.settings content) (asks.servers scenario.settings content) sides.B capture ran.world.b.upper pairs.turns.pairs.b number) errands.Features
-  pub near_calls : (number own : ℕ) → (let list : List Occurrence = happened_on (client_profile scenario.settings) (asks.clients scenario.settings) sides.A capture ran.world.a.upper pairs.turns.pairs.a number in
-      NamesApart (run_of (client_profile scenario.settings).policy list).said → IsPaidBy (adverse_in (all_words ran.happenings)) (client_profile scenario.settings).policy list (errands.Connection own))
-  pub far_calls : (number own : ℕ) → (let list : List Occurrence = happened_on (server_profile scenario.settings content) (asks.servers scenario.settings content) sides.B capture ran.world.b.upper pairs.turns.pairs.b number in
-      NamesApart (run_of (server_profile scenario.settings content).policy list).said → IsPaidBy (adverse_in (all_words ran.happenings)) (server_profile scenario.settings content).policy list (errands.Connection own))
-  pub near : (number : ℕ) (errand : Errand) → AreMet errand Near (client_profile scenario.settings).policy (server_profile scenario.settings content).policy (pairs.turns.pairs.pairs number).turns
+  pub near_calls : (number own : ℕ) → IsPaidBy (adverse_in (all_words ran.happenings)) (client_profile scenario.settings).policy
+      (happened_on (client_profile scenario.settings) (asks.clients scenario.settings) sides.A capture ran.world.a.upper pairs.turns.pairs.a number) (errands.Connection own)
+  pub far_asks : (number : ℕ) → AllByRecursion AsksForNothing (happened_on (server_profile scenario.settings content) (asks.servers scenario.settings content) sides.B capture ran.world.b.upper pairs.turns.pairs.b number)
+  pub near : (number : ℕ) (errand : Errand)
+      → (adverse_in (all_words ran.happenings) < scenario.settings.tries → AreMet errand Near (client_profile scenario.settings).policy (server_profile scenario.settings content).policy (pairs.turns.pairs.pairs number).turns)
       → IsPaidBy (adverse_in (all_words ran.happenings)) (client_profile scenario.settings).policy
       (happened_on (client_profile scenario.settings) (asks.clients scenario.settings) sides.A capture ran.world.a.upper pairs.turns.pairs.a number) errand
-  pub far : (number : ℕ) (errand : Errand) → AreMet errand Far (client_profile scenario.settings).policy (server_profile scenario.settings content).policy (pairs.turns.pairs.pairs number).turns
+  pub far : (number : ℕ) (errand : Errand)
+      → (adverse_in (all_words ran.happenings) < scenario.settings.tries → AreMet errand Far (client_profile scenario.settings).policy (server_profile scenario.settings content).policy (pairs.turns.pairs.pairs number).turns)
       → IsPaidBy (adverse_in (all_words ran.happenings)) (server_profile scenario.settings content).policy
       (happened_on (server_profile scenario.settings content) (asks.servers scenario.settings content) sides.B capture ran.world.b.upper pairs.turns.pairs.b number) errand
 
+-- the profiles ask as they step, and lend
 abbrev pub RequestsCostWords : Type 0
-RequestsCostWords = (asks : HostsAsk) (scenario : Scenario) (content : Option Contents) (capture : List Entry) (ran : Ran scenario content capture) → RequestsPaid asks scenario content capture ran
+RequestsCostWords = (asks : HostsAsk) (scenario : Scenario) (content : Option Contents) (capture : List Entry) (ran : Ran scenario content capture)
+    → AsksAsItSteps scenario.settings (asks.clients scenario.settings) → SendsAsItLends scenario.settings content (asks.servers scenario.settings content) → RequestsPaid asks scenario content capture ran

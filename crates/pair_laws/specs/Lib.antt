@@ -13,3 +13,6 @@ pub mod Granted
 pub mod GrantedOrder
 pub mod Costs
 pub mod Served
+pub mod ServedOrder
+pub mod Enough
+pub mod Windows

@@ -1,5 +1,5 @@
--- Runs in which the shelf of host a tells how long its objects are, and the inbox of host b grants all that it is asked (this project's own).
-use Rattle.std.specs.Prelude.{ℕ, ◌≡◌, List, Option, Some, Ok}
+-- Runs in which the shelf of host a answers in octets and tells how long its objects are, and the inbox of host b grants all that it is asked (this project's own).
+use Rattle.std.specs.Prelude.{ℕ, ◌≡◌, ◌≤◌, List, Option, Some, Ok, IfSome}
 use Rattle.std.specs.List.{AllByRecursion}
 use Rattle.bt_base.specs.Objects.{Object, Contents}
 use Rattle.push_script.specs.declared.scenario.Scenario.{Scenario}
@@ -7,8 +7,8 @@ use Rattle.capture.specs.Entries.{Entry}
 use Rattle.world_model.specs.Machines.{News, Linked, Failed, Heard, TimerFired, Cancelled, Opening, Upper}
 use Rattle.world_model.specs.Worlds.{Happening, Runs}
 use Rattle.push_laws.specs.Premises.{AllGranted}
-use Rattle.host_model.specs.Circumstances.{Circumstance, size_in, answers_in}
-use Rattle.shelf_model.specs.Held.{length_of, held_by}
+use Rattle.host_model.specs.Circumstances.{Circumstance, size_in, parts_in, answers_in}
+use Rattle.shelf_model.specs.Held.{longest_octets, IsPartOctets, length_of, held_by}
 use Rattle.host_laws.specs.Calls.{HostsAsk}
 use Rattle.host_laws.specs.Feeds.{Feed, Gifts, Learns, Receives, Happens, Sent, Steps}
 use Rattle.host_laws.specs.Gifts.{gifts_of}
@@ -16,7 +16,7 @@ use Rattle.scenario_laws.specs.Captures.{client_of, server_of, BothHosts, beginn
 use Rattle.pair_laws.specs.Granted.{answered_by, granting}
 use Rattle.pair_laws.specs.InTurn.{PairsInTurn}
 
--- a machine whose shelf holds these objects, where it tells what it holds
+-- a machine whose shelf answers in octets and holds these objects, where it tells what it holds
 abbrev pub holding_on : {S : Type 0} → Option (List Object) → Upper S Circumstance → Upper S Circumstance
 holding_on shelf U = answered_by (held_by shelf) U
 
@@ -30,41 +30,44 @@ HappenedServed scenario shelf content happenings world = Runs (holding_on shelf 
 
 -- ---- what both hosts went through
 
--- as a push begins, the shelf tells a length alone that is that of the object that it holds under that name
-abbrev pub TellsOf : List Object → List Circumstance → News → Type 0
-TellsOf objects circumstances (Linked event) = Unit {0}
-TellsOf objects circumstances (Failed status) = Unit {0}
-TellsOf objects circumstances (Heard pdu) = Unit {0}
-TellsOf objects circumstances TimerFired = Unit {0}
-TellsOf objects circumstances Cancelled = Unit {0}
-TellsOf objects circumstances (Opening name) = (size : ℕ) → size_in circumstances ≡ Ok size → length_of name objects ≡ Some size
+-- As a push begins, the shelf tells a length alone that stands in four octets; and that is of the object that it holds under that name, where it tells
+-- what it holds.
+abbrev pub TellsOf : Option (List Object) → List Circumstance → News → Type 0
+TellsOf shelf circumstances (Linked event) = Unit {0}
+TellsOf shelf circumstances (Failed status) = Unit {0}
+TellsOf shelf circumstances (Heard pdu) = Unit {0}
+TellsOf shelf circumstances TimerFired = Unit {0}
+TellsOf shelf circumstances Cancelled = Unit {0}
+TellsOf shelf circumstances (Opening name) = (size : ℕ) → size_in circumstances ≡ Ok size → (size ≤ longest_octets) × IfSome shelf (λ objects. length_of name objects ≡ Some size)
 
-abbrev pub BeginsOf : List Object → Feed → Type 0
-BeginsOf objects (Gifts circumstances) = Unit {0}
-BeginsOf objects (Learns circumstances news) = TellsOf objects circumstances news
-BeginsOf objects (Receives own psm sdu) = Unit {0}
-BeginsOf objects (Happens event v) = Unit {0}
-BeginsOf objects (Sent v) = Unit {0}
-BeginsOf objects (Steps v) = Unit {0}
+-- and the parts of objects that it gives are octets
+abbrev pub AnswersOf : Option (List Object) → Feed → Type 0
+AnswersOf shelf (Gifts circumstances) = AllByRecursion IsPartOctets (parts_in circumstances)
+AnswersOf shelf (Learns circumstances news) = TellsOf shelf circumstances news
+AnswersOf shelf (Receives own psm sdu) = Unit {0}
+AnswersOf shelf (Happens event v) = Unit {0}
+AnswersOf shelf (Sent v) = Unit {0}
+AnswersOf shelf (Steps v) = Unit {0}
 
 -- ---- the laws
 
--- Both hosts' channels are pairs whose links go side by side, and each length that host a is told of its shelf is that of an object there.
-pub record HeldInTurn (asks : HostsAsk) (scenario : Scenario) (objects : List Object) (content : Option Contents) (capture : List Entry) (ran : Ran scenario content capture) : Type 0 where
+-- Both hosts' channels are pairs whose links go side by side; what host a is given of its shelf are octets, and each length that it is told is that of
+-- an object there.
+pub record HeldInTurn (asks : HostsAsk) (scenario : Scenario) (shelf : Option (List Object)) (content : Option Contents) (capture : List Entry) (ran : Ran scenario content capture) : Type 0 where
   pub turns : PairsInTurn asks scenario content capture ran
-  pub told : AllByRecursion (BeginsOf objects) turns.pairs.a.fed.so.lives.feeds
+  pub told : AllByRecursion (AnswersOf shelf) turns.pairs.a.fed.so.lives.feeds
 
 -- So it is at each moment of each such run, wherever it broke off.
 abbrev pub HeldTakeTurns : Type 0
-HeldTakeTurns = (asks : HostsAsk) (scenario : Scenario) (objects : List Object) (content : Option Contents) (capture : List Entry) (ran : Ran scenario content capture)
-    → HappenedHeld scenario (Some objects) content ran.happenings ran.world → HeldInTurn asks scenario objects content capture ran
+HeldTakeTurns = (asks : HostsAsk) (scenario : Scenario) (shelf : Option (List Object)) (content : Option Contents) (capture : List Entry) (ran : Ran scenario content capture)
+    → HappenedHeld scenario shelf content ran.happenings ran.world → HeldInTurn asks scenario shelf content capture ran
 
 -- and all that host b is given of its inbox are grants
-pub record ServedInTurn (asks : HostsAsk) (scenario : Scenario) (objects : List Object) (content : Option Contents) (capture : List Entry) (ran : Ran scenario content capture) : Type 0 where
+pub record ServedInTurn (asks : HostsAsk) (scenario : Scenario) (shelf : Option (List Object)) (content : Option Contents) (capture : List Entry) (ran : Ran scenario content capture) : Type 0 where
   pub turns : PairsInTurn asks scenario content capture ran
-  pub told : AllByRecursion (BeginsOf objects) turns.pairs.a.fed.so.lives.feeds
+  pub told : AllByRecursion (AnswersOf shelf) turns.pairs.a.fed.so.lives.feeds
   pub given : AllByRecursion (λ (gift : List Circumstance). AllGranted (answers_in gift)) (gifts_of turns.pairs.b.fed.so.lives.feeds)
 
 abbrev pub ServedTakeTurns : Type 0
-ServedTakeTurns = (asks : HostsAsk) (scenario : Scenario) (objects : List Object) (content : Option Contents) (capture : List Entry) (ran : Ran scenario content capture)
-    → HappenedServed scenario (Some objects) content ran.happenings ran.world → ServedInTurn asks scenario objects content capture ran
+ServedTakeTurns = (asks : HostsAsk) (scenario : Scenario) (shelf : Option (List Object)) (content : Option Contents) (capture : List Entry) (ran : Ran scenario content capture)
+    → HappenedServed scenario shelf content ran.happenings ran.world → ServedInTurn asks scenario shelf content capture ran

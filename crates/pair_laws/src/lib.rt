@@ -2,8 +2,8 @@
 #![tactic(auto)]
 
 ghost use Rattle.pair_laws.specs.Changes.{ChangesAreSeen};
-ghost use Rattle.pair_laws.specs.Costs.{DisturbancesCostWords, RequestsCostWords};
 ghost use Rattle.pair_laws.specs.Fronts.{FrontsAreRun};
+ghost use Rattle.pair_laws.specs.Enough.{EnoughKeepOrder};
 ghost use Rattle.pair_laws.specs.Granted.{GrantedTakeTurns};
 ghost use Rattle.pair_laws.specs.GrantedOrder.{GrantedKeepOrder};
 ghost use Rattle.pair_laws.specs.InTurn.{HostsTakeTurns};
@@ -11,9 +11,13 @@ ghost use Rattle.pair_laws.specs.Keeping.{RunsKeepOrder};
 ghost use Rattle.pair_laws.specs.OnLinks.{HostsArePairs};
 ghost use Rattle.pair_laws.specs.PlainPipes.{PlainPairsArePipes};
 ghost use Rattle.pair_laws.specs.Served.{HeldTakeTurns, ServedTakeTurns};
+ghost use Rattle.pair_laws.specs.ServedOrder.{HeldKeepOrder, ServedKeepOrder};
 ghost use Rattle.pair_laws.specs.Seen.{AllDamageIsSeen};
 ghost use Rattle.pair_laws.specs.Whole.{PairsAreWhole};
+ghost use Rattle.pair_laws.specs.Windows.{LinksHoldWindows, RunsHoldWindows, TalksHold};
 ghost use Rattle.pair_laws.specs.Within.{HostsSendWithin, PairsAreCarried};
+
+pub mod laws;
 
 /// At each moment of a run, wherever it broke off, the channels of both hosts on each link are the two ends of a pair: what came into one
 /// is what the air made of what the other gave, and each SDU, frame and command is what it is read as.
@@ -80,25 +84,8 @@ pub fn granted_keep_order()
     ensures { GrantedKeepOrder }
 {}
 
-/// On each link of both hosts of a run at most so many turns of their pair disturb as words of the run are adverse: those that lose, repeat, change
-/// or cut a frame, and those that fire a timer. When something comes in, an answer has room.
-pub fn disturbances_cost_words()
-    ensures { DisturbancesCostWords }
-{}
-
-/// So on each link of a run the question for the peer's features is given for the t-th time only behind t - 1 adverse words; so are requests for channels
-/// of a host that asks for no two with one identifier; and so is each request of which each copy that comes in is responded to, and each response
-/// ends the wait.
-pub fn requests_cost_words()
-    ensures { RequestsCostWords }
-{
-    channel_laws::laws::disturbances_are_counted();
-    channel_laws::laws::features_are_heeded();
-    channel_laws::laws::met_is_heeded();
-    channel_laws::laws::connections_are_met();
-}
-/// In a run in which the shelf of host a tells how long its objects are, the channels of both hosts are pairs in turn as in any run, and each
-/// length that host a was told is that of the object of that name.
+/// In a run in which the shelf of host a answers in octets and tells how long its objects are, the channels of both hosts are pairs in turn as in any run;
+/// all that host a was given are octets, and each length that it was told stands in four octets and is that of the object of that name.
 pub fn held_take_turns()
     ensures { HeldTakeTurns }
 {}
@@ -107,3 +94,40 @@ pub fn held_take_turns()
 pub fn served_take_turns()
     ensures { ServedTakeTurns }
 {}
+
+/// And where besides its words lose, cut, repeat and damage nothing, each way keeps its order.
+pub fn held_keep_order()
+    ensures { HeldKeepOrder }
+{}
+
+/// So it is also where besides the inbox grants all calls.
+pub fn served_keep_order()
+    ensures { ServedKeepOrder }
+{}
+
+/// And where calls of the inbox may fail, but not for want of memory.
+pub fn enough_keep_order()
+    ensures { EnoughKeepOrder }
+{}
+
+/// Where a talk holds the window on each of its enhanced channels, it did so before the last of it was said; and no more frames of its host are
+/// unacknowledged than the window, on any channel, closed or not.
+pub fn talks_hold()
+    ensures { TalksHold }
+{}
+
+/// At each moment of each run, whatever its ports answered and wherever it broke off, host a holds its window on the link that is up where a push goes on
+/// over its link, and host b where it does not end its link; and both do wherever all is at rest: no more I-frames are unacknowledged than the window that
+/// both state, and none is acknowledged that did not go out, also on channels that were closed.
+pub fn runs_hold_windows()
+    ensures { RunsHoldWindows }
+{
+    channel_laws::laws::pipes::windows_hold();
+}
+
+/// So it is on each link that the capture has, to its end, where neither host gave up a request.
+pub fn links_hold_windows()
+    ensures { LinksHoldWindows }
+{
+    channel_laws::laws::pipes::windows_hold();
+}

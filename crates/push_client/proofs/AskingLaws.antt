@@ -1,16 +1,21 @@
 -- The next PUT of an object, and what the shelf answered for it.
-use Rattle.std.proofs.Common.{◌≡◌, ◌<◌, ℕ, zero, suc, ◌==◌, Bool, true, false, List, [], ◌∷◌, ◌++◌, length, Option, Result, Ok, Err, refl, sym, ap, ◌∙◌, if◌then◌else◌, arith}
-use Rattle.std.proofs.lemmas.List.{nil_from_length}
+use Rattle.std.proofs.Common.{◌≡◌, ◌<◌, ◌+◌, ℕ, zero, suc, ◌==◌, Bool, true, false, List, [], ◌∷◌, ◌++◌, length, Option, Result, Ok, Err, refl, sym, ap, subst, ◌∙◌, if◌then◌else◌, arith}
+use Rattle.std.proofs.lemmas.Grind.{flat_map-append}
+use Rattle.std.proofs.lemmas.List.{append-nil, nil_from_length}
 use Rattle.bt_base.specs.Counts.{HasCause}
 use Rattle.bt_base.specs.Objects.{Object}
+use Rattle.bt_base.specs.Octets.{IsOctets, be16}
 use Rattle.bt_base.specs.declared.ports.PortFault.{PortFault}
 use Rattle.bt_base.specs.declared.ports.PortFault.TheVariants as fault
+use Rattle.obex_headers.specs.Packets.{PlainHeader, header_octets, headers_octets, packet_len, packet_octets}
 use Rattle.obex_session.specs.Asking.{Asking}
 use Rattle.obex_session.specs.NextPut.{after_put}
+use Rattle.obex_session.specs.PutPackets.{ahead_of, body_header, put_packet}
 use Rattle.push_model.specs.Client.{Client}
 use Rattle.push_model.specs.Steps.{Part, put_count, is_last_put, put_octets, puts_part, puts_from, puts}
 use Rattle.push_client.specs.Putting.{IsPut, PutsOr, Comes}
 use Rattle.push_client.specs.Requesting.{made_by, is_shortage}
+use Rattle.rfcomm_frames.proofs.Formed.{part_fits}
 
 -- ---- reactions
 
@@ -63,13 +68,23 @@ put_of client part rest len session octets is are =
 with_none : (client : Client) (parts : List Part) (n : ℕ) → put_count client ≡ n → puts client parts ≡ (if n == 0 then puts_part (Ok []) client parts else puts_from parts client)
 with_none client parts n is = ap (λ (m : ℕ). (if m == 0 then puts_part (Ok []) client parts else puts_from parts client)) is
 
+-- octets of a packet, whose body they end, are octets
+part_octets : (final : Bool) (ahead : List PlainHeader) (part : List ℕ) → IsOctets (packet_octets (put_packet final ahead part)) → IsOctets part
+part_octets final ahead part are =
+    let body = body_header final part in
+    let packet = put_packet final ahead part in
+    let headers : IsOctets (headers_octets (ahead ++ body ∷ [])) = part_fits (be16 (packet_len packet)) (headers_octets packet.headers) _ refl (λ i. are (suc i)) in
+    let last : IsOctets (header_octets body ++ []) = part_fits (headers_octets ahead) (header_octets body ++ []) _ (flat_map-append header_octets ahead (body ∷ [])) headers in
+    let whole : IsOctets (header_octets body) = subst IsOctets (append-nil (header_octets body)) last in
+    part_fits (be16 (3 + length part)) part _ refl (λ i. whole (suc i))
+
 not_none : (n : ℕ) → (suc n == 0) ≡ false
 not_none n = grind arith
 
 pub put_done : (n : ℕ) (client : Client) (session : Asking) (octets : List ℕ) (content : Option (List Object)) (x x' s s' : ℕ) → put_count client ≡ n
-    → IsPut client.session session client.name client.size client.limit content octets → HasCause x x' s s' (let r : Result (Unit {0}) PortFault = Ok tt in r)
+    → IsPut client.session session client.name client.size client.limit content octets → IsOctets octets → HasCause x x' s s' (let r : Result (Unit {0}) PortFault = Ok tt in r)
     → Comes (puts client) (made_by (record client { session = session; going = true; rest = octets }) (Ok tt)) client content x x' s s' false
-put_done zero client session octets content x x' s s' count put cause =
+put_done zero client session octets content x x' s s' count put are cause =
     let none : put.part ≡ [] = nil_from_length put.part (put.part_len ∙ count) in
     record {
       used = [];
@@ -79,14 +94,14 @@ put_done zero client session octets content x x' s s' count put cause =
       faults_stay = cause.faults_stay;
       shortages_stay = cause.shortages_stay;
     }
-put_done (suc n) client session octets content x x' s s' count put cause =
+put_done (suc n) client session octets content x x' s s' count put are cause =
     let some : 0 < length put.part = let e = put.part_len ∙ count in omega (arith, e) in
     record {
       used = Ok put.part ∷ [];
       comes = λ rest. with_none client (Ok put.part ∷ rest) (suc n) count
           ∙ ap (λ (b : Bool). (if b then puts_part (Ok []) client (Ok put.part ∷ rest) else puts_from (Ok put.part ∷ rest) client)) (not_none n)
           ∙ put_of client put.part rest put.part_len session octets put.session_is put.octets_are;
-      answers = (put.part_len, put.told some);
+      answers = (put.part_len, part_octets (is_last_put client) (ahead_of client.session.wanted client.session.put client.name client.size) put.part (subst IsOctets put.octets_are are), put.told some);
       short = λ e. absurd (let f : false ≡ true = e in cc);
       faults_stay = cause.faults_stay;
       shortages_stay = cause.shortages_stay;

@@ -111,8 +111,9 @@ answers_alike : (old new : Client) (content : Option (List Object)) (x x' s s' :
 answers_alike old new content x x' s s' [] alike answers = tt
 answers_alike old new content x x' s s' (Ok part ∷ []) alike answers = (
   answers.0 ∙ count_alike old new alike,
+  answers.1,
   subst (λ (name : List ℕ). IfSome content (λ objects. HasAt (place_of old.session.put) part (octets_of name objects))) alike.name
-      (subst (λ (session : Asking). IfSome content (λ objects. HasAt (place_of session.put) part (octets_of new.name objects))) alike.session answers.1),
+      (subst (λ (session : Asking). IfSome content (λ objects. HasAt (place_of session.put) part (octets_of new.name objects))) alike.session answers.2),
 )
 answers_alike old new content x x' s s' (Err fault.Failed ∷ []) alike answers = answers
 answers_alike old new content x x' s s' (Err fault.NoMemory ∷ []) alike answers = answers

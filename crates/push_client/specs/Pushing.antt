@@ -1,5 +1,5 @@
 -- A client with its parts, and what its calls answer.
-use Rattle.std.specs.Prelude.{◌≡◌, ◌≤◌, ℕ, ◌&&◌, not, Bool, true, false, List, [], length, Option, Some, None, Result, IfOk, IfSome, if◌then◌else◌}
+use Rattle.std.specs.Prelude.{◌≡◌, ◌<◌, ◌≤◌, ◌^◌, ℕ, ◌&&◌, not, Bool, true, false, List, [], length, Option, Some, None, Result, IfOk, IfSome, if◌then◌else◌}
 use Rattle.std.specs.Option.{option_map}
 use Rattle.bt_base.specs.Counts.{HasCause}
 use Rattle.bt_base.specs.Objects.{Object, octets_of}
@@ -105,10 +105,11 @@ fails_now old new = not old.failed && new.failed
 
 -- ---- a push begins
 
--- The shelf tells how long the object is, or why it does not. A client that found no memory before does not ask it.
+-- The shelf tells how long the object is, a number of four octets, or why it does not. A client that found no memory before does not ask it.
 pub record Begins (old new : Client) (name : List ℕ) (content : Option (List Object)) (faults faults' shortages shortages' : ℕ) : Type 0 where
   pub size : Result ℕ PortFault
   pub client : new ≡ begins size name old
+  pub few : IfOk size (λ n. n < 2 ^ 32)
   pub told : old.failed ≡ false → IfOk size (λ n. IfSome content (λ objects. option_map length (octets_of name objects) ≡ Some n))
   pub cause : old.failed ≡ false → HasCause faults faults' shortages shortages' size
   pub unasked : old.failed ≡ true → (faults' ≡ faults) × (shortages' ≡ shortages)

@@ -2,6 +2,7 @@
 use Rattle.std.specs.Prelude.{◌≡◌, ◌<◌, ◌≤◌, ℕ, Bool, IsTrue, List, [], ◌∷◌, ◌++◌, length, min, nat_le, Option, Result, Ok, Err, IfSome}
 use Rattle.bt_base.specs.Counts.{HasRisen}
 use Rattle.bt_base.specs.Objects.{Object, octets_of, HasAt}
+use Rattle.bt_base.specs.Octets.{IsOctets}
 use Rattle.bt_base.specs.declared.ports.PortFault.{PortFault}
 use Rattle.bt_base.specs.declared.ports.PortFault.TheVariants as fault
 use Rattle.obex_headers.specs.Packets.{packet_octets}
@@ -26,11 +27,11 @@ PutsOr old new name size limit content octets (Err fault) = (new ≡ old) × (oc
 
 -- ---- the answers of a shelf
 
--- How it answered: it was asked once at most, for as many octets as the next PUT has. It gave those that stand there, or
+-- How it answered: it was asked once at most, for as many octets as the next PUT has. It gave those that stand there, octets, or
 -- failed, or found no memory, which its counts show.
 abbrev pub IsAnswer : Client → Option (List Object) → (faults faults' shortages shortages' : ℕ) → Part → Type 0
 IsAnswer client content faults faults' shortages shortages' (Ok part) =
-    (length part ≡ put_count client) × IfSome content (λ objects. HasAt (place_of client.session.put) part (octets_of client.name objects))
+    (length part ≡ put_count client) × IsOctets part × IfSome content (λ objects. HasAt (place_of client.session.put) part (octets_of client.name objects))
 IsAnswer client content faults faults' shortages shortages' (Err fault.Failed) = HasRisen faults faults'
 IsAnswer client content faults faults' shortages shortages' (Err fault.NoMemory) = HasRisen shortages shortages'
 

@@ -2,6 +2,7 @@
 
 ghost use Rattle.std.specs.Prelude.{◌≡◌, ◌≤◌, [], true, false, length, drop, IfOk};
 ghost use Rattle.bt_base.specs.Counts.{HasCause};
+ghost use Rattle.bt_base.specs.Octets.{IsOctets};
 ghost use Rattle.obex_session.specs.NextPut.{is_waiting};
 ghost use Rattle.obex_session.specs.PutPackets.{Reaches, units_in};
 ghost use Rattle.obex_session.specs.Views.{asks_connect, asks_abort, asks_disconnect};
@@ -18,6 +19,13 @@ use std::marker::Model;
 
 /// The room that a session needs for a request, in octets.
 const ROOM: usize = 32_767;
+
+/// A slice has octets.
+pub(crate) fn are_octets(octets: &[u8])
+    ensures { IsOctets octets.now }
+{
+    let _ = octets;
+}
 
 /// The octets of a request that were not taken yet, in memory that is had at the start. A clause sees them.
 #[derive(Drop)]

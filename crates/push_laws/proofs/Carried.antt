@@ -1,7 +1,7 @@
 -- Push after push over RFCOMM, whatever becomes of the pushes: one request is under way at most, so none is ignored.
 use Rattle.std.proofs.Common.{inl, inr, Bool, true, false, ◌||◌, ◌&&◌, ◌≡◌, ◌==◌, ◌≤◌, ◌<◌, ◌^◌, ℕ, List, [], ◌∷◌, ◌++◌, length, Some, None, refl, sym, ap, subst, ◌∙◌, arith, append-nil, append_assoc, if◌then◌else◌}
 use Rattle.std.specs.Prelude.{not, nat_lt}
-use Rattle.std.specs.List.{AllByRecursion, filter_map, flat_map}
+use Rattle.std.specs.List.{AllByRecursion, flat_map}
 use Rattle.std.proofs.lemmas.Bool.{eqb-true, ne_eqb}
 use Rattle.bt_base.specs.declared.settings.Settings.{Settings}
 use Rattle.bt_base.specs.declared.settings.Transport.{Transport}
@@ -14,9 +14,10 @@ use Rattle.obex_headers.specs.Runs.{names}
 use Rattle.obex_session.specs.InboxCalls.{Answer}
 use Rattle.obex_session.specs.Laws.{without_fault}
 use Rattle.obex_session.specs.Past.{open_headers}
-use Rattle.obex_session.specs.NextPut.{is_waiting}
 use Rattle.rfcomm_frames.specs.declared.connection.Role.TheVariants.{Initiator, Responder}
 use Rattle.rfcomm_frames.specs.FrameReading.{frame_answer, is_empty}
+use Rattle.rfcomm_frames.specs.ObexPackets.{obex_packets}
+use Rattle.rfcomm_frames.specs.Multiplexing.{Passed}
 use Rattle.rfcomm_frames.specs.UserChannel.{user_octets}
 use Rattle.rfcomm_laws.specs.Pairs.{IsFront}
 use Rattle.rfcomm_model.specs.Hearing as hearing
@@ -24,52 +25,50 @@ use Rattle.rfcomm_model.specs.Hearing.{up}
 use Rattle.rfcomm_model.specs.Machine.{Mux}
 use Rattle.rfcomm_model.specs.Sides.{handed}
 use Rattle.obex_session.specs.Views.{is_silent}
-use Rattle.push_terms.specs.declared.outcome.Outcome.{Outcome}
 use Rattle.push_terms.specs.declared.outcome.Outcome.TheVariants as outcomes
 use Rattle.push_model.specs.Client.{Client, own_maximum}
 use Rattle.push_model.specs.Sessions.{session_of}
 use Rattle.push_model.specs.Laws as deeds
 use Rattle.push_model.specs.Laws.{Deed}
 use Rattle.push_model.specs.Listening.{Listener, has_bad_length, heeds_carried}
-use Rattle.push_model.specs.Responding.{is_object}
 use Rattle.push_model.specs.Service.{Service, is_ignored}
 use Rattle.push_model.specs.Server.{Server, Reacted, object_psm, rfcomm_psm}
-use Rattle.push_laws.specs.Carriage.{Carriage, no_carriage, come_by, heard_by, frames_by, carriage_after, AreCarried, ComesOpen, StayCarried, ServesMuxed, FrameFits, IsThere, StaysThere, IsPushedMuxed}
+use Rattle.push_laws.specs.Carriage.{Carriage, no_carriage, come_by, carriage_after, AreCarried, ComesOpen, StayCarried, ServesMuxed, FrameFits, StaysThere, IsPushedMuxed}
 use Rattle.push_laws.specs.Dialogs.{NoPacket, IsCarried, ServesCarried, AllServeCarried, CarriedAreHeard, CarriedAreTaken}
 use Rattle.push_laws.specs.Laws.{new_over}
+use Rattle.push_laws.specs.OneName.{HasOneName, IsNamedOnce, AllNamedOnce}
 use Rattle.push_laws.specs.Occurrences.{Occurrence, Came, Went, Closed, LinkDown, Asked, Answering, done}
 use Rattle.push_laws.specs.Opening.{targets_heard}
 use Rattle.push_laws.specs.Parties.{Move, OfServer, OfClient, server_side, client_side, sdu_if, Push, begun_of, ended_with, over_pushes}
 use Rattle.push_laws.specs.Premises.{may_overtake, AllGranted, NoneShort, IsHeard, IsTaken, RequestsCome, MayCome, AllCome, AllMayCome, AllMayFail, new_packets, is_under_way}
-use Rattle.push_laws.specs.Readings.{closes, came_on, passed_by, since, octets_heard, packets_over}
-use Rattle.push_laws.specs.Sending.{AllAnswer, AnswersTo, MayPush, packets_by}
+use Rattle.push_laws.specs.Readings.{closes, came_on, passed_by, octets_heard, packets_over}
+use Rattle.push_laws.specs.Sending.{AllAnswer, MayPush, packets_by}
 use Rattle.push_laws.proofs.Attending.{Holding, holding_of, sound_more, less_before, up_less, up_whole, same_done, came_octets, same_octets, none_new, none_closed, new_less, new_whole, held_is}
 use Rattle.push_laws.proofs.Calm.{IsCalm, first_calm, calm_more, is_orderly, none_direct, none_muxed}
-use Rattle.push_laws.proofs.Carriage.{Linked, On, Off, client_more}
-use Rattle.push_laws.proofs.Couples.{Sums, no_sums, fronts, none_waits, server_orderly, server_overtakes}
+use Rattle.push_laws.proofs.Carriage.{Linked}
+use Rattle.push_laws.proofs.Couples.{Sums, fronts, none_waits, server_orderly, server_overtakes}
 use Rattle.push_laws.proofs.Driving.{joined}
-use Rattle.push_laws.proofs.Early.{IsEarly, Begun, Early, Opened, early_deed, early_frames}
-use Rattle.push_laws.proofs.Exchanging.{Exchange, Idle, Coming, Less, Whole, IsLess, comes}
+use Rattle.push_laws.proofs.Early.{IsEarly}
+use Rattle.push_laws.proofs.Exchanging.{Exchange, Coming, Less, Whole, IsLess, comes}
 use Rattle.push_laws.proofs.FramesFit.{no_octets, none_comes, up_of, Stands as Standing, Stays, Lacks, Ends, Behind, on_goes}
 use Rattle.push_laws.proofs.Gaining.{first_holds, Clear, clear_more, clean, clean_same}
-use Rattle.push_laws.proofs.Late.{Anchor, anchor_of}
+use Rattle.push_laws.proofs.Late.{Anchor}
+use Rattle.push_laws.proofs.Marking.{seven_of}
 use Rattle.push_laws.proofs.Muxed.{Marks, marks_more}
-use Rattle.push_laws.proofs.Muxing.{Fair, widest, ready_of, widest_ready, early_awaits, deed_fair}
 use Rattle.push_laws.proofs.Naming.{no_other, stays_there}
 use Rattle.push_laws.proofs.Numbers.{K, numbers_stay}
-use Rattle.push_laws.proofs.Pushing.{Task, Stands, Fresh}
+use Rattle.push_laws.proofs.Placing.{Fit, fit_more, most_of, task_of, Pushes, no_cause, Place, Ahead, Within, Beyond, phase_of, deed_place, once_at}
+use Rattle.push_laws.proofs.Pushing.{Task, Fresh}
 use Rattle.push_laws.proofs.Readings.{read_same, read_closed}
 use Rattle.push_laws.proofs.Replies.{packet_answer}
 use Rattle.push_laws.proofs.Requesting.{IsRequest, request_length}
-use Rattle.push_laws.proofs.Sending.{deed_stands}
-use Rattle.push_laws.proofs.Speaking.{Dialog, speaks}
+use Rattle.push_laws.proofs.Speaking.{Dialog}
 use Rattle.push_laws.proofs.Stating.{IsAnswer}
-use Rattle.push_laws.proofs.Talks.{talk_of}
-use Rattle.push_laws.proofs.Throughout.{Numbers, numbers_of, Phase, Waits, Goes, none_behind, none_came, none_before, none_goes, opened_linked, down_fits, IsDown, Rests, Fails, is_down}
+use Rattle.push_laws.proofs.Streams.{no_packets}
+use Rattle.push_laws.proofs.Throughout.{Numbers, numbers_of, none_behind, none_came, none_goes, down_fits, IsDown, Rests, Fails, is_down}
 use Rattle.push_laws.proofs.Turns.{first_clear}
 use Rattle.push_laws.proofs.Undirected.{IsUndirected, undirected_more, first_undirected, breaks_stay}
-use Rattle.push_laws.proofs.Untouched.{IsUntouched, is_opening, deed_same}
-use Rattle.push_laws.proofs.Working.{transport_stays, unmet}
+use Rattle.push_laws.proofs.Untouched.{IsUntouched}
 
 -- ---- nothing comes over L2CAP
 
@@ -91,98 +90,6 @@ alone_more past one at away a = record { undirected = undirected_more one at awa
     by : (closing : Bool) → closes object_psm one ≡ closing → packets_over L2cap (past ++ one ∷ []) ≡ []
     by true is = read_closed (came_on object_psm) object_psm past one is
     by false is = read_same (came_on object_psm) object_psm past one is (no_direct one away) ∙ a.none
-
--- ---- a client in its push
-
-record Fit (w : Task) (client : Client) : Type 0 where
-  sent : List (List ℕ)
-  stands : Stands w sent (talk_of client)
-  fair : Fair widest (talk_of client)
-  muxed : client.transport ≡ Rfcomm
-
-fit_more : (w : Task) (deed : Deed) (client : Client) → AnswersTo w.content deed client → Fit w client → Fit w (deeds.done deed client)
-fit_more w deed client answers f = record {
-  sent = f.sent ++ packets_by deed client;
-  stands = deed_stands w f.sent deed client answers f.stands;
-  fair = deed_fair widest w.content deed client f.muxed answers (widest_ready w f.sent client f.stands f.fair) f.fair;
-  muxed = transport_stays deed client f.muxed;
-}
-
--- ---- where a push is
-
-abbrev most_of : Settings → ℕ
-most_of settings = own_maximum Rfcomm settings
-
-abbrev task_of : Push → Task
-task_of push = record { maximum = push.client.session.maximum; wanted = push.client.session.wanted; name = push.name; size = push.size; content = push.content }
-
--- A push over RFCOMM of a client whose own maximum is a number of two octets, and which is there where it is on the channel of its object.
-pub record Pushes (push : Push) : Type 0 where
-  pub pushed : IsPushedMuxed push
-  pub may : MayPush push.client push.name push.size
-  pub plain : push.client.session.wanted ≡ false
-  pub short : push.client.session.maximum < 2 ^ 16
-  pub answers : AllAnswer push.content (client_side push.moves) (begun_of push)
-
-no_cause : (outcome : Outcome) → None ≡ Some outcome → ⊥
-no_cause outcome e = cc
-
--- ahead of the client's channel, on it with one request under way at most, or the server's channel was closed
-data Place (settings : Settings) (mux : Mux) (session : Asking) (past : List Occurrence) (client : Client) (c : Carriage) (at : Server) : Type 0 where
-  Ahead : IsEarly mux Rfcomm client → IsUntouched session client → c.sent ≡ [] → c.come ≡ [] → c.gone ≡ [] → IsCalm past at → Place settings mux session past client c at
-  Within : (anchor : Anchor) → anchor.transport ≡ Rfcomm → anchor.psm ≡ rfcomm_psm → (sums : Sums) → Linked anchor client c at sums → Dialog (most_of settings) past client at sums → Place settings mux session past client c at
-  Beyond : (anchor : Anchor) → anchor.transport ≡ Rfcomm → anchor.psm ≡ rfcomm_psm → c.closed ≡ true → IsCalm past at → Place settings mux session past client c at
-
-phase_of : (settings : Settings) (mux : Mux) (session : Asking) (past : List Occurrence) (client : Client) (c : Carriage) (at : Server) → Place settings mux session past client c at → Phase mux past client c at
-phase_of settings mux session past client c at (Ahead early untouched sent come gone calm) = Waits early sent come gone calm
-phase_of settings mux session past client c at (Within anchor muxed there sums l d) = Goes anchor muxed there (On sums l)
-phase_of settings mux session past client c at (Beyond anchor muxed there closed calm) = Goes anchor muxed there (Off closed calm)
-
--- ---- a deed of the client
-
-empty_octets : (past : List Occurrence) → filter_map passed_by (since rfcomm_psm past) ≡ [] → octets_heard past ≡ []
-empty_octets past quiet = ap (user_octets 18 Responder Initiator) quiet
-
-opening : (settings : Settings) (past : List Occurrence) (client : Client) (at : Server) (session : Asking) → IsCalm past at → is_object client.stage ≡ true → IsUntouched session client → client.rest ≡ []
-    → Dialog (most_of settings) past client at (record no_sums { asked = client.rest; replied = at.listener.service.answer })
-opening settings past client at session calm here u none = record {
-  packets = [];
-  sound = tt;
-  waits = is_waiting client.session.awaited;
-  held = [];
-  exchange = Idle none (sym none) calm.answer refl;
-  waits_is = λ works. refl;
-  held_is = λ works. sym u.1;
-  quiet = λ works still. none;
-  got_is = empty_octets past calm.quiet;
-  unbroken = calm.unbroken;
-  bounded = λ met free. unmet (sym u.2.1 ∙ met);
-}
-
-module _ (settings : Settings) (n : Numbers) (mux : Mux) (session : Asking) (role : mux.role ≡ Initiator) (fits : mux.largest < 2 ^ 16) (some : 1 ≤ mux.account.cap) (few : mux.account.cap ≤ 40) (w : Task) (seven : 7 ≤ most_of settings) (small : most_of settings < 2 ^ 16) where
-  deed_place : (past : List Occurrence) (client : Client) (c : Carriage) (at : Server) (deed : Deed) → AreCarried (carriage_after (OfClient deed) client c) → IsThere (deeds.done deed client) → K n.largest n.cap at.mux → AnswersTo w.content deed client → Fit w client
-      → Place settings mux session past client c at → Place settings mux session past (deeds.done deed client) (carriage_after (OfClient deed) client c) at
-  deed_place past client c at deed are there k answers f (Within anchor muxed psm sums l d) =
-      let follows = client_more anchor muxed psm at client c sums l deed are in
-      Within anchor muxed psm (record sums { asked = follows.asked; told = follows.told }) follows.linked
-      (speaks (most_of settings) w.content anchor muxed past at client c sums l d (ready_of (most_of settings) w f.sent client seven small d.bounded f.stands f.fair) (early_awaits w f.sent client f.stands) deed (carriage_after (OfClient deed) client c) follows answers)
-  deed_place past client c at deed are there k answers f (Beyond anchor muxed psm closed calm) = Beyond anchor muxed psm closed calm
-  deed_place past client c at deed are there k answers f (Ahead early untouched sent come gone calm) = by (early_deed mux deed client early)
-    where
-      sent' : c.sent ++ frames_by deed client ≡ []
-      sent' = ap (λ fs. c.sent ++ fs) (early_frames mux deed client early) ∙ (append-nil c.sent ∙ sent)
-
-      after : IsUntouched session (deeds.done deed client)
-      after = deed_same session deed client early.0 untouched
-
-      by : Begun mux (deeds.done deed client) → Place settings mux session past (deeds.done deed client) (carriage_after (OfClient deed) client c) at
-      by (Early later) = Ahead later after sent' come gone calm
-      by (Opened o) =
-          let client' = deeds.done deed client in
-          let told : c.told ++ heard_by deed ≡ [] = none_before (c.told ++ heard_by deed) are.back.0 (sym are.back.1 ∙ gone) in
-          Within (anchor_of client') o.same (there (ap is_object o.here)).0 (record no_sums { asked = client'.rest; replied = at.listener.service.answer })
-          (opened_linked n mux role fits some few past client' (carriage_after (OfClient deed) client c) at o there k calm sent' come gone told)
-          (opening settings past client' at session calm (ap is_object o.here) after (after.4 (ap is_opening o.here)))
 
 -- ---- what may come
 
@@ -249,14 +156,14 @@ module _ (Are : List Answer → Type 0) (Comes : List Occurrence → Service →
 
   -- ---- one occurrence
 
-  record Next (mux : Mux) (session : Asking) (past : List Occurrence) (client : Client) (c : Carriage) (at : Reacted) (one : Occurrence) : Type 0 where
+  record Next (mux : Mux) (session : Asking) (sent : List (List ℕ)) (past : List Occurrence) (client : Client) (c : Carriage) (at : Reacted) (one : Occurrence) : Type 0 where
     comes : May past at one
     kept : Kept (past ++ one ∷ []) (done one at)
-    place : Place settings mux session (past ++ one ∷ []) client (carriage_after (OfServer one) client c) (done one at).server
+    place : Place settings mux session sent (past ++ one ∷ []) client (carriage_after (OfServer one) client c) (done one at).server
 
-  module _ (mux : Mux) (session : Asking) (past : List Occurrence) (client : Client) (c : Carriage) (at : Reacted) (one : Occurrence) (kept : Kept past at) (alone : Alone past at.server) (serves : ServesCarried Are at one)
+  module _ (mux : Mux) (session : Asking) (sent : List (List ℕ)) (past : List Occurrence) (client : Client) (c : Carriage) (at : Reacted) (one : Occurrence) (kept : Kept past at) (alone : Alone past at.server) (serves : ServesCarried Are at one)
       (are : AreCarried (carriage_after (OfServer one) client c)) where
-    next_by : May past at one → Place settings mux session (past ++ one ∷ []) client (carriage_after (OfServer one) client c) (done one at).server → Next mux session past client c at one
+    next_by : May past at one → Place settings mux session sent (past ++ one ∷ []) client (carriage_after (OfServer one) client c) (done one at).server → Next mux session sent past client c at one
     next_by comes place = record { comes = comes; kept = more past one at kept comes; place = place }
 
     calm_fits : come_by one ≡ [] → IsCalm (past ++ one ∷ []) (done one at).server → FrameFits at one
@@ -266,14 +173,14 @@ module _ (Are : List Answer → Type 0) (Comes : List Occurrence → Service →
     calm_may none later = may past at one serves (calm_fits none later) (none_behind_it at one none) (none_come past at one serves.carried (none_muxed past one later.quiet))
 
     -- ahead of the channel, and behind its end
-    ahead : IsEarly mux Rfcomm client → IsUntouched session client → c.sent ≡ [] → c.come ≡ [] → c.gone ≡ [] → IsCalm past at.server → Next mux session past client c at one
-    ahead early untouched sent come gone calm =
-        let none = none_behind c.come (come_by one) (none_came (carriage_after (OfServer one) client c) are sent) in
+    ahead : IsEarly mux Rfcomm client → IsUntouched session client → sent ≡ [] → c.sent ≡ [] → c.come ≡ [] → c.gone ≡ [] → IsCalm past at.server → Next mux session sent past client c at one
+    ahead early untouched unsent frames come gone calm =
+        let none = none_behind c.come (come_by one) (none_came (carriage_after (OfServer one) client c) are frames) in
         let later = calm_more past one at (none_comes one none) serves.own calm in
         next_by (calm_may none later)
-        (Ahead early untouched sent (ap (λ (xs : List (List ℕ)). c.come ++ xs) none ∙ (append-nil c.come ∙ come)) (ap (λ (xs : List (List ℕ)). c.gone ++ xs) (none_goes one at serves.own calm.no_frame) ∙ (append-nil c.gone ∙ gone)) later)
+        (Ahead early untouched unsent frames (ap (λ (xs : List (List ℕ)). c.come ++ xs) none ∙ (append-nil c.come ∙ come)) (ap (λ (xs : List (List ℕ)). c.gone ++ xs) (none_goes one at serves.own calm.no_frame) ∙ (append-nil c.gone ∙ gone)) later)
 
-    beyond : (anchor : Anchor) → anchor.transport ≡ Rfcomm → anchor.psm ≡ rfcomm_psm → ComesOpen (OfServer one) c → c.closed ≡ true → IsCalm past at.server → Next mux session past client c at one
+    beyond : (anchor : Anchor) → anchor.transport ≡ Rfcomm → anchor.psm ≡ rfcomm_psm → ComesOpen (OfServer one) c → c.closed ≡ true → IsCalm past at.server → Next mux session sent past client c at one
     beyond anchor muxed there opened closed calm =
         let none = opened closed in
         let later = calm_more past one at (none_comes one none) serves.own calm in
@@ -297,10 +204,10 @@ module _ (Are : List Answer → Type 0) (Comes : List Occurrence → Service →
   other_sums sums packets waits held got replied g r x =
       subst (λ (xs : List ℕ). Exchange (most_of settings) (record sums { got = xs; replied = replied }) packets waits held) (sym g) (subst (λ (xs : List ℕ). Exchange (most_of settings) (record sums { replied = xs }) packets waits held) (sym r) x)
 
-  module _ (mux : Mux) (session : Asking) (anchor : Anchor) (muxed : anchor.transport ≡ Rfcomm) (there : anchor.psm ≡ rfcomm_psm) (past : List Occurrence) (client : Client) (c : Carriage) (at : Reacted) (kept : Kept past at) (alone : Alone past at.server) (sums : Sums)
-      (l : Linked anchor client c at.server sums) (d : Dialog (most_of settings) past client at.server sums) (h : Holding settings past at) where
+  module _ (mux : Mux) (session : Asking) (sent : List (List ℕ)) (anchor : Anchor) (muxed : anchor.transport ≡ Rfcomm) (there : anchor.psm ≡ rfcomm_psm) (past : List Occurrence) (client : Client) (c : Carriage) (at : Reacted) (kept : Kept past at) (alone : Alone past at.server) (sums : Sums)
+      (l : Linked anchor client c at.server sums) (d : Dialog (most_of settings) past client at.server sums) (asked : sums.asked ≡ joined sent) (h : Holding settings past at) where
     -- no frame comes
-    quietly : (one : Occurrence) → ServesCarried Are at one → FrameFits at one → closes rfcomm_psm one ≡ false → come_by one ≡ [] → Standing anchor client c at sums one → Next mux session past client c at one
+    quietly : (one : Occurrence) → ServesCarried Are at one → FrameFits at one → closes rfcomm_psm one ≡ false → come_by one ≡ [] → Standing anchor client c at sums one → Next mux session sent past client c at one
     quietly one serves fits on none s =
         let same = same_octets settings past at h one on none serves.own (server_orderly client.mux c.sent c.come l.unheard at.server.mux at.server.frame l.rest at.server.listener.service.answer (record sums { breaks = at.server.listener.breaks }) l.coupled) in
         let got : s.got ≡ sums.got = s.got_is ∙ (ap (λ (xs : List ℕ). sums.got ++ xs) (no_up one at.server none) ∙ append-nil sums.got) in
@@ -320,7 +227,8 @@ module _ (Are : List Answer → Type 0) (Comes : List Occurrence → Service →
             got_is = same ∙ d.got_is ∙ sym got;
             unbroken = breaks_stay false one at serves.carried on none d.unbroken;
             bounded = d.bounded;
-          });
+          })
+              asked;
         }
 
     -- a frame comes
@@ -354,7 +262,7 @@ module _ (Are : List Answer → Type 0) (Comes : List Occurrence → Service →
       got_now : octets_heard (past ++ Came rfcomm_psm sdu ∷ []) ≡ s.got
       got_now = heard_now ∙ ap (λ (xs : List ℕ). xs ++ ys) d.got_is ∙ sym s.got_is
 
-      by : Coming (most_of settings) sums d.packets d.waits d.held ys → Next mux session past client c at (Came rfcomm_psm sdu)
+      by : Coming (most_of settings) sums d.packets d.waits d.held ys → Next mux session sent past client c at (Came rfcomm_psm sdu)
       by (Less left got less x) =
           let whole : octets_heard past ≡ joined d.packets ++ left = d.got_is ∙ got in
           let holds : at.server.held ≡ left = held_is (most_of settings) past sdu d.packets d.sound left ys whole heard_now (less_before (most_of settings) left ys less) at.server.held (h.held d.unbroken) in
@@ -378,7 +286,8 @@ module _ (Are : List Answer → Type 0) (Comes : List Occurrence → Service →
               got_is = got_now;
               unbroken = ap (λ (x : Listener). x.breaks) same ∙ d.unbroken;
               bounded = d.bounded;
-            });
+            })
+                asked;
           }
       by (Whole left got some request told next) =
           let most : ℕ = most_of settings in
@@ -413,19 +322,20 @@ module _ (Are : List Answer → Type 0) (Comes : List Occurrence → Service →
               got_is = got_now;
               unbroken = ap (λ (x : Listener). x.breaks) now ∙ ap (λ (m : ℕ). has_bad_length (packet_in Request m (left ++ ys))) h.maximum ∙ right;
               bounded = d.bounded;
-            });
+            })
+                asked;
           }
 
-      framed : Next mux session past client c at (Came rfcomm_psm sdu)
+      framed : Next mux session sent past client c at (Came rfcomm_psm sdu)
       framed = by (comes (most_of settings) sums d.packets d.waits d.held ys (front.0, front_is) d.exchange)
 
-    standing : (one : Occurrence) → ServesCarried Are at one → FrameFits at one → AreCarried (carriage_after (OfServer one) client c) → closes rfcomm_psm one ≡ false → Standing anchor client c at sums one → Next mux session past client c at one
+    standing : (one : Occurrence) → ServesCarried Are at one → FrameFits at one → AreCarried (carriage_after (OfServer one) client c) → closes rfcomm_psm one ≡ false → Standing anchor client c at sums one → Next mux session sent past client c at one
     standing (Came psm sdu) serves fits are on s = by (psm == rfcomm_psm) refl
       where
-        by : (mine : Bool) → (psm == rfcomm_psm) ≡ mine → Next mux session past client c at (Came psm sdu)
+        by : (mine : Bool) → (psm == rfcomm_psm) ≡ mine → Next mux session sent past client c at (Came psm sdu)
         by true is =
             let same = eqb-true psm rfcomm_psm is in
-            subst (λ (n : ℕ). Next mux session past client c at (Came n sdu)) (sym same)
+            subst (λ (n : ℕ). Next mux session sent past client c at (Came n sdu)) (sym same)
             (framed sdu (subst (λ (n : ℕ). ServesCarried Are at (Came n sdu)) same serves) (subst (λ (n : ℕ). FrameFits at (Came n sdu)) same fits) (subst (λ (n : ℕ). Standing anchor client c at sums (Came n sdu)) same s) (subst (λ (n : ℕ). AreCarried (carriage_after (OfServer (Came n sdu)) client c)) same are))
         by false is = quietly (Came psm sdu) serves fits on (ap (λ (b : Bool). sdu_if b sdu) is) s
     standing (Went psm sdu) serves fits are on s = quietly (Went psm sdu) serves fits on refl s
@@ -434,7 +344,7 @@ module _ (Are : List Answer → Type 0) (Comes : List Occurrence → Service →
     standing Asked serves fits are on s = quietly Asked serves fits on refl s
     standing (Answering answers) serves fits are on s = quietly (Answering answers) serves fits on refl s
 
-    behind : (one : Occurrence) → ServesCarried Are at one → FrameFits at one → AreCarried (carriage_after (OfServer one) client c) → Behind anchor past client c at sums one → Next mux session past client c at one
+    behind : (one : Occurrence) → ServesCarried Are at one → FrameFits at one → AreCarried (carriage_after (OfServer one) client c) → Behind anchor past client c at sums one → Next mux session sent past client c at one
     behind one serves fits are (Stays on s) = standing one serves fits are on s
     behind one serves fits are (Lacks closing failed linked) =
         let comes = may past at one serves fits (closing_behind at one closing) (none_come past at one serves.carried (none_closed past one closing)) in
@@ -444,79 +354,91 @@ module _ (Are : List Answer → Type 0) (Comes : List Occurrence → Service →
         let comes = may past at one serves fits (none_behind_it at one none) (none_come past at one serves.carried (none_muxed past one calm.quiet)) in
         record { comes = comes; kept = more past one at kept comes; place = Beyond anchor muxed there closed calm }
 
-  next_place : (mux : Mux) (session : Asking) (past : List Occurrence) (client : Client) (c : Carriage) (at : Reacted) (one : Occurrence) → Kept past at → Alone past at.server → ServesCarried Are at one → AreCarried (carriage_after (OfServer one) client c) → ComesOpen (OfServer one) c
-      → Place settings mux session past client c at.server → Next mux session past client c at one
-  next_place mux session past client c at one kept alone serves are opened (Ahead early untouched sent come gone calm) = ahead mux session past client c at one kept alone serves are early untouched sent come gone calm
-  next_place mux session past client c at one kept alone serves are opened (Beyond anchor muxed there closed calm) = beyond mux session past client c at one kept alone serves are anchor muxed there opened closed calm
-  next_place mux session past client c at one kept alone serves are opened (Within anchor muxed there sums l d) =
+  next_place : (mux : Mux) (session : Asking) (sent : List (List ℕ)) (past : List Occurrence) (client : Client) (c : Carriage) (at : Reacted) (one : Occurrence) → Kept past at → Alone past at.server → ServesCarried Are at one → AreCarried (carriage_after (OfServer one) client c) → ComesOpen (OfServer one) c
+      → Place settings mux session sent past client c at.server → Next mux session sent past client c at one
+  next_place mux session sent past client c at one kept alone serves are opened (Ahead early untouched unsent frames come gone calm) = ahead mux session sent past client c at one kept alone serves are early untouched unsent frames come gone calm
+  next_place mux session sent past client c at one kept alone serves are opened (Beyond anchor muxed there closed calm) = beyond mux session sent past client c at one kept alone serves are anchor muxed there opened closed calm
+  next_place mux session sent past client c at one kept alone serves are opened (Within anchor muxed there sums l d asked) =
       let g = on_goes anchor past client c at sums l one (muxedly past at one kept serves) are in
-      behind mux session anchor muxed there past client c at kept alone sums l d (holding past at kept) one serves g.fits are g.behind
+      behind mux session sent anchor muxed there past client c at kept alone sums l d asked (holding past at kept) one serves g.fits are g.behind
 
   -- ---- a push, and what is behind it
 
+  -- it may come, and one packet at most has a Name since the channel was opened
+  abbrev Both : List Occurrence → Reacted → List Occurrence → Type 0
+  Both past at occurrences = AllCome Are Comes settings past at occurrences × AllNamedOnce settings Rfcomm past occurrences
+
+  both : (past : List Occurrence) (at : Reacted) (one : Occurrence) (rest : List Occurrence) → May past at one → IsNamedOnce settings Rfcomm (past ++ one ∷ []) → Both (past ++ one ∷ []) (done one at) rest → Both past at (one ∷ rest)
+  both past at one rest may once others = ((may, others.0), (once, others.1))
+
+  closed_none : (past : List Occurrence) (one : Occurrence) → closes rfcomm_psm one ≡ true → packets_over Rfcomm (past ++ one ∷ []) ≡ []
+  closed_none past one closing = ap (λ (ps : List Passed). obex_packets (user_octets 18 Responder Initiator ps)) (read_closed passed_by rfcomm_psm past one closing) ∙ no_packets
+
   module _ (n : Numbers) (mux : Mux) (session : Asking) (role : mux.role ≡ Initiator) (fits : mux.largest < 2 ^ 16) (some : 1 ≤ mux.account.cap) (few : mux.account.cap ≤ 40) (w : Task) (tail : List Occurrence) where
     abbrev GoesOn : Type 0
-    GoesOn = (past : List Occurrence) (client : Client) (c : Carriage) (at : Reacted) → K n.largest n.cap at.server.mux → Place settings mux session past client c at.server → Kept past at → Alone past at.server → AllServeCarried Are at tail → AllCome Are Comes settings past at tail
+    GoesOn = (sent : List (List ℕ)) (past : List Occurrence) (client : Client) (c : Carriage) (at : Reacted) → K n.largest n.cap at.server.mux → Place settings mux session sent past client c at.server → Kept past at → Alone past at.server → AllServeCarried Are at tail → Both past at tail
 
-    moves_come : (moves : List Move) (past : List Occurrence) (client : Client) (c : Carriage) (at : Reacted) → StaysThere moves client → StayCarried moves client c → AllAnswer w.content (client_side moves) client → AllServeCarried Are at (server_side moves ++ tail)
-        → K n.largest n.cap at.server.mux → Place settings mux session past client c at.server → Kept past at → Alone past at.server → Fit w client → GoesOn → AllCome Are Comes settings past at (server_side moves ++ tail)
-    moves_come [] past client c at there carried answers serve k place kept alone fit on = on past client c at k place kept alone serve
-    moves_come (OfServer one ∷ moves) past client c at there carried answers serve k place kept alone fit on =
-        let g = next_place mux session past client c at one kept alone serve.0 carried.0 carried.1 place in (
-          g.comes,
-          moves_come moves (past ++ one ∷ []) client (carriage_after (OfServer one) client c) (done one at) there.1 carried.2 answers serve.1 (numbers_stay n.largest n.cap one at k) g.place g.kept (alone_more past one at serve.0.carried alone) fit on,
-        )
-    moves_come (OfClient deed ∷ moves) past client c at there carried answers serve k place kept alone fit on =
-        moves_come moves past (deeds.done deed client) (carriage_after (OfClient deed) client c) at there.1 carried.2 answers.1 serve k
-        (deed_place settings n mux session role fits some few w seven small past client c at.server deed carried.0 there.0 k answers.0 fit place) kept alone (fit_more w deed client answers.0 fit) on
+    moves_come : (moves : List Move) (sent : List (List ℕ)) (past : List Occurrence) (client : Client) (c : Carriage) (at : Reacted) → StaysThere moves client → StayCarried moves client c → AllAnswer w.content (client_side moves) client → AllServeCarried Are at (server_side moves ++ tail)
+        → K n.largest n.cap at.server.mux → Place settings mux session sent past client c at.server → Kept past at → Alone past at.server → Fit w sent client → GoesOn → Both past at (server_side moves ++ tail)
+    moves_come [] sent past client c at there carried answers serve k place kept alone fit on = on sent past client c at k place kept alone serve
+    moves_come (OfServer one ∷ moves) sent past client c at there carried answers serve k place kept alone fit on =
+        let g = next_place mux session sent past client c at one kept alone serve.0 carried.0 carried.1 place in
+        let alone' = alone_more past one at serve.0.carried alone in
+        both past at one (server_side moves ++ tail) g.comes (record { alone = alone'.none; once = once_at settings mux session w sent (past ++ one ∷ []) client (carriage_after (OfServer one) client c) (done one at).server fit g.place })
+        (moves_come moves sent (past ++ one ∷ []) client (carriage_after (OfServer one) client c) (done one at) there.1 carried.2 answers serve.1 (numbers_stay n.largest n.cap one at k) g.place g.kept alone' fit on)
+    moves_come (OfClient deed ∷ moves) sent past client c at there carried answers serve k place kept alone fit on =
+        moves_come moves (sent ++ packets_by deed client) past (deeds.done deed client) (carriage_after (OfClient deed) client c) at there.1 carried.2 answers.1 serve k
+        (deed_place settings n mux session role fits some few w seven small sent past client c at.server deed carried.0 there.0 k answers.0 fit place) kept alone (fit_more w sent deed client answers.0 fit) on
 
-  begun_fit : (push : Push) → Pushes push → Fit (task_of push) (begun_of push)
+  begun_fit : (push : Push) → Pushes push → Fit (task_of push) [] (begun_of push)
   begun_fit push c =
       let may : MayPush push.client push.name push.size = c.may in
       let pushed : IsPushedMuxed push = c.pushed in
       record {
-        sent = [];
         stands = (
           record { maximum = refl; wanted = refl; name_is = refl; size_is = refl; short = may.short; small = may.small; least = may.least; most = may.most },
           Fresh refl refl refl refl (λ e. may.own) (λ e. no_cause outcomes.Done e),
         );
         fair = (c.plain, refl, omega arith, may.own, (let short = c.short in omega (arith, short)));
         muxed = pushed.muxed;
+        sound = tt;
       }
 
   push_comes : (n : Numbers) (tail : List Occurrence) (push : Push) (carried : Pushes push) (past : List Occurrence) (at : Reacted) → K n.largest n.cap at.server.mux → IsCalm past at.server → Kept past at → Alone past at.server → AllServeCarried Are at (server_side push.moves ++ tail)
-      → (let pushed : IsPushedMuxed push = carried.pushed in GoesOn n push.client.mux (begun_of push).session pushed.role pushed.fits pushed.some pushed.few (task_of push) tail) → AllCome Are Comes settings past at (server_side push.moves ++ tail)
+      → (let pushed : IsPushedMuxed push = carried.pushed in GoesOn n push.client.mux (begun_of push).session pushed.role pushed.fits pushed.some pushed.few (task_of push) tail) → Both past at (server_side push.moves ++ tail)
   push_comes n tail push carried past at k calm kept alone serve on =
       let pushed : IsPushedMuxed push = carried.pushed in
       let begun = begun_of push in
-      moves_come n push.client.mux begun.session pushed.role pushed.fits pushed.some pushed.few (task_of push) tail push.moves past begun no_carriage at pushed.there pushed.carried carried.answers serve k
-      (Ahead (refl, refl, pushed.muxed) (refl, refl, (refl, refl), (λ e. inl refl), (λ e. refl)) refl refl refl calm) kept alone (begun_fit push carried) on
+      moves_come n push.client.mux begun.session pushed.role pushed.fits pushed.some pushed.few (task_of push) tail push.moves [] past begun no_carriage at pushed.there pushed.carried carried.answers serve k
+      (Ahead (refl, refl, pushed.muxed) (refl, refl, (refl, refl), (λ e. inl refl), (λ e. refl)) refl refl refl refl calm) kept alone (begun_fit push carried) on
 
   -- ---- push after push
 
   all_come : (n : Numbers) (pushes : List Push) (last : Push) (past : List Occurrence) (at : Reacted) → AllByRecursion Pushes pushes → Pushes last → K n.largest n.cap at.server.mux → IsCalm past at.server → Kept past at → Alone past at.server
-      → AllServeCarried Are at (over_pushes pushes last) → AllCome Are Comes settings past at (over_pushes pushes last)
+      → AllServeCarried Are at (over_pushes pushes last) → Both past at (over_pushes pushes last)
   all_come n [] last past at carried over k calm kept alone serve =
       let same = append-nil (server_side last.moves) in
-      subst (AllCome Are Comes settings past at) same (push_comes n [] last over past at k calm kept alone (subst (AllServeCarried Are at) (sym same) serve) (λ past' client' c' at' k' place' kept' alone' serve'. tt))
+      subst (Both past at) same (push_comes n [] last over past at k calm kept alone (subst (AllServeCarried Are at) (sym same) serve) (λ sent' past' client' c' at' k' place' kept' alone' serve'. (tt, tt)))
   all_come n (push ∷ pushes) last past at carried over k calm kept alone serve =
       let others : List Occurrence = over_pushes pushes last in
       let same : server_side push.moves ++ LinkDown ∷ others ≡ over_pushes (push ∷ pushes) last =
       sym (ap (λ (os : List Occurrence). os ++ server_side last.moves) (append_assoc (server_side push.moves) (LinkDown ∷ []) (flat_map ended_with pushes))
       ∙ append_assoc (server_side push.moves) (LinkDown ∷ flat_map ended_with pushes) (server_side last.moves)) in
       let next : (past' : List Occurrence) (at' : Reacted) → K n.largest n.cap at'.server.mux → Kept (past' ++ LinkDown ∷ []) (done LinkDown at') → Alone (past' ++ LinkDown ∷ []) (done LinkDown at').server → AllServeCarried Are (done LinkDown at') others → IsDown past' at'
-      → AllCome Are Comes settings (past' ++ LinkDown ∷ []) (done LinkDown at') others =
+      → Both (past' ++ LinkDown ∷ []) (done LinkDown at') others =
       λ past' at' k' kept' alone' serve' down. elim down [
         | Rests calm' ↦ all_come n pushes last (past' ++ LinkDown ∷ []) (done LinkDown at') carried.1 over (numbers_stay n.largest n.cap LinkDown at' k') calm' kept' alone' serve'
         | Fails failed ↦ absurd (let never : true ≡ false = sym failed ∙ (holding (past' ++ LinkDown ∷ []) (done LinkDown at') kept').works in cc)
       ] in
       let pushed : IsPushedMuxed push = let first = carried.0 in first.pushed in
-      subst (AllCome Are Comes settings past at) same
+      subst (Both past at) same
       (push_comes n (LinkDown ∷ others) push carried.0 past at k calm kept alone (subst (AllServeCarried Are at) (sym same) serve)
-      (λ past' client' c' at' k' place' kept' alone' serve'.
-      let fits = down_fits n push.client.mux pushed.role pushed.fits pushed.some pushed.few past' client' c' at' (muxedly past' at' LinkDown kept' serve'.0) (phase_of settings push.client.mux (begun_of push).session past' client' c' at'.server place') in
+      (λ sent' past' client' c' at' k' place' kept' alone' serve'.
+      let fits = down_fits n push.client.mux pushed.role pushed.fits pushed.some pushed.few past' client' c' at' (muxedly past' at' LinkDown kept' serve'.0) (phase_of settings push.client.mux (begun_of push).session sent' past' client' c' at'.server place') in
       let now = may past' at' LinkDown serve'.0 fits (none_behind_it at' LinkDown refl) (none_come past' at' LinkDown serve'.0.carried (none_closed past' LinkDown refl)) in
-      (now, next past' at' k' (more past' LinkDown at' kept' now) (alone_more past' LinkDown at' serve'.0.carried alone') serve'.1 (is_down n.largest n.cap past' at' (holding past' at' kept').works k'))))
+      let alone'' = alone_more past' LinkDown at' serve'.0.carried alone' in
+      both past' at' LinkDown others now (record { alone = alone''.none; once = subst (HasOneName (most_of settings)) (sym (closed_none past' LinkDown refl)) tt })
+      (next past' at' k' (more past' LinkDown at' kept' now) alone'' serve'.1 (is_down n.largest n.cap past' at' (holding past' at' kept').works k'))))
 
 -- ---- the laws
 
@@ -539,22 +461,19 @@ clear_holding : (settings : Settings) (before : List Stored) (past : List Occurr
 clear_holding settings before past at c =
     subst (λ (os : List Occurrence). Holding settings os at) (clean_same settings before past) (holding_of settings before (clean settings before past) at c.holds)
 
-seven_of : (settings : Settings) → 7 ≤ most_of settings
-seven_of settings = let low = settings.obex_low in omega (arith, low)
-
 pub pushes_are_heard : (settings : Settings) (before : List Stored) (pushes : List Push) (last : Push) → AllByRecursion Pushes pushes → Pushes last → AllServeCarried AllGranted (new_over settings before) (over_pushes pushes last)
     → AllMayCome settings [] (new_over settings before) (over_pushes pushes last)
 unfolding numbers_of
 pushes_are_heard settings before pushes last carried over serve =
-    all_come AllGranted (IsHeard settings) settings (Clear settings before) (clear_holding settings before) (clear_more settings before)
+    (all_come AllGranted (IsHeard settings) settings (Clear settings before) (clear_holding settings before) (clear_more settings before)
     (λ past at packet alone free. let u = alone.undirected in record { taken = is_taken at.server.listener.service packet u.0 free; alone = λ named. is_alone settings past alone.none })
-    (seven_of settings) (small_of settings) (numbers_of settings) pushes last [] (new_over settings before) carried over (refl, refl, refl, refl) (first_calm settings) (first_clear settings before) (first_alone settings before) serve
+    (seven_of settings) (small_of settings) (numbers_of settings) pushes last [] (new_over settings before) carried over (refl, refl, refl, refl) (first_calm settings) (first_clear settings before) (first_alone settings before) serve).0
 
 marks_holding : (settings : Settings) (before : List Stored) (past : List Occurrence) (at : Reacted) → Marks settings before past at → Holding settings past at
 marks_holding settings before past at m = subst (λ (os : List Occurrence). Holding settings os at) m.same (holding_of settings before m.marks at m.holds)
 
 pub pushes_are_taken : (settings : Settings) (before : List Stored) (pushes : List Push) (last : Push) → AllByRecursion Pushes pushes → Pushes last → AllServeCarried NoneShort (new_over settings before) (over_pushes pushes last)
-    → AllMayFail settings [] (new_over settings before) (over_pushes pushes last)
+    → AllMayFail settings [] (new_over settings before) (over_pushes pushes last) × AllNamedOnce settings Rfcomm [] (over_pushes pushes last)
 unfolding numbers_of
 pushes_are_taken settings before pushes last carried over serve =
     all_come NoneShort (IsTaken settings) settings (Marks settings before) (marks_holding settings before) (marks_more settings before)
@@ -589,4 +508,4 @@ pub carried-are_heard : CarriedAreHeard
 carried-are_heard settings before pushes last carried over serve = pushes_are_heard settings before pushes last (all_carried settings pushes carried) (carried_pushes settings last over) serve
 
 pub carried-are_taken : CarriedAreTaken
-carried-are_taken settings before pushes last carried over serve = pushes_are_taken settings before pushes last (all_carried settings pushes carried) (carried_pushes settings last over) serve
+carried-are_taken settings before pushes last carried over serve = (pushes_are_taken settings before pushes last (all_carried settings pushes carried) (carried_pushes settings last over) serve).0

@@ -17,7 +17,6 @@ use Rattle.push_model.specs.Laws.{Deed}
 use Rattle.push_model.specs.Service.{Service, is_ignored}
 use Rattle.push_model.specs.Server.{Reacted, object_psm}
 use Rattle.push_laws.specs.Calls.{new_session}
-use Rattle.push_laws.specs.Faults as faulty
 use Rattle.push_laws.specs.Faults.{Marked, unmarked, heard_as, counted, faults_of, fails_at, is_refused, any_refused, refuses_with, ignored_of, ignored_with, faults_before, spends, spent_from}
 use Rattle.push_laws.specs.Occurrences.{Occurrence, Came, Went, Closed, LinkDown, Asked, Answering, done, all_done}
 use Rattle.push_laws.specs.Parties.{Move, OfServer, OfClient, server_side, client_side, Pipes, come_by, sdu_if, pipes_after, ArePipes, IsFrontOf, ComesOpen, StayPipes, ServesDirectly, AllServeDirectly}
@@ -44,7 +43,7 @@ use Rattle.push_laws.proofs.Ways.{Way}
 abbrev pub AllCount : List Heard → Type 0
 AllCount heard = AllByRecursion (λ (one : Heard). one.1 ≡ false) heard
 
-all_count : (a b : List Heard) → AllCount a → AllCount b → AllCount (a ++ b)
+pub all_count : (a b : List Heard) → AllCount a → AllCount b → AllCount (a ++ b)
 all_count [] b x y = y
 all_count (one ∷ a) b x y = (x.0, all_count a b x.1 y)
 

@@ -215,7 +215,7 @@ module _ (settings : Settings) (before : List Object) where
       let more = none_of past service t packets all.1 in
       omega (arith, count, one, more)
 
-  none_with : (past : List Occurrence) (one : Occurrence) (at : Reacted) → MayCome NoneShort (IsTaken settings past at.server.listener.service) settings past at one → ignored_with past at.server.listener.service one ≡ 0
+  pub none_with : (past : List Occurrence) (one : Occurrence) (at : Reacted) → MayCome NoneShort (IsTaken settings past at.server.listener.service) settings past at one → ignored_with past at.server.listener.service one ≡ 0
   none_with past one at may =
       let direct = none_of past at.server.listener.service L2cap (new_packets L2cap past one) (may.requests.heard L2cap) in
       let carried = none_of past at.server.listener.service Rfcomm (new_packets Rfcomm past one) (may.requests.heard Rfcomm) in

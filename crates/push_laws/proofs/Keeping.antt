@@ -52,7 +52,7 @@ end_brings LinkDown e = refl
 end_brings Asked e = refl
 end_brings (Answering answers) e = refl
 
-came_same : (one : Occurrence) → cons_option (came_on object_psm one) [] ≡ come_by one
+pub came_same : (one : Occurrence) → cons_option (came_on object_psm one) [] ≡ come_by one
 came_same (Came psm sdu) = by (psm == object_psm)
   where
     by : (here : Bool) → cons_option (cond here (Some sdu) None) [] ≡ sdu_if here sdu
@@ -69,10 +69,10 @@ news_are past one on = ap (beyond (packets_over L2cap past)) (read_more (came_on
 
 -- ---- lists of objects
 
-nothing_beyond : (old new : List Object) → new ≡ old → beyond old new ≡ []
+pub nothing_beyond : (old new : List Object) → new ≡ old → beyond old new ≡ []
 nothing_beyond old new same = ap (beyond old) same ∙ drop_same old
 
-front_kept : (old new more : List Object) → new ≡ old ++ more → old ++ beyond old new ≡ new
+pub front_kept : (old new more : List Object) → new ≡ old ++ more → old ++ beyond old new ≡ new
 front_kept old new more is = ap (λ (os : List Object). old ++ os) (ap (beyond old) is ∙ drop_front old more) ∙ sym is
 
 module _ (most : ℕ) where
@@ -84,7 +84,7 @@ module _ (most : ℕ) where
       ap (λ (os : List Object). stored_by most heard ++ os) (nothing_beyond (stored_by most heard) (stored_by most (heard ++ [])) (ap (stored_by most) (append-nil heard))) ∙ append-nil (stored_by most heard)
       ∙ ap (stored_by most) (sym (append-nil heard))
 
-  bare_is : (packets : List (List ℕ)) → spelled_within most packets ≡ stored_by most (without_fault packets)
+  pub bare_is : (packets : List (List ℕ)) → spelled_within most packets ≡ stored_by most (without_fault packets)
   bare_is packets = sym (spelled_stored most packets)
 
   bare_more : (packets : List (List ℕ)) (here : Bool) (sdu : List ℕ) → without_fault (packets ++ sdu_if here sdu) ≡ without_fault packets ++ heard_as false (sdu_if here sdu)
@@ -101,7 +101,7 @@ pub octets_as : (refused : Bool) (packets : List (List ℕ)) → map octets_of (
 octets_as refused [] = refl
 octets_as refused (packet ∷ packets) = ap (λ (ps : List (List ℕ)). packet ∷ ps) (octets_as refused packets)
 
-no_heard : (heard : List Heard) → map octets_of heard ≡ [] → heard ≡ []
+pub no_heard : (heard : List Heard) → map octets_of heard ≡ [] → heard ≡ []
 no_heard [] e = refl
 no_heard (one ∷ heard) e = absurd (some one.0 (map octets_of heard) e)
   where

@@ -34,6 +34,7 @@ pub mod Keeping
 pub mod Failing
 pub mod OneObject
 pub mod Losing
+pub mod Losses
 pub mod Success
 pub mod Exchanges
 pub mod Flows
@@ -71,6 +72,8 @@ pub mod Exchanging
 pub mod Speaking
 pub mod Attending
 pub mod Naming
+pub mod Placing
+pub mod OnceDirect
 pub mod Carried
 pub mod Staying
 pub mod Lookups

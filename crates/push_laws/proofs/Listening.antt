@@ -267,7 +267,7 @@ stream_on most direct carried got ys held stored listener gift (packet ∷ []) l
 stream_on most direct carried got ys held stored listener gift (packet ∷ other ∷ others) least s sound whole are packets one = absurd (let few = one.single in omega arith)
 
 -- behind octets that begin no packet none is whole, but one that is too long
-still_none : (most : ℕ) (rest ys : List ℕ) (new : List (List ℕ)) → 7 ≤ most → 3 ≤ length rest → (most < stated_size rest) ⊎ (stated_size rest < 3) → AreObexPackets (rest ++ ys) new
+pub still_none : (most : ℕ) (rest ys : List ℕ) (new : List (List ℕ)) → 7 ≤ most → 3 ≤ length rest → (most < stated_size rest) ⊎ (stated_size rest < 3) → AreObexPackets (rest ++ ys) new
     → AllByRecursion (λ packet. has_bad_length (packet_in Request most packet) ≡ false) new → new ≡ []
 still_none most rest ys [] least long wrong are right = refl
 still_none most rest ys (packet ∷ others) least long wrong are right =
@@ -296,7 +296,7 @@ broken_on most direct carried got ys held stored listener gift tail new s breaks
     (record { tail = tail; serves = s; cut = subst (IsCut (most Rfcomm) carried (got ++ ys) held tail) (sym breaks) longer; paid = omega arith })
 
 -- which packets are whole with more octets
-news_are : (carried : List Heard) (got rest ys : List ℕ) → map octets_of carried ≡ obex_packets got → got ≡ stream_of carried ++ rest
+pub news_are : (carried : List Heard) (got rest ys : List ℕ) → map octets_of carried ≡ obex_packets got → got ≡ stream_of carried ++ rest
     → (obex_packets (got ++ ys) ≡ map octets_of carried ++ obex_packets (rest ++ ys)) × (beyond (obex_packets got) (obex_packets (got ++ ys)) ≡ obex_packets (rest ++ ys))
 news_are carried got rest ys packets whole =
     let is = packets_more got rest ys (whole ∙ ap (λ (xs : List ℕ). xs ++ rest) (sym (joined_is carried) ∙ ap (flat_map (λ (packet : List ℕ). packet)) packets)) in (

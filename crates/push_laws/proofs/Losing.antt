@@ -19,9 +19,10 @@ use Rattle.push_laws.specs.Faults as faulty
 use Rattle.push_laws.specs.Faults.{Marked, unmarked, heard_as, heard_over, spends, spent_from}
 use Rattle.push_laws.specs.Gains as clear
 use Rattle.push_laws.specs.Laws.{new_over, stored_in}
-use Rattle.push_laws.specs.Losing.{LeavesOut, IsOffered, PushesGainLess, PushesGainAll, NothingIsLeftOut}
+use Rattle.push_laws.specs.Losing.{LeavesOut, PushesGainLess, PushesGainAll, NothingIsLeftOut}
+use Rattle.push_laws.specs.OneName.{HasOneName}
 use Rattle.push_laws.specs.Occurrences.{Occurrence, LinkDown, done, all_done}
-use Rattle.push_laws.specs.Parties.{Move, OfServer, OfClient, server_side, client_side, Pipes, no_pipes, sent_by, come_by, sdu_if, pipes_after, IsFrontOf, StayPipes, Push, begun_of, ended_with, over_pushes, ServesDirectly, AllServeDirectly}
+use Rattle.push_laws.specs.Parties.{Move, OfServer, OfClient, server_side, client_side, Pipes, no_pipes, sent_by, come_by, sdu_if, pipes_after, IsFrontOf, StayPipes, Push, IsOffered, begun_of, ended_with, over_pushes, ServesDirectly, AllServeDirectly}
 use Rattle.push_laws.specs.Premises.{NoneShort}
 use Rattle.push_laws.specs.Readings.{closes, packets_over}
 use Rattle.push_laws.specs.Turns.{serving}
@@ -30,7 +31,7 @@ use Rattle.push_laws.proofs.Gaining.{unfailed}
 use Rattle.push_laws.proofs.Keeping.{Brings, brings, Keeps, keeps_more}
 use Rattle.push_laws.proofs.Listening.{octets_of}
 use Rattle.push_laws.proofs.Missing.{set_by, Stays, marked_at, stays_more, marks_later, first_stays}
-use Rattle.push_laws.proofs.OneName.{HasOneName, one_name_leaves, one_name_few, one_name_front, uncounted_same}
+use Rattle.push_laws.proofs.OneName.{one_name_leaves, one_name_few, one_name_front, uncounted_same}
 use Rattle.push_laws.proofs.OneObject.{sent_named, sent_long, front_spells_none}
 use Rattle.push_laws.proofs.OnObject.{none_sent, same_psm, none_come, on_object}
 use Rattle.push_laws.proofs.Parties.{begun_so}
@@ -46,22 +47,22 @@ nothing-is_left_out kept [] none = none
 nothing-is_left_out kept (object ∷ objects) (inl stays) = stays.1 ∙ ap (λ (os : List Object). object ∷ os) (nothing-is_left_out stays.0 objects stays.2)
 nothing-is_left_out kept (object ∷ objects) (inr left) = absurd (let none = left.1 in omega (arith, none))
 
-leaves_none : (objects : List Object) (most : ℕ) → LeavesOut objects objects most
+pub leaves_none : (objects : List Object) (most : ℕ) → LeavesOut objects objects most
 leaves_none [] most = refl
 leaves_none (object ∷ objects) most = inl (objects, refl, leaves_none objects most)
 
-leaves_joined : (a b xs ys : List Object) (m n : ℕ) → LeavesOut a xs m → LeavesOut b ys n → LeavesOut (a ++ b) (xs ++ ys) (m + n)
+pub leaves_more : (kept objects : List Object) (n m : ℕ) → LeavesOut kept objects n → LeavesOut kept objects (m + n)
+leaves_more kept [] n m none = none
+leaves_more kept (object ∷ objects) n m (inl stays) = inl (stays.0, stays.1, leaves_more stays.0 objects n m stays.2)
+leaves_more kept (object ∷ objects) n m (inr left) = inr (m + left.0, (let same = left.1 in omega (arith, same)), leaves_more kept objects left.0 m left.2)
+
+pub leaves_joined : (a b xs ys : List Object) (m n : ℕ) → LeavesOut a xs m → LeavesOut b ys n → LeavesOut (a ++ b) (xs ++ ys) (m + n)
 leaves_joined a b [] ys m n none y = subst (λ (os : List Object). LeavesOut os ys (m + n)) (sym (ap (λ (os : List Object). os ++ b) none)) (leaves_more b ys n m y)
-  where
-    leaves_more : (kept objects : List Object) (n m : ℕ) → LeavesOut kept objects n → LeavesOut kept objects (m + n)
-    leaves_more kept [] n m none = none
-    leaves_more kept (object ∷ objects) n m (inl stays) = inl (stays.0, stays.1, leaves_more stays.0 objects n m stays.2)
-    leaves_more kept (object ∷ objects) n m (inr left) = inr (m + left.0, (let same = left.1 in omega (arith, same)), leaves_more kept objects left.0 m left.2)
 leaves_joined a b (object ∷ xs) ys m n (inl stays) y = inl (stays.0 ++ b, ap (λ (os : List Object). os ++ b) stays.1, leaves_joined stays.0 b xs ys m n stays.2 y)
 leaves_joined a b (object ∷ xs) ys m n (inr left) y = inr (left.0 + n, (let same = left.1 in omega (arith, same)), leaves_joined a b xs ys left.0 n left.2 y)
 
 -- none is kept of one at most, where a call failed
-leaves_one : (objects : List Object) (most : ℕ) → length objects ≤ 1 → 1 ≤ most → LeavesOut [] objects most
+pub leaves_one : (objects : List Object) (most : ℕ) → length objects ≤ 1 → 1 ≤ most → LeavesOut [] objects most
 leaves_one [] most few some = refl
 leaves_one (object ∷ []) most few some = by most some
   where

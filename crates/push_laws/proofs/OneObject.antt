@@ -18,8 +18,9 @@ use Rattle.obex_headers.proofs.PacketLaws.{front_takes, packet_again}
 use Rattle.obex_session.specs.ObjectPuts.{front_packets}
 use Rattle.obex_session.specs.PutPackets.{units_in, head_of, body_header, put_packet, packets_from}
 use Rattle.link_talk.specs.ObjectsHeard.{put_within, spelled_within}
+use Rattle.push_laws.specs.OneName.{Unnamed, NoNames, HasOneName}
 use Rattle.push_laws.specs.Sending.{end_of, ArePuts, IsSent}
-use Rattle.push_laws.proofs.OneName.{Unnamed, headers_more, unnamed_none, bare, NoNames, HasOneName, bare_unnamed, no_names_join}
+use Rattle.push_laws.proofs.OneName.{headers_more, unnamed_none, bare, bare_unnamed, no_names_join}
 use Rattle.push_laws.proofs.Spelling.{no_put_within}
 
 module _ (most : ℕ) where

@@ -190,14 +190,14 @@ module _ (settings : Settings) (before : List Object) (rest : List Occurrence) w
   push_turns push pushed past at serve on s =
       elim (cases_Bool ((deeds.all_done (client_side push.moves) begun).psm == object_psm)) [
         | inl here ↦
-            both_turn w pushed.may.own pushed.bounded push.moves past false at begun no_pipes pushed.answers (on_object push.moves begun (eqb-true (deeds.all_done (client_side push.moves) begun).psm object_psm here)) pushed.carried serve on
+            both_turn w pushed.offered.may.own pushed.bounded push.moves past false at begun no_pipes pushed.offered.answers (on_object push.moves begun (eqb-true (deeds.all_done (client_side push.moves) begun).psm object_psm here)) pushed.offered.carried serve on
             (record {
               served = s;
-              direct = pushed.direct;
-              stands = begun_so w push.client pushed.may refl refl;
+              direct = pushed.offered.direct;
+              stands = begun_so w push.client pushed.offered.may refl refl;
               way = λ opened. Flowing [] refl refl refl (inr (record { fits = λ e. absurd (let f : Unmet ≡ Met = e in cc); mode = tt }));
             })
-        | inr away ↦ away_turns push.moves past false at begun no_pipes away refl pushed.carried serve on s
+        | inr away ↦ away_turns push.moves past false at begun no_pipes away refl pushed.offered.carried serve on s
       ]
     where
       begun : Client

@@ -18,15 +18,18 @@ use Rattle.push_terms.specs.declared.outcome.Outcome.TheVariants as outcomes
 use Rattle.push_laws.specs.Dialogs.{AllServeCarried}
 use Rattle.push_laws.specs.Laws.{new_over}
 use Rattle.push_laws.specs.Occurrences.{Occurrence, done}
+use Rattle.push_laws.specs.OneName.{AllNamedOnce, PushedGainLess}
 use Rattle.push_laws.specs.Opening.{targets_heard}
 use Rattle.push_laws.specs.Parties.{Push, begun_of, client_side, over_pushes}
 use Rattle.push_laws.specs.Searches.{IsAsked, AllAreOwn, FindsWhatIsServed, IsMuxedClient, MayBePushed, NewClientsAreMuxed, MuxedClientsStay, IsPushedOver, ServesSo, AllServe, PushedAreHeard, PushedAreTaken}
 use Rattle.push_laws.specs.Sending.{MayPush}
-use Rattle.push_laws.specs.Premises.{AllGranted, NoneShort}
+use Rattle.push_laws.specs.Premises.{AllGranted, NoneShort, AllMayFail}
 use Rattle.push_laws.proofs.Apart.{IsApart, pushes_none, serves_carried}
-use Rattle.push_laws.proofs.Carried.{Pushes, pushes_are_heard, pushes_are_taken}
+use Rattle.push_laws.proofs.Carried.{pushes_are_heard, pushes_are_taken}
 use Rattle.push_laws.proofs.Finding.{targets-are_served}
+use Rattle.push_laws.proofs.Losses.{named-once_gain_less}
 use Rattle.push_laws.proofs.Naming.{NamesNoOther, NameNoOther, stays_there}
+use Rattle.push_laws.proofs.Placing.{Pushes}
 use Rattle.push_laws.proofs.Pushing.{Task, Fixed, Fresh}
 use Rattle.push_laws.proofs.Sending.{all_stand}
 use Rattle.push_laws.proofs.Staying.{multiplexers-stay}
@@ -104,10 +107,20 @@ pushed-are_heard settings before pushes last all over serve =
     let f = found settings before pushes last all over (all_own AllGranted (new_over settings before) (over_pushes pushes last) serve) in
     pushes_are_heard settings before pushes last (all_pushes settings pushes all f.0) (pushes_of settings last over f.1) (carried_of AllGranted settings before pushes last all over serve)
 
-pub pushed-are_taken : PushedAreTaken
-pushed-are_taken settings before pushes last all over serve =
+-- and one packet at most has a Name on each channel
+taken : (settings : Settings) (before : List Stored) (pushes : List Push) (last : Push) → AllByRecursion IsPushedOver pushes → IsPushedOver last → AllServe NoneShort (new_over settings before) (over_pushes pushes last)
+    → AllMayFail settings [] (new_over settings before) (over_pushes pushes last) × AllNamedOnce settings Rfcomm [] (over_pushes pushes last)
+taken settings before pushes last all over serve =
     let f = found settings before pushes last all over (all_own NoneShort (new_over settings before) (over_pushes pushes last) serve) in
     pushes_are_taken settings before pushes last (all_pushes settings pushes all f.0) (pushes_of settings last over f.1) (carried_of NoneShort settings before pushes last all over serve)
+
+pub pushed-are_taken : PushedAreTaken
+pushed-are_taken settings before pushes last all over serve = (taken settings before pushes last all over serve).0
+
+pub pushed-gain_less : PushedGainLess
+pushed-gain_less settings before pushes last all over serve =
+    let both = taken settings before pushes last all over serve in
+    named-once_gain_less settings before Rfcomm (over_pushes pushes last) both.0 both.1
 
 -- ---- such clients
 

@@ -1,6 +1,6 @@
 -- The objects that packets spell where calls of the inbox fail and where packets are ignored because a response waits: a packet at which a call
 -- failed, or that was ignored, counts as a refused PUT (this project's own).
-use Rattle.std.specs.Prelude.{ℕ, ◌+◌, ◌-◌, ◌||◌, Bool, false, List, [], ◌∷◌, ◌++◌, map, sum_by, is_err, Ok, Err, if◌then◌else◌}
+use Rattle.std.specs.Prelude.{ℕ, ◌+◌, ◌-◌, ◌||◌, Bool, false, List, [], ◌∷◌, ◌++◌, map, sum_by, is_err, if◌then◌else◌}
 use Rattle.std.specs.List.{list_any}
 use Rattle.bt_base.specs.declared.settings.Settings.{Settings}
 use Rattle.bt_base.specs.declared.settings.Transport.{Transport}
@@ -8,6 +8,7 @@ use Rattle.bt_base.specs.declared.settings.Transport.TheVariants.{L2cap, Rfcomm}
 use Rattle.bt_base.specs.Objects.{Object}
 use Rattle.capture.specs.Histories.{given_by}
 use Rattle.link_talk.specs.Gains.{gained}
+pub use Rattle.obex_session.specs.Counting.{faults_of}
 use Rattle.obex_session.specs.InboxCalls.{Answer, come_of}
 use Rattle.obex_session.specs.Past.{Heard, stored_by}
 use Rattle.obex_session.specs.Serving.{ruling_on}
@@ -62,11 +63,6 @@ counted holds = if holds then 1 else 0
 
 abbrev pub refusals : List Marked → ℕ
 refusals past = sum_by (λ (one : Marked). counted one.refused) past
-
-abbrev pub faults_of : List Answer → ℕ
-faults_of [] = 0
-faults_of (Ok done ∷ answers) = faults_of answers
-faults_of (Err fault ∷ answers) = faults_of answers + 1
 
 -- ---- which packets are marked
 

@@ -37,8 +37,8 @@ GainsWhatIsHeard = (settings : Settings) (before : List Object) (occurrences : L
     → stored_in (all_done occurrences (new_over settings before)).gift.content ≡ Some (before ++ objects settings occurrences)
 
 -- Where calls of the inbox fail or requests are ignored, it gains what the packets spell if those at which one failed, and those ignored, count as
--- refused: no more of them than there are faults that its calls used up and requests that were ignored. Over L2CAP D0 says that a call failed, and A0
--- that an object is stored.
+-- refused: no more of them than there are faults that its calls used up and requests that were ignored. Over L2CAP D0 is said to a packet that is not
+-- ignored where a call fails at it, and success to a PUT exactly where it stores an object.
 pub record GainsBut (settings : Settings) (before : List Object) (occurrences : List Occurrence) : Type 0 where
   pub gains : stored_in (all_done occurrences (new_over settings before)).gift.content ≡ Some (before ++ with_faults.objects settings (marked_from [] (new_over settings before) occurrences))
   pub few : refusals (marked_from [] (new_over settings before) occurrences) ≤ spent_from (new_over settings before) occurrences + ignored_from [] (new_over settings before) occurrences

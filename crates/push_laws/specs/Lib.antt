@@ -19,3 +19,4 @@ pub mod Dialogs
 pub mod Searches
 pub mod Cancelling
 pub mod Losing
+pub mod OneName

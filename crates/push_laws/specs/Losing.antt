@@ -3,29 +3,19 @@
 use Rattle.std.specs.Prelude.{ℕ, ◌≡◌, ◌+◌, ◌⊎◌, List, [], ◌∷◌, ◌++◌, Some}
 use Rattle.std.specs.List.{AllByRecursion}
 use Rattle.bt_base.specs.declared.settings.Settings.{Settings}
-use Rattle.bt_base.specs.declared.settings.Transport.TheVariants.{L2cap}
 use Rattle.bt_base.specs.Objects.{Object}
 use Rattle.push_laws.specs.Faults.{spent_from}
 use Rattle.push_laws.specs.Gains.{objects}
 use Rattle.push_laws.specs.Laws.{new_over, stored_in}
 use Rattle.push_laws.specs.Occurrences.{Occurrence, all_done}
-use Rattle.push_laws.specs.Parties.{Push, client_side, begun_of, no_pipes, StayPipes, over_pushes, AllServeDirectly}
+use Rattle.push_laws.specs.Parties.{Push, IsOffered, over_pushes, AllServeDirectly}
 use Rattle.push_laws.specs.Premises.{AllGranted, NoneShort}
-use Rattle.push_laws.specs.Sending.{AllAnswer, MayPush}
 
 -- These are the objects in their order, but for so many at most that are left out.
 abbrev pub LeavesOut : (kept objects : List Object) → ℕ → Type 0
 LeavesOut kept [] most = kept ≡ []
 LeavesOut kept (object ∷ objects) most =
     ((rest : List Object) × (kept ≡ object ∷ rest) × LeavesOut rest objects most) ⊎ ((less : ℕ) × (most ≡ less + 1) × LeavesOut kept objects less)
-
--- A push over L2CAP of an object of any size, in any mode, whose shelf answers with as many octets as it was asked for; and the channels of the object
--- are pipes.
-pub record IsOffered (push : Push) : Type 0 where
-  pub direct : push.client.transport ≡ L2cap
-  pub may : MayPush push.client push.name push.size
-  pub answers : AllAnswer push.content (client_side push.moves) (begun_of push)
-  pub carried : StayPipes push.moves (begun_of push) no_pipes
 
 -- the inbox gained the objects that the packets spell, but for one at most for each fault that its calls used up
 pub record GainsLess (settings : Settings) (before : List Object) (occurrences : List Occurrence) : Type 0 where

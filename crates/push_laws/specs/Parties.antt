@@ -141,14 +141,18 @@ pub record Push : Type 0 where
 abbrev pub begun_of : Push → Client
 begun_of push = with_object push.name push.size push.client
 
--- A push over L2CAP, of an object of at most 16,777,215 octets, whose shelf answers with as many octets as it was asked for; and
--- the channels of the object are pipes.
-pub record IsPushed (push : Push) : Type 0 where
+-- A push over L2CAP of an object of any size, in any mode, whose shelf answers with as many octets as it was asked for; and the channels of the object
+-- are pipes.
+pub record IsOffered (push : Push) : Type 0 where
   pub direct : push.client.transport ≡ L2cap
   pub may : MayPush push.client push.name push.size
-  pub bounded : push.size ≤ 16777215
   pub answers : AllAnswer push.content (client_side push.moves) (begun_of push)
   pub carried : StayPipes push.moves (begun_of push) no_pipes
+
+-- such a push of an object of at most 16,777,215 octets
+pub record IsPushed (push : Push) : Type 0 where
+  pub offered : IsOffered push
+  pub bounded : push.size ≤ 16777215
 
 -- ---- one push after the other
 

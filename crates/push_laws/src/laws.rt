@@ -8,6 +8,7 @@ ghost use Rattle.push_laws.specs.Laws.{AnswersComeInTurn, CreditsAreRead, GainsA
 ghost use Rattle.push_laws.specs.Parties.{RequestsAreHeard, RequestsAreTaken, RequestsComeInTurn};
 ghost use Rattle.push_laws.specs.Searches.{MuxedClientsStay, NewClientsAreMuxed, PushedAreHeard, PushedAreTaken, TargetsAreServed};
 ghost use Rattle.push_laws.specs.Losing.{PushesGainLess, PushesGainAll, NothingIsLeftOut};
+ghost use Rattle.push_laws.specs.OneName.{NamedOnceGainLess, NamedOnceTellEach, PushedGainLess, PushesTellEach};
 ghost use Rattle.push_laws.specs.Turns.{NoRequestIsIgnored};
 
 /// From a new server on the inbox gains exactly the objects that the heard packets spell, over both transports and through
@@ -19,8 +20,8 @@ pub fn gains_what_is_heard()
 
 /// Where calls of the inbox fail, or requests are ignored because a response waits, it gains what the packets spell if those at which one failed, and
 /// those that were ignored, count as refused: a fault is among the answers that the calls of such a packet use up, and each has a fault of its own.
-/// Over L2CAP D0 is said to a packet at which one failed, and success to a PUT exactly where it stores an object. Want of memory is not among the
-/// faults.
+/// D0 is said to a packet at which one failed, and success to a PUT exactly where it stores an object, over either transport. Want of memory is not among
+/// the faults.
 pub fn gains_all_but_refusals()
     ensures { GainsAllButRefusals }
 {}
@@ -165,4 +166,22 @@ pub fn pushes_gain_all()
 /// Where no more than none is left out, the objects are all there.
 pub fn nothing_is_left_out()
     ensures { NothingIsLeftOut }
+{}
+
+/// Over either transport, where one packet at most has a Name on each channel, the inbox gains of each object that the packets spell all or nothing, when
+/// its last packet comes: all exactly where success is said to that. Where besides no request is ignored, it gains the objects in their order, but for
+/// one at most for each fault that its calls used up.
+pub fn named_once_gain_less()
+    ensures tells { NamedOnceTellEach }
+    ensures less { NamedOnceGainLess }
+{}
+
+/// So each object tells of itself push after push over L2CAP, of any size and in any mode, under the premises under which it gains less.
+pub fn pushes_tell_each()
+    ensures { PushesTellEach }
+{}
+
+/// So it is push after push over RFCOMM, whatever becomes of the pushes, under the premises under which it gains all where it grants all calls.
+pub fn pushed_gain_less()
+    ensures { PushedGainLess }
 {}

@@ -6,6 +6,7 @@ use Rattle.bt_base.specs.declared.no_memory.NoMemory.{NoMemory}
 use Rattle.bt_base.specs.declared.ports.PortFault.TheVariants as fault
 use Rattle.bt_base.specs.declared.settings.Transport.{Transport}
 use Rattle.obex_session.specs.Counting.{Counts, AreCounted}
+use Rattle.obex_session.proofs.CountingLaws.{rises_none}
 use Rattle.obex_session.specs.InboxCalls.{Abort, Answer, come_of, left_by, all_done, held_after}
 use Rattle.obex_session.specs.Past.{Serving}
 use Rattle.obex_session.specs.Serving as serving
@@ -48,10 +49,10 @@ gift_is content content' answers rest a b = cc
 
 -- what the inbox answered is what its counts say
 counted_as : (under : Bool) (s s' : Counts) (result : Result (Unit {0}) NoMemory) → serving.CountsShortages s.faults s'.faults s.shortages s'.shortages result → AreCounted (used_by under result) s s'
-counted_as false s s' (Ok done) counts = record { faults_stay = counts.faults_stay; shortages_stay = counts.shortages_stay; granted = λ no_fault no_lack. tt; none_short = λ no_lack. tt }
-counted_as true s s' (Ok done) counts = record { faults_stay = counts.faults_stay; shortages_stay = counts.shortages_stay; granted = λ no_fault no_lack. (refl, tt); none_short = λ no_lack. ((λ e. absurd cc), tt) }
-counted_as false s s' (Err lack) counts = record { faults_stay = counts.faults_stay; shortages_stay = counts.shortages_stay; granted = λ no_fault no_lack. absurd (no_lack (counts.short refl)); none_short = λ no_lack. absurd (no_lack (counts.short refl)) }
-counted_as true s s' (Err lack) counts = record { faults_stay = counts.faults_stay; shortages_stay = counts.shortages_stay; granted = λ no_fault no_lack. absurd (no_lack (counts.short refl)); none_short = λ no_lack. absurd (no_lack (counts.short refl)) }
+counted_as false s s' (Ok done) counts = record { faults_stay = counts.faults_stay; shortages_stay = counts.shortages_stay; granted = λ no_fault no_lack. tt; none_short = λ no_lack. tt; few = λ no_lack. rises_none s.faults s'.faults counts.faults_stay }
+counted_as true s s' (Ok done) counts = record { faults_stay = counts.faults_stay; shortages_stay = counts.shortages_stay; granted = λ no_fault no_lack. (refl, tt); none_short = λ no_lack. ((λ e. absurd cc), tt); few = λ no_lack. rises_none s.faults s'.faults counts.faults_stay }
+counted_as false s s' (Err lack) counts = record { faults_stay = counts.faults_stay; shortages_stay = counts.shortages_stay; granted = λ no_fault no_lack. absurd (no_lack (counts.short refl)); none_short = λ no_lack. absurd (no_lack (counts.short refl)); few = λ no_lack. absurd (no_lack (counts.short refl)) }
+counted_as true s s' (Err lack) counts = record { faults_stay = counts.faults_stay; shortages_stay = counts.shortages_stay; granted = λ no_fault no_lack. absurd (no_lack (counts.short refl)); none_short = λ no_lack. absurd (no_lack (counts.short refl)); few = λ no_lack. absurd (no_lack (counts.short refl)) }
 
 pub parts : (transport : Transport) (old : Sessions) (session' : Serving) (content content' : Option Contents) (pending pending' : Bool) (s s' : Counts) (result : Result (Unit {0}) NoMemory)
     → serving.LetsGo (session_of transport old) session' content content' → (has_object (session_of transport old) ≡ false → serving.IsUnasked pending pending' s.faults s'.faults s.shortages s'.shortages result)

@@ -3,7 +3,8 @@ use Rattle.std.specs.Prelude.{◌≡◌, ◌<◌, ◌≤◌, ◌+◌, ℕ, false
 use Rattle.bt_base.specs.declared.no_memory.NoMemory.{NoMemory}
 use Rattle.obex_headers.specs.Assembling.{Assembling}
 use Rattle.push_model.specs.Sessions.{Gift}
-use Rattle.push_model.specs.Listening.{Listener, Heeded, Received, stops}
+use Rattle.push_model.specs.Listening.{Listener, Heeded, Received, stops, hears_front}
+use Rattle.push_model.specs.Streams.{front_of}
 
 abbrev pub heeded : Listener → Gift → Heeded
 heeded listener gift = record { listener = listener; gift = gift }
@@ -14,6 +15,10 @@ ended listener held gift = record { listener = listener; held = held; gift = gif
 -- the longest packet that the session over RFCOMM takes
 abbrev pub longest : Listener → ℕ
 longest listener = listener.service.sessions.carried.maximum
+
+-- what stands at the front of a stream is heard
+abbrev pub front_heard : (List ℕ → Listener → Gift → Received) → List ℕ → Listener → Gift → Received
+front_heard more stream listener gift = hears_front more stream (front_of (longest listener) stream) listener gift
 
 -- the assembler finds the packets that the session takes, and refused none
 pub record Suits (assembler : Assembling) (listener : Listener) : Type 0 where

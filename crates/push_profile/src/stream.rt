@@ -3,10 +3,9 @@
 ghost use Rattle.std.specs.Prelude.{◌≡◌, ◌++◌, List, ℕ, true, false, length, is_err, IfOk, IfSome};
 ghost use Rattle.obex_session.specs.Counting.{counts_of};
 ghost use Rattle.push_model.specs.Sessions.{Gift, is_pending};
-ghost use Rattle.push_model.specs.Streams.{front_of};
-ghost use Rattle.push_model.specs.Listening.{Listener as Heeding, Received, stops, hears_front, hears_stream};
+ghost use Rattle.push_model.specs.Listening.{Listener as Heeding, Received, stops, hears_stream};
 ghost use Rattle.push_profile.specs.Reactions.{Comes};
-ghost use Rattle.push_profile.specs.Hearing.{longest, Suits, ended, goes_on, IsHeard};
+ghost use Rattle.push_profile.specs.Hearing.{Suits, ended, front_heard, goes_on, IsHeard};
 
 use crate::listener::Listener;
 use crate::octets::first_three;
@@ -26,7 +25,7 @@ fn hear_next<B: Inbox>(
     requires pending { B.is_pending inbox.old ≡ is_pending listener.old.service.sessions }
     requires works { stops listener.old ≡ false }
     requires suits { Suits assembler.old listener.old }
-    ensures comes { (more : List ℕ → Heeding → Gift → Received) → Comes (hears_front more (assembler.old.held ++ piece.now) (front_of (longest listener.old) (assembler.old.held ++ piece.now)) listener.old) (goes_on more piece.now assembler.new.held listener.new result) (B.content inbox.old) (B.content inbox.new) (counts_of B.faults B.shortages inbox.old) (counts_of B.faults B.shortages inbox.new) (is_err result) }
+    ensures comes { (more : List ℕ → Heeding → Gift → Received) → Comes (front_heard more (assembler.old.held ++ piece.now) listener.old) (goes_on more piece.now assembler.new.held listener.new result) (B.content inbox.old) (B.content inbox.new) (counts_of B.faults B.shortages inbox.old) (counts_of B.faults B.shortages inbox.new) (is_err result) }
     ensures heard { IfOk result (λ next. IfSome next (IsHeard assembler.old piece.now assembler.new listener.new)) }
     ensures fails { is_err result ≡ listener.new.service.failed }
     ensures suits { Suits assembler.new listener.new }

@@ -5,6 +5,8 @@
 #[cfg(test)]
 mod failing_tests;
 #[cfg(test)]
+mod losing_tests;
+#[cfg(test)]
 mod playing_tests;
 #[cfg(test)]
 mod ports;

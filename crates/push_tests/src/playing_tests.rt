@@ -1,32 +1,36 @@
 use crate::ports::{
     Content, Ports, WELL, contains, empty_inbox, is_stored, is_text, ports_of, pushed,
 };
-use bt_base::MemInbox;
+use bt_base::{MemInbox, MemSink, MemSource};
 use btpush_forms::Status;
+use capture::{Entry, Flow, entries_of};
+use h4_framing::Unit;
+use object_lines::view_tagged;
+use push_terms::Side;
 use std::alloc::Global;
 use std::test::*;
 
 /// A scenario, its objects, and what comes of it: the status, how the report begins and ends, what is stored (the units of each name and its
 /// content), packets that stand in the capture, and packets that do not.
-struct Row {
-    text: &'static str,
-    objects: &'static [(&'static str, Content)],
-    status: Status,
-    begins: &'static str,
-    ends: &'static str,
-    stored: &'static [(&'static [u16], Content)],
-    packets: &'static [&'static [u8]],
-    absent: &'static [&'static [u8]],
+pub(crate) struct Row {
+    pub(crate) text: &'static str,
+    pub(crate) objects: &'static [(&'static str, Content)],
+    pub(crate) status: Status,
+    pub(crate) begins: &'static str,
+    pub(crate) ends: &'static str,
+    pub(crate) stored: &'static [(&'static [u16], Content)],
+    pub(crate) packets: &'static [&'static [u8]],
+    pub(crate) absent: &'static [&'static [u8]],
 }
 
 /// The name `a`, and `b`, in UTF-16 units.
-const A: &[u16] = &[0x61];
+pub(crate) const A: &[u16] = &[0x61];
 
-const B: &[u16] = &[0x62];
+pub(crate) const B: &[u16] = &[0x62];
 
-const HI: Content = Content::Text(b"hi");
+pub(crate) const HI: Content = Content::Text(b"hi");
 
-const NOTHING: Content = Content::Text(b"");
+pub(crate) const NOTHING: Content = Content::Text(b"");
 
 /// CONNECT, the PUT of `hi` under the name `a`, and the response to it.
 const CONNECT: &[u8] = &[0x80, 0x00, 0x07, 0x10, 0x00, 0x04, 0x00];
@@ -191,17 +195,20 @@ fn is_traced(ports: &Ports, row: &Row) -> bool {
     traced
 }
 
+/// Whether a push with that status left its ports as a row says.
+pub(crate) fn is_come_to(status: Status, ports: &Ports, inbox: &MemInbox, row: &Row) -> bool {
+    status == row.status
+        && is_text(ports.sink.octets(), row.begins, row.ends)
+        && is_kept(inbox, row)
+        && is_traced(ports, row)
+}
+
 /// Whether a scenario comes to what its row says.
 fn comes_true(alloc: Global, row: &Row) -> Result<bool, Fail> {
     let mut inbox = empty_inbox(alloc, &[])?;
     let mut ports = ports_of(alloc, row.text, row.objects, WELL)?;
     let status = pushed(alloc, &mut ports, &mut inbox);
-    Ok(
-        status == row.status
-            && is_text(ports.sink.octets(), row.begins, row.ends)
-            && is_kept(&inbox, row)
-            && is_traced(&ports, row),
-    )
+    Ok(is_come_to(status, &ports, &inbox, row))
 }
 
 #[test]
@@ -209,6 +216,24 @@ fn scenarios_come_to_what_they_should(rt: HostRuntime) -> Result<(), Fail> {
     for row in ROWS {
         assert!(rt; comes_true(rt.alloc(), row)?, "{}", row.text);
     }
+    Ok(())
+}
+
+/// Whether what is shown of the capture of a push of `hi` ends with the line of that object.
+fn tells_its_object(alloc: Global) -> Result<bool, Fail> {
+    let text = "transport l2cap\nobject a\nradio\n1216 pass\n";
+    let mut inbox = empty_inbox(alloc, &[])?;
+    let mut ports = ports_of(alloc, text, &[("a", HI)], WELL)?;
+    let status = pushed(alloc, &mut ports, &mut inbox);
+    let mut source = MemSource::new(alloc, ports.trace.octets(), 65_536, &[])?;
+    let mut view = MemSink::new(alloc, &[])?;
+    let viewed = view_tagged(alloc, &mut source, &mut view);
+    Ok(status == Status::Ok && viewed.is_ok() && view.octets().ends_with(b"\nobject 0061 2\n"))
+}
+
+#[test]
+fn a_capture_tells_its_object(rt: HostRuntime) -> Result<(), Fail> {
+    assert!(rt; tells_its_object(rt.alloc())?);
     Ok(())
 }
 
@@ -244,6 +269,102 @@ const LONG: Row = Row {
 #[test]
 fn three_objects_cross_a_link_that_loses(rt: HostRuntime) -> Result<(), Fail> {
     assert!(rt; comes_true(rt.alloc(), &LONG)?);
+    Ok(())
+}
+
+/// Objects of more than 130 I-frames, of which the first copies of the frames 31, 63, 64 and 127 are lost: their numbers wrap twice. In single
+/// response mode, and where each packet waits for its response.
+const WRAPPED: [Row; 2] = [
+    Row {
+        text: "transport l2cap\nsrm on\nwindow 32\ntries 20\nobject a\nradio\n84 pass\n1 lose ab\n96 pass\n2 lose ab\n159 pass\n1 lose ab\n2244800 pass\n",
+        objects: &[("a", Content::Filled(70_000))],
+        status: Status::Ok,
+        begins: "1 done a\nkept 1\nbuffers ",
+        ends: "\nwindow 32 1\ncredits 0 0\n",
+        stored: &[(A, Content::Filled(70_000))],
+        packets: &[],
+        absent: &[ABORT],
+    },
+    Row {
+        text: "transport l2cap\nmtu 32767\nmps 500\nobex 32767\nwindow 32\ntries 20\nobject a\nradio\n81 pass\n1 lose ab\n96 pass\n2 lose ab\n133 pass\n1 lose ab\n20000 pass\n",
+        objects: &[("a", Content::Filled(70_000))],
+        status: Status::Ok,
+        begins: "1 done a\nkept 1\nbuffers ",
+        ends: "\nwindow 32 1\ncredits 0 0\n",
+        stored: &[(A, Content::Filled(70_000))],
+        packets: &[],
+        absent: &[ABORT],
+    },
+];
+
+/// The numbers of I-frames that came to host b one right behind the other, where those between them were lost.
+const JUMPS: [(u8, u8); 3] = [(30, 32), (62, 1), (62, 0)];
+
+/// The number of the I-frame that came to host b on the channel of Object Push, where an entry is one: behind the head of its PDU stands its
+/// control field, whose bit 0 is clear.
+fn number_of(entry: &Entry<'_>) -> Option<u8> {
+    let Entry::Moved {
+        side: Side::B,
+        flow: Flow::Into,
+        unit: Unit::Acl { octets, .. },
+    } = *entry
+    else {
+        return None;
+    };
+    match octets {
+        [_, _, 0x41, 0x00, control, ..] if control % 2 == 0 => Some(control / 2 % 64),
+        _ => None,
+    }
+}
+
+/// The numbers of the I-frames that came to host b, in the order in which they came. Each stands in one packet.
+fn numbers_heard(alloc: Global, capture: &[u8]) -> Result<Vec<u8>, Fail> {
+    let Ok(entries) = entries_of(alloc, capture) else {
+        return Err(Fail::from("a capture has whole entries"));
+    };
+    let mut numbers = Vec::new(alloc);
+    for entry in &entries {
+        if let Some(number) = number_of(entry) {
+            numbers.push(number)?;
+        }
+    }
+    Ok(numbers)
+}
+
+/// How often the second of two numbers stands right behind the first.
+fn times_behind(numbers: &[u8], pair: (u8, u8)) -> usize {
+    let mut times = 0usize;
+    for both in numbers.windows(2) {
+        if both == [pair.0, pair.1].as_slice() {
+            times = times.saturating_add(1);
+        }
+    }
+    times
+}
+
+/// Whether each jump comes once in these numbers.
+fn all_jump(numbers: &[u8]) -> bool {
+    let mut jumped = true;
+    for pair in JUMPS.iter() {
+        jumped = jumped && times_behind(numbers, *pair) == 1;
+    }
+    jumped
+}
+
+/// Whether a scenario comes to what its row says, and the I-frames of its capture jump where they should.
+fn jumps_true(alloc: Global, row: &Row) -> Result<bool, Fail> {
+    let mut inbox = empty_inbox(alloc, &[])?;
+    let mut ports = ports_of(alloc, row.text, row.objects, WELL)?;
+    let status = pushed(alloc, &mut ports, &mut inbox);
+    let numbers = numbers_heard(alloc, ports.trace.octets())?;
+    Ok(is_come_to(status, &ports, &inbox, row) && all_jump(&numbers))
+}
+
+#[test]
+fn numbers_of_frames_wrap_over_losses(rt: HostRuntime) -> Result<(), Fail> {
+    for row in WRAPPED.iter() {
+        assert!(rt; jumps_true(rt.alloc(), row)?, "{}", row.text);
+    }
     Ok(())
 }
 

@@ -21,6 +21,7 @@ use Rattle.radio_world.specs.Counting.{one_if, GoesBy, AdvancesBy}
 use Rattle.radio_world.proofs.Moving.{written_then}
 use Rattle.radio_world.proofs.Entering.{tryings, tries, silent}
 use Rattle.radio_world.proofs.Lifting.{plays_a, no_words, advances_a, advances_b}
+use Rattle.radio_world.proofs.Spelled.{each_of_same, each_then}
 
 pub plays_then : {S T G H : Type 0} (U : Upper S G) (V : Upper T H) (xs ys : List Happening) (old mid new : Moment S T) → Plays U V xs old mid → Plays U V ys mid new → Plays U V (xs ++ ys) old new
 plays_then {S} {T} U V [] ys old mid new first second = subst (λ (m : Moment S T). Plays U V ys m new) first second
@@ -36,6 +37,7 @@ advances_none U V RA RB at joins_a joins_b = record {
   answered_b = joins_b.none at.inbox;
   plays = λ rest_a rest_b. refl;
   written = sym (gained-nil at.trace);
+  each = tt;
 }
 
 unfoldable pub advances_then :
@@ -53,6 +55,7 @@ advances_then {S} {T} {G} {H} U V RA RB ws vs old mid new joins_a joins_b one tw
       (subst (λ (hs : List H). Plays U V (one.happenings ++ two.happenings) (moment_of old (one.used_a ++ (two.used_a ++ rest_a)) hs) (moment_of new rest_a rest_b)) (sym (append_assoc one.used_b two.used_b rest_b))
       (plays_then U V one.happenings two.happenings _ (moment_of mid (two.used_a ++ rest_a) (two.used_b ++ rest_b)) _ (one.plays (two.used_a ++ rest_a) (two.used_b ++ rest_b)) (two.plays rest_a rest_b)));
   written = written_then old.trace mid.trace new.trace (all_entries one.happenings) (all_entries two.happenings) _ (flat_map-append entries_of one.happenings two.happenings) one.written two.written;
+  each = each_then (all_entries one.happenings) (all_entries two.happenings) _ (flat_map-append entries_of one.happenings two.happenings) one.each two.each;
 }
 
 -- ---- a push begins
@@ -89,6 +92,7 @@ begins_advances {S} {T} U V RA RB old new a a' b shelf shelf' inbox trace trace'
           );
       written = begins.written ∙ ap (gained trace) (sym (append-nil (entry_octets (Begun (old.pushes.begun + 1)))))
           ∙ ap (λ es. gained trace (capture_octets (Begun (old.pushes.begun + 1) ∷ es))) (sym (silent A reaction.efforts));
+      each = (begins.entry, each_of_same _ [] (silent A reaction.efforts) tt);
     }
 
 -- ---- a push ends
@@ -144,6 +148,7 @@ ends_advances {S} {T} U V RA RB old new a b shelf inbox trace trace' joins_a joi
             refl,
           );
       written = ends.written ∙ ap (gained trace) (sym (append-nil (entry_octets (Ended old.pushes.begun ends.outcome))));
+      each = (ends.entry, tt);
     }
 
 -- ---- a round

@@ -3,20 +3,21 @@ use Rattle.std.proofs.Common.{◌≡◌, ℕ, List, [], ◌∷◌, ◌++◌, len
 use Rattle.std.proofs.lemmas.List.{append-nil}
 use Rattle.bt_base.specs.Streams.{gained, GainedFront}
 use Rattle.bt_base.proofs.PortLaws.{front_none}
-use Rattle.h4_framing.specs.Packets.{Packet}
+use Rattle.h4_framing.specs.Packets.{Packet, IsPacket}
 use Rattle.push_terms.specs.declared.word.Side.{Side}
 use Rattle.capture.specs.declared.flow.Flow.TheVariants.{Into}
-use Rattle.capture.specs.Entries.{Entry, Moved, entry_octets, capture_octets}
+use Rattle.capture.specs.Entries.{Entry, Moved, entry_octets, capture_octets, IsEntry}
 use Rattle.radio_air.specs.Radio.{after_answer}
 use Rattle.world_model.specs.Machines.{Upper}
 use Rattle.world_model.specs.Stations.{Order}
-use Rattle.radio_world.specs.Hosts.{Asking, answering, Coming, coming_packet, hears_coming, JoinAnswers}
+use Rattle.radio_world.specs.Hosts.{Asking, answering, Coming, coming_packet, hears_coming, JoinAnswers, acl_limit, AreSent}
 use Rattle.radio_world.specs.Leaving.{Medium, in_radio, after_all, after_leaving, leaving_entry, leaving_entries, BreaksOff}
 use Rattle.radio_world.specs.Halves.{Half, Leaving, Entering, ComesFirst, half_of, Goes}
 use Rattle.radio_world.specs.Breaking.{IsLeft, IsOf, GoesBroken}
 use Rattle.radio_world.proofs.Entering.{entering_entry}
 use Rattle.radio_world.proofs.Moving.{goes_none, goes_then}
 use Rattle.radio_world.proofs.Crowding.{goes_some}
+use Rattle.radio_world.proofs.Spelled.{each_first, each_last, each_of_same, packet_is_entry, sent_are_entries}
 
 -- the orders whose entries these are
 record AreOrders (side : Side) (orders : List Order) (whole : List Entry) (due : Entry) : Type 0 where
@@ -66,6 +67,7 @@ module _ {S G P X : Type 0} (U : Upper S G) (side : Side) (Answers : P → List 
     few = omega arith;
     may = λ rest. (half_of medium' host' rest, refl);
     front = front_none trace' [];
+    each = tt;
     left = left;
   }
 
@@ -81,7 +83,7 @@ module _ {S G P X : Type 0} (U : Upper S G) (side : Side) (Answers : P → List 
         port_then = port;
         trace_then = gained trace (capture_octets broken.whole);
         goes = goes_some U side Answers orders.done (orders.order ∷ orders.more) medium host port port trace (gained trace (capture_octets broken.whole)) joins orders.orders_are refl
-            (ap (λ (es : List Entry). gained trace (capture_octets es)) (sym orders.whole_is));
+            (ap (λ (es : List Entry). gained trace (capture_octets es)) (sym orders.whole_is)) (each_of_same _ broken.whole orders.whole_is (each_first broken.whole (broken.due ∷ []) broken.each));
         own = own;
         next = Leaving orders.order ∷ [];
         few = omega arith;
@@ -89,20 +91,21 @@ module _ {S G P X : Type 0} (U : Upper S G) (side : Side) (Answers : P → List 
             let left : Half S = record { medium = after_leaving side orders.order after; station = record (answering rest offered) { out = orders.more } } in
             (left, (left, (orders.more, refl, refl), refl));
         front = subst (λ (xs : List ℕ). GainedFront (gained trace (capture_octets broken.whole)) trace' xs) (ap entry_octets (sym orders.due_is) ∙ one_entry (leaving_entry side orders.order)) broken.front;
+        each = (subst IsEntry (sym orders.due_is) (each_last broken.whole broken.due broken.each), tt);
         left = inl refl;
       }
 
   -- all packets moved, and it lacked memory then
-  pub taking_broken : (medium : Medium) (host : Asking S G) (port port' : P) (trace trace' : Option (List ℕ)) → IsOf station host port → trace' ≡ gained trace (capture_octets (leaving_entries side host.out)) → Lacked port port' → Off medium host port port' trace trace'
-  taking_broken medium host port port' trace trace' own written lacked =
+  pub taking_broken : (medium : Medium) (host : Asking S G) (port port' : P) (trace trace' : Option (List ℕ)) → IsOf station host port → trace' ≡ gained trace (capture_octets (leaving_entries side host.out)) → AreSent side host.out → Lacked port port' → Off medium host port port' trace trace'
+  taking_broken medium host port port' trace trace' own written sent lacked =
       goes_no_more medium (after_all side host.out medium) host (record host { out = [] }) port port port' trace trace'
-      (goes_some U side Answers host.out [] medium host port port trace trace' joins (sym (append-nil host.out)) refl written) own (inr lacked)
+      (goes_some U side Answers host.out [] medium host port port trace trace' joins (sym (append-nil host.out)) refl written (sent_are_entries side host.out sent)) own (inr lacked)
 
   -- a packet into it was being written, or it lacked memory as it heard it
   pub entering_broken :
       (coming : Coming) (p : Packet) (medium : Medium) (host : Asking S G) (port port' : P) (trace trace' : Option (List ℕ)) → IsOf station host port → ComesFirst side coming medium.radio → p ≡ coming_packet side coming
-      → GainedFront trace trace' (entry_octets (Moved side Into p)) → IsLeft Lacked port port' → Off medium host port port' trace trace'
-  entering_broken coming p medium host port port' trace trace' own comes same front left = record {
+      → IsPacket acl_limit (coming_packet side coming) → GainedFront trace trace' (entry_octets (Moved side Into p)) → IsLeft Lacked port port' → Off medium host port port' trace trace'
+  entering_broken coming p medium host port port' trace trace' own comes same is front left = record {
     medium_then = medium;
     host_then = host;
     port_then = port;
@@ -116,6 +119,7 @@ module _ {S G P X : Type 0} (U : Upper S G) (side : Side) (Answers : P → List 
         (heard, (heard, (comes, [], refl), refl));
     front = subst (λ (xs : List ℕ). GainedFront trace trace' xs)
         (ap (λ (q : Packet). entry_octets (Moved side Into q)) same ∙ one_entry (Moved side Into (coming_packet side coming)) ∙ ap capture_octets (sym (entering_entry side coming))) front;
+    each = each_of_same _ (Moved side Into (coming_packet side coming) ∷ []) (entering_entry side coming) (packet_is_entry side Into (coming_packet side coming) is, tt);
     left = left;
   }
 
@@ -134,5 +138,6 @@ module _ {S G P X : Type 0} (U : Upper S G) (side : Side) (Answers : P → List 
     few = broken.few;
     may = broken.may;
     front = broken.front;
+    each = broken.each;
     left = broken.left;
   }

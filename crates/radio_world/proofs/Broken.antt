@@ -1,5 +1,5 @@
 -- Runs of the world that broke off.
-use Rattle.std.proofs.Common.{◌≡◌, ℕ, ◌+◌, true, List, [], ◌∷◌, ◌++◌, Option, inl, inr, refl, sym, ap, subst, ◌∙◌, append_assoc, arith}
+use Rattle.std.proofs.Common.{◌≡◌, ℕ, ◌+◌, ◌<◌, ◌^◌, true, List, [], ◌∷◌, ◌++◌, Option, inl, inr, refl, sym, ap, subst, ◌∙◌, append_assoc, arith}
 use Rattle.std.proofs.lemmas.List.{append-nil}
 use Rattle.bt_base.specs.Streams.{GainedFront}
 use Rattle.bt_base.proofs.PortLaws.{front_none}
@@ -55,6 +55,7 @@ module _ {S T G H P Q Y : Type 0} (U : Upper S G) (V : Upper T H) (RA : P → Li
     later = later;
     words_are = are;
     front = front_none mid.trace [];
+    each = tt;
     shelf_went = went_not mid.shelf;
     inbox_left = inl refl;
   }
@@ -73,6 +74,7 @@ module _ {S T G H P Q Y : Type 0} (U : Upper S G) (V : Upper T H) (RA : P → Li
     later = broken.later ++ more;
     words_are = words_then all ws vs more broken.turned (all_words broken.next) broken.later are broken.words_are;
     front = broken.front;
+    each = broken.each;
     shelf_went = broken.shelf_went;
     inbox_left = broken.inbox_left;
   }
@@ -93,6 +95,7 @@ module _ {S T G H P Q Y : Type 0} (U : Upper S G) (V : Upper T H) (RA : P → Li
     later = [];
     words_are = sym (ap (λ (ws : List Word). ws ++ []) (no_words A broken.next));
     front = broken.front;
+    each = broken.each;
     shelf_went = went_left broken.port_then shelf' broken.left;
     inbox_left = inl refl;
   }
@@ -111,6 +114,7 @@ module _ {S T G H P Q Y : Type 0} (U : Upper S G) (V : Upper T H) (RA : P → Li
     later = [];
     words_are = sym (ap (λ (ws : List Word). ws ++ []) (no_words B broken.next));
     front = broken.front;
+    each = broken.each;
     shelf_went = went_not shelf;
     inbox_left = broken.left;
   }
@@ -131,6 +135,7 @@ module _ {S T G H P Q Y : Type 0} (U : Upper S G) (V : Upper T H) (RA : P → Li
     later = [];
     words_are = refl;
     front = subst (λ (xs : List ℕ). GainedFront trace trace' xs) (one_entry (Begun (old.pushes.begun + 1))) broken.front;
+    each = (broken.entry, tt);
     shelf_went = went_left shelf shelf' broken.left;
     inbox_left = inl refl;
   }
@@ -153,6 +158,7 @@ module _ {S T G H P Q Y : Type 0} (U : Upper S G) (V : Upper T H) (RA : P → Li
         later = [];
         words_are = refl;
         front = subst (λ (xs : List ℕ). GainedFront trace trace' xs) (one_entry (Ended old.pushes.begun broken.outcome)) broken.front;
+        each = (broken.entry, tt);
         shelf_went = went_not shelf;
         inbox_left = inl refl;
       }
@@ -160,11 +166,11 @@ module _ {S T G H P Q Y : Type 0} (U : Upper S G) (V : Upper T H) (RA : P → Li
   -- ---- a word
 
   pub word_broken :
-      (word : Word) (old : Scene) (a : Asking S G) (b : Asking T H) (shelf shelf' : P) (inbox inbox' : Q) (trace trace' : Option (List ℕ)) → IsOf station_b b inbox
+      (word : Word) (old : Scene) (a : Asking S G) (b : Asking T H) (shelf shelf' : P) (inbox inbox' : Q) (trace trace' : Option (List ℕ)) → IsOf station_b b inbox → old.turned + 1 < 2 ^ 64
       → ((rest_a : List G) (rest_b : List H) → IsAtRest U V (world_at (moment old (answering rest_a a) (answering rest_b b)))) → IsWord word
       → ((rest_a : List G) (rest_b : List H) → can_be_done U V (found word old.medium.radio) old.pushes (a.upper rest_a) (b.upper rest_b) ≡ true)
       → GainedFront trace trace' (entry_octets (Acted (old.turned + 1) word)) → WentOn RA LA shelf shelf' → IsLeft LB inbox inbox' → Off (word ∷ []) (stage old a b shelf inbox trace) shelf' inbox' trace'
-  word_broken word old a b shelf shelf' inbox inbox' trace trace' own rests is_word can front went left =
+  word_broken word old a b shelf shelf' inbox inbox' trace trace' own few rests is_word can front went left =
       let deed = found word old.medium.radio in
       record {
         mid = stage old a b shelf inbox trace;
@@ -173,6 +179,7 @@ module _ {S T G H P Q Y : Type 0} (U : Upper S G) (V : Upper T H) (RA : P → Li
         own_b = own;
         next = Turns (old.turned + 1) word ∷ [];
         few = omega arith;
+        each = ((omega arith, few, is_word), tt);
         may = λ rest_a rest_b.
             let start : World S T = world_at (moment old (answering rest_a a) (answering rest_b b)) in
             let checked = right_check U V deed old.medium.radio (answering rest_a a) (answering rest_b b) in

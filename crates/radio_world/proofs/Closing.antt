@@ -2,11 +2,12 @@
 use Rattle.std.proofs.Common.{◌≡◌, ℕ, Bool, true, false, List, [], ◌∷◌, Option, if◌then◌else◌, refl, sym, ap, subst, ◌∙◌}
 use Rattle.std.specs.Prelude.{unwrap_or}
 use Rattle.std.proofs.lemmas.List.{append-nil}
+use Rattle.std.specs.List.{AllByRecursion}
 use Rattle.bt_base.specs.Streams.{gained, GainedFront}
 use Rattle.bt_base.proofs.PortLaws.{gained-nil}
 use Rattle.push_terms.specs.declared.outcome.Outcome.{Outcome}
 use Rattle.push_terms.specs.declared.outcome.Outcome.TheVariants.{ScriptEnded}
-use Rattle.capture.specs.Entries.{Ended, entry_octets, capture_octets}
+use Rattle.capture.specs.Entries.{Ended, IsEntry, entry_octets, capture_octets}
 use Rattle.world_model.specs.Pushes.{Pushes, one_ended}
 use Rattle.radio_world.specs.Scenes.{Scene}
 use Rattle.radio_world.specs.Standing.{last_ended, last_entries}
@@ -58,3 +59,13 @@ one_front came pushes outcome trace trace' is outcome_is front =
     subst (λ (xs : List ℕ). GainedFront trace trace' xs)
     (ap (λ (o : Outcome). entry_octets (Ended pushes.begun o)) outcome_is ∙ sym (append-nil (entry_octets (Ended pushes.begun (unwrap_or came ScriptEnded))))
     ∙ sym (ap (λ going. capture_octets (if going then Ended pushes.begun (unwrap_or came ScriptEnded) ∷ [] else [])) is)) front
+
+-- and its entry has octets
+pub none_is_entry : (came : Option Outcome) (pushes : Pushes) → pushes.going ≡ false → AllByRecursion IsEntry (last_entries came pushes)
+none_is_entry came pushes is =
+    subst (λ (going : Bool). AllByRecursion IsEntry (if going then Ended pushes.begun (unwrap_or came ScriptEnded) ∷ [] else [])) (sym is) tt
+
+pub one_is_entry : (came : Option Outcome) (pushes : Pushes) (outcome : Outcome) → pushes.going ≡ true → outcome ≡ unwrap_or came ScriptEnded → IsEntry (Ended pushes.begun outcome) → AllByRecursion IsEntry (last_entries came pushes)
+one_is_entry came pushes outcome is outcome_is entry =
+    subst (λ (going : Bool). AllByRecursion IsEntry (if going then Ended pushes.begun (unwrap_or came ScriptEnded) ∷ [] else [])) (sym is)
+    (subst (λ (o : Outcome). IsEntry (Ended pushes.begun o)) outcome_is entry, tt)

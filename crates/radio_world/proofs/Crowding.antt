@@ -3,10 +3,11 @@ use Rattle.std.proofs.Common.{◌≡◌, ℕ, ◌||◌, Bool, true, false, List,
 use Rattle.std.specs.Prelude.{nat_le}
 use Rattle.std.proofs.lemmas.Bool.{leb-true, le-leb, or_cases, or_left, or_right}
 use Rattle.std.proofs.lemmas.List.{append-nil, append_assoc}
+use Rattle.std.specs.List.{AllByRecursion}
 use Rattle.bt_base.specs.Streams.{gained}
 use Rattle.push_terms.specs.declared.word.Side.{Side}
 use Rattle.push_terms.specs.declared.word.Side.TheVariants.{A, B}
-use Rattle.capture.specs.Entries.{capture_octets}
+use Rattle.capture.specs.Entries.{capture_octets, IsEntry}
 use Rattle.radio_air.specs.Owed.{owes_many}
 use Rattle.radio_air.specs.Queues.{is_crowded}
 use Rattle.radio_air.specs.Radio.{Radio}
@@ -29,6 +30,7 @@ use Rattle.radio_world.proofs.Lifting.{plays_a, plays_b, advances_a, advances_b}
 use Rattle.radio_world.proofs.Advancing.{plays_then}
 use Rattle.radio_world.proofs.Standing.{runs_of, sizes_of}
 use Rattle.radio_world.proofs.Hearing.{Reaches}
+use Rattle.radio_world.proofs.Spelled.{each_of_same}
 
 -- ---- the first orders of a host move
 
@@ -40,13 +42,14 @@ leave_some U side (order ∷ moved) rest medium station are =
 
 pub goes_some :
     {S G P : Type 0} (U : Upper S G) (side : Side) (Answers : P → List G → P → Type 0) (moved rest : List Order) (medium : Medium) (host : Asking S G) (port port' : P) (trace trace' : Option (List ℕ)) → JoinAnswers Answers → host.out ≡ moved ++ rest
-    → port' ≡ port → trace' ≡ gained trace (capture_octets (leaving_entries side moved)) → Goes U side Answers medium (after_all side moved medium) host (record host { out = rest }) port port' trace trace'
-goes_some {P = P} U side Answers moved rest medium host port port' trace trace' joins are same written = record {
+    → port' ≡ port → trace' ≡ gained trace (capture_octets (leaving_entries side moved)) → AllByRecursion IsEntry (leaving_entries side moved) → Goes U side Answers medium (after_all side moved medium) host (record host { out = rest }) port port' trace trace'
+goes_some {P = P} U side Answers moved rest medium host port port' trace trace' joins are same written each = record {
   motions = leavings moved;
   used = [];
   answered = subst (λ (p : P). Answers port [] p) (sym same) (joins.none port);
   makes = λ later. leave_some U side moved rest medium (answering later host) are;
   written = written ∙ ap (λ es. gained trace (capture_octets es)) (sym (leaving_are side moved));
+  each = each_of_same _ (leaving_entries side moved) (leaving_are side moved) each;
 }
 
 -- ---- what is known wherever a run leads, while orders move
@@ -166,7 +169,7 @@ module _ {S T G H : Type 0} (U : Upper S G) (V : Upper T H) where
         later = [];
         words_are = refl;
         advances = advances_a U V RA RB old.medium (after_all A orders old.medium) old.pushes old.turned a (record a { out = over.left }) b shelf shelf' inbox trace trace' joins_b
-            (goes_some U A RA orders over.left old.medium a shelf shelf' trace trace' joins_a are same over.written);
+            (goes_some U A RA orders over.left old.medium a shelf shelf' trace trace' joins_a are same over.written over.each);
         crowded = crowds A (λ medium station. IsReached U V (moment (record old { medium = medium }) station (answering [] b))) old.medium (answering [] a) trace trace' (roomy_a old (answering [] b) orderly) (reached [] []) none over;
         shelf_is = refl;
         inbox_is = refl;
@@ -189,7 +192,7 @@ module _ {S T G H : Type 0} (U : Upper S G) (V : Upper T H) where
         later = [];
         words_are = refl;
         advances = advances_b U V RA RB old.medium (after_all B orders old.medium) old.pushes old.turned a b (record b { out = over.left }) shelf inbox inbox' trace trace' joins_a
-            (goes_some V B RB orders over.left old.medium b inbox inbox' trace trace' joins_b are same over.written);
+            (goes_some V B RB orders over.left old.medium b inbox inbox' trace trace' joins_b are same over.written over.each);
         crowded = crowds B (λ medium station. IsReached U V (moment (record old { medium = medium }) (answering [] a) station)) old.medium (answering [] b) trace trace' (roomy_b old (answering [] a) orderly) (reached [] []) none over;
         shelf_is = refl;
         inbox_is = refl;

@@ -24,6 +24,7 @@ use Rattle.world_model.specs.Worlds.{all_entries}
 use Rattle.radio_world.specs.Hosts.{Asking, answering, acl_limit, Coming, Part, Told, coming_packet, hears_coming, MakesEfforts, Reacts}
 use Rattle.radio_world.specs.Leaving.{Medium, in_radio}
 use Rattle.radio_world.specs.Halves.{Motion, Trying, Entering, happenings_of, MakesAll, Goes, ComesFirst, IsStillIn, comes_count}
+use Rattle.radio_world.proofs.Spelled.{each_of_same, packet_is_entry}
 
 -- ---- nothing is handed over
 
@@ -135,8 +136,8 @@ unfoldable pub goes_in :
     {S G P : Type 0} (U : Upper S G) (side : Side) (Answers : P → List G → P → Type 0) (coming : Coming) (p : Packet) (medium medium' : Medium) (host host' : Asking S G) (port port' : P) (trace trace' : Option (List ℕ))
     → ComesFirst side coming medium.radio → medium' ≡ in_radio (after_answer side medium.radio) medium → p ≡ coming_packet side coming
     → Reacts U side Answers (hears_coming U side coming) host host' port port' → trace' ≡ gained trace (entry_octets (Moved side Into p))
-    → Goes U side Answers medium medium' host host' port port' trace trace'
-goes_in {S} {G} U side Answers coming p medium medium' host host' port port' trace trace' comes after same reaction written = record {
+    → IsPacket acl_limit (coming_packet side coming) → Goes U side Answers medium medium' host host' port port' trace trace'
+goes_in {S} {G} U side Answers coming p medium medium' host host' port port' trace trace' comes after same reaction written is = record {
   motions = Entering coming ∷ tryings reaction.efforts;
   used = reaction.used;
   answered = reaction.answered;
@@ -149,6 +150,7 @@ goes_in {S} {G} U side Answers coming p medium medium' host host' port port' tra
   written = written ∙ ap (λ q. gained trace (entry_octets (Moved side Into q))) same
       ∙ ap (gained trace) (sym (append-nil (entry_octets (Moved side Into (coming_packet side coming)))))
       ∙ ap (λ es. gained trace (capture_octets es)) (sym (entered side coming reaction.efforts));
+  each = each_of_same _ (Moved side Into (coming_packet side coming) ∷ []) (entered side coming reaction.efforts) (packet_is_entry side Into (coming_packet side coming) is, tt);
 }
 
 -- ---- less is left behind it

@@ -2,6 +2,7 @@
 use Rattle.std.proofs.Common.{◌≡◌, ℕ, ◌-◌, List, [], ◌∷◌, ◌++◌, length, take, drop, Option, refl, sym, ap, subst, ◌∙◌, append_assoc, arith}
 use Rattle.std.proofs.Math.Seq.{drop-append_seam}
 use Rattle.std.proofs.lemmas.List.{append-nil, take_all, length-drop}
+use Rattle.std.specs.List.{AllByRecursion}
 use Rattle.bt_base.specs.Streams.{gained, GainedFront}
 use Rattle.bt_base.proofs.PortLaws.{gained-gained, gained-nil}
 use Rattle.h4_framing.specs.Packets.{Packet, Command, Acl, Sync, Event, packet, spelling}
@@ -14,7 +15,7 @@ use Rattle.h4_framing.proofs.ReadingLemmas.{written_is_read}
 use Rattle.push_terms.specs.declared.word.Side.{Side}
 use Rattle.push_terms.specs.declared.word.Side.TheVariants.{A, B}
 use Rattle.capture.specs.declared.flow.Flow.TheVariants.{Out}
-use Rattle.capture.specs.Entries.{Entry, Moved, entry_octets, capture_octets}
+use Rattle.capture.specs.Entries.{Entry, Moved, IsEntry, entry_octets, capture_octets}
 use Rattle.capture.proofs.MoreLaws.{octets-in_parts}
 use Rattle.radio_air.specs.Radio.{Radio, after_packet}
 use Rattle.world_model.specs.Stations.{Order, order_packet}
@@ -23,6 +24,7 @@ use Rattle.turn_laws.proofs.Spelling.{orders_are_spelled}
 use Rattle.radio_world.specs.Hosts.{IsSent, AreSent, order_octets, acl_limit}
 use Rattle.radio_world.specs.Leaving.{Medium, in_radio, noted, after_all, after_leaving, leaving_entry, leaving_entries, BreaksOff}
 use Rattle.radio_world.specs.Shortages.{WantsRoom, Overflows}
+use Rattle.radio_world.proofs.Spelled.{AreEntries, packet_is_entry, each_of_both, each_then}
 
 entries_then : (side : Side) (xs ys : List Order) → leaving_entries side (xs ++ ys) ≡ leaving_entries side xs ++ leaving_entries side ys
 entries_then side [] ys = refl
@@ -38,6 +40,7 @@ pub record IsTaken (side : Side) (orders : List Order) (rest : List ℕ) (old no
   pub left : List Order
   pub orders_are : orders ≡ done ++ left
   pub sent : AreSent side left
+  pub each : AllByRecursion IsEntry (leaving_entries side done)
   pub octets : rest ≡ order_octets side left
   pub medium : now ≡ after_all side done old
   pub written : trace' ≡ gained trace (capture_octets (leaving_entries side done))
@@ -48,6 +51,7 @@ taken_first side orders octets medium trace sent spelled = record {
   left = orders;
   orders_are = refl;
   sent = sent;
+  each = tt;
   octets = spelled;
   medium = refl;
   written = sym (gained-nil trace);
@@ -90,6 +94,10 @@ none_left side (order ∷ more) rest found sent spelled leading none =
 
 -- ---- one order more
 
+one_more : (side : Side) (done : List Order) (order : Order) → AreEntries (leaving_entries side done) → IsSent side order → AreEntries (leaving_entries side (done ++ order ∷ []))
+one_more side done order each sent =
+    each_then (leaving_entries side done) (leaving_entry side order ∷ []) _ (entries_then side done (order ∷ [])) each (packet_is_entry side Out (order_packet side order) sent.packet, tt)
+
 one_entry : (entry : Entry) → capture_octets (entry ∷ []) ≡ entry_octets entry
 one_entry entry = append-nil (entry_octets entry)
 
@@ -120,6 +128,7 @@ taken_more side orders rest rest' unit n old now now' trace trace' trace'' taken
       left = first.more;
       orders_are = taken.orders_are ∙ ap (λ os. taken.done ++ os) first.left_is ∙ sym (append_assoc taken.done (first.order ∷ []) first.more);
       sent = first.sent;
+      each = one_more side taken.done first.order taken.each first.handle;
       octets = behind ∙ first.behind;
       medium = after ∙ ap (λ r. noted side (in_radio r now)) radio ∙ ap (after_leaving side first.order) taken.medium ∙ sym (after_both side taken.done (first.order ∷ []) old);
       written = written_more side taken.done first.order (entry_octets (Moved side Out (packet unit))) trace trace' trace'' (moved_octets side (packet unit) (order_packet side first.order) first.packet_is) taken.written written;
@@ -151,6 +160,7 @@ breaks_off side orders rest unit n old now trace trace' trace'' taken leading fr
       entries_are = ap (leaving_entries side) (taken.orders_are ∙ ap (λ os. taken.done ++ os) first.left_is) ∙ entries_then side taken.done (first.order ∷ first.more);
       front = subst (λ xs. GainedFront (gained trace (capture_octets (leaving_entries side taken.done))) trace'' xs) (moved_octets side (packet unit) (order_packet side first.order) first.packet_is)
           (subst (λ t. GainedFront t trace'' (entry_octets (Moved side Out (packet unit)))) taken.written front);
+      each = each_of_both (leaving_entries side taken.done) (leaving_entry side first.order ∷ []) taken.each (packet_is_entry side Out (order_packet side first.order) first.handle.packet, tt);
     }
 
 -- it is written, and the radio wants memory for it
@@ -171,6 +181,7 @@ overflows side orders rest unit n old now trace trace' trace'' taken leading wri
       wants = subst (λ (r : Radio). WantsRoom (after_all side taken.done old).radio r) (sym after)
           (subst (λ (m : Medium). WantsRoom m.radio (after_order side first.order m.radio)) taken.medium (subst (λ (r : Radio). WantsRoom now.radio r) radio wants));
       written = written_more side taken.done first.order (entry_octets (Moved side Out (packet unit))) trace trace' trace'' (moved_octets side (packet unit) (order_packet side first.order) first.packet_is) taken.written written;
+      each = one_more side taken.done first.order taken.each first.handle;
     }
 
 -- ---- nothing is offered

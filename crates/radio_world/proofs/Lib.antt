@@ -1,5 +1,6 @@
 mod Fed
 mod Leaving
+pub mod Spelled
 pub mod Moving
 mod Entering
 mod Lifting
@@ -22,3 +23,4 @@ mod Lowering
 pub mod Overrunning
 mod Breaking
 pub mod Broken
+pub mod BufferPeaks

@@ -113,6 +113,7 @@ advances_a U V RA RB medium medium' pushes turned a a' b shelf shelf' inbox trac
   answered_b = joins.none inbox;
   plays = λ rest_a rest_b. plays_a U V goes.motions (half_of medium a (goes.used ++ rest_a)) (half_of medium' a' rest_a) (answering rest_b b) pushes turned (goes.makes rest_a);
   written = goes.written;
+  each = goes.each;
 }
 
 unfoldable pub advances_b :
@@ -129,4 +130,5 @@ advances_b U V RA RB medium medium' pushes turned a b b' shelf inbox inbox' trac
   answered_b = goes.answered;
   plays = λ rest_a rest_b. plays_b U V goes.motions (half_of medium b (goes.used ++ rest_b)) (half_of medium' b' rest_b) (answering rest_a a) pushes turned (goes.makes rest_b);
   written = goes.written;
+  each = goes.each;
 }

@@ -11,10 +11,11 @@ use Rattle.radio_air.specs.Radio.{after_offer}
 use Rattle.world_model.specs.Machines.{Upper}
 use Rattle.world_model.specs.Stations.{Order, Station}
 use Rattle.world_model.specs.Worlds.{all_entries, entries_of}
-use Rattle.radio_world.specs.Hosts.{Asking, answering, Reacts, JoinAnswers}
+use Rattle.radio_world.specs.Hosts.{Asking, answering, Reacts, JoinAnswers, AreSent}
 use Rattle.radio_world.specs.Leaving.{Medium, after_all, after_leaving, in_radio, leaving_entry, leaving_entries}
 use Rattle.radio_world.specs.Halves.{Half, Motion, Leaving, Returning, happening_of, happenings_of, MakesAll, half_of, Goes}
 use Rattle.radio_world.proofs.Entering.{tryings, tries, silent}
+use Rattle.radio_world.proofs.Spelled.{each_of_same, each_then, sent_are_entries}
 
 -- ---- lists of motions
 
@@ -40,6 +41,7 @@ goes_none U side Answers medium host port trace joins = record {
   answered = joins.none port;
   makes = λ rest. refl;
   written = sym (gained-nil trace);
+  each = tt;
 }
 
 unfoldable pub goes_then :
@@ -54,6 +56,7 @@ goes_then {S} {G} U side Answers first mid last host host' host'' port port' por
       subst (λ (gs : List G). MakesAll U side (one.motions ++ two.motions) (half_of first host gs) (half_of last host'' rest)) (sym (append_assoc one.used two.used rest))
       (makes_then U side one.motions two.motions (half_of first host (one.used ++ (two.used ++ rest))) (half_of mid host' (two.used ++ rest)) (half_of last host'' rest) (one.makes (two.used ++ rest)) (two.makes rest));
   written = written_then trace trace' trace'' (all_entries (happenings_of side one.motions)) (all_entries (happenings_of side two.motions)) _ (entries_of_both side one.motions two.motions) one.written two.written;
+  each = each_then (all_entries (happenings_of side one.motions)) (all_entries (happenings_of side two.motions)) _ (entries_of_both side one.motions two.motions) one.each two.each;
 }
 
 -- ---- all that a host put out moves
@@ -74,8 +77,8 @@ leave U side (order ∷ orders) medium station are =
 unfoldable pub goes_out :
     {S G P : Type 0} (U : Upper S G) (side : Side) (Answers : P → List G → P → Type 0) (medium medium' : Medium) (host host' : Asking S G) (port port' : P) (trace trace' : Option (List ℕ))
     → medium' ≡ after_all side host.out medium → Reacts U side Answers (λ used station. station) (record host { out = [] }) host' port port' → trace' ≡ gained trace (capture_octets (leaving_entries side host.out))
-    → Goes U side Answers medium medium' host host' port port' trace trace'
-goes_out {S} {G} U side Answers medium medium' host host' port port' trace trace' moved taken written =
+    → AreSent side host.out → Goes U side Answers medium medium' host host' port port' trace trace'
+goes_out {S} {G} U side Answers medium medium' host host' port port' trace trace' moved taken written sent =
     let after : Medium = after_all side host.out medium in
     let offered : Asking S G = record host { out = [] } in
     let entries : all_entries (happenings_of side (leavings host.out ++ tryings taken.efforts)) ≡ leaving_entries side host.out =
@@ -91,6 +94,7 @@ goes_out {S} {G} U side Answers medium medium' host host' port port' trace trace
           (makes_then U side (leavings host.out) (tryings taken.efforts) (half_of medium host known) (half_of after offered known) (half_of after host' rest) (leave U side host.out medium (answering known host) refl)
           (tries U side taken.efforts after (answering known offered) (answering rest host') (taken.reacts rest)));
       written = written ∙ ap (λ es. gained trace (capture_octets es)) (sym entries);
+      each = each_of_same _ (leaving_entries side host.out) entries (sent_are_entries side host.out sent);
     }
 
 -- and its buffers are given back
@@ -103,4 +107,5 @@ goes_back U side Answers medium medium' host port trace joins after = record {
   answered = joins.none port;
   makes = λ rest. (half_of medium' host rest, ap (λ (m : Medium). half_of m host rest) after, refl);
   written = sym (gained-nil trace);
+  each = tt;
 }

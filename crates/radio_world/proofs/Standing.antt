@@ -22,6 +22,7 @@ use Rattle.radio_world.specs.Turning.{can_be_done}
 use Rattle.radio_world.proofs.Advancing.{plays_then}
 use Rattle.radio_world.proofs.Settling.{and_both, idle_of}
 use Rattle.radio_world.proofs.Turned.{nothing_found}
+use Rattle.radio_world.proofs.Spelled.{each_of_same}
 
 pub reached_then :
     {S T G H P Q : Type 0} (U : Upper S G) (V : Upper T H) (RA : P → List G → P → Type 0) (RB : Q → List H → Q → Type 0) (words : List Word) (old new : Stage S T G H P Q)
@@ -170,6 +171,7 @@ misses_advance {S} {T} U V RA RB word count scene new a b shelf inbox trace join
       (misses_play U V word scene (answering rest_a a) (answering rest_b b) (rests rest_a rest_b)
       (nothing_found U V (found word scene.medium.radio) scene.pushes (a.upper rest_a) (b.upper rest_b) (none rest_a rest_b)) count scene.turned (scene.turned + count) refl);
   written = sym (ap (λ es. gained trace (capture_octets es)) (miss_entries word count) ∙ gained-nil trace);
+  each = each_of_same _ [] (miss_entries word count) tt;
 }
 
 -- and what stands, stands

@@ -5,14 +5,14 @@ use Rattle.std.proofs.lemmas.List.Concat.{flat_map-append}
 use Rattle.bt_base.specs.Streams.{gained}
 use Rattle.capture.specs.Entries.{Entry, Moved, entry_octets, capture_octets}
 use Rattle.capture.specs.declared.flow.Flow.TheVariants.{Into}
-use Rattle.h4_framing.specs.Packets.{Packet}
+use Rattle.h4_framing.specs.Packets.{Packet, IsPacket}
 use Rattle.push_terms.specs.declared.word.Side.{Side}
 use Rattle.push_terms.specs.declared.word.Word.{Word}
 use Rattle.radio_air.specs.Radio.{after_answer}
 use Rattle.world_model.specs.Machines.{Upper}
 use Rattle.world_model.specs.Stations.{Order, Effort}
 use Rattle.world_model.specs.Worlds.{Happening, entries_of, all_entries}
-use Rattle.radio_world.specs.Hosts.{Asking, Coming, coming_packet, hears_coming, Reacts, JoinAnswers}
+use Rattle.radio_world.specs.Hosts.{Asking, Coming, coming_packet, hears_coming, Reacts, JoinAnswers, AreSent, acl_limit}
 use Rattle.radio_world.specs.Leaving.{Medium, in_radio, after_all, leaving_entries}
 use Rattle.radio_world.specs.Halves.{Motion, happening_of, happenings_of, ComesFirst, Goes}
 use Rattle.radio_world.specs.Scenes.{Stage}
@@ -53,11 +53,11 @@ pub goes_in_by :
     {S G P : Type 0} (U : Upper S G) (side : Side) (Answers : P → List G → P → Type 0) (coming : Coming) (p : Packet) (medium medium' : Medium) (host host' : Asking S G) (port port' : P) (trace trace' : Option (List ℕ))
     → ComesFirst side coming medium.radio → medium' ≡ in_radio (after_answer side medium.radio) medium → p ≡ coming_packet side coming
     → Reacts U side Answers (hears_coming U side coming) host host' port port' → trace' ≡ gained trace (entry_octets (Moved side Into p))
-    → GoesBy 1 U side Answers medium medium' host host' port port' trace trace'
+    → IsPacket acl_limit (coming_packet side coming) → GoesBy 1 U side Answers medium medium' host host' port port' trace trace'
 unfolding goes_in
-goes_in_by U side Answers coming p medium medium' host host' port port' trace trace' comes after same reaction written =
+goes_in_by U side Answers coming p medium medium' host host' port port' trace trace' comes after same reaction written is =
     let one = ap (λ (l : List Entry). length l) (entered side coming reaction.efforts) in
-    record { goes = goes_in U side Answers coming p medium medium' host host' port port' trace trace' comes after same reaction written; many = omega arith }
+    record { goes = goes_in U side Answers coming p medium medium' host host' port port' trace trace' comes after same reaction written is; many = omega arith }
 
 some_leave : (side : Side) (orders : List Order) (efforts : List Effort) → (orders ≡ [] → ⊥) → 1 ≤ length (all_entries (happenings_of side (leavings orders ++ tryings efforts)))
 some_leave side [] efforts some = absurd (some refl)
@@ -66,10 +66,10 @@ some_leave side (order ∷ orders) efforts some = omega arith
 pub goes_out_by :
     {S G P : Type 0} (U : Upper S G) (side : Side) (Answers : P → List G → P → Type 0) (medium medium' : Medium) (host host' : Asking S G) (port port' : P) (trace trace' : Option (List ℕ))
     → medium' ≡ after_all side host.out medium → Reacts U side Answers (λ used station. station) (record host { out = [] }) host' port port' → trace' ≡ gained trace (capture_octets (leaving_entries side host.out))
-    → (host.out ≡ [] → ⊥) → GoesBy 1 U side Answers medium medium' host host' port port' trace trace'
+    → AreSent side host.out → (host.out ≡ [] → ⊥) → GoesBy 1 U side Answers medium medium' host host' port port' trace trace'
 unfolding goes_out
-goes_out_by U side Answers medium medium' host host' port port' trace trace' moved taken written some =
-    record { goes = goes_out U side Answers medium medium' host host' port port' trace trace' moved taken written; many = some_leave side host.out taken.efforts some }
+goes_out_by U side Answers medium medium' host host' port port' trace trace' moved taken written sent some =
+    record { goes = goes_out U side Answers medium medium' host host' port port' trace trace' moved taken written sent; many = some_leave side host.out taken.efforts some }
 
 -- ---- in the world
 

@@ -1,5 +1,5 @@
 -- A word that is turned is a run of the world.
-use Rattle.std.proofs.Common.{◌≡◌, ℕ, ◌+◌, ◌≤◌, ◌<◌, Bool, true, false, List, [], ◌∷◌, ◌++◌, length, Option, Some, None, if◌then◌else◌, refl, sym, ap, subst, ◌∙◌, arith, le-ltb}
+use Rattle.std.proofs.Common.{◌≡◌, ℕ, ◌+◌, ◌≤◌, ◌<◌, ◌^◌, Bool, true, false, List, [], ◌∷◌, ◌++◌, length, Option, Some, None, if◌then◌else◌, refl, sym, ap, subst, ◌∙◌, arith, le-ltb}
 use Rattle.std.proofs.lemmas.List.{append-nil}
 use Rattle.std.proofs.lemmas.Grind.{flat_map-append}
 use Rattle.bt_base.specs.Streams.{gained}
@@ -36,6 +36,7 @@ use Rattle.radio_world.proofs.Entering.{tryings, tries, silent}
 use Rattle.radio_world.proofs.Lifting.{plays_a, plays_b, no_words}
 use Rattle.radio_world.proofs.Reacting.{is_fired}
 use Rattle.radio_world.proofs.Advancing.{plays_then, and_second}
+use Rattle.radio_world.proofs.Spelled.{each_of_same}
 
 -- what cannot be done is nothing to find
 pub nothing_found : {S T G H : Type 0} (U : Upper S G) (V : Upper T H) (deed : Deed) (pushes : Pushes) (s : S) (t : T) → can_be_done U V deed pushes s t ≡ false → FindsNothing U V deed pushes s t
@@ -167,9 +168,9 @@ pub word_advances :
     → ((rest_a : List G) (rest_b : List H) → after_deed checked (found word old.medium.radio) old.medium.radio
     ≡ after_deed (right_check U V (found word old.medium.radio) old.medium.radio (answering rest_a a) (answering rest_b b)) (found word old.medium.radio) old.medium.radio)
     → Reacts U A RA (done_by U A (found word old.medium.radio)) a a' shelf shelf' → Reacts V B RB (done_by V B (found word old.medium.radio)) b b' inbox inbox'
-    → trace' ≡ gained trace (entry_octets (Acted (old.turned + 1) word))
+    → trace' ≡ gained trace (entry_octets (Acted (old.turned + 1) word)) → old.turned + 1 < 2 ^ 64
     → Advances U V RA RB (word ∷ []) (stage old a b shelf inbox trace) (stage acted a' b' shelf' inbox' trace')
-word_advances {S} {T} U V RA RB word checked old acted a a' b b' shelf shelf' inbox inbox' trace trace' is rests is_word can right one two written =
+word_advances {S} {T} U V RA RB word checked old acted a a' b b' shelf shelf' inbox inbox' trace trace' is rests is_word can right one two written few =
     let deed = found word old.medium.radio in
     record {
       happenings = Turns (old.turned + 1) word ∷ (happenings_of A (tryings one.efforts) ++ happenings_of B (tryings two.efforts));
@@ -206,6 +207,7 @@ word_advances {S} {T} U V RA RB word checked old acted a a' b b' shelf shelf' in
           );
       written = written ∙ ap (gained trace) (sym (append-nil (entry_octets (Acted (old.turned + 1) word))))
           ∙ ap (λ es. gained trace (capture_octets (Acted (old.turned + 1) word ∷ es))) (sym (no_more_entries one.efforts two.efforts));
+      each = ((omega arith, few, is_word), each_of_same _ [] (no_more_entries one.efforts two.efforts) tt);
     }
 
 -- where a push can be cancelled, it may be

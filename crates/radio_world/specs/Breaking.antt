@@ -1,10 +1,11 @@
 -- A run that broke off: what happened as far as the trace has it whole, and what stood in the trace next (this project's own).
 use Rattle.std.specs.Prelude.{ℕ, ◌≡◌, ◌≤◌, ◌+◌, ◌⊎◌, true, List, ◌++◌, length, Option, Some}
+use Rattle.std.specs.List.{AllByRecursion}
 use Rattle.bt_base.specs.Streams.{GainedFront}
 use Rattle.push_terms.specs.declared.word.Side.{Side}
 use Rattle.push_terms.specs.declared.word.Word.{Word}
 use Rattle.push_terms.specs.declared.outcome.Outcome.{Outcome}
-use Rattle.capture.specs.Entries.{Begun, Ended, entry_octets, capture_octets}
+use Rattle.capture.specs.Entries.{Begun, Ended, IsEntry, entry_octets, capture_octets}
 use Rattle.radio_air.specs.Radio.{is_apart, is_quiet}
 use Rattle.world_model.specs.Machines.{Upper}
 use Rattle.world_model.specs.Pushes.{next_name}
@@ -39,6 +40,7 @@ pub record GoesBroken {S G P X : Type 0} (U : Upper S G) (side : Side) (Answers 
   pub few : length (all_entries (happenings_of side next)) ≤ 1
   pub may : (rest : List G) → (half : Half S) × MakesAll U side next (half_of medium_then host_then rest) half
   pub front : GainedFront trace_then trace' (capture_octets (all_entries (happenings_of side next)))
+  pub each : AllByRecursion IsEntry (all_entries (happenings_of side next))
   pub left : IsLeft Lacked port_then port'
 
 -- the begin of a push was being written, or host a did not take it
@@ -47,6 +49,7 @@ pub record BeginBroken {S G P : Type 0} (U : Upper S G) (Lacked : P → P → Ty
   pub name : List ℕ
   pub next : next_name scene.pushes ≡ Some name
   pub front : GainedFront trace trace' (entry_octets (Begun (scene.pushes.begun + 1)))
+  pub entry : IsEntry (Begun (scene.pushes.begun + 1))
   pub left : IsLeft Lacked shelf shelf'
 
 -- the end of a push was being written
@@ -58,6 +61,7 @@ pub record EndBroken {S G : Type 0} (U : Upper S G) (scene : Scene) (a : Asking 
   pub outcome : Outcome
   pub came : (rest : List G) → U.outcome (a.upper rest) ≡ Some outcome
   pub front : GainedFront trace trace' (entry_octets (Ended scene.pushes.begun outcome))
+  pub entry : IsEntry (Ended scene.pushes.begun outcome)
 
 -- In the world: a run of the pure world, as the trace has it whole, and behind it a front of the next entry, if one was begun. What that
 -- tells of may happen next, whatever the ports answer. The inbox is as it was before, or lacked memory in it; the shelf gave more answers,
@@ -73,5 +77,6 @@ pub record Broken {S T G H P Q Y : Type 0} (U : Upper S G) (V : Upper T H) (Answ
   pub later : List Word
   pub words_are : words ≡ turned ++ (all_words next ++ later)
   pub front : GainedFront mid.trace trace (capture_octets (all_entries next))
+  pub each : AllByRecursion IsEntry (all_entries next)
   pub shelf_went : WentOn AnswersA LackedA mid.shelf shelf
   pub inbox_left : IsLeft LackedB mid.inbox inbox

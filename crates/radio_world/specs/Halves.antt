@@ -1,10 +1,11 @@
 -- One host and the radio: what happens between them while the other host stays as it is (this project's own).
 use Rattle.std.specs.Prelude.{ℕ, ◌≡◌, ◌+◌, ◌⊎◌, List, [], ◌∷◌, ◌++◌, length, map, Option}
+use Rattle.std.specs.List.{AllByRecursion}
 use Rattle.bt_base.specs.Streams.{gained}
 use Rattle.acl_fragments.specs.Pieces.{Piece}
 use Rattle.push_terms.specs.declared.word.Side.{Side}
 use Rattle.capture.specs.declared.flow.Flow.TheVariants.{Into}
-use Rattle.capture.specs.Entries.{Moved, entry_octets, capture_octets}
+use Rattle.capture.specs.Entries.{Moved, IsEntry, entry_octets, capture_octets}
 use Rattle.radio_air.specs.Controllers.{Answer, other_side}
 use Rattle.radio_air.specs.Radio.{Radio, controller, after_offer, after_answer}
 use Rattle.world_model.specs.Machines.{Upper}
@@ -67,7 +68,7 @@ NextMayBeHeard side half = (coming : Coming) → ComesFirst side coming half.med
 abbrev pub MayAllBeHeard : {S G : Type 0} → Upper S G → Side → Medium → Asking S G → Type 0
 MayAllBeHeard {S} {G} U side medium host = (rest : List G) (motions : List Motion) (half : Half S) → MakesAll U side motions (half_of medium host rest) half → NextMayBeHeard side half
 
--- What happened between a host and the radio, as the trace gained it. Its ports gave the answers `used`; whatever they answer
+-- What happened between a host and the radio, as the trace gained it; each entry has octets. Its ports gave the answers `used`; whatever they answer
 -- later, the host is where these and those lead.
 pub record Goes {S G P : Type 0} (U : Upper S G) (side : Side) (Answers : P → List G → P → Type 0) (medium medium' : Medium) (old new : Asking S G) (port port' : P) (trace trace' : Option (List ℕ)) : Type 0 where
   pub motions : List Motion
@@ -75,6 +76,7 @@ pub record Goes {S G P : Type 0} (U : Upper S G) (side : Side) (Answers : P → 
   pub answered : Answers port used port'
   pub makes : (rest : List G) → MakesAll U side motions (half_of medium old (used ++ rest)) (half_of medium' new rest)
   pub written : trace' ≡ gained trace (capture_octets (all_entries (happenings_of side motions)))
+  pub each : AllByRecursion IsEntry (all_entries (happenings_of side motions))
 
 -- nothing is on its way into the host
 abbrev pub IsStillIn : Side → Medium → Type 0

@@ -89,6 +89,12 @@ pub record Reacts {S G P : Type 0} (U : Upper S G) (side : Side) (Answers : P �
   pub efforts : List Effort
   pub reacts : (rest : List G) → MakesEfforts U side efforts (change (used ++ rest) (answering (used ++ rest) old)) (answering rest new)
 
+-- It reacts to the packet that these octets are, where that is one which a controller of this world may let come to it. Behind it what is said of the
+-- octets that it holds is so, and it is sound.
+abbrev pub ReactsTo : {S G P : Type 0} → Upper S G → Side → (P → List G → P → Type 0) → (octets : List ℕ) → (old new : Asking S G) → (port port' : P) → (Held Sound : Type 0) → Type 0
+ReactsTo U side Answers octets old new port port' Held Sound =
+    (coming : Coming) → MayBeHeard old coming → IsPacket acl_limit (coming_packet side coming) → octets ≡ spelling (coming_packet side coming) → Reacts U side Answers (hears_coming U side coming) old new port port' × Held × Sound
+
 -- octets of a whole packet, which a controller of this world may let come to that host
 pub record Comes {S : Type 0} (side : Side) (host : Station S) (octets : List ℕ) : Type 0 where
   pub coming : Coming

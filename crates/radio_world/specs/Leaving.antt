@@ -1,10 +1,11 @@
 -- What moves out of a host, and what is noted of it (this project's own).
 use Rattle.std.specs.Prelude.{ℕ, ◌≡◌, ◌-◌, ◌^◌, List, [], ◌∷◌, ◌++◌, map, max, min, Option}
+use Rattle.std.specs.List.{AllByRecursion}
 use Rattle.bt_base.specs.Streams.{gained, GainedFront}
 use Rattle.push_terms.specs.declared.word.Side.{Side}
 use Rattle.push_terms.specs.declared.word.Side.TheVariants.{A, B}
 use Rattle.capture.specs.declared.flow.Flow.TheVariants.{Out}
-use Rattle.capture.specs.Entries.{Entry, Moved, entry_octets, capture_octets}
+use Rattle.capture.specs.Entries.{Entry, Moved, IsEntry, entry_octets, capture_octets}
 use Rattle.radio_air.specs.Owed.{outstanding_at}
 use Rattle.radio_air.specs.Radio.{Radio, new_radio, controller}
 use Rattle.world_model.specs.Stations.{Order, order_packet}
@@ -52,3 +53,4 @@ pub record BreaksOff (entries : List Entry) (trace trace' : Option (List ℕ)) :
   pub left : List Entry
   pub entries_are : entries ≡ whole ++ due ∷ left
   pub front : GainedFront (gained trace (capture_octets whole)) trace' (entry_octets due)
+  pub each : AllByRecursion IsEntry (whole ++ due ∷ [])

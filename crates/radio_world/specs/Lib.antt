@@ -11,4 +11,5 @@ pub mod Causes
 pub mod Counting
 pub mod Shortages
 pub mod Crowds
+pub mod BufferPeaks
 pub mod Breaking

@@ -1,10 +1,11 @@
 -- Two hosts that run, what lies between them, and what happens in it (this project's own).
 use Rattle.std.specs.Prelude.{ℕ, ◌≡◌, ◌+◌, ◌&&◌, Bool, true, List, [], ◌∷◌, ◌++◌, Option, Some}
+use Rattle.std.specs.List.{AllByRecursion}
 use Rattle.bt_base.specs.Streams.{gained}
 use Rattle.push_terms.specs.declared.word.Side.{Side}
 use Rattle.push_terms.specs.declared.word.Word.{Word}
 use Rattle.push_terms.specs.declared.outcome.Outcome.{Outcome}
-use Rattle.capture.specs.Entries.{Begun, Ended, entry_octets, capture_octets}
+use Rattle.capture.specs.Entries.{Begun, Ended, IsEntry, entry_octets, capture_octets}
 use Rattle.radio_air.specs.Radio.{is_apart, is_quiet}
 use Rattle.world_model.specs.Machines.{Upper, Opening}
 use Rattle.world_model.specs.Pushes.{Pushes, no_pushes, next_name, one_begun, one_ended}
@@ -78,6 +79,7 @@ pub record Advances {S T G H P Q : Type 0} (U : Upper S G) (V : Upper T H) (Answ
   pub answered_b : AnswersB old.inbox used_b new.inbox
   pub plays : (rest_a : List G) (rest_b : List H) → Plays U V happenings (moment_of old (used_a ++ rest_a) (used_b ++ rest_b)) (moment_of new rest_a rest_b)
   pub written : new.trace ≡ gained old.trace (capture_octets (all_entries happenings))
+  pub each : AllByRecursion IsEntry (all_entries happenings)
 
 -- a push goes on, there is no link, and nothing is on its way to a host
 abbrev pub may_end : Scene → Bool
@@ -93,6 +95,7 @@ pub record Begins {S G P : Type 0} (U : Upper S G) (side : Side) (Answers : P �
   pub scene_is : new ≡ record old { pushes = one_begun old.pushes }
   pub reacts : Reacts U side Answers (λ used. told U used (Opening name)) a a' shelf shelf'
   pub written : trace' ≡ gained trace (entry_octets (Begun (old.pushes.begun + 1)))
+  pub entry : IsEntry (Begun (old.pushes.begun + 1))
 
 -- host a is idle again, and nothing is on its way to a host: the push that goes on ends
 pub record Ends {S G : Type 0} (U : Upper S G) (old new : Scene) (a : Asking S G) (trace trace' : Option (List ℕ)) : Type 0 where
@@ -104,3 +107,4 @@ pub record Ends {S G : Type 0} (U : Upper S G) (old new : Scene) (a : Asking S G
   pub came : (rest : List G) → U.outcome (a.upper rest) ≡ Some outcome
   pub scene_is : new ≡ record old { pushes = one_ended outcome old.pushes }
   pub written : trace' ≡ gained trace (entry_octets (Ended old.pushes.begun outcome))
+  pub entry : IsEntry (Ended old.pushes.begun outcome)

@@ -1,10 +1,11 @@
 -- What a call says of want of memory (this project's own).
 use Rattle.std.specs.Prelude.{ℕ, ◌≡◌, ◌≤◌, ◌+◌, ◌^◌, ◌⊎◌, ◌||◌, true, List, [], ◌∷◌, ◌++◌, length, Option, Result, IsErrOf}
+use Rattle.std.specs.List.{AllByRecursion}
 use Rattle.bt_base.specs.Counts.{HasRisen}
 use Rattle.bt_base.specs.Streams.{gained}
 use Rattle.push_terms.specs.declared.word.Side.{Side}
 use Rattle.push_terms.specs.declared.word.Word.{Word}
-use Rattle.capture.specs.Entries.{capture_octets}
+use Rattle.capture.specs.Entries.{IsEntry, capture_octets}
 use Rattle.radio_air.specs.Queues.{is_crowded}
 use Rattle.radio_air.specs.Owed.{owes_many, wants_memory}
 use Rattle.radio_air.specs.Radio.{Radio}
@@ -39,6 +40,7 @@ pub record Overflows (side : Side) (orders : List Order) (medium : Medium) (trac
   pub orders_are : orders ≡ whole ++ due ∷ left
   pub wants : WantsRoom (after_all side whole medium).radio (after_all side (whole ++ due ∷ []) medium).radio
   pub written : trace' ≡ gained trace (capture_octets (leaving_entries side (whole ++ due ∷ [])))
+  pub each : AllByRecursion IsEntry (leaving_entries side (whole ++ due ∷ []))
 
 -- Why all that moves between a host and the radio may want memory: its port lacked some; or the radio does, for an order, or for the
 -- packets of all of them that it gives back.

@@ -1,8 +1,7 @@
 //! Packets handed to a host.
 
 ghost use Rattle.std.specs.Prelude.{◌≡◌, ◌≤◌, [], OnErr, OnOk};
-ghost use Rattle.h4_framing.specs.Packets.{spelling, IsPacket};
-ghost use Rattle.radio_world.specs.Hosts.{Coming, coming_packet, hears_coming, acl_limit, Comes, MayBeHeard, Reacts};
+ghost use Rattle.radio_world.specs.Hosts.{Comes, ReactsTo};
 
 use crate::host::Host;
 use bt_base::NoMemory;
@@ -19,7 +18,7 @@ pub(crate) fn hand_over<P, H: Host<P>>(
     requires none_held { H.held host.old ≡ [] }
     requires comes { Comes H.side (H.station host.old port.old) octets.now }
     requires sound { H.is_sound host.old port.old }
-    ensures hears { OnOk result ((coming : Coming) → MayBeHeard (H.station host.old port.old) coming → IsPacket acl_limit (coming_packet H.side coming) → octets.now ≡ spelling (coming_packet H.side coming) → Reacts H.machine H.side H.answers (hears_coming H.machine H.side coming) (H.station host.old port.old) (H.station host.new port.new) port.old port.new × (H.held host.new ≡ []) × H.is_sound host.new port.new) }
+    ensures hears { OnOk result (ReactsTo H.machine H.side H.answers octets.now (H.station host.old port.old) (H.station host.new port.new) port.old port.new (H.held host.new ≡ []) (H.is_sound host.new port.new)) }
     ensures lacked { OnErr result (H.lacked port.old port.new) }
 {
     let mut rest = octets;

@@ -1,5 +1,6 @@
 //! Laws of want of memory in a world.
 
+ghost use Rattle.radio_world.specs.BufferPeaks.{BufferPeaksAreSeen};
 ghost use Rattle.radio_world.specs.Crowds.{OverrunsAreCrowded, ScriptsAreCounted, WantsAreTold};
 
 use crate::host::Host;
@@ -18,4 +19,9 @@ pub fn scripts_are_counted()
 /// the capture so far is crowded.
 pub fn wants_are_told<P, A: Host<P>, Q, B: Host<Q>>()
     ensures { WantsAreTold A.machine B.machine A.answers B.answers A.lacked B.lacked }
+{}
+
+/// The greatest numbers of outstanding packets that a world of two such hosts notes are those of its capture, where they are orderly.
+pub fn buffer_peaks_are_seen<P, A: Host<P>, Q, B: Host<Q>>()
+    ensures { BufferPeaksAreSeen A.machine B.machine }
 {}

@@ -1,10 +1,11 @@
 //! A script, word by word.
 
 ghost use Rattle.std.specs.Prelude.{◌≡◌, ◌≤◌, ◌+◌, ◌^◌, ◌∷◌, [], true, false, ◌<◌, List, replicate, length, OnOk, OnErr};
+ghost use Rattle.std.specs.List.{AllByRecursion};
 ghost use Rattle.bt_base.specs.Streams.{gained, GainedFront};
 ghost use Rattle.push_script.specs.Runs.{IsWord};
 ghost use Rattle.push_terms.specs.declared.word.Side.TheVariants as sides;
-ghost use Rattle.capture.specs.Entries.{capture_octets};
+ghost use Rattle.capture.specs.Entries.{IsEntry, capture_octets};
 ghost use Rattle.capture.specs.Air.{words_of};
 ghost use Rattle.rest_laws.specs.Premises.{AreOrderly};
 ghost use Rattle.radio_world.specs.Hosts.{answering};
@@ -188,6 +189,7 @@ impl Scene {
     fn end_last<T: Sink>(&mut self, came: Option<Outcome>, trace: &mut T) -> Result<(), WorldFault>
         ensures scene { OnOk result (self.new ≡ record self.old { pushes = last_ended came self.old.pushes }) }
         ensures written { OnOk result (T.content trace.new ≡ gained (T.content trace.old) (capture_octets (last_entries came self.old.pushes))) }
+        ensures entries { AllByRecursion IsEntry (last_entries came self.old.pushes) }
         ensures blames { Blames (T.faults trace.old) (T.faults trace.new) result }
         ensures lacks { LacksByTrace (T.shortages trace.old) (T.shortages trace.new) result }
         ensures front { GainedFront (T.content trace.old) (T.content trace.new) (capture_octets (last_entries came self.old.pushes)) }
@@ -211,6 +213,7 @@ impl Scene {
         ensures each { OnOk result (length self.new.pushes.outcomes ≡ length self.old.pushes.names) }
         ensures medium { OnOk result (self.new.medium ≡ self.old.medium) }
         ensures written { OnOk result (T.content trace.new ≡ gained (T.content trace.old) (capture_octets (last_entries came self.old.pushes))) }
+        ensures entries { AllByRecursion IsEntry (last_entries came self.old.pushes) }
         ensures blames { Blames (T.faults trace.old) (T.faults trace.new) result }
         ensures lacks { LacksByTrace (T.shortages trace.old) (T.shortages trace.new) result }
         ensures front { GainedFront (T.content trace.old) (T.content trace.new) (capture_octets (last_entries came self.old.pushes)) }

@@ -18,6 +18,7 @@ const LONGEST_ENTRY: usize = 1029;
 pub(crate) fn record<T: Sink>(entry: &Entry<'_>, trace: &mut T) -> Result<(), WorldFault>
     requires entry { IsEntry (plain_entry entry.now) }
     requires short { length (entry_octets (plain_entry entry.now)) ≤ LONGEST_ENTRY }
+    ensures entry { IsEntry (plain_entry entry.now) }
     ensures ok { OnOk result (T.content trace.new ≡ gained (T.content trace.old) (entry_octets (plain_entry entry.now))) }
     ensures front { GainedFront (T.content trace.old) (T.content trace.new) (entry_octets (plain_entry entry.now)) }
     ensures blames { Blames (T.faults trace.old) (T.faults trace.new) result }

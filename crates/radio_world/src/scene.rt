@@ -3,7 +3,7 @@
 ghost use Rattle.std.specs.Prelude.{◌≡◌, ◌+◌, ◌<◌, ◌&&◌, ◌∷◌, [], true, false, List, None, Ok, IfOk, OnOk, OnErr};
 ghost use Rattle.bt_base.specs.Streams.{gained, GainedFront};
 ghost use Rattle.push_terms.specs.declared.word.Side.TheVariants as sides;
-ghost use Rattle.capture.specs.Entries.{Ended, entry_octets};
+ghost use Rattle.capture.specs.Entries.{Ended, IsEntry, entry_octets};
 ghost use Rattle.radio_air.specs.Radio.{is_apart, is_quiet};
 ghost use Rattle.world_model.specs.Pushes.{next_name, one_ended};
 ghost use Rattle.radio_world.specs.Hosts.{answering};
@@ -80,6 +80,7 @@ impl Scene {
         requires { self.old.pushes.going ≡ true }
         ensures scene { OnOk result (self.new ≡ record self.old { pushes = one_ended outcome self.old.pushes }) }
         ensures written { OnOk result (T.content trace.new ≡ gained (T.content trace.old) (entry_octets (Ended self.old.pushes.begun outcome))) }
+        ensures entry { IsEntry (Ended self.old.pushes.begun outcome) }
         ensures blames { Blames (T.faults trace.old) (T.faults trace.new) result }
         ensures lacks { LacksByTrace (T.shortages trace.old) (T.shortages trace.new) result }
         ensures front { GainedFront (T.content trace.old) (T.content trace.new) (entry_octets (Ended self.old.pushes.begun outcome)) }

@@ -3,10 +3,11 @@
 ghost use Rattle.std.specs.Prelude.{◌≡◌, ◌∷◌, ◌++◌, [], List, length, min, slice_get, IfOk, OnErr, OnOk};
 ghost use Rattle.std.specs.Option.{option_map};
 ghost use Rattle.radio_air.specs.Radio.{frames};
+ghost use Rattle.std.specs.List.{AllByRecursion};
 ghost use Rattle.bt_base.specs.Streams.{gained, GainedFront};
 ghost use Rattle.push_script.specs.Runs.{IsWord};
 ghost use Rattle.capture.specs.Air.{words_of};
-ghost use Rattle.capture.specs.Entries.{capture_octets};
+ghost use Rattle.capture.specs.Entries.{IsEntry, capture_octets};
 ghost use Rattle.push_terms.specs.declared.word.Side.TheVariants as sides;
 ghost use Rattle.rest_laws.specs.Premises.{AreOrderly};
 ghost use Rattle.radio_world.specs.Hosts.{answering};
@@ -225,6 +226,7 @@ impl<A: Drop, B: Drop> World<A, B> {
         ensures outcomes { OnOk result ((rest : List A.Host.Answer) → self.new.scene.pushes.outcomes ≡ all_outcomes (last_ended (A.Host.machine.outcome ((A.Host.station self.old.a _shelf.now).upper rest)) self.old.scene.pushes)) }
         ensures each { OnOk result (length self.new.scene.pushes.outcomes ≡ length self.old.scene.pushes.names) }
         ensures written { OnOk result ((rest : List A.Host.Answer) → T.content trace.new ≡ gained (T.content trace.old) (capture_octets (last_entries (A.Host.machine.outcome ((A.Host.station self.old.a _shelf.now).upper rest)) self.old.scene.pushes))) }
+        ensures entries { (rest : List A.Host.Answer) → AllByRecursion IsEntry (last_entries (A.Host.machine.outcome ((A.Host.station self.old.a _shelf.now).upper rest)) self.old.scene.pushes) }
         ensures hosts { (self.new.a ≡ self.old.a) × (self.new.b ≡ self.old.b) }
         ensures medium { OnOk result (self.new.scene.medium ≡ self.old.scene.medium) }
         ensures blames { Blames (T.faults trace.old) (T.faults trace.new) result }

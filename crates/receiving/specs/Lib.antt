@@ -4,4 +4,5 @@ pub mod Coming
 pub mod Faring
 pub mod Counts
 pub mod Receiving
+pub mod Ports
 pub mod Laws

@@ -5,7 +5,8 @@ ghost use Rattle.bt_base.specs.Counts.{HasRisen};
 ghost use Rattle.h4_view.specs.View.{IsAnswered};
 ghost use Rattle.btpush_forms.specs.Run.{HasCauses};
 ghost use Rattle.receiving.specs.Counts.{Counts, Lacked};
-ghost use Rattle.receiving.specs.Receiving.{Listened, Receives, IsUntouched, AnyShort};
+ghost use Rattle.receiving.specs.Ports.{ports_of, LacksMemory};
+ghost use Rattle.receiving.specs.Receiving.{Listened, Receives};
 
 use crate::fault::ListenFault;
 use crate::listening::serve;
@@ -73,7 +74,7 @@ pub fn receive<S: Source, K: Sink, T: Sink, B: Inbox>(
     ensures trace_short { IsAnswered (T.shortages trace.old) (T.shortages trace.new) (result ≡ Status.NoMemory) }
     ensures inbox_stays { B.shortages inbox.old ≤ B.shortages inbox.new }
     // Want of memory comes only before anything happens, or where a port found none.
-    ensures no_memory { result ≡ Status.NoMemory → IsUntouched (S.content source.old) (S.content source.new) (K.content sink.old) (K.content sink.new) (T.content trace.old) (T.content trace.new) (B.content inbox.old) (B.content inbox.new) ⊎ AnyShort (S.shortages source.old) (S.shortages source.new) (K.shortages sink.old) (K.shortages sink.new) (T.shortages trace.old) (T.shortages trace.new) (B.shortages inbox.old) (B.shortages inbox.new) }
+    ensures no_memory { result ≡ Status.NoMemory → let at = ports_of S.Source K.Sink T.Sink B.Inbox in LacksMemory (at source.old sink.old trace.old inbox.old) (at source.new sink.new trace.new inbox.new) }
 {
     let end = listen(alloc, source, sink, inbox);
     tell(end, trace)

@@ -15,16 +15,19 @@ use Rattle.link_talk.specs.Sayings.{talk}
 use Rattle.channel_model.specs.Policies.{Policy}
 use Rattle.channel_laws.specs.Runs.{Occurrence}
 use Rattle.channel_laws.specs.Singly.{AsksForNoChannel}
+use Rattle.push_laws.specs.Gains as clear
 use Rattle.push_laws.specs.Laws.{stored_in}
 use Rattle.world_model.specs.Talks.{Talk}
 use Rattle.host_laws.specs.Carriers.{reader}
 use Rattle.host_laws.specs.InOrder.{AsksForOneObject}
 use Rattle.host_laws.specs.Lives.{Span}
 use Rattle.host_laws.specs.OverLinks.{AreTimely, IsTalkOf, parts, moved_in, talk_marks}
+use Rattle.host_laws.specs.Serving.{served_from}
 use Rattle.host_laws.specs.Spoken.{IsServed}
-use Rattle.host_laws.proofs.Carriers.{hosts_gain_by_carriers}
+use Rattle.host_laws.proofs.Carriers.{read_by_carriers}
 use Rattle.host_laws.proofs.InOrder.{asks-nothing, links-ask_none}
 use Rattle.host_laws.proofs.Seeking.{is-served}
+use Rattle.host_laws.proofs.Serving.{hosts_gain}
 use Rattle.scenario_laws.specs.Captures.{Ran}
 use Rattle.scenario_laws.specs.Gains.{holding, serving, asked_by}
 use Rattle.scenario_laws.specs.Parties.{party_of}
@@ -62,10 +65,10 @@ lists_served T policy (list ∷ lists) (part ∷ talks) are none sought = (
 
 -- ---- of a run
 
-pub gains-carried : (scenario : Scenario) (before : List Object) (capture : List Entry) (ran : Ran scenario (holding before) capture) → scenario.settings.transport ≡ Rfcomm → (order : PairsKeepOrder both_ask scenario (holding before) capture ran)
-    → AllAreHeard both_ask scenario before capture ran order
-    → stored_in ran.world.b.upper.profile.inbox.content ≡ Some (before ++ objects_heard (party_of scenario.settings sides.B) sides.B capture)
-gains-carried scenario before capture ran muxed order heard =
+-- what the packets spell that came is what the capture spells
+pub carried-reads : (scenario : Scenario) (before : List Object) (capture : List Entry) (ran : Ran scenario (holding before) capture) → scenario.settings.transport ≡ Rfcomm → (order : PairsKeepOrder both_ask scenario (holding before) capture ran)
+    → clear.objects scenario.settings (served_from scenario.settings (holding before) (serving scenario.settings before).first order.turns.pairs.b.fed.so.lives.feeds) ≡ objects_heard (party_of scenario.settings sides.B) sides.B capture
+carried-reads scenario before capture ran muxed order =
     let settings = scenario.settings in
     let B = serving settings before in
     let asks = asked_by both_ask settings before in
@@ -80,8 +83,15 @@ gains-carried scenario before capture ran muxed order heard =
     let reads : Reads settings (holding before) _ (map pdus (links sides.B capture)) =
     reads_all settings (holding before) nothing lives.spans lives.now lives.feeds B.first ran.world.b.upper.profile (parts b.came.talk) (map pdus (links sides.B capture)) b.fed.fed refl
     (subst (AreTimely false) (sym lives.marks_are) b.fed.so.timely) b.fed.so.talks_are once b.came.fall b.uttered muxes packets in
-    hosts_gain_by_carriers settings before settings.mps asks (flat_map talk_marks b.came.talk) ran.world.b.upper lives heard reads.links reads.are
-    ∙ ap (λ (l : List Object). Some (before ++ l)) (reads.spells ∙ link_objects scenario muxed before (links sides.B capture))
+    read_by_carriers settings settings.mps (served_from settings (holding before) B.first lives.feeds) reads.links reads.are ∙ reads.spells ∙ link_objects scenario muxed before (links sides.B capture)
+
+pub gains-carried : (scenario : Scenario) (before : List Object) (capture : List Entry) (ran : Ran scenario (holding before) capture) → scenario.settings.transport ≡ Rfcomm → (order : PairsKeepOrder both_ask scenario (holding before) capture ran)
+    → AllAreHeard both_ask scenario before capture ran order
+    → stored_in ran.world.b.upper.profile.inbox.content ≡ Some (before ++ objects_heard (party_of scenario.settings sides.B) sides.B capture)
+gains-carried scenario before capture ran muxed order heard =
+    let b = order.turns.pairs.b in
+    hosts_gain scenario.settings before (asked_by both_ask scenario.settings before) (flat_map talk_marks b.came.talk) ran.world.b.upper b.fed.so.lives heard
+    ∙ ap (λ (l : List Object). Some (before ++ l)) (carried-reads scenario before capture ran muxed order)
 
 pub inboxes_gain_carried : GainsCarried
 inboxes_gain_carried = record { asks = both_ask; gains = gains-carried }

@@ -23,7 +23,7 @@ use Rattle.host_model.specs.Pdus.{sdu_of}
 use Rattle.host_model.specs.Shelves.{size_for, name_for, measured, fitting, unused}
 use Rattle.host_laws.specs.Feeds.{Feed, Gifts, Learns, Receives, Happens, Sent, Steps, fed}
 use Rattle.host_laws.specs.Pushing.{Affair, Begins, Does, end_asked, link_asked, then_ends, then_calls, opened_pushed, closed_pushed, event_pushed, sent_pushed, step_pushed, news_pushed, pushed_with, pushed_from}
-use Rattle.request_laws.specs.SpellableClients.{IsPartOctets}
+use Rattle.shelf_model.specs.Held.{IsPartOctets}
 use Rattle.request_laws.specs.TogetherHeard.{GivesOctets}
 use Rattle.request_laws.proofs.Feeding.{all_both}
 

@@ -12,8 +12,8 @@ use Rattle.push_model.specs.Laws.{Deed, Hears, all_done}
 use Rattle.push_laws.specs.Laws.{new_over, stored_in}
 use Rattle.push_laws.specs.Occurrences.{Occurrence, all_done as all_done_by}
 use Rattle.push_laws.specs.Gains.{objects as spelled_by}
-use Rattle.push_laws.specs.Losing.{IsOffered}
-use Rattle.push_laws.specs.Parties.{come_by, Move, server_side, client_side, Pipes, no_pipes, ArePipes, StayPipes, Push, IsPushed, AllServeDirectly}
+use Rattle.obex_session.specs.InboxCalls.{Answer}
+use Rattle.push_laws.specs.Parties.{come_by, Move, server_side, client_side, Pipes, no_pipes, ArePipes, StayPipes, Push, IsOffered, IsPushed, over_pushes, AllServeDirectly}
 use Rattle.push_laws.specs.Premises.{AllGranted, AllMayCome}
 use Rattle.push_laws.specs.Sending.{AllAnswer}
 use Rattle.push_laws.proofs.Losing.{pushes-gain_all}
@@ -25,7 +25,9 @@ use Rattle.host_model.specs.Hosts.{Host}
 use Rattle.host_laws.specs.Calls.{HostsAsk}
 use Rattle.host_model.specs.Clients.{ClientProfile, client_profile}
 use Rattle.host_model.specs.Servers.{ServerProfile, server_profile}
+use Rattle.shelf_model.specs.Held.{longest_octets}
 use Rattle.host_laws.specs.Answered.{IsSmall, IsAnswered, BeginsAtMost}
+use Rattle.host_laws.specs.Gaining.{IsDirect}
 use Rattle.host_laws.specs.Fed.{strand_feeds, woven_feeds, TalksFed}
 use Rattle.host_laws.specs.OverLinks.{AreTimely}
 use Rattle.host_laws.specs.Pushing.{Affair, Begins, Does, client_behind, pushed_from}
@@ -34,7 +36,7 @@ use Rattle.host_laws.specs.Woven.{Strand}
 use Rattle.host_laws.proofs.Answered.{clients_are_answered}
 use Rattle.host_laws.proofs.Pushing.{all_pushed}
 use Rattle.request_laws.specs.BothFed.{most_octets, AllAsked, ComesNone, AreTwined, over_stored, RequestsOfLinksAreHeard}
-use Rattle.request_laws.specs.AllSizes.{longest_octets, LinksGainAll}
+use Rattle.request_laws.specs.AllSizes.{BothAreOffered, LinksGainAll}
 use Rattle.request_laws.specs.Twists.{Twist, AtClient, AtServer, of_client, of_server, Both, new_both, Set, both_after, all_deeds, moves_by, all_moves, taken_in, carried_by, pipes_behind, AllStayPiped, NoneBehind, OpensNone, Twined}
 use Rattle.request_laws.proofs.Asking.{even_of, strand_makes}
 use Rattle.request_laws.proofs.Carrying.{Carries, pipes_carried, carries_none, carries_client, carries_server}
@@ -243,7 +245,7 @@ links_pushed most fits asks settings before direct talk_a talk_b a b near far tw
     (all_asked most _ A.first.client (clients_are_answered most settings A.first near.so.lives.feeds small))
 
 is_pushed : (push : Push) → Offered most_octets push → IsPushed push
-is_pushed push (offered, bounded) = record { direct = offered.direct; may = offered.may; bounded = bounded; answers = offered.answers; carried = offered.carried }
+is_pushed push (offered, bounded) = record { offered = offered; bounded = bounded }
 
 all_pushes : (pushes : List Push) → AllByRecursion (Offered most_octets) pushes → AllByRecursion IsPushed pushes
 all_pushes [] all = tt
@@ -259,14 +261,38 @@ requests_of_links_are_heard asks settings before direct talk_a talk_b a b near f
     let B = server_profile settings set.content in
     let all = links_pushed most_octets (omega arith) asks settings before direct talk_a talk_b a b near far so.twined so.small in
     let heard = requests-are_heard settings before all.pushes all.last (all_pushes all.pushes all.pushed) (is_pushed all.last all.last_pushed)
-    (subst (AllServeDirectly AllGranted (new_over settings before)) all.is (serve_all settings set.content far.so.lives.feeds B.first so.granted none)) in
+    (subst (AllServeDirectly AllGranted (new_over settings before)) all.is (serve_all AllGranted settings set.content far.so.lives.feeds B.first so.granted none)) in
     subst (AllMayCome settings [] (new_over settings before)) (sym all.is) heard
 
-pub links_gain_all : LinksGainAll
-links_gain_all asks settings before direct talk_a talk_b a b near far so none =
+-- what happened to the server, where what its inbox answers is so
+pub record ServedPushes (Are : List Answer → Type 0) (settings : Settings) (before : List Object) (occurrences : List Occurrence) : Type 0 where
+  pub pushes : List Push
+  pub last : Push
+  pub is : occurrences ≡ over_pushes pushes last
+  pub offered : AllByRecursion IsOffered pushes
+  pub last_offered : IsOffered last
+  pub serve : AllServeDirectly Are (new_over settings before) (over_pushes pushes last)
+
+pub links_offered : (Are : List Answer → Type 0) (asks : HostsAsk) (settings : Settings) (before : List Object) → settings.transport ≡ L2cap →
+    (let set = over_stored asks settings before in (talk_a talk_b : List Talk) (a : Host ClientProfile) (b : Host ServerProfile)
+    (near : TalksFed (client_profile settings) (asks.clients settings) talk_a a) (far : TalksFed (server_profile settings set.content) (asks.servers settings set.content) talk_b b)
+    → BothAreOffered Are set talk_a talk_b a b near far → AllByRecursion IsDirect (served_from settings set.content (server_profile settings set.content).first far.so.lives.feeds)
+    → ServedPushes Are settings before (served_from settings set.content (server_profile settings set.content).first far.so.lives.feeds))
+links_offered Are asks settings before direct talk_a talk_b a b near far so none =
     let set = over_stored asks settings before in
     let B = server_profile settings set.content in
     let all = links_pushed longest_octets (omega arith) asks settings before direct talk_a talk_b a b near far so.twined so.small in
-    let gains = pushes-gain_all settings before all.pushes all.last (all_offered longest_octets all.pushes all.pushed) all.last_pushed.0
-    (subst (AllServeDirectly AllGranted (new_over settings before)) all.is (serve_all settings set.content far.so.lives.feeds B.first so.granted none)) in
-    subst (λ (os : List Occurrence). stored_in (all_done_by os (new_over settings before)).gift.content ≡ Some (before ++ spelled_by settings os)) (sym all.is) gains
+    record {
+      pushes = all.pushes;
+      last = all.last;
+      is = all.is;
+      offered = all_offered longest_octets all.pushes all.pushed;
+      last_offered = all.last_pushed.0;
+      serve = subst (AllServeDirectly Are (new_over settings before)) all.is (serve_all Are settings set.content far.so.lives.feeds B.first so.answers none);
+    }
+
+pub links_gain_all : LinksGainAll
+links_gain_all asks settings before direct talk_a talk_b a b near far so none =
+    let all = links_offered AllGranted asks settings before direct talk_a talk_b a b near far so none in
+    subst (λ (os : List Occurrence). stored_in (all_done_by os (new_over settings before)).gift.content ≡ Some (before ++ spelled_by settings os)) (sym all.is)
+    (pushes-gain_all settings before all.pushes all.last all.offered all.last_offered all.serve)

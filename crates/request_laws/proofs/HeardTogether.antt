@@ -12,6 +12,7 @@ use Rattle.channel_laws.specs.Pairs.{new_pair}
 use Rattle.channel_laws.specs.Runs as channels
 use Rattle.channel_model.specs.Policies.{policy}
 use Rattle.channel_model.specs.Value.{Channels, no_channels}
+use Rattle.obex_session.specs.InboxCalls.{Answer}
 use Rattle.push_model.specs.Client.{Client, begins}
 use Rattle.push_model.specs.Events.{search_psm}
 use Rattle.push_model.specs.Laws.{Deed, Hears, Asks, Finishes, Cancels, done}
@@ -26,6 +27,8 @@ use Rattle.host_model.specs.Circumstances.{Circumstance}
 use Rattle.host_model.specs.Clients.{ClientProfile, ended, client_profile}
 use Rattle.host_model.specs.Servers.{ServerProfile, server_profile}
 use Rattle.host_model.specs.Shelves.{size_for, name_for}
+use Rattle.host_laws.specs.Answered.{BeginsAtMost}
+use Rattle.shelf_model.specs.Held.{longest_octets}
 use Rattle.host_laws.specs.Calls.{values_after}
 use Rattle.host_laws.specs.Fed.{FedSpan, behind_span, AreFed}
 use Rattle.host_laws.specs.Feeds.{Feed, Gifts, Learns, Receives, Happens, Sent, Steps, fed}
@@ -46,11 +49,11 @@ use Rattle.pair_laws.specs.Within.{BothSendWithin}
 use Rattle.pair_laws.proofs.Pairing.{runs-keep_order, granted-keep_order}
 use Rattle.pair_laws.proofs.PlainPipes.{plain-pairs_are_pipes}
 use Rattle.pair_laws.proofs.Taking.{clients_within, servers_within, pairs-are_carried}
-use Rattle.request_laws.specs.BothFed.{most_octets, AllAsked, OfLink, AreLinked, over_stored}
+use Rattle.request_laws.specs.BothFed.{AllAsked, InboxAnswers, OfLink, AreLinked, over_stored}
 use Rattle.request_laws.specs.GainsCarried.{AllAreHeard}
 use Rattle.request_laws.specs.ObjectPipes.{OpensOn}
 use Rattle.request_laws.specs.SpellableClients.{IsOfOctets, BringsOctets, SpellsAll}
-use Rattle.request_laws.specs.TogetherHeard.{ReceivesOctets, HeardAnswer, ServesHeardRuns, RunsServeHeard, RunsServeHeardGranted}
+use Rattle.request_laws.specs.TogetherHeard.{GivesOctets, ReceivesOctets, HeardAnswer, ServesHeardRuns, RunsServeHeard, RunsServeHeardGranted}
 use Rattle.request_laws.specs.Twists.{Set, new_both, OpensNone}
 use Rattle.request_laws.proofs.AlongStreams.{all_carry, multiplexers_piped}
 use Rattle.request_laws.proofs.Beginning.{good_first}
@@ -65,7 +68,7 @@ use Rattle.request_laws.proofs.MuxPackets.{all_packets}
 use Rattle.request_laws.proofs.MuxPushed.{IsFramed, IsSo, all-so, goes-on, TrueTwined, no-push, one-push, serves-so}
 use Rattle.request_laws.proofs.OctetsHeard.{near-utters, far-utters, both-octets}
 use Rattle.request_laws.proofs.Paired.{lists_of}
-use Rattle.request_laws.proofs.Pushes.{made}
+use Rattle.request_laws.proofs.Pushes.{Pushes, made}
 use Rattle.request_laws.proofs.LendingOctets.{all_say_so}
 use Rattle.request_laws.proofs.SpellableClients.{client_frames_are_read}
 use Rattle.request_laws.proofs.SpellableServers.{server_frames_are_said}
@@ -221,8 +224,10 @@ module _ (scenario : Scenario) (before : List Object) (capture : List Entry) (ra
         direct = stays-true object_psm settings (holding before) refl (near number) (far number) pair plain carried near_said far_said client server client_none server_none all.twists all.joints_are;
       }
 
-  pub hears_all : HeardAnswer both_ask scenario before capture ran order → AllAreHeard both_ask scenario before capture ran order
-  hears_all answer =
+  -- all that happened to host b is a list of pushes
+  pub pushed_over : AllByRecursion GivesOctets order.turns.pairs.a.fed.so.lives.feeds → AllByRecursion (BeginsAtMost longest_octets) order.turns.pairs.a.fed.so.lives.feeds
+      → Pushes IsPushedOver (served_from scenario.settings (holding before) (serving scenario.settings before).first order.turns.pairs.b.fed.so.lives.feeds)
+  pushed_over given small =
       let settings = scenario.settings in
       let A = client_profile settings in
       let B = serving settings before in
@@ -231,16 +236,32 @@ module _ (scenario : Scenario) (before : List Object) (capture : List Entry) (ra
       let b = pairs.b.fed.so in
       let octets = both-octets scenario before capture ran order in
       let first : GoodMux settings A.first.client = record { good = good_first settings Rfcomm muxed; numbers = (refl, refl, refl) } in
-      let framed = all_framed (pushed_from settings A.first a.lives.feeds) A.first.client (client_frames_are_read.first settings) (affairs_hear settings a.lives.feeds A.first octets.a) (affairs-given settings a.lives.feeds A.first answer.given tt) in
-      let so = all-so (pushed_from settings A.first a.lives.feeds) A.first.client (clients_are_answered most_octets settings A.first a.lives.feeds answer.small) framed in
+      let framed = all_framed (pushed_from settings A.first a.lives.feeds) A.first.client (client_frames_are_read.first settings) (affairs_hear settings a.lives.feeds A.first octets.a) (affairs-given settings a.lives.feeds A.first given tt) in
+      let so = all-so (pushed_from settings A.first a.lives.feeds) A.first.client (clients_are_answered longest_octets settings A.first a.lives.feeds small) framed in
       let linked = all_true set near far on_each (λ k. k) a.lives.spans a.lives.now a.lives.feeds A.first ran.world.a.upper.profile b.lives.spans b.lives.now b.lives.feeds B.first ran.world.b.upper.profile
       pairs.a.fed.fed pairs.b.fed.fed (λ k. refl) (λ k. refl) (runs_are_linked both_ask scenario before capture ran order.turns) in
-      let all = made set IsSo (GoodMux settings) IsPushedOver (TrueTwined set) (goes-on settings) (one-push set muxed) (no-push settings muxed set) (λ k. k) a.lives.spans a.lives.now a.lives.feeds A.first ran.world.a.upper.profile
-      b.lives.spans b.lives.now b.lives.feeds B.first ran.world.b.upper.profile pairs.a.fed.fed pairs.b.fed.fed linked (subst (AreTimely false) (sym a.lives.marks_are) a.timely) (subst (AreTimely false) (sym b.lives.marks_are) b.timely) refl first so in
+      made set IsSo (GoodMux settings) IsPushedOver (TrueTwined set) (goes-on settings) (one-push set muxed) (no-push settings muxed set) (λ k. k) a.lives.spans a.lives.now a.lives.feeds A.first ran.world.a.upper.profile
+      b.lives.spans b.lives.now b.lives.feeds B.first ran.world.b.upper.profile pairs.a.fed.fed pairs.b.fed.fed linked (subst (AreTimely false) (sym a.lives.marks_are) a.timely) (subst (AreTimely false) (sym b.lives.marks_are) b.timely) refl first so
+
+  -- what goes is what host b lends, and its inbox answers so
+  pub serves_over : (Are : List Answer → Type 0) → AllByRecursion (InboxAnswers Are) order.turns.pairs.b.fed.so.lives.feeds
+      → AllServe Are (new_over scenario.settings before) (served_from scenario.settings (holding before) (serving scenario.settings before).first order.turns.pairs.b.fed.so.lives.feeds)
+  serves_over Are answer =
+      let settings = scenario.settings in
+      let B = serving settings before in
+      let pairs = order.turns.pairs in
+      let b = pairs.b.fed.so in
+      let octets = both-octets scenario before capture ran order in
       let said = all_say_so settings (holding before) b.lives.feeds B.first (server_frames_are_said.first settings (holding before)) octets.b in
       let packets = all_packets settings (holding before) (asked_by both_ask settings before) b.lives.spans b.lives.now b.lives.feeds B.first ran.world.b.upper.profile pairs.b.fed.fed (all_carry scenario before capture ran order muxed) in
-      let serves = serves-so (served_from settings (holding before) B.first b.lives.feeds) (new_over settings before) (serve_from settings (holding before) b.lives.feeds B.first answer.granted said packets) in
-      subst (AllMayCome settings [] (new_over settings before)) (sym all.is) (pushed-are_heard settings before all.pushes all.last all.pushed all.last_pushed (subst (AllServe AllGranted (new_over settings before)) all.is serves))
+      serves-so Are (served_from settings (holding before) B.first b.lives.feeds) (new_over settings before) (serve_from Are settings (holding before) b.lives.feeds B.first answer said packets)
+
+  pub hears_all : HeardAnswer both_ask scenario before capture ran order → AllAreHeard both_ask scenario before capture ran order
+  hears_all answer =
+      let settings = scenario.settings in
+      let all = pushed_over answer.given answer.small in
+      subst (AllMayCome settings [] (new_over settings before)) (sym all.is)
+      (pushed-are_heard settings before all.pushes all.last all.pushed all.last_pushed (subst (AllServe AllGranted (new_over settings before)) all.is (serves_over AllGranted answer.granted)))
 
   serves_heard : ServesHeardRuns both_ask scenario before capture ran
   serves_heard = record {

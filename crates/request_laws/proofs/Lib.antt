@@ -28,6 +28,7 @@ pub mod AlongPairs
 pub mod ObjectPipes
 pub mod Unheard
 pub mod Linked
+pub mod Told
 pub mod Together
 pub mod AlongStreams
 pub mod MuxAsking
@@ -41,6 +42,7 @@ pub mod Spellable
 pub mod ResponseOctets
 pub mod SpellableServers
 pub mod AllSizes
+pub mod Losing
 pub mod LendingOctets
 pub mod Moved
 pub mod ReadLinks
@@ -51,5 +53,7 @@ pub mod AmongTaken
 pub mod Truths
 pub mod MuxPushed
 pub mod HeardTogether
+pub mod FaultsGiven
+pub mod LessHeard
 pub mod Scripts
 pub mod GivenOctets

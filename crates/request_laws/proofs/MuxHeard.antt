@@ -13,6 +13,7 @@ use Rattle.channel_model.specs.declared.event.ChannelEvent.{ChannelEvent}
 use Rattle.channel_model.specs.declared.event.ChannelEvent.TheVariants as channels
 use Rattle.channel_model.specs.Calls.{peer_mtu, waits}
 use Rattle.channel_model.specs.Value.{Channels, no_channels}
+use Rattle.obex_session.specs.InboxCalls.{Answer}
 use Rattle.rfcomm_model.specs.Machine.{Mux}
 use Rattle.sdp_elements.specs.declared.target.Target.{Target}
 use Rattle.push_model.specs.Client.{Client, own_maximum, is_direct, with_object, begun_by, new_client}
@@ -38,6 +39,7 @@ use Rattle.host_model.specs.Endpoints.{endpoint_of, fits, takes_sdu}
 use Rattle.host_model.specs.Pdus.{sdu_of, are_octets}
 use Rattle.host_model.specs.Servers.{ServerProfile, is_told, server_profile}
 use Rattle.host_model.proofs.Orderly.{octets_by}
+use Rattle.shelf_model.specs.Held.{longest_octets}
 use Rattle.host_laws.specs.Answered.{IsSmall, IsAnswered, AllAnswered}
 use Rattle.host_laws.specs.Feeds.{Feed, Gifts, Learns, Receives, Happens, Sent, Steps, fed}
 use Rattle.host_laws.specs.OverLinks.{AreTimely}
@@ -46,7 +48,7 @@ use Rattle.host_laws.specs.Serving.{news_served, event_served, taken_by, lent_by
 use Rattle.host_laws.specs.Woven.{Strand}
 use Rattle.host_laws.proofs.Answered.{clients_are_answered}
 use Rattle.host_laws.proofs.Serving.{feed_done}
-use Rattle.request_laws.specs.BothFed.{most_octets, AllAsked, GrantsAll, over_stored}
+use Rattle.request_laws.specs.BothFed.{AllAsked, InboxAnswers, over_stored}
 use Rattle.request_laws.specs.Carried.{frames_over, IsReadSo, NoneComesBehind, IsGoneThrough}
 use Rattle.request_laws.specs.MuxFed.{IsMuxAsked, SaysSo, AllSaySo, MuxTwined, CarriedRequestsAreHeard}
 use Rattle.request_laws.specs.Twists.{of_client, Set, new_both, all_deeds, all_moves, OpensNone}
@@ -80,10 +82,10 @@ begins_mux size name client = by client.failed
 
 -- its shelf answers with as many octets as it was asked for, and all else is so
 record IsSo (one : Affair) (client : Client) : Type 0 where
-  answered : IsAnswered most_octets one client
+  answered : IsAnswered longest_octets one client
   asked : IsMuxAsked one client
 
-all_so : (affairs : List Affair) (client : Client) → AllAnswered most_octets affairs client → AllAsked IsMuxAsked affairs client → AllAsked IsSo affairs client
+all_so : (affairs : List Affair) (client : Client) → AllAnswered longest_octets affairs client → AllAsked IsMuxAsked affairs client → AllAsked IsSo affairs client
 all_so [] client answered asked = tt
 all_so (one ∷ rest) client answered asked = (record { answered = answered.0; asked = asked.0 }, all_so rest (client_after one client) answered.1 asked.1)
 
@@ -93,7 +95,7 @@ numbers_after settings (Does deed) client muxed same = same_then (new_client set
 
 goes_on : (settings : Settings) (one : Affair) (client : Client) → IsSo one client → GoodMux settings client → GoodMux settings (client_after one client)
 goes_on settings one client asked good = record {
-  good = good_affair Rfcomm (new_client settings).session.maximum (new_client settings).session.wanted most_octets (omega arith) one client asked.answered good.good;
+  good = good_affair Rfcomm (new_client settings).session.maximum (new_client settings).session.wanted longest_octets (omega arith) one client asked.answered good.good;
   numbers = numbers_after settings one client good.good.direct good.numbers;
 }
 
@@ -140,7 +142,7 @@ so_both xs ys client one two = record {
 
 module _ (settings : Settings) (muxed : settings.transport ≡ Rfcomm) where
   -- what is asked of a push over RFCOMM, of its moves
-  carried_push : (client : Client) (name : List ℕ) (size : ℕ) (moves : List Move) → GoodMux settings client → IsSmall most_octets (Ok size) name → DeedsSo (client_side moves) (with_object name size client) → StayCarried moves (with_object name size client) no_carriage
+  carried_push : (client : Client) (name : List ℕ) (size : ℕ) (moves : List Move) → GoodMux settings client → IsSmall longest_octets (Ok size) name → DeedsSo (client_side moves) (with_object name size client) → StayCarried moves (with_object name size client) no_carriage
       → (let push : Push = record { client = client; name = name; size = size; content = None; moves = moves } in IsCarried settings push)
   carried_push client name size moves good small so stays =
       let fixed = good.good.stands.0 in
@@ -160,7 +162,7 @@ module _ (settings : Settings) (muxed : settings.transport ≡ Rfcomm) where
         few = omega (arith, cap, high);
         named = so.named;
         carried = stays;
-        may = may_push Rfcomm (new_client settings).session.maximum (new_client settings).session.wanted most_octets (omega arith) client name size good.good small;
+        may = may_push Rfcomm (new_client settings).session.maximum (new_client settings).session.wanted longest_octets (omega arith) client name size good.good small;
         plain = fixed.wanted ∙ ap (λ (t : Transport). is_direct t && settings.srm) muxed;
         within = subst (λ (n : ℕ). n ≤ own_maximum Rfcomm settings) (sym (longest ∙ own)) (omega arith);
         answers = so.answers;
@@ -169,7 +171,7 @@ module _ (settings : Settings) (muxed : settings.transport ≡ Rfcomm) where
   -- one on which nothing comes
   no_push : IsNone (GoodMux settings) (IsCarried settings)
   no_push client occurrences good quiet =
-      let small : IsSmall most_octets (Ok 0) [] = record { short = no_units; bounded = λ count is. none_left count is } in
+      let small : IsSmall longest_octets (Ok 0) [] = record { short = no_units; bounded = λ count is. none_left count is } in
       record {
         push = record { client = client; name = []; size = 0; content = None; moves = by_server occurrences };
         pushed = carried_push client [] 0 (by_server occurrences) good small
@@ -181,8 +183,8 @@ module _ (settings : Settings) (muxed : settings.transport ≡ Rfcomm) where
       inner : (n m : ℕ) → (let size : Result ℕ PortFault = Ok n in size ≡ Ok m) → n ≡ m
       inner n m is = cc
 
-      none_left : (count : ℕ) → (let size : Result ℕ PortFault = Ok 0 in size ≡ Ok count) → count ≤ most_octets
-      none_left count is = subst (λ (n : ℕ). n ≤ most_octets) (inner 0 count is) (omega arith)
+      none_left : (count : ℕ) → (let size : Result ℕ PortFault = Ok 0 in size ≡ Ok count) → count ≤ longest_octets
+      none_left count is = subst (λ (n : ℕ). n ≤ longest_octets) (inner 0 count is) (omega arith)
 
 module _ (set : Set) (muxed : set.settings.transport ≡ Rfcomm) where
   one_push : IsOne set IsSo (GoodMux set.settings) (IsCarried set.settings) (MuxTwined set)
@@ -245,65 +247,66 @@ module _ (set : Set) (muxed : set.settings.transport ≡ Rfcomm) where
 
 -- ---- the server
 
-abbrev Serves : Reacted → List Occurrence → Type 0
-Serves at occurrences = AllServeCarried AllGranted at occurrences
+module _ (Are : List Answer → Type 0) where
+  abbrev Serves : Reacted → List Occurrence → Type 0
+  Serves at occurrences = AllServeCarried Are at occurrences
 
-serves_both : (xs ys : List Occurrence) (at : Reacted) → Serves at xs → Serves (served.all_done xs at) ys → Serves at (xs ++ ys)
-serves_both [] ys at one two = two
-serves_both (x ∷ xs) ys at one two = (one.0, serves_both xs ys (done x at) one.1 two)
+  serves_both : (xs ys : List Occurrence) (at : Reacted) → Serves at xs → Serves (served.all_done xs at) ys → Serves at (xs ++ ys)
+  serves_both [] ys at one two = two
+  serves_both (x ∷ xs) ys at one two = (one.0, serves_both xs ys (done x at) one.1 two)
 
-news_serves : (heard : News) (at : Reacted) → Serves at (news_served heard)
-news_serves (Linked Up) at = tt
-news_serves (Linked (Down reason)) at = (record { own = tt; answers = tt; carried = tt }, tt)
-news_serves (Failed status) at = tt
-news_serves (Heard pdu) at = tt
-news_serves TimerFired at = tt
-news_serves Cancelled at = tt
-news_serves (Opening name) at = tt
+  news_serves : (heard : News) (at : Reacted) → Serves at (news_served heard)
+  news_serves (Linked Up) at = tt
+  news_serves (Linked (Down reason)) at = (record { own = tt; answers = tt; carried = tt }, tt)
+  news_serves (Failed status) at = tt
+  news_serves (Heard pdu) at = tt
+  news_serves TimerFired at = tt
+  news_serves Cancelled at = tt
+  news_serves (Opening name) at = tt
 
-event_serves : (event : ChannelEvent) (at : Reacted) → Serves at (event_served event)
-event_serves (channels.Opened own psm) at = tt
-event_serves (channels.Closed own psm reason) at = by (is_told reason)
-  where
-    by : (is : Bool) → Serves at (cond is (Closed psm ∷ []) [])
-    by true = (record { own = tt; answers = tt; carried = tt }, tt)
-    by false = tt
-event_serves (channels.Features features) at = tt
-event_serves channels.FeaturesLost at = tt
-event_serves (channels.DisconnectLost own) at = tt
+  event_serves : (event : ChannelEvent) (at : Reacted) → Serves at (event_served event)
+  event_serves (channels.Opened own psm) at = tt
+  event_serves (channels.Closed own psm reason) at = by (is_told reason)
+    where
+      by : (is : Bool) → Serves at (cond is (Closed psm ∷ []) [])
+      by true = (record { own = tt; answers = tt; carried = tt }, tt)
+      by false = tt
+  event_serves (channels.Features features) at = tt
+  event_serves channels.FeaturesLost at = tt
+  event_serves (channels.DisconnectLost own) at = tt
 
--- a channel takes octets alone
-taken_octets : (own : ℕ) (sdu : List ℕ) (v : Channels) → takes_sdu own sdu v ≡ true → IsOctets sdu
-taken_octets own sdu v takes = octets_by sdu (and_parts (fits (length sdu) (peer_mtu own v) && not (waits own v)) (are_octets sdu) takes).1
+  -- a channel takes octets alone
+  taken_octets : (own : ℕ) (sdu : List ℕ) (v : Channels) → takes_sdu own sdu v ≡ true → IsOctets sdu
+  taken_octets own sdu v takes = octets_by sdu (and_parts (fits (length sdu) (peer_mtu own v) && not (waits own v)) (are_octets sdu) takes).1
 
-taken_serves : (own : Option ℕ) (lent : Lent) (v : Channels) (at : Reacted) → lent_sdu at.server ≡ Some lent → IsSaid lent.payload (sdu_of lent.payload) → Serves at (taken_by own lent v)
-taken_serves None lent v at is said = tt
-taken_serves (Some own) lent v at is said = by (takes_sdu own (sdu_of lent.payload) v) refl
-  where
-    by : (takes : Bool) → takes_sdu own (sdu_of lent.payload) v ≡ takes → Serves at (cond takes (Went lent.psm (sdu_of lent.payload) ∷ []) [])
-    by true takes = (record { own = (lent, is, refl, said, taken_octets own (sdu_of lent.payload) v takes); answers = tt; carried = tt }, tt)
-    by false takes = tt
+  taken_serves : (own : Option ℕ) (lent : Lent) (v : Channels) (at : Reacted) → lent_sdu at.server ≡ Some lent → IsSaid lent.payload (sdu_of lent.payload) → Serves at (taken_by own lent v)
+  taken_serves None lent v at is said = tt
+  taken_serves (Some own) lent v at is said = by (takes_sdu own (sdu_of lent.payload) v) refl
+    where
+      by : (takes : Bool) → takes_sdu own (sdu_of lent.payload) v ≡ takes → Serves at (cond takes (Went lent.psm (sdu_of lent.payload) ∷ []) [])
+      by true takes = (record { own = (lent, is, refl, said, taken_octets own (sdu_of lent.payload) v takes); answers = tt; carried = tt }, tt)
+      by false takes = tt
 
-lent_serves : (lent : Option Lent) (v : Channels) (p : ServerProfile) (at : Reacted) → lent_sdu at.server ≡ lent → ((one : Lent) → lent ≡ Some one → IsSaid one.payload (sdu_of one.payload)) → Serves at (lent_by lent v p)
-lent_serves None v p at is said = tt
-lent_serves (Some lent) v p at is said = taken_serves (endpoint_of lent.psm p.endpoints) lent v at is (said lent refl)
+  lent_serves : (lent : Option Lent) (v : Channels) (p : ServerProfile) (at : Reacted) → lent_sdu at.server ≡ lent → ((one : Lent) → lent ≡ Some one → IsSaid one.payload (sdu_of one.payload)) → Serves at (lent_by lent v p)
+  lent_serves None v p at is said = tt
+  lent_serves (Some lent) v p at is said = taken_serves (endpoint_of lent.psm p.endpoints) lent v at is (said lent refl)
 
-feed_serves : (feed : Feed) (p : ServerProfile) → GrantsAll feed → SaysSo p feed → AllByRecursion NoPacket (served_with p feed) → Serves (reacted p) (served_with p feed)
-feed_serves (Gifts circumstances) p grants said packets = (record { own = tt; answers = grants; carried = tt }, tt)
-feed_serves (Learns circumstances heard) p grants said packets = news_serves heard (reacted p)
-feed_serves (Receives own psm sdu) p grants said packets = (record { own = tt; answers = tt; carried = packets.0 }, tt)
-feed_serves (Happens event v) p grants said packets = event_serves event (reacted p)
-feed_serves (Sent v) p grants said packets = tt
-feed_serves (Steps v) p grants said packets = (record { own = tt; answers = tt; carried = tt }, lent_serves (lent_sdu (lends p.server)) v p (done Asked (reacted p)) refl said)
+  feed_serves : (feed : Feed) (p : ServerProfile) → InboxAnswers Are feed → SaysSo p feed → AllByRecursion NoPacket (served_with p feed) → Serves (reacted p) (served_with p feed)
+  feed_serves (Gifts circumstances) p grants said packets = (record { own = tt; answers = grants; carried = tt }, tt)
+  feed_serves (Learns circumstances heard) p grants said packets = news_serves heard (reacted p)
+  feed_serves (Receives own psm sdu) p grants said packets = (record { own = tt; answers = tt; carried = packets.0 }, tt)
+  feed_serves (Happens event v) p grants said packets = event_serves event (reacted p)
+  feed_serves (Sent v) p grants said packets = tt
+  feed_serves (Steps v) p grants said packets = (record { own = tt; answers = tt; carried = tt }, lent_serves (lent_sdu (lends p.server)) v p (done Asked (reacted p)) refl said)
 
-pub serve_from : (settings : Settings) (content : Option Contents) (feeds : List Feed) (p : ServerProfile) → AllByRecursion GrantsAll feeds → AllSaySo settings content p feeds → AllByRecursion NoPacket (served_from settings content p feeds)
-    → Serves (reacted p) (served_from settings content p feeds)
-serve_from settings content [] p grants said packets = tt
-serve_from settings content (feed ∷ feeds) p grants said packets =
-    let next = fed (server_profile settings content) p feed in
-    let one = all_ahead NoPacket (served_with p feed) (served_from settings content next feeds) packets in
-    serves_both (served_with p feed) (served_from settings content next feeds) (reacted p) (feed_serves feed p grants.0 said.0 one.0)
-    (subst (λ (at : Reacted). Serves at (served_from settings content next feeds)) (feed_done settings content p feed) (serve_from settings content feeds next grants.1 said.1 one.1))
+  pub serve_from : (settings : Settings) (content : Option Contents) (feeds : List Feed) (p : ServerProfile) → AllByRecursion (InboxAnswers Are) feeds → AllSaySo settings content p feeds → AllByRecursion NoPacket (served_from settings content p feeds)
+      → Serves (reacted p) (served_from settings content p feeds)
+  serve_from settings content [] p grants said packets = tt
+  serve_from settings content (feed ∷ feeds) p grants said packets =
+      let next = fed (server_profile settings content) p feed in
+      let one = all_ahead NoPacket (served_with p feed) (served_from settings content next feeds) packets in
+      serves_both (served_with p feed) (served_from settings content next feeds) (reacted p) (feed_serves feed p grants.0 said.0 one.0)
+      (subst (λ (at : Reacted). Serves at (served_from settings content next feeds)) (feed_done settings content p feed) (serve_from settings content feeds next grants.1 said.1 one.1))
 
 -- ---- the law
 
@@ -314,7 +317,7 @@ carried_requests_are_heard asks settings before muxed talk_a talk_b a b near far
     let B = server_profile settings set.content in
     let first : GoodMux settings (new_client settings) = record { good = good_first settings Rfcomm muxed; numbers = (refl, refl, refl) } in
     let all = made set IsSo (GoodMux settings) (IsCarried settings) (MuxTwined set) (goes_on settings) (one_push set muxed) (no_push settings muxed) (λ k. k) near.so.lives.spans near.so.lives.now near.so.lives.feeds A.first a.profile
-    far.so.lives.spans far.so.lives.now far.so.lives.feeds B.first b.profile near.fed far.fed so.twined (subst (AreTimely false) (sym near.so.lives.marks_are) near.so.timely) (subst (AreTimely false) (sym far.so.lives.marks_are) far.so.timely) refl first (all_so _ A.first.client (clients_are_answered most_octets settings A.first near.so.lives.feeds so.small) so.asked) in
+    far.so.lives.spans far.so.lives.now far.so.lives.feeds B.first b.profile near.fed far.fed so.twined (subst (AreTimely false) (sym near.so.lives.marks_are) near.so.timely) (subst (AreTimely false) (sym far.so.lives.marks_are) far.so.timely) refl first (all_so _ A.first.client (clients_are_answered longest_octets settings A.first near.so.lives.feeds so.small) so.asked) in
     let heard = carried-are_heard settings before all.pushes all.last all.pushed all.last_pushed
-    (subst (AllServeCarried AllGranted (new_over settings before)) all.is (serve_from settings set.content far.so.lives.feeds B.first so.granted so.said so.packets)) in
+    (subst (AllServeCarried AllGranted (new_over settings before)) all.is (serve_from AllGranted settings set.content far.so.lives.feeds B.first so.granted so.said so.packets)) in
     subst (AllMayCome settings [] (new_over settings before)) (sym all.is) heard

@@ -6,6 +6,7 @@ use Rattle.bt_base.specs.declared.settings.Settings.{Settings}
 use Rattle.bt_base.specs.declared.settings.Transport.{Transport}
 use Rattle.bt_base.specs.declared.settings.Transport.TheVariants.{Rfcomm}
 use Rattle.channel_model.specs.Value.{no_channels}
+use Rattle.obex_session.specs.InboxCalls.{Answer}
 use Rattle.push_model.specs.Client.{Client, own_maximum, is_direct, with_object, new_client}
 use Rattle.push_model.specs.Events as events
 use Rattle.push_model.specs.Laws as push
@@ -15,16 +16,16 @@ use Rattle.push_laws.specs.Carriage.{no_carriage, frames_by, StayCarried, AreCar
 use Rattle.push_laws.specs.Dialogs.{AllServeCarried}
 use Rattle.push_laws.specs.Occurrences.{Occurrence, done}
 use Rattle.push_laws.specs.Parties.{Move, server_side, client_side, Push}
-use Rattle.push_laws.specs.Premises.{AllGranted}
 use Rattle.push_laws.specs.Searches.{AllServe, IsPushedOver, StaysTrue, no_traffic}
 use Rattle.push_laws.specs.Sending.{AllAnswer}
 use Rattle.push_model.specs.Events.{search_psm}
 use Rattle.host_model.specs.Clients.{ClientProfile}
 use Rattle.host_model.specs.Servers.{ServerProfile}
+use Rattle.shelf_model.specs.Held.{longest_octets}
 use Rattle.host_laws.specs.Answered.{IsSmall, IsAnswered, AllAnswered}
 use Rattle.host_laws.specs.Pushing.{Affair, Begins, Does, client_after}
 use Rattle.host_laws.specs.Woven.{Strand}
-use Rattle.request_laws.specs.BothFed.{most_octets, AllAsked}
+use Rattle.request_laws.specs.BothFed.{AllAsked}
 use Rattle.request_laws.specs.Carried.{frames_over, IsReadSo, NoneComesBehind, IsGoneThrough}
 use Rattle.request_laws.specs.MuxFed.{MuxTwined}
 use Rattle.request_laws.specs.Twists.{of_client, Set, new_both, all_deeds, all_moves, OpensNone}
@@ -46,16 +47,16 @@ IsFramed (Does deed) client = AllByRecursion IsReadSo (frames_by deed client)
 
 -- and its shelf answers with as many octets as it was asked for
 pub record IsSo (one : Affair) (client : Client) : Type 0 where
-  pub answered : IsAnswered most_octets one client
+  pub answered : IsAnswered longest_octets one client
   pub framed : IsFramed one client
 
-pub all-so : (affairs : List Affair) (client : Client) → AllAnswered most_octets affairs client → AllAsked IsFramed affairs client → AllAsked IsSo affairs client
+pub all-so : (affairs : List Affair) (client : Client) → AllAnswered longest_octets affairs client → AllAsked IsFramed affairs client → AllAsked IsSo affairs client
 all-so [] client answered framed = tt
 all-so (one ∷ rest) client answered framed = (record { answered = answered.0; framed = framed.0 }, all-so rest (client_after one client) answered.1 framed.1)
 
 pub goes-on : (settings : Settings) (one : Affair) (client : Client) → IsSo one client → GoodMux settings client → GoodMux settings (client_after one client)
 goes-on settings one client so good = record {
-  good = good_affair Rfcomm (new_client settings).session.maximum (new_client settings).session.wanted most_octets (omega arith) one client so.answered good.good;
+  good = good_affair Rfcomm (new_client settings).session.maximum (new_client settings).session.wanted longest_octets (omega arith) one client so.answered good.good;
   numbers = numbers_after settings one client good.good.direct good.numbers;
 }
 
@@ -87,7 +88,7 @@ pub record TrueTwined (set : Set) (near far : List Strand) (client : ClientProfi
   pub direct : AllStayTrue object_psm refl set muxed.twists (new_both client server) no_streams
 
 module _ (settings : Settings) (muxed : settings.transport ≡ Rfcomm) where
-  true_push : (client : Client) (name : List ℕ) (size : ℕ) (moves : List Move) → GoodMux settings client → IsSmall most_octets (Ok size) name → AllAnswer None (client_side moves) (with_object name size client) → StayCarried moves (with_object name size client) no_carriage
+  true_push : (client : Client) (name : List ℕ) (size : ℕ) (moves : List Move) → GoodMux settings client → IsSmall longest_octets (Ok size) name → AllAnswer None (client_side moves) (with_object name size client) → StayCarried moves (with_object name size client) no_carriage
       → StaysTrue search_psm moves (with_object name size client) no_traffic → StaysTrue object_psm moves (with_object name size client) no_traffic
       → (let push : Push = record { client = client; name = name; size = size; content = None; moves = moves } in IsPushedOver push)
   true_push client name size moves good small answers stays search direct =
@@ -100,7 +101,7 @@ module _ (settings : Settings) (muxed : settings.transport ≡ Rfcomm) where
       let most = settings.obex_high in
       let longest : client.session.maximum ≡ own_maximum settings.transport settings = fixed.maximum in
       let own : own_maximum settings.transport settings ≡ settings.obex = ap (λ (t : Transport). own_maximum t settings) muxed in
-      let may = may_push Rfcomm (new_client settings).session.maximum (new_client settings).session.wanted most_octets (omega arith) client name size good.good small in
+      let may = may_push Rfcomm (new_client settings).session.maximum (new_client settings).session.wanted longest_octets (omega arith) client name size good.good small in
       record {
         client = record {
           muxed = good.good.direct;
@@ -124,7 +125,7 @@ module _ (settings : Settings) (muxed : settings.transport ≡ Rfcomm) where
   -- one on which nothing comes
   pub no-push : (set : Set) → IsNone (GoodMux settings) IsPushedOver
   no-push set client occurrences good quiet =
-      let small : IsSmall most_octets (Ok 0) [] = record { short = no_units; bounded = λ count is. none_left count is } in
+      let small : IsSmall longest_octets (Ok 0) [] = record { short = no_units; bounded = λ count is. none_left count is } in
       let begun = with_object [] 0 client in
       record {
         push = record { client = client; name = []; size = 0; content = None; moves = by_server occurrences };
@@ -136,8 +137,8 @@ module _ (settings : Settings) (muxed : settings.transport ≡ Rfcomm) where
       inner : (n m : ℕ) → (let size : Result ℕ PortFault = Ok n in size ≡ Ok m) → n ≡ m
       inner n m is = cc
 
-      none_left : (count : ℕ) → (let size : Result ℕ PortFault = Ok 0 in size ≡ Ok count) → count ≤ most_octets
-      none_left count is = subst (λ (n : ℕ). n ≤ most_octets) (inner 0 count is) (omega arith)
+      none_left : (count : ℕ) → (let size : Result ℕ PortFault = Ok 0 in size ≡ Ok count) → count ≤ longest_octets
+      none_left count is = subst (λ (n : ℕ). n ≤ longest_octets) (inner 0 count is) (omega arith)
 
 module _ (set : Set) (muxed : set.settings.transport ≡ Rfcomm) where
   pub one-push : IsOne set IsSo (GoodMux set.settings) IsPushedOver (TrueTwined set)
@@ -202,6 +203,6 @@ module _ (set : Set) (muxed : set.settings.transport ≡ Rfcomm) where
 
 -- ---- the server
 
-pub serves-so : (occurrences : List Occurrence) (at : Reacted) → AllServeCarried AllGranted at occurrences → AllServe AllGranted at occurrences
-serves-so [] at all = tt
-serves-so (one ∷ rest) at all = (record { own = all.0.own; answers = all.0.answers }, serves-so rest (done one at) all.1)
+pub serves-so : (Are : List Answer → Type 0) (occurrences : List Occurrence) (at : Reacted) → AllServeCarried Are at occurrences → AllServe Are at occurrences
+serves-so Are [] at all = tt
+serves-so Are (one ∷ rest) at all = (record { own = all.0.own; answers = all.0.answers }, serves-so Are rest (done one at) all.1)

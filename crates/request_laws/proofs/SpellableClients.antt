@@ -46,7 +46,8 @@ use Rattle.push_model.specs.Streams.{Front, Whole, Partial, Broken, front_of}
 use Rattle.push_laws.specs.Carriage.{frames_of, frames_by}
 use Rattle.request_laws.specs.Carried.{IsReadSo}
 use Rattle.request_laws.specs.Spellable.{IsSpellable, IsSaidSpellable}
-use Rattle.request_laws.specs.SpellableClients.{BringsOctets, IsPartOctets, IsOfOctets, IsState, SpellsAll, ClientFramesAreRead}
+use Rattle.shelf_model.specs.Held.{IsPartOctets}
+use Rattle.request_laws.specs.SpellableClients.{BringsOctets, IsOfOctets, IsState, SpellsAll, ClientFramesAreRead}
 use Rattle.request_laws.proofs.PacketOctets.{packet_are_octets, connect_are_octets, put_are_octets, request_are_octets, after_reply_state}
 use Rattle.request_laws.proofs.Spellable.{frames_are_spellable}
 use Rattle.request_laws.proofs.SpellableParts.{none_octets, read_so}

@@ -1,5 +1,5 @@
 -- All laws on requests together.
-use Rattle.std.proofs.Common.{◌≡◌, List, [], ◌∷◌}
+use Rattle.std.proofs.Common.{◌≡◌, List}
 use Rattle.std.specs.List.{AllByRecursion}
 use Rattle.bt_base.specs.declared.settings.Transport.TheVariants.{L2cap}
 use Rattle.bt_base.specs.Objects.{Object}
@@ -7,7 +7,7 @@ use Rattle.push_script.specs.declared.scenario.Scenario.{Scenario}
 use Rattle.capture.specs.Entries.{Entry}
 use Rattle.push_laws.specs.Premises.{AllGranted}
 use Rattle.host_model.specs.Circumstances.{Circumstance, answers_in}
-use Rattle.host_laws.specs.Feeds.{Feed, Gifts, Learns, Receives, Happens, Sent, Steps}
+use Rattle.host_laws.specs.Feeds.{Feed}
 use Rattle.host_laws.specs.Gifts.{gifts_of}
 use Rattle.host_laws.proofs.InOrder.{asks-nothing}
 use Rattle.scenario_laws.specs.Captures.{Ran}
@@ -23,6 +23,7 @@ use Rattle.request_laws.proofs.Linked.{runs_are_linked}
 use Rattle.request_laws.proofs.ObjectPipes.{are_piped}
 use Rattle.request_laws.proofs.Paired.{paired_servers_serve}
 use Rattle.request_laws.proofs.Summing.{both_ask}
+use Rattle.request_laws.proofs.Told.{all_answer}
 
 -- where the channels of both hosts are pairs whose links go side by side
 serves_so : (scenario : Scenario) (before : List Object) (capture : List Entry) (ran : Ran scenario (holding before) capture) → scenario.settings.transport ≡ L2cap → (turns : PairsInTurn both_ask scenario (holding before) capture ran)
@@ -45,13 +46,7 @@ runs_serve_together = record {
 -- ---- where the inbox grants all
 
 pub all_granted : (feeds : List Feed) → AllByRecursion (λ (gift : List Circumstance). AllGranted (answers_in gift)) (gifts_of feeds) → AllByRecursion GrantsAll feeds
-all_granted [] all = tt
-all_granted (Gifts circumstances ∷ feeds) all = (all.0, all_granted feeds all.1)
-all_granted (Learns circumstances news ∷ feeds) all = (tt, all_granted feeds all)
-all_granted (Receives own psm sdu ∷ feeds) all = (tt, all_granted feeds all)
-all_granted (Happens event v ∷ feeds) all = (tt, all_granted feeds all)
-all_granted (Sent v ∷ feeds) all = (tt, all_granted feeds all)
-all_granted (Steps v ∷ feeds) all = (tt, all_granted feeds all)
+all_granted feeds all = all_answer AllGranted feeds all
 
 pub runs_serve_granted : RunsServeGranted
 runs_serve_granted = record {

@@ -8,14 +8,17 @@ use Rattle.bt_base.specs.Objects.{Object}
 use Rattle.push_script.specs.declared.scenario.Scenario.{Scenario}
 use Rattle.push_terms.specs.declared.word.Side.TheVariants as sides
 use Rattle.capture.specs.Entries.{Entry}
+use Rattle.obex_session.specs.InboxCalls.{Answer}
 use Rattle.link_talk.specs.Captures.{objects_heard}
 use Rattle.push_laws.specs.Gains.{objects}
 use Rattle.push_laws.specs.Laws.{new_over, stored_in}
 use Rattle.push_laws.specs.Occurrences.{Occurrence, all_done}
+use Rattle.push_laws.specs.Premises.{AllGranted}
 use Rattle.world_model.specs.Talks.{Talk}
 use Rattle.host_model.specs.Clients.{ClientProfile, client_profile}
 use Rattle.host_model.specs.Hosts.{Host}
 use Rattle.host_model.specs.Servers.{ServerProfile, server_profile}
+use Rattle.shelf_model.specs.Held.{longest_octets}
 use Rattle.host_laws.specs.Answered.{BeginsAtMost}
 use Rattle.host_laws.specs.Calls.{HostsAsk}
 use Rattle.host_laws.specs.Fed.{TalksFed}
@@ -26,35 +29,31 @@ use Rattle.scenario_laws.specs.Gains.{holding}
 use Rattle.scenario_laws.specs.Parties.{party_of}
 use Rattle.pair_laws.specs.InTurn.{PairsInTurn}
 use Rattle.pair_laws.specs.OnLinks.{ArePairs}
-use Rattle.request_laws.specs.BothFed.{GrantsAll, AreTwined, over_stored}
+use Rattle.request_laws.specs.BothFed.{InboxAnswers, GrantsAll, AreTwined, over_stored}
 use Rattle.request_laws.specs.Twists.{Set}
-
--- the longest object that a client can push: the header Length is a number of four octets (IrOBEX 1.5, 2.2.3)
-abbrev pub longest_octets : ℕ
-longest_octets = 4294967295
 
 -- ---- over all links
 
--- On each link the channels of the object were pipes at each moment; the shelf told no object that is longer, and the inbox granted all calls.
-pub record BothAreOffered (set : Set) (talk_a talk_b : List Talk) (a : Host ClientProfile) (b : Host ServerProfile)
+-- On each link the channels of the object were pipes at each moment; the shelf told no object that is longer, and what the inbox answered is so.
+pub record BothAreOffered (Are : List Answer → Type 0) (set : Set) (talk_a talk_b : List Talk) (a : Host ClientProfile) (b : Host ServerProfile)
     (near : TalksFed (client_profile set.settings) (set.asks.clients set.settings) talk_a a)
     (far : TalksFed (server_profile set.settings set.content) (set.asks.servers set.settings set.content) talk_b b) : Type 0 where
   pub twined : AreTwined set (λ k. k) near.so.lives.spans near.so.lives.now near.so.lives.feeds (client_profile set.settings).first a.profile
       far.so.lives.spans far.so.lives.now far.so.lives.feeds (server_profile set.settings set.content).first b.profile near.fed far.fed
   pub small : AllByRecursion (BeginsAtMost longest_octets) near.so.lives.feeds
-  pub granted : AllByRecursion GrantsAll far.so.lives.feeds
+  pub answers : AllByRecursion (InboxAnswers Are) far.so.lives.feeds
 
 -- what they spell is what the inbox holds behind them
 abbrev pub GainsSpelled : (settings : Settings) (before : List Object) (occurrences : List Occurrence) → Type 0
 GainsSpelled settings before occurrences = stored_in (all_done occurrences (new_over settings before)).gift.content ≡ Some (before ++ objects settings occurrences)
 
--- Then the inbox gained what the packets spell that came, where nothing comes or goes over RFCOMM.
+-- Where it granted all calls it gained what the packets spell that came, where nothing comes or goes over RFCOMM.
 abbrev pub LinksGainAll : Type 0
 LinksGainAll = (asks : HostsAsk) (settings : Settings) (before : List Object) → settings.transport ≡ L2cap →
     let set = over_stored asks settings before in
     (talk_a talk_b : List Talk) (a : Host ClientProfile) (b : Host ServerProfile)
     (near : TalksFed (client_profile settings) (asks.clients settings) talk_a a) (far : TalksFed (server_profile settings set.content) (asks.servers settings set.content) talk_b b)
-    → BothAreOffered set talk_a talk_b a b near far → AllByRecursion IsDirect (served_from settings set.content (server_profile settings set.content).first far.so.lives.feeds)
+    → BothAreOffered AllGranted set talk_a talk_b a b near far → AllByRecursion IsDirect (served_from settings set.content (server_profile settings set.content).first far.so.lives.feeds)
     → GainsSpelled settings before (served_from settings set.content (server_profile settings set.content).first far.so.lives.feeds)
 
 -- ---- runs

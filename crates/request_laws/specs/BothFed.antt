@@ -5,9 +5,11 @@ use Rattle.bt_base.specs.declared.settings.Settings.{Settings}
 use Rattle.bt_base.specs.declared.settings.Transport.TheVariants.{L2cap}
 use Rattle.bt_base.specs.Objects.{Object}
 use Rattle.channel_laws.specs.Runs as channels
+use Rattle.obex_session.specs.InboxCalls.{Answer}
 use Rattle.push_model.specs.Client.{Client}
 use Rattle.push_laws.specs.Laws.{new_over}
 use Rattle.push_laws.specs.Occurrences.{Occurrence}
+use Rattle.obex_session.specs.InboxCalls.{Answer}
 use Rattle.push_laws.specs.Premises.{AllGranted, AllMayCome}
 use Rattle.world_model.specs.Machines.{LinkEvent, Up, Down}
 use Rattle.world_model.specs.Talks.{Talk}
@@ -38,14 +40,18 @@ abbrev pub AllAsked : (Affair → Client → Type 0) → List Affair → Client 
 AllAsked Is [] client = Unit {0}
 AllAsked Is (one ∷ rest) client = Is one client × AllAsked Is rest (client_after one client)
 
--- the inbox grants all calls
+-- what the inbox is to answer is so
+abbrev pub InboxAnswers : (List Answer → Type 0) → Feed → Type 0
+InboxAnswers Are (Gifts circumstances) = Are (answers_in circumstances)
+InboxAnswers Are (Learns circumstances news) = Unit {0}
+InboxAnswers Are (Receives own psm sdu) = Unit {0}
+InboxAnswers Are (Happens event v) = Unit {0}
+InboxAnswers Are (Sent v) = Unit {0}
+InboxAnswers Are (Steps v) = Unit {0}
+
+-- it grants all calls
 abbrev pub GrantsAll : Feed → Type 0
-GrantsAll (Gifts circumstances) = AllGranted (answers_in circumstances)
-GrantsAll (Learns circumstances news) = Unit {0}
-GrantsAll (Receives own psm sdu) = Unit {0}
-GrantsAll (Happens event v) = Unit {0}
-GrantsAll (Sent v) = Unit {0}
-GrantsAll (Steps v) = Unit {0}
+GrantsAll = InboxAnswers AllGranted
 
 -- ---- over all links
 

@@ -19,6 +19,8 @@ pub mod Spellable
 pub mod SpellableClients
 pub mod SpellableServers
 pub mod AllSizes
+pub mod Losing
 pub mod GainsCarried
 pub mod TogetherHeard
 pub mod Scripts
+pub mod LessHeard

@@ -17,6 +17,7 @@ use Rattle.host_model.specs.Clients.{ClientProfile, client_profile}
 use Rattle.host_model.specs.Hosts.{Host}
 use Rattle.host_model.specs.Pdus.{sdu_of}
 use Rattle.host_model.specs.Servers.{ServerProfile, server_profile}
+use Rattle.shelf_model.specs.Held.{longest_octets}
 use Rattle.host_laws.specs.Answered.{BeginsAtMost}
 use Rattle.host_laws.specs.Calls.{HostsAsk}
 use Rattle.host_laws.specs.Fed.{TalksFed}
@@ -24,7 +25,7 @@ use Rattle.host_laws.specs.Feeds.{Feed, Gifts, Learns, Receives, Happens, Sent, 
 use Rattle.host_laws.specs.Pushing.{Affair, Begins, Does, pushed_from}
 use Rattle.host_laws.specs.Serving.{served_from}
 use Rattle.host_laws.specs.Woven.{Strand}
-use Rattle.request_laws.specs.BothFed.{most_octets, AllAsked, GrantsAll, OfLink, AreLinked, over_stored}
+use Rattle.request_laws.specs.BothFed.{AllAsked, GrantsAll, OfLink, AreLinked, over_stored}
 use Rattle.request_laws.specs.Carried.{IsReadSo, NoneComesBehind}
 use Rattle.request_laws.specs.Streams.{no_streams, AllStayStreams}
 use Rattle.request_laws.specs.Twists.{Twist, of_client, of_server, Set, new_both, served_on, OpensNone}
@@ -75,7 +76,7 @@ pub record BothAreCarried (set : Set) (talk_a talk_b : List Talk) (a : Host Clie
     (far : TalksFed (server_profile set.settings set.content) (set.asks.servers set.settings set.content) talk_b b) : Type 0 where
   pub twined : AreLinked set (MuxTwinedOn set) (λ k. k) near.so.lives.spans near.so.lives.now near.so.lives.feeds (client_profile set.settings).first a.profile
       far.so.lives.spans far.so.lives.now far.so.lives.feeds (server_profile set.settings set.content).first b.profile near.fed far.fed
-  pub small : AllByRecursion (BeginsAtMost most_octets) near.so.lives.feeds
+  pub small : AllByRecursion (BeginsAtMost longest_octets) near.so.lives.feeds
   pub asked : AllAsked IsMuxAsked (pushed_from set.settings (client_profile set.settings).first near.so.lives.feeds) (client_profile set.settings).first.client
   pub granted : AllByRecursion GrantsAll far.so.lives.feeds
   pub said : AllSaySo set.settings set.content (server_profile set.settings set.content).first far.so.lives.feeds

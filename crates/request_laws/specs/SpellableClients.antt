@@ -1,5 +1,5 @@
 -- What a client over RFCOMM says can be spelled, so it is read as it was sent (Object Push Profile 1.2, 4.3; RFCOMM 1.2, 5.1).
-use Rattle.std.specs.Prelude.{ℕ, ◌≤◌, List, length, Ok, Err, Result}
+use Rattle.std.specs.Prelude.{ℕ, ◌≤◌, List, length, Result}
 use Rattle.std.specs.List.{AllByRecursion}
 use Rattle.bt_base.specs.declared.ports.PortFault.{PortFault}
 use Rattle.bt_base.specs.declared.settings.Settings.{Settings}
@@ -8,7 +8,7 @@ use Rattle.push_model.specs.Client.{Client, new_client, begins}
 use Rattle.push_model.specs.Events.{News, LinkUp, LinkFailed, ChannelOpen, ChannelClosed, Sdu, FeaturesTold, FeaturesLost, Timer}
 use Rattle.push_model.specs.Events as news
 use Rattle.push_model.specs.Laws.{Deed, Hears, Asks, Finishes, Cancels, done}
-use Rattle.push_model.specs.Steps.{Part}
+use Rattle.shelf_model.specs.Held.{IsPartOctets}
 use Rattle.push_laws.specs.Carriage.{frames_by}
 use Rattle.request_laws.specs.Carried.{IsReadSo}
 use Rattle.request_laws.specs.Spellable.{SaysSpellable}
@@ -27,11 +27,7 @@ BringsOctets FeaturesTold = Unit {0}
 BringsOctets FeaturesLost = Unit {0}
 BringsOctets Timer = Unit {0}
 
--- what its shelf answers are octets
-abbrev pub IsPartOctets : Part → Type 0
-IsPartOctets (Ok part) = IsOctets part
-IsPartOctets (Err fault) = Unit {0}
-
+-- so is what its shelf answers
 abbrev pub IsOfOctets : Deed → Type 0
 IsOfOctets (Hears news) = BringsOctets news
 IsOfOctets (Asks parts) = AllByRecursion IsPartOctets parts

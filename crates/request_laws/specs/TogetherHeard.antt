@@ -12,6 +12,7 @@ use Rattle.link_talk.specs.Captures.{objects_heard}
 use Rattle.push_laws.specs.Laws.{stored_in}
 use Rattle.world_model.specs.Worlds.{all_words}
 use Rattle.host_model.specs.Circumstances.{parts_in}
+use Rattle.shelf_model.specs.Held.{longest_octets, IsPartOctets}
 use Rattle.host_laws.specs.Answered.{BeginsAtMost}
 use Rattle.host_laws.specs.Calls.{HostsAsk}
 use Rattle.host_laws.specs.Feeds.{Feed, Gifts, Learns, Receives, Happens, Sent, Steps}
@@ -20,9 +21,8 @@ use Rattle.scenario_laws.specs.Gains.{holding}
 use Rattle.scenario_laws.specs.Parties.{party_of}
 use Rattle.pair_laws.specs.Granted.{HappenedGranted}
 use Rattle.pair_laws.specs.Keeping.{LosesNothing, PairsKeepOrder}
-use Rattle.request_laws.specs.BothFed.{most_octets, GrantsAll}
+use Rattle.request_laws.specs.BothFed.{GrantsAll}
 use Rattle.request_laws.specs.GainsCarried.{AllAreHeard}
-use Rattle.request_laws.specs.SpellableClients.{IsPartOctets}
 
 -- a part of an object that the shelf gave are octets
 abbrev pub GivesOctets : Feed → Type 0
@@ -42,11 +42,11 @@ ReceivesOctets (Happens event v) = Unit {0}
 ReceivesOctets (Sent v) = Unit {0}
 ReceivesOctets (Steps v) = Unit {0}
 
--- What is asked in a run, of the ports alone: the parts of objects that the shelf gave were octets, it told of no object that is longer than a server takes,
--- and the inbox granted all calls.
+-- What is asked in a run, of the ports alone: the parts of objects that the shelf gave were octets, it told of no object that is longer than a client can
+-- push, and the inbox granted all calls.
 pub record HeardAnswer (asks : HostsAsk) (scenario : Scenario) (before : List Object) (capture : List Entry) (ran : Ran scenario (holding before) capture) (order : PairsKeepOrder asks scenario (holding before) capture ran) : Type 0 where
   pub given : AllByRecursion GivesOctets order.turns.pairs.a.fed.so.lives.feeds
-  pub small : AllByRecursion (BeginsAtMost most_octets) order.turns.pairs.a.fed.so.lives.feeds
+  pub small : AllByRecursion (BeginsAtMost longest_octets) order.turns.pairs.a.fed.so.lives.feeds
   pub granted : AllByRecursion GrantsAll order.turns.pairs.b.fed.so.lives.feeds
 
 -- Then no request is ignored, and the inbox gained what the capture spells.

@@ -2,6 +2,7 @@
 #![tactic(auto)]
 
 ghost use Rattle.request_laws.specs.AllSizes.{LinksGainAll, RunsGainAll};
+ghost use Rattle.request_laws.specs.Losing.{LinksGainLess, RunsGainLess};
 ghost use Rattle.request_laws.specs.Alternating.{LinksAlternate};
 ghost use Rattle.request_laws.specs.Behind.{NothingComesBehind};
 ghost use Rattle.request_laws.specs.BothFed.{RequestsOfLinksAreHeard};
@@ -11,6 +12,7 @@ ghost use Rattle.request_laws.specs.GainsCarried.{GainsCarried};
 ghost use Rattle.request_laws.specs.Granted.{RunsServeGranted};
 ghost use Rattle.request_laws.specs.HandedUp.{ObjectsAreHandedUp};
 ghost use Rattle.request_laws.specs.Joined.{JoinedAreTwined};
+ghost use Rattle.request_laws.specs.LessHeard.{HeardRunsGainLess};
 ghost use Rattle.request_laws.specs.Linked.{RunsAreLinked};
 ghost use Rattle.request_laws.specs.MuxFed.{CarriedRequestsAreHeard};
 ghost use Rattle.request_laws.specs.MuxPipes.{MultiplexersArePiped};
@@ -113,7 +115,7 @@ pub fn links_are_carried()
 
 /// Whatever happens to both hosts over all their links over RFCOMM: no request is ignored, and all else holds that the laws of a server ask of what
 /// may come; where on each link the channels of the multiplexers were pipes and nothing came behind their end, each link lies in one push, the shelf
-/// tells no object of more than 16,777,215 octets, the client hears of the server's channel, the inbox grants all calls, each frame is read as it was
+/// tells no object of more than 4,294,967,295 octets, the client hears of the server's channel, the inbox grants all calls, each frame is read as it was
 /// sent, and nothing comes over L2CAP.
 pub fn carried_requests_are_heard()
     ensures { CarriedRequestsAreHeard }
@@ -152,7 +154,7 @@ pub fn inboxes_gain_carried()
 /// In each run over RFCOMM whose words lose, cut, repeat and damage nothing, wherever it broke off, no request of the client is ignored, and host b's
 /// inbox gained exactly what the capture spells. Nothing is asked of what both hosts hear: what comes up at either is what the other's channel took, so
 /// all of it are octets, and of the service the client hears what the server's record names. Asked for is of the ports alone: the shelf gives octets and
-/// tells no object of more than 16,777,215 octets, and the inbox grants all calls.
+/// tells no object of more than 4,294,967,295 octets, and the inbox grants all calls.
 pub fn runs_serve_heard()
     ensures { RunsServeHeard }
 {}
@@ -160,6 +162,12 @@ pub fn runs_serve_heard()
 /// And in each such run in which the inbox grants all calls, that it does so is asked no more.
 pub fn runs_serve_heard_granted()
     ensures { RunsServeHeardGranted }
+{}
+
+/// In each such run where calls of the inbox fail, but not for want of memory, it gained what the capture spells, in its order, but for one object at most for
+/// each fault that its calls used up; and of each object all was gained with its last packet, or nothing: all exactly where success is said to that.
+pub fn heard_runs_gain_less()
+    ensures { HeardRunsGainLess }
 {}
 
 /// On all links of both hosts, over L2CAP, the inbox gained what the packets spell that came, of objects of any size up to 4,294,967,295 octets: where the
@@ -172,6 +180,18 @@ pub fn links_gain_all()
 /// whether or not requests are ignored: where it granted all calls.
 pub fn runs_gain_all()
     ensures { RunsGainAll }
+{}
+
+/// On all links of both hosts, over L2CAP, the inbox gained what the packets spell that came, but for one object at most for each fault that its calls used
+/// up, of objects of any size up to 4,294,967,295 octets: where the channels of the object were pipes and the inbox did not lack memory. What is left out
+/// is told by the packets at which a call failed; success is said to a PUT exactly where it stores an object.
+pub fn links_gain_less()
+    ensures { LinksGainLess }
+{}
+
+/// So it is in each run over L2CAP, wherever it broke off, of what the capture spells: where the inbox did not lack memory.
+pub fn runs_gain_less()
+    ensures { RunsGainLess }
 {}
 
 /// No word of a script over RFCOMM loses, cuts, repeats or damages a frame, nor do those of a run that keeps to it, wherever it broke off: a script with such

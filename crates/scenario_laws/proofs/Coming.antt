@@ -22,12 +22,12 @@ use Rattle.host_model.specs.Machines.{upper}
 use Rattle.host_laws.specs.Calm.{pdus_in}
 use Rattle.host_laws.specs.OverLinks.{parts}
 use Rattle.scenario_laws.specs.Captures.{client_of, server_of}
-use Rattle.scenario_laws.specs.Coming.{FallTo, CameOver, CameOn, RunsHaveTalks, RestsHaveTalks}
+use Rattle.scenario_laws.specs.Coming.{FallTo, LastIsUp, CameOver, CameOn, RunsHaveTalks, RestsHaveTalks}
 use Rattle.scenario_laws.proofs.Acting.{Anyhow, AreSo, ActedSo, Acted, SinceUp, went_all, since_up}
 use Rattle.scenario_laws.proofs.Both.{both_acted}
 use Rattle.scenario_laws.proofs.Carrying.{carried}
 use Rattle.scenario_laws.proofs.Fronts.{fits, ended_links, with_ends}
-use Rattle.scenario_laws.proofs.Parting.{all_links, all_fall}
+use Rattle.scenario_laws.proofs.Parting.{Parted, all_links, all_fall, all_last}
 use Rattle.scenario_laws.proofs.Resting.{both_rested}
 
 -- ---- links of a capture
@@ -52,6 +52,10 @@ pub record CameOverSo {P : Type 0} (A : Profile P) (W : Bool → Host P → Type
   pub came : CameOver A side capture now
   pub so : AreSo (upper A) W false came.over.acts (upper A).first
 
+pub up_last : (linked : Bool) (talk : List Talk) (waiting : List (List ℕ)) (up : Option Link) → Parted linked talk → (linkage talk).up ≡ option_map pdus up → LastIsUp (parts (talk ++ map Unsent waiting)) up
+up_last linked talk waiting None parted is = tt
+up_last linked talk waiting (Some link) parted is = all_last linked talk waiting (pdus link) parted is
+
 unfoldable pub came_over : {P : Type 0} (A : Profile P) (W : Bool → Host P → Type 0) (side : Side) (past capture : List Entry) (linked : Bool) (now : Host P) (waiting : List (List ℕ)) (talk : List Talk) → ActedSo (upper A) W linked now waiting talk → linkage talk ≡ captured side past
     → linking (moves side capture) ≡ linking (moves side past) → CameOverSo A W side capture now
 came_over A W side past capture linked now waiting talk acted known same =
@@ -63,6 +67,7 @@ came_over A W side past capture linked now waiting talk acted known same =
         talk = talk ++ map Unsent waiting;
         over = all.went.over;
         fall = subst (FallTo (parts (talk ++ map Unsent waiting))) links_are (all_fall linked talk waiting acted.down acted.parted);
+        last = subst (LastIsUp (parts (talk ++ map Unsent waiting))) (sym (ap (λ (l : Linking). l.up) same)) (up_last linked talk waiting (link_up side past) acted.parted (ap (λ (l : Linkage). l.up) known));
       };
       so = all.so;
     }

@@ -4,7 +4,7 @@ use Rattle.scenario_laws.specs.Gains.{FirstServersAreOrderly}
 
 pub first_servers_are_orderly : FirstServersAreOrderly
 first_servers_are_orderly asks settings before = record {
-  came = record { talk = []; over = record { acts = []; acting = refl; deeds_are = refl; in_turn = tt }; fall = inl (refl, refl) };
+  came = record { talk = []; over = record { acts = []; acting = refl; deeds_are = refl; in_turn = tt }; fall = inl (refl, refl); last = tt };
   so = record {
     lives = record {
       spans = [];

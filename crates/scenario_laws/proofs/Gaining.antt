@@ -68,7 +68,7 @@ one_out pdu = by (channel_of pdu == 0x0001)
     by true = commands_out (answers (drop 4 pdu))
     by false = (tt, tt)
 
-both_out : (xs ys : List Saying) → AllByRecursion GoesOut xs → AllByRecursion GoesOut ys → AllByRecursion GoesOut (xs ++ ys)
+pub both_out : (xs ys : List Saying) → AllByRecursion GoesOut xs → AllByRecursion GoesOut ys → AllByRecursion GoesOut (xs ++ ys)
 both_out [] ys one two = two
 both_out (x ∷ xs) ys one two = (one.0, both_out xs ys one.1 two)
 
@@ -96,10 +96,10 @@ part_spells party part link unsent moved served =
     let both : moved_in part ≡ said_all link ++ said_all (map out_of unsent) = ap said_all moved ∙ flat_map-append said_by link (map out_of unsent) in
     objects-move party (moved_in part) (said_all link) (said_all (map out_of unsent)) (all_spoken (flat_map pdus_in part) ∙ both) (all-out unsent) (front_served (said_all link) (said_all (map out_of unsent)) (subst IsServed both served))
 
-abbrev spelled_on : Party → List (List Pdu) → List Object
+abbrev pub spelled_on : Party → List (List Pdu) → List Object
 spelled_on party links = flat_map (λ link. objects party (said_all link)) links
 
-all_spell : (party : Party) (ps : List (List Talk)) (links : List (List Pdu)) → FallTo ps links → AllByRecursion (λ part. IsServed (moved_in part)) ps → flat_map (λ part. objects party (moved_in part)) ps ≡ spelled_on party links
+pub all_spell : (party : Party) (ps : List (List Talk)) (links : List (List Pdu)) → FallTo ps links → AllByRecursion (λ part. IsServed (moved_in part)) ps → flat_map (λ part. objects party (moved_in part)) ps ≡ spelled_on party links
 all_spell party [] links none served = ap (spelled_on party) (sym none)
 all_spell party (part ∷ ps) links fall served =
     elim fall [
@@ -110,7 +110,7 @@ all_spell party (part ∷ ps) links fall served =
 
 -- ---- links of a capture
 
-link_talks : (party : Party) (list : List Link) → spelled_on party (map pdus list) ≡ flat_map (objects party) (map talk list)
+pub link_talks : (party : Party) (list : List Link) → spelled_on party (map pdus list) ≡ flat_map (objects party) (map talk list)
 link_talks party [] = refl
 link_talks party (link ∷ list) = ap (λ (l : List Object). objects party (talk link) ++ l) (link_talks party list)
 

@@ -455,7 +455,7 @@ links_asked T (part ∷ ps) links fall all =
       | inr (link, rest, unsent, is, moved, more) ↦ subst (AllAsk T) (sym is) (subst (AreOneByOne (may_ask T)) (part_asked part link unsent moved) all.0, links_asked T ps rest more all.1)
     ]
 
-parts_asked : (T : Transport) (ps : List (List Talk)) (links : List (List Pdu)) → FallTo ps links → AllAsk T links → AllByRecursion (λ (part : List Talk). AsksForOneObject T (moved_in part)) ps
+pub parts_asked : (T : Transport) (ps : List (List Talk)) (links : List (List Pdu)) → FallTo ps links → AllAsk T links → AllByRecursion (λ (part : List Talk). AsksForOneObject T (moved_in part)) ps
 parts_asked T [] links none all = tt
 parts_asked T (part ∷ ps) links fall all =
     elim fall [
@@ -469,7 +469,7 @@ talks_asked : (T : Transport) (list : List Link) → AllAsk T (map pdus list) �
 talks_asked T [] all = tt
 talks_asked T (link ∷ list) all = (all.0, talks_asked T list all.1)
 
-asked_talks : (T : Transport) (list : List Link) → AllByRecursion (AsksForOneObject T) (map talk list) → AllAsk T (map pdus list)
+pub asked_talks : (T : Transport) (list : List Link) → AllByRecursion (AsksForOneObject T) (map talk list) → AllAsk T (map pdus list)
 asked_talks T [] all = tt
 asked_talks T (link ∷ list) all = (all.0, asked_talks T list all.1)
 

@@ -10,7 +10,7 @@ use Rattle.world_model.specs.PerLink.{Linkage, no_linkage, linkage_after, linkag
 use Rattle.turn_laws.proofs.Linkages.{linkage_ended}
 use Rattle.host_laws.specs.Calm.{pdus_in}
 use Rattle.host_laws.specs.OverLinks.{turns_link, parts_from, parts}
-use Rattle.scenario_laws.specs.Coming.{out_of, FallTo}
+use Rattle.scenario_laws.specs.Coming.{out_of, FallTo, LastHas}
 
 -- ---- up to the last time that the link turned, and since
 
@@ -53,7 +53,7 @@ same_with : (b : Bool) (x y x' y' more : List Talk) → x ≡ x' ++ more → y �
 same_with true x y x' y' more one other = one
 same_with false x y x' y' more one other = other
 
-now_more : (part talk more : List Talk) → AllByRecursion IsAside more → now_from part (talk ++ more) ≡ now_from part talk ++ more
+pub now_more : (part talk more : List Talk) → AllByRecursion IsAside more → now_from part (talk ++ more) ≡ now_from part talk ++ more
 now_more part [] more aside = now_aside part more aside
 now_more part (one ∷ talk) more aside =
     same_with (turns_link one) (now_from [] (talk ++ more)) (now_from (part ++ one ∷ []) (talk ++ more)) (now_from [] talk) (now_from (part ++ one ∷ []) talk) more (now_more [] talk more aside) (now_more (part ++ one ∷ []) talk more aside)
@@ -145,11 +145,11 @@ parted_up talk parted =
 
 -- ---- the link goes down, with what did not move
 
-unsent_aside : (unsent : List (List ℕ)) → AllByRecursion IsAside (map Unsent unsent)
+pub unsent_aside : (unsent : List (List ℕ)) → AllByRecursion IsAside (map Unsent unsent)
 unsent_aside [] = tt
 unsent_aside (pdu ∷ unsent) = (refl, unsent_aside unsent)
 
-unsent_pdus : (unsent : List (List ℕ)) → flat_map pdus_in (map Unsent unsent) ≡ map out_of unsent
+pub unsent_pdus : (unsent : List (List ℕ)) → flat_map pdus_in (map Unsent unsent) ≡ map out_of unsent
 unsent_pdus [] = refl
 unsent_pdus (pdu ∷ unsent) = ap (λ (l : List Pdu). out_of pdu ∷ l) (unsent_pdus unsent)
 
@@ -179,27 +179,43 @@ parted_down reason unsent talk parted =
 
 -- ---- all of it, with what waits
 
+parts_with : (talk : List Talk) (waiting : List (List ℕ)) → parts (talk ++ map Unsent waiting) ≡ past_from [] talk ++ now_from [] (talk ++ map Unsent waiting) ∷ []
+parts_with talk waiting =
+    let gone = talk ++ map Unsent waiting in
+    parts_are [] gone ∙ ap (λ (l : List (List Talk)). l ++ now_from [] gone ∷ []) (past_more [] talk (map Unsent waiting) (unsent_aside waiting))
+
+moved_now : (talk : List Talk) (waiting : List (List ℕ)) → flat_map pdus_in (now_from [] (talk ++ map Unsent waiting)) ≡ flat_map pdus_in (now_from [] talk) ++ map out_of waiting
+moved_now talk waiting =
+    ap (flat_map pdus_in) (now_more [] talk (map Unsent waiting) (unsent_aside waiting))
+    ∙ (flat_map-append pdus_in (now_from [] talk) (map Unsent waiting) ∙ ap (λ (l : List Pdu). flat_map pdus_in (now_from [] talk) ++ l) (unsent_pdus waiting))
+
 -- all links of a host, the last one behind the others
 abbrev pub all_links : Linkage → List (List Pdu)
 all_links l = l.past ++ option_to_list l.up
 
 pub all_fall : (linked : Bool) (talk : List Talk) (waiting : List (List ℕ)) → (linked ≡ false → waiting ≡ []) → Parted linked talk → FallTo (parts (talk ++ map Unsent waiting)) (all_links (linkage talk))
 all_fall linked talk waiting none parted =
-    subst (λ (ps : List (List Talk)). FallTo ps (all_links (linkage talk))) (sym (parts_are [] gone ∙ ap (λ (l : List (List Talk)). l ++ now_from [] gone ∷ []) (past_more [] talk (map Unsent waiting) (unsent_aside waiting)))) (by linked refl)
+    subst (λ (ps : List (List Talk)). FallTo ps (all_links (linkage talk))) (sym (parts_with talk waiting)) (by linked refl)
   where
     gone : List Talk
     gone = talk ++ map Unsent waiting
-
-    moved : flat_map pdus_in (now_from [] gone) ≡ flat_map pdus_in (now_from [] talk) ++ map out_of waiting
-    moved = ap (flat_map pdus_in) (now_more [] talk (map Unsent waiting) (unsent_aside waiting))
-        ∙ (flat_map-append pdus_in (now_from [] talk) (map Unsent waiting) ∙ ap (λ (l : List Pdu). flat_map pdus_in (now_from [] talk) ++ l) (unsent_pdus waiting))
 
     links : (now : Option (List Pdu)) → (linkage talk).up ≡ now → (linkage talk).past ++ option_to_list now ≡ all_links (linkage talk)
     links now is = ap (λ (u : Option (List Pdu)). (linkage talk).past ++ option_to_list u) (sym is)
 
     by : (on : Bool) → linked ≡ on → FallTo (past_from [] talk ++ now_from [] gone ∷ []) (all_links (linkage talk))
     by true is = subst (FallTo (past_from [] talk ++ now_from [] gone ∷ [])) (links (Some (flat_map pdus_in (now_from [] talk))) (parted.up is))
-        (fall_linked (past_from [] talk) (now_from [] gone) (linkage talk).past (flat_map pdus_in (now_from [] talk)) waiting moved parted.past)
+        (fall_linked (past_from [] talk) (now_from [] gone) (linkage talk).past (flat_map pdus_in (now_from [] talk)) waiting (moved_now talk waiting) parted.past)
     by false is = subst (FallTo (past_from [] talk ++ now_from [] gone ∷ [])) (sym (append-nil (linkage talk).past) ∙ links None (parted.down is).1)
         (fall_silent (past_from [] talk) (now_from [] gone) (linkage talk).past
-        (moved ∙ (ap (λ (l : List Pdu). l ++ map out_of waiting) (parted.down is).0 ∙ ap (map out_of) (none is))) parted.past)
+        (moved_now talk waiting ∙ (ap (λ (l : List Pdu). l ++ map out_of waiting) (parted.down is).0 ∙ ap (map out_of) (none is))) parted.past)
+
+-- and the last part to the link that is up
+pub all_last : (linked : Bool) (talk : List Talk) (waiting : List (List ℕ)) (now : List Pdu) → Parted linked talk → (linkage talk).up ≡ Some now → LastHas (parts (talk ++ map Unsent waiting)) now
+all_last true talk waiting now parted is =
+    let same : flat_map pdus_in (now_from [] talk) ≡ now = by (flat_map pdus_in (now_from [] talk)) (sym (parted.up refl) ∙ is) in
+    (past_from [] talk, now_from [] (talk ++ map Unsent waiting), waiting, parts_with talk waiting, moved_now talk waiting ∙ ap (λ (l : List Pdu). l ++ map out_of waiting) same)
+  where
+    by : (other : List Pdu) → Some other ≡ Some now → other ≡ now
+    by other is = cc
+all_last false talk waiting now parted is = let never : None ≡ Some now = sym (parted.down refl).1 ∙ is in absurd cc

@@ -33,11 +33,21 @@ FallTo [] links = links ≡ []
 FallTo (part ∷ parts) links = ((flat_map pdus_in part ≡ []) × FallTo parts links)
     ⊎ ((link : List Pdu) × (rest : List (List Pdu)) × (unsent : List (List ℕ)) × (links ≡ link ∷ rest) × (flat_map pdus_in part ≡ link ++ map out_of unsent) × FallTo parts rest)
 
+-- the last part has these PDUs, and behind them those that it said and that did not move
+abbrev pub LastHas : (parts : List (List Talk)) → (moved : List Pdu) → Type 0
+LastHas parts moved = (before : List (List Talk)) × (part : List Talk) × (unsent : List (List ℕ)) × (parts ≡ before ++ part ∷ []) × (flat_map pdus_in part ≡ moved ++ map out_of unsent)
+
+-- where a link is up, those that moved on it
+abbrev pub LastIsUp : (parts : List (List Talk)) → Option Link → Type 0
+LastIsUp parts None = Unit {0}
+LastIsUp parts (Some link) = LastHas parts (pdus link)
+
 -- from its first moment on it was told and said this, which falls to the links that the capture has
 pub record CameOver {P : Type 0} (A : Profile P) (side : Side) (capture : List Entry) (now : Host P) : Type 0 where
   pub talk : List Talk
   pub over : OverLinks (upper A) talk now
   pub fall : FallTo (parts talk) (map pdus (links side capture))
+  pub last : LastIsUp (parts talk) (link_up side capture)
 
 -- ---- on the link that is up
 

@@ -1,5 +1,5 @@
 -- A client with what its shelf tells that it holds is that client, whose shelf answers so.
-use Rattle.std.proofs.Common.{◌≡◌, ℕ, zero, suc, Bool, true, false, List, [], ◌∷◌, Option, Some, None, is_some, refl, sym, ap, subst, ◌∙◌, if◌then◌else◌}
+use Rattle.std.proofs.Common.{◌≡◌, ℕ, zero, suc, Bool, true, false, List, [], ◌∷◌, map, Option, Some, None, is_some, refl, sym, ap, subst, ◌∙◌, if◌then◌else◌}
 use Rattle.bt_base.specs.declared.settings.Settings.{Settings}
 use Rattle.bt_base.specs.Objects.{Object}
 use Rattle.acl_fragments.specs.Pieces.{channel_of}
@@ -23,7 +23,7 @@ use Rattle.host_model.specs.Pdus.{pdu_of, is_frame}
 use Rattle.host_model.specs.Profiles.{Profile}
 use Rattle.host_model.specs.Settings.{SetHost, set_to, said_with, with_settings, client_machine}
 use Rattle.host_model.proofs.Setting.{said_by}
-use Rattle.shelf_model.specs.Held.{held_by}
+use Rattle.shelf_model.specs.Held.{in_octets, held_by}
 use Rattle.shelf_model.proofs.Sizes.{parts_held}
 use Rattle.inbox_laws.specs.Owned.{own_machine}
 use Rattle.inbox_laws.proofs.Keeping.{KeepsSo, hear_kept, next_kept}
@@ -95,7 +95,7 @@ module _ (settings : Settings) where
   news_bare circumstances Cancelled host = refl
   news_bare circumstances (Opening name) host = refl
 
-  ready_bare : (shelf : Option (List Object)) (news : News) (circumstances : List Circumstance) (host : Host ClientProfile) → ready A circumstances host ≡ ready A (held_by shelf news circumstances) host
+  ready_bare : (shelf : Option (List Object)) (news : News) (circumstances : List Circumstance) (host : Host ClientProfile) → ready A (map in_octets circumstances) host ≡ ready A (held_by shelf news circumstances) host
   ready_bare shelf news circumstances host =
       ap (λ (parts : List Octets). let h : Host ClientProfile = record host { profile = record host.profile { parts = parts }; may_say = most_said } in h) (sym (parts_held shelf news circumstances))
 

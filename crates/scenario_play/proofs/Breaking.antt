@@ -23,6 +23,7 @@ use Rattle.radio_world.specs.Scenes.{Moment, world_at, Plays, Stage, stage, mome
 use Rattle.radio_world.specs.Standing.{starting, first_moment, last_entries}
 use Rattle.radio_world.specs.Shortages.{ShelfLacked, InboxLacked, AirCrowded, WordsFull}
 use Rattle.radio_world.proofs.Advancing.{plays_then}
+use Rattle.radio_world.proofs.Spelled.{AreEntries, each_of_both}
 use Rattle.radio_world.proofs.Standing.{runs_of}
 use Rattle.push_laws.specs.Premises.{AllGranted}
 use Rattle.host_model.specs.Circumstances.{Circumstance, answers_in}
@@ -76,7 +77,7 @@ shelf_left {P = P} {old = old} content faults shortages shelf shelf' (OnItsWay b
       | inl went ↦ inl (shelf_kept (content old.shelf) (content mid) (content shelf') (faults old.shelf) (faults mid) (faults shelf') (shortages old.shelf) (shortages mid) (shortages shelf') run.used_a went.0 run.answered_a went.1)
       | inr lacked ↦ inr (pushing_laws.lacks content faults shortages old.shelf mid shelf' run.used_a run.answered_a lacked).0
     ])
-shelf_left {P = P} {old = old} content faults shortages shelf shelf' (AtItsEnd mid run own front same_shelf same_inbox) same =
+shelf_left {P = P} {old = old} content faults shortages shelf shelf' (AtItsEnd mid run own front each same_shelf same_inbox) same =
     let Left : P → P → Type 0 = λ (first last : P). KeepsShelf (content first) (content last) (faults first) (faults last) (shortages first) (shortages last) ⊎ HasRisen (shortages first) (shortages last) in
     let answered = run.answered_a in
     subst (λ (first : P). Left first shelf') same (subst (λ (last : P). Left old.shelf last) (sym same_shelf) (inl (record { content_stays = answered.content_stays; faults_stay = answered.faults_stay; shortages_stay = answered.shortages_stay })))
@@ -89,7 +90,7 @@ inbox_left {old = old} faults shortages inbox inbox' (OnItsWay broken) same =
     let first = ap shortages same in
     let before = broken.advances.answered_b.shortages_stay in
     elim broken.inbox_left [ inl stays ↦ (let last = ap shortages stays in omega arith) | inr lacked ↦ (let last = lacked.1 in omega arith) ]
-inbox_left {old = old} faults shortages inbox inbox' (AtItsEnd mid run own front same_shelf same_inbox) same =
+inbox_left {old = old} faults shortages inbox inbox' (AtItsEnd mid run own front each same_shelf same_inbox) same =
     let first = ap shortages same in
     let before = run.answered_b.shortages_stay in
     let last = ap shortages same_inbox in
@@ -104,9 +105,12 @@ untouched scenario shelf content content' trace trace' Lacked Never stored writt
   next = [];
   few = omega arith;
   ran = record { happenings = []; world = first_world scenario content; happened = refl; ends = []; last = tt; capture_is = refl };
+  more = [];
+  goes_on = refl;
   later = words_of scenario.script;
   words_are = refl;
   written = front_is trace trace' written;
+  entries_are = tt;
   held = (refl, refl);
   granted = λ never. (refl, refl);
   stored = inl stored;
@@ -135,6 +139,7 @@ module _ {P Q : Type 0} (holds : P → Option (List Object)) (content : Q → Op
     plays : Plays noted_client_machine noted_server_machine happenings
         (first_moment (starting (new_client holds shelf scenario.settings for_a) noted_client_machine) (starting (new_server content inbox scenario.settings for_b) noted_server_machine) scenario.acl_length scenario.acl_count scenario.names) at
     written : trace' ≡ gained trace (capture_octets (all_entries happenings))
+    each : AreEntries (all_entries happenings)
 
   unfoldable course : (words : List Word) (first : Hosts) (shelf : P) (inbox : Q) (trace : Option (List ℕ)) (at : Standing) → first ≡ fresh_world scenario → Advances noted_client_machine noted_server_machine AnswersA AnswersB words (staged first shelf inbox trace) at
       → IsCourse words shelf inbox trace at.trace (moment_of at [] [])
@@ -151,6 +156,7 @@ module _ {P Q : Type 0} (holds : P → Option (List Object)) (content : Q → Op
         words_are = run.words_are;
         plays = plays_then noted_client_machine noted_server_machine beginning run.happenings new (moment_of (staged first shelf inbox trace) for_a for_b) (moment_of at [] []) begun (run.plays [] []);
         written = run.written;
+        each = run.each;
       }
 
   abbrev plain_at : At → PlainWorld
@@ -233,10 +239,13 @@ module _ {P Q : Type 0} (holds : P → Option (List Object)) (content : Q → Op
           last = tt;
           capture_is = sym (flat_map-append entries_of run.happenings broken.next) ∙ sym (append-nil (all_entries all));
         };
+        more = broken.next;
+        goes_on = refl;
         later = broken.later;
         words_are = broken.words_are ∙ sym (append_assoc broken.turned (all_words broken.next) broken.later)
             ∙ ap (λ (ws : List Word). ws ++ broken.later) (sym (flat_map-append words_in run.happenings broken.next ∙ ap (λ (ws : List Word). ws ++ all_words broken.next) run.words_are));
         written = subst (λ (t : Option (List ℕ)). GainedFront t trace' (capture_octets (all_entries broken.next))) run.written broken.front;
+        entries_are = each_of_both (all_entries run.happenings) (all_entries broken.next) run.each broken.each;
         held = (past_so.held, on_so.held);
         granted = λ never. (past_so.granted never, on_so.granted never);
         stored = elim broken.inbox_left [
@@ -244,7 +253,7 @@ module _ {P Q : Type 0} (holds : P → Option (List Object)) (content : Q → Op
           | inr lacked ↦ inr (lacks mid.inbox broken.advances.used_b broken.advances.answered_b lacked)
         ];
       }
-  broke first shelf shelf' inbox inbox' trace trace' Lacked Never decided spares fresh lacks (AtItsEnd mid advances own front same_shelf same_inbox) =
+  broke first shelf shelf' inbox inbox' trace trace' Lacked Never decided spares fresh lacks (AtItsEnd mid advances own front each same_shelf same_inbox) =
       let run = course (words_of scenario.script) first shelf inbox trace mid fresh advances in
       let past_so = like_so shelf inbox run.for_a run.for_b run.happenings (moment_of mid [] []) Never decided (spares mid.inbox advances.used_b advances.answered_b (inl same_inbox)) run.plays in
       let past = past_so.like in
@@ -263,9 +272,12 @@ module _ {P Q : Type 0} (holds : P → Option (List Object)) (content : Q → Op
           last = subst (λ (p : Pushes). IsLastEnd p ends) (sym (pushes_are shelf inbox run.for_a run.for_b run.happenings (plain_at (moment_of mid [] [])) past)) (last_is (noted_client_machine.outcome (mid.a.upper [])) mid.scene.pushes);
           capture_is = refl;
         };
+        more = [];
+        goes_on = sym (append-nil run.happenings);
         later = [];
         words_are = sym run.words_are ∙ sym (append-nil (all_words run.happenings));
         written = subst (λ (t : Option (List ℕ)). GainedFront t trace' (capture_octets ends)) run.written front;
+        entries_are = each_of_both (all_entries run.happenings) ends run.each each;
         held = (past_so.held, past_so.held);
         granted = λ never. (past_so.granted never, past_so.granted never);
         stored = inl (ap content same_inbox ∙ sym (held shelf inbox run.for_a run.for_b run.happenings (plain_at (moment_of mid [] [])) past ∙ own_holds own.0 mid.inbox mid.b own.1));
@@ -292,6 +304,7 @@ module _ {P Q : Type 0} (holds : P → Option (List Object)) (content : Q → Op
         happened = so.happened;
         crowded = crowded_at so.world.radio over.new.scene.medium.radio (radio_is shelf inbox run.for_a run.for_b run.happenings (plain_at (moment_of over.new [] [])) so) over.crowded;
         written = sym over.trace_is ∙ run.written;
+        entries_are = run.each;
       })
   wanting first shelf shelf' inbox inbox' trace trace' NoShelf NoInbox fresh no_shelf no_inbox (inr (WordsFull full)) =
       let none = ap (λ (w : Hosts). w.scene.turned) fresh in

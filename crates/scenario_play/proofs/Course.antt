@@ -16,6 +16,7 @@ use Rattle.radio_world.specs.Hosts.{Asking, answering}
 use Rattle.radio_world.specs.Scenes.{Scene, Moment, moment, world_at, Plays, Stage, stage, moment_of}
 use Rattle.radio_world.specs.Standing.{starting, first_moment, last_entries}
 use Rattle.radio_world.proofs.Advancing.{plays_then}
+use Rattle.radio_world.proofs.Spelled.{AreEntries, each_of_both, each_then}
 use Rattle.radio_world.proofs.Moving.{written_then}
 use Rattle.radio_world.proofs.Standing.{runs_of, at_rest}
 use Rattle.push_laws.specs.Premises.{AllGranted}
@@ -80,6 +81,7 @@ module _ {P Q : Type 0} (holds : P → Option (List Object)) (content : Q → Op
         (first_moment (starting (new_client holds shelf scenario.settings for_a) noted_client_machine) (starting (new_server content inbox scenario.settings for_b) noted_server_machine) scenario.acl_length scenario.acl_count scenario.names)
         (moment last (answering [] (client_at end shelf')) (answering [] (server_at end inbox')))
     written : trace' ≡ gained trace (capture_octets (all_entries happenings))
+    each : AreEntries (all_entries happenings)
     granted : Never → AllGranted (answers_in for_b)
 
   -- where the inbox failed never its answers are grants
@@ -109,6 +111,7 @@ module _ {P Q : Type 0} (holds : P → Option (List Object)) (content : Q → Op
         words_are = flat_map-append words_in one.happenings two.happenings ∙ (ap (λ (w : List Word). w ++ all_words two.happenings) one.words_are ∙ two.words_are);
         plays = plays_then noted_client_machine noted_server_machine beginning (one.happenings ++ two.happenings) new (at_moment first shelf inbox for_a for_b) settled begun both;
         written = entries ∙ ap (λ (es : List Entry). gained trace (capture_octets es)) (sym (flat_map-append entries_of one.happenings two.happenings));
+        each = each_then (all_entries one.happenings) (all_entries two.happenings) _ (flat_map-append entries_of one.happenings two.happenings) one.each two.each;
         granted = spares run.mid.inbox one.used_b two.used_b one.answered_b two.answered_b;
       }
 
@@ -164,4 +167,5 @@ module _ {P Q : Type 0} (holds : P → Option (List Object)) (content : Q → Op
             (subst (λ (w : BothHosts). HappenedServed scenario (holds shelf) (content inbox) run.happenings w) (sym whole.world_is) (so.granted never));
         stored = sym (ap (λ (w : BothHosts). w.b.upper.profile.inbox.content) whole.world_is ∙ held);
         written = written_then trace through.trace trace' (all_entries run.happenings) (last_entries (came end shelf') last.pushes) (all_entries run.happenings ++ last_entries (came end shelf') last.pushes) refl run.written through.written;
+        entries_are = each_of_both (all_entries run.happenings) (last_entries (came end shelf') last.pushes) run.each through.each;
       }

@@ -1,7 +1,6 @@
 -- What a scenario comes to that was played: over either transport, and over L2CAP.
-use Rattle.std.proofs.Common.{◌≡◌, ℕ, List, [], ◌∷◌, ◌++◌, Option, Some, None, refl, sym, ap, ◌∙◌, subst, inl, inr, ◌⊎◌}
+use Rattle.std.proofs.Common.{◌≡◌, ℕ, List, [], ◌++◌, Option, Some, None, refl, sym, ap, ◌∙◌, subst, inl, inr, ◌⊎◌}
 use Rattle.std.proofs.lemmas.List.{append-nil}
-use Rattle.std.specs.List.{AllByRecursion}
 use Rattle.bt_base.specs.Counts.{HasRisen}
 use Rattle.bt_base.specs.Objects.{Object, Contents}
 use Rattle.bt_base.specs.declared.settings.Transport.TheVariants.{L2cap}
@@ -19,10 +18,8 @@ use Rattle.world_model.specs.Worlds.{Happening, all_entries}
 use Rattle.push_laws.specs.Laws.{stored_in}
 use Rattle.host_model.specs.Circumstances.{Circumstance}
 use Rattle.shelf_model.specs.Held.{held_by}
-use Rattle.host_laws.specs.Answered.{TellsAtMost, BeginsAtMost}
-use Rattle.host_laws.specs.Feeds.{Feed, Gifts, Learns, Receives, Happens, Sent, Steps}
+use Rattle.host_laws.specs.Answered.{TellsAtMost}
 use Rattle.host_laws.proofs.InOrder.{asks-nothing}
-use Rattle.request_laws.specs.AllSizes.{longest_octets}
 use Rattle.request_laws.specs.BothFed.{most_octets}
 use Rattle.scenario_laws.specs.Air.{hosts_of}
 use Rattle.scenario_laws.specs.Captures.{client_of, server_of, beginning, BothHosts, Ran, Finished}
@@ -34,7 +31,7 @@ use Rattle.scenario_laws.proofs.Early.{fronts_spell_fronts}
 use Rattle.scenario_laws.proofs.Framing.{windows_kept}
 use Rattle.scenario_laws.proofs.Gaining.{gains_exactly}
 use Rattle.pair_laws.specs.Granted.{granting, HappenedGranted}
-use Rattle.pair_laws.specs.Served.{HappenedHeld, HappenedServed, TellsOf, BeginsOf}
+use Rattle.pair_laws.specs.Served.{HappenedServed, TellsOf}
 use Rattle.pair_laws.proofs.Answered.{runs-so}
 use Rattle.pair_laws.proofs.Pairing.{granted-take_turns, held-take_turns, served-take_turns}
 use Rattle.pair_laws.proofs.Taking.{clients_within, servers_within}
@@ -42,11 +39,12 @@ use Rattle.request_laws.specs.Together.{ServesAll}
 use Rattle.request_laws.proofs.AllSizes.{gains_so}
 use Rattle.request_laws.proofs.Linked.{runs_are_linked}
 use Rattle.request_laws.proofs.Together.{all_granted}
+use Rattle.request_laws.proofs.Told.{all_tell, none_longer}
 use Rattle.request_laws.proofs.ObjectPipes.{are_piped}
 use Rattle.request_laws.proofs.Paired.{paired_servers_serve}
 use Rattle.request_laws.proofs.Summing.{both_ask}
 use Rattle.scenario_play.specs.Breaking.{IsBroken}
-use Rattle.scenario_play.specs.Gaining.{HaveAnswered, HaveGranted, HaveOffered, HoldsAtMost, HaveTold, KeepsAccounts, ServesAndGains, RestsSo, KeepsPlayed, KeepsBroken, GainsPlayed, GainsBroken, PlaysKeep, PlaysGain}
+use Rattle.scenario_play.specs.Gaining.{HaveAnswered, HaveGranted, HaveOffered, HoldsAtMost, KeepsAccounts, ServesAndGains, RestsSo, KeepsPlayed, KeepsBroken, GainsPlayed, GainsBroken, PlaysKeep, PlaysGain}
 use Rattle.scenario_play.specs.Playing.{RoseNever, IsPlayed}
 
 -- ---- a run
@@ -76,7 +74,7 @@ played_kept scenario shelf before after trace trace' outcomes peaks Never played
   rests = rests_so scenario before played.capture played.finished;
 }
 
-broken_kept : (scenario : Scenario) (shelf : Option (List Object)) (before after : Option Contents) (trace trace' : Option (List ℕ)) (Lacked Never : Type 0) (broken : IsBroken scenario shelf before after trace trace' Lacked Never)
+pub broken_kept : (scenario : Scenario) (shelf : Option (List Object)) (before after : Option Contents) (trace trace' : Option (List ℕ)) (Lacked Never : Type 0) (broken : IsBroken scenario shelf before after trace trace' Lacked Never)
     → KeepsBroken scenario (all_entries broken.happenings ++ broken.next)
 broken_kept scenario shelf before after trace trace' Lacked Never broken =
     let capture : List Entry = all_entries broken.happenings ++ broken.next in
@@ -119,46 +117,33 @@ have_granted scenario shelf before capture ran happened =
     let so = granted-take_turns both_ask scenario (holding before) capture ran (so_granted scenario shelf before ran.happenings ran.world happened) in
     record { turns = so.turns; granted = all_granted so.turns.pairs.b.fed.so.lives.feeds so.given }
 
--- and what the shelf told, where it tells what it holds
-have_told : (scenario : Scenario) (shelf : Option (List Object)) (before : List Object) (capture : List Entry) (ran : Ran scenario (holding before) capture) → HappenedHeld scenario shelf (holding before) ran.happenings ran.world
-    → HaveTold both_ask scenario shelf before capture ran
-have_told scenario None before capture ran happened = tt
-have_told scenario (Some objects) before capture ran happened = held-take_turns both_ask scenario objects (holding before) capture ran happened
+-- ---- what the shelf told
 
-no_longer : (most : ℕ) (objects : List Object) → HoldsAtMost most (Some objects) → (circumstances : List Circumstance) (news : News) → TellsOf objects circumstances news → TellsAtMost most circumstances news
-no_longer most objects short circumstances (Linked event) told = tt
-no_longer most objects short circumstances (Failed status) told = tt
-no_longer most objects short circumstances (Heard pdu) told = tt
-no_longer most objects short circumstances TimerFired told = tt
-no_longer most objects short circumstances Cancelled told = tt
-no_longer most objects short circumstances (Opening name) told = λ size is. short name size (told size is)
+no_longer : (most : ℕ) (shelf : Option (List Object)) → HoldsAtMost most shelf → (circumstances : List Circumstance) (news : News) → TellsOf shelf circumstances news → TellsAtMost most circumstances news
+no_longer most shelf short circumstances (Linked event) told = tt
+no_longer most shelf short circumstances (Failed status) told = tt
+no_longer most shelf short circumstances (Heard pdu) told = tt
+no_longer most shelf short circumstances TimerFired told = tt
+no_longer most shelf short circumstances Cancelled told = tt
+no_longer most None short circumstances (Opening name) told = absurd short
+no_longer most (Some objects) short circumstances (Opening name) told = λ size is. short name size (told size is).1
 
-none_longer : (most : ℕ) (objects : List Object) → HoldsAtMost most (Some objects) → (feeds : List Feed) → AllByRecursion (BeginsOf objects) feeds → AllByRecursion (BeginsAtMost most) feeds
-none_longer most objects short [] all = tt
-none_longer most objects short (Gifts circumstances ∷ feeds) all = (tt, none_longer most objects short feeds all.1)
-none_longer most objects short (Learns circumstances news ∷ feeds) all = (no_longer most objects short circumstances news all.0, none_longer most objects short feeds all.1)
-none_longer most objects short (Receives own psm sdu ∷ feeds) all = (tt, none_longer most objects short feeds all.1)
-none_longer most objects short (Happens event v ∷ feeds) all = (tt, none_longer most objects short feeds all.1)
-none_longer most objects short (Sent v ∷ feeds) all = (tt, none_longer most objects short feeds all.1)
-none_longer most objects short (Steps v ∷ feeds) all = (tt, none_longer most objects short feeds all.1)
+-- ---- both hosts, where the inbox granted all
 
--- so their ports answered, where no object of the shelf is too long
+-- their ports answered, where no object of the shelf is too long
 have_answered : (scenario : Scenario) (shelf : Option (List Object)) (before : List Object) (capture : List Entry) (ran : Ran scenario (holding before) capture) → HappenedServed scenario shelf (holding before) ran.happenings ran.world
     → HoldsAtMost most_octets shelf → HaveAnswered both_ask scenario before capture ran
-have_answered scenario None before capture ran happened short = absurd short
-have_answered scenario (Some objects) before capture ran happened short =
-    let so = served-take_turns both_ask scenario objects (holding before) capture ran happened in
+have_answered scenario shelf before capture ran happened short =
+    let so = served-take_turns both_ask scenario shelf (holding before) capture ran happened in
     let feeds = so.turns.pairs.a.fed.so.lives.feeds in
-    record { turns = so.turns; answer = record { small = none_longer most_octets objects short feeds so.told; granted = all_granted so.turns.pairs.b.fed.so.lives.feeds so.given } }
+    record { turns = so.turns; answer = record { small = all_tell most_octets shelf (no_longer most_octets shelf short) feeds so.told; granted = all_granted so.turns.pairs.b.fed.so.lives.feeds so.given } }
 
--- and for what the inbox gains, where none is longer than a client can push
+-- and for what the inbox gains, whatever the shelf holds
 have_offered : (scenario : Scenario) (shelf : Option (List Object)) (before : List Object) (capture : List Entry) (ran : Ran scenario (holding before) capture) → HappenedServed scenario shelf (holding before) ran.happenings ran.world
-    → HoldsAtMost longest_octets shelf → HaveOffered both_ask scenario before capture ran
-have_offered scenario None before capture ran happened short = absurd short
-have_offered scenario (Some objects) before capture ran happened short =
-    let so = served-take_turns both_ask scenario objects (holding before) capture ran happened in
-    let feeds = so.turns.pairs.a.fed.so.lives.feeds in
-    record { turns = so.turns; grants = record { small = none_longer longest_octets objects short feeds so.told; granted = all_granted so.turns.pairs.b.fed.so.lives.feeds so.given } }
+    → HaveOffered both_ask scenario before capture ran
+have_offered scenario shelf before capture ran happened =
+    let so = served-take_turns both_ask scenario shelf (holding before) capture ran happened in
+    record { turns = so.turns; grants = record { small = none_longer shelf so.turns.pairs.a.fed.so.lives.feeds so.told; granted = all_granted so.turns.pairs.b.fed.so.lives.feeds so.given } }
 
 -- ---- to its end
 
@@ -166,9 +151,9 @@ plays : (scenario : Scenario) (shelf : Option (List Object)) (before : List Obje
     → scenario.settings.transport ≡ L2cap → GainsPlayed both_ask scenario shelf before after outcomes played.capture played.finished Never
 plays scenario shelf before after trace trace' outcomes peaks Never played direct = record {
   kept = kept;
-  told = have_told scenario shelf before played.capture played.finished.ran played.held;
+  told = held-take_turns both_ask scenario shelf (holding before) played.capture played.finished.ran played.held;
   granted = λ never. have_granted scenario shelf before played.capture played.finished.ran (played.granted never);
-  offered = λ never short. have_offered scenario shelf before played.capture played.finished.ran (played.granted never) short;
+  offered = λ never. have_offered scenario shelf before played.capture played.finished.ran (played.granted never);
   answered = λ never short. have_answered scenario shelf before played.capture played.finished.ran (played.granted never) short;
   gained = λ have. ap stored_in played.stored ∙ gains_so scenario before played.capture played.finished.ran direct have.turns have.grants;
   serves = serves;
@@ -197,9 +182,14 @@ plays scenario shelf before after trace trace' outcomes peaks Never played direc
 
 -- ---- as far as it came
 
-unless : {X Y : Type 0} → X ⊎ Y → (Y → ⊥) → X
+pub unless : {X Y : Type 0} → X ⊎ Y → (Y → ⊥) → X
 unless (inl x) none = x
 unless (inr y) none = absurd (none y)
+
+-- all that happened is the capture of a run
+abbrev pub run_so_far : (scenario : Scenario) (shelf : Option (List Object)) (before after : Option Contents) (trace trace' : Option (List ℕ)) (Lacked Never : Type 0) (broken : IsBroken scenario shelf before after trace trace' Lacked Never) → Ran scenario before (all_entries broken.happenings)
+run_so_far scenario shelf before after trace trace' Lacked Never broken =
+    record { happenings = broken.happenings; world = broken.world; happened = broken.happened; ends = []; last = tt; capture_is = sym (append-nil (all_entries broken.happenings)) }
 
 breaks : (scenario : Scenario) (shelf : Option (List Object)) (before : List Object) (after : Option Contents) (trace trace' : Option (List ℕ)) (shortages shortages' : ℕ) (Never : Type 0) (broken : IsBroken scenario shelf (holding before) after trace trace' (HasRisen shortages shortages') Never)
     → scenario.settings.transport ≡ L2cap → GainsBroken both_ask scenario shelf before after trace trace' shortages shortages' Never broken
@@ -207,9 +197,9 @@ breaks scenario shelf before after trace trace' shortages shortages' Never broke
   past = so_far;
   world_is = refl;
   kept = kept;
-  told = have_told scenario shelf before past so_far broken.held.0;
+  told = held-take_turns both_ask scenario shelf (holding before) past so_far broken.held.0;
   granted = λ never. have_granted scenario shelf before past so_far (broken.granted never).0;
-  offered = λ never short. have_offered scenario shelf before past so_far (broken.granted never).0 short;
+  offered = λ never. have_offered scenario shelf before past so_far (broken.granted never).0;
   answered = λ never short. have_answered scenario shelf before past so_far (broken.granted never).0 short;
   serves = λ have. (serves_all scenario before past so_far direct have).orderly;
   gained = λ have none. ap stored_in (unless broken.stored none) ∙ gains_so scenario before past so_far direct have.turns have.grants;
@@ -233,7 +223,7 @@ breaks scenario shelf before after trace trace' shortages shortages' Never broke
     capture = past ++ broken.next
 
     so_far : Ran scenario (holding before) past
-    so_far = record { happenings = broken.happenings; world = broken.world; happened = broken.happened; ends = []; last = tt; capture_is = sym (append-nil past) }
+    so_far = run_so_far scenario shelf (holding before) after trace trace' (HasRisen shortages shortages') Never broken
 
     kept : KeepsBroken scenario capture
     kept = broken_kept scenario shelf (holding before) after trace trace' (HasRisen shortages shortages') Never broken

@@ -15,4 +15,5 @@ mod Unacknowledged
 mod Stepping
 mod NotedWindows
 mod Along
-mod PeakBounds
+pub mod PeakBounds
+pub mod BufferPeaks

@@ -1,11 +1,12 @@
 -- A scenario that broke off (this project's own).
 use Rattle.std.specs.Prelude.{ℕ, ◌≡◌, ◌≤◌, ◌⊎◌, ◌||◌, ◌^◌, true, List, [], ◌++◌, length, Option}
+use Rattle.std.specs.List.{AllByRecursion}
 use Rattle.bt_base.specs.Objects.{Object, Contents}
 use Rattle.bt_base.specs.Streams.{gained, GainedFront}
 use Rattle.push_script.specs.declared.scenario.Scenario.{Scenario}
 use Rattle.push_terms.specs.declared.word.Word.{Word}
 use Rattle.capture.specs.Air.{words_of}
-use Rattle.capture.specs.Entries.{Entry, capture_octets}
+use Rattle.capture.specs.Entries.{Entry, capture_octets, IsEntry}
 use Rattle.radio_air.specs.Queues.{is_crowded}
 use Rattle.world_model.specs.Machines.{Upper}
 use Rattle.world_model.specs.Worlds.{Happening, all_entries, all_words}
@@ -22,7 +23,7 @@ use Rattle.pair_laws.specs.Served.{HappenedHeld, HappenedServed}
 -- It broke off on its way, or behind its last word, as the end of the push that goes on was being written.
 pub data BreaksThrough {S T G H P Q Y : Type 0} (U : Upper S G) (V : Upper T H) (AnswersA : P → List G → P → Type 0) (AnswersB : Q → List H → Q → Type 0) (LackedA : P → P → Type 0) (LackedB : Q → Q → Type 0) (station_b : Y → Q → Asking T H) (words : List Word) (old : Stage S T G H P Q) (shelf : P) (inbox : Q) (trace : Option (List ℕ)) : Type 0 where
   OnItsWay : Broken U V AnswersA AnswersB LackedA LackedB station_b words old shelf inbox trace → BreaksThrough U V AnswersA AnswersB LackedA LackedB station_b words old shelf inbox trace
-  AtItsEnd : (mid : Stage S T G H P Q) → Advances U V AnswersA AnswersB words old mid → IsOf station_b mid.b mid.inbox → GainedFront mid.trace trace (capture_octets (last_entries (U.outcome (mid.a.upper [])) mid.scene.pushes)) → shelf ≡ mid.shelf → inbox ≡ mid.inbox
+  AtItsEnd : (mid : Stage S T G H P Q) → Advances U V AnswersA AnswersB words old mid → IsOf station_b mid.b mid.inbox → GainedFront mid.trace trace (capture_octets (last_entries (U.outcome (mid.a.upper [])) mid.scene.pushes)) → AllByRecursion IsEntry (last_entries (U.outcome (mid.a.upper [])) mid.scene.pushes) → shelf ≡ mid.shelf → inbox ≡ mid.inbox
       → BreaksThrough U V AnswersA AnswersB LackedA LackedB station_b words old shelf inbox trace
 
 -- nothing has happened yet
@@ -38,7 +39,7 @@ MayWant U V AnswersA AnswersB LackedA LackedB words old shelf inbox trace = IsUn
 -- ---- both hosts of the scenario
 
 -- So much happened, from an inbox that held `before`, and the trace gained its entries. Behind them it gained a front of the next entry, if
--- one was begun; the capture with that entry is one of a run as well, whose words are the first of the script. The inbox holds what host b
+-- one was begun; the capture with that entry is one of a run as well, which goes on from there and whose words are the first of the script. The inbox holds what host b
 -- made of what happened, unless it lacked memory as that entry was heard. What the shelf told it holds, in both; and where the inbox failed
 -- never, it granted all that it was asked.
 pub record IsBroken (scenario : Scenario) (shelf : Option (List Object)) (before after : Option Contents) (trace trace' : Option (List ℕ)) (InboxLacked InboxFailedNever : Type 0) : Type 0 where
@@ -48,9 +49,12 @@ pub record IsBroken (scenario : Scenario) (shelf : Option (List Object)) (before
   pub next : List Entry
   pub few : length next ≤ 1
   pub ran : Ran scenario before (all_entries happenings ++ next)
+  pub more : List Happening
+  pub goes_on : ran.happenings ≡ happenings ++ more
   pub later : List Word
   pub words_are : words_of scenario.script ≡ all_words ran.happenings ++ later
   pub written : GainedFront (gained trace (capture_octets (all_entries happenings))) trace' (capture_octets next)
+  pub entries_are : AllByRecursion IsEntry (all_entries happenings ++ next)
   pub held : HappenedHeld scenario shelf before happenings world × HappenedHeld scenario shelf before ran.happenings ran.world
   pub granted : InboxFailedNever → HappenedServed scenario shelf before happenings world × HappenedServed scenario shelf before ran.happenings ran.world
   pub stored : (after ≡ world.b.upper.profile.inbox.content) ⊎ InboxLacked
@@ -62,6 +66,7 @@ pub record IsCrowdedRun (scenario : Scenario) (before : Option Contents) (trace 
   pub happened : Happened scenario before happenings world
   pub crowded : (is_crowded world.radio.a.waiting || is_crowded world.radio.b.waiting) ≡ true
   pub written : trace' ≡ gained trace (capture_octets (all_entries happenings))
+  pub entries_are : AllByRecursion IsEntry (all_entries happenings)
 
 -- Why a scenario may want memory where the trace did not: for what is reserved before anything happens; for its shelf or its inbox, which
 -- lacked some; for the air, which is crowded; or since its words cannot be counted.

@@ -30,7 +30,7 @@ use Rattle.scenario_laws.specs.Outcomes.{outcomes_of}
 use Rattle.scenario_laws.specs.Parties.{party_of}
 use Rattle.pair_laws.specs.InTurn.{PairsInTurn}
 use Rattle.pair_laws.specs.Served.{HeldInTurn}
-use Rattle.request_laws.specs.AllSizes.{longest_octets, InboxGrants}
+use Rattle.request_laws.specs.AllSizes.{InboxGrants}
 use Rattle.request_laws.specs.BothFed.{most_octets, GrantsAll}
 use Rattle.request_laws.specs.Together.{PortsAnswer}
 use Rattle.scenario_play.specs.Breaking.{IsBroken}
@@ -60,12 +60,6 @@ pub record HaveOffered (asks : HostsAsk) (scenario : Scenario) (before : List Ob
 abbrev pub HoldsAtMost : (most : ℕ) → Option (List Object) → Type 0
 HoldsAtMost most None = ⊥
 HoldsAtMost most (Some objects) = (name : List ℕ) (size : ℕ) → length_of name objects ≡ Some size → size ≤ most
-
--- They went through it side by side in some way in which the shelf, where it tells what it holds, told no length but that of the object of
--- that name.
-abbrev pub HaveTold : (asks : HostsAsk) (scenario : Scenario) (shelf : Option (List Object)) (before : List Object) (capture : List Entry) → Ran scenario (holding before) capture → Type 0
-HaveTold asks scenario None before capture ran = Unit {0}
-HaveTold asks scenario (Some objects) before capture ran = HeldInTurn asks scenario objects (holding before) capture ran
 
 -- ---- what is so
 
@@ -100,12 +94,12 @@ pub record KeepsBroken (scenario : Scenario) (capture : List Entry) : Type 0 whe
 
 -- A scenario that was played to its end over L2CAP: besides, that the shelf told the lengths of its objects, and that the inbox granted all calls where
 -- it failed never; what the inbox gained where it granted all, of objects of any size; and where ports answered, how host b serves and all that is
--- said of the end of a scenario. Ports answered so where the inbox failed never and no object of the shelf is longer.
+-- said of the end of a scenario. Ports answered so where the inbox failed never and the shelf tells that no object of it is longer.
 pub record GainsPlayed (asks : HostsAsk) (scenario : Scenario) (shelf : Option (List Object)) (before : List Object) (after : Option Contents) (outcomes : List Outcome) (capture : List Entry) (finished : Finished scenario (holding before) capture) (Never : Type 0) : Type 0 where
   pub kept : KeepsPlayed scenario outcomes capture
-  pub told : HaveTold asks scenario shelf before capture finished.ran
+  pub told : HeldInTurn asks scenario shelf (holding before) capture finished.ran
   pub granted : Never → HaveGranted asks scenario before capture finished.ran
-  pub offered : Never → HoldsAtMost longest_octets shelf → HaveOffered asks scenario before capture finished.ran
+  pub offered : Never → HaveOffered asks scenario before capture finished.ran
   pub answered : Never → HoldsAtMost most_octets shelf → HaveAnswered asks scenario before capture finished.ran
   pub gained : HaveOffered asks scenario before capture finished.ran → stored_in after ≡ Some (before ++ objects_heard (party_of scenario.settings B) B capture)
   pub serves : HaveAnswered asks scenario before capture finished.ran → ServesAndGains asks scenario before capture finished.ran.world (stored_in after)
@@ -117,9 +111,9 @@ pub record GainsBroken (asks : HostsAsk) (scenario : Scenario) (shelf : Option (
   pub past : Ran scenario (holding before) (all_entries broken.happenings)
   pub world_is : past.world ≡ broken.world
   pub kept : KeepsBroken scenario (all_entries broken.happenings ++ broken.next)
-  pub told : HaveTold asks scenario shelf before (all_entries broken.happenings) past
+  pub told : HeldInTurn asks scenario shelf (holding before) (all_entries broken.happenings) past
   pub granted : Never → HaveGranted asks scenario before (all_entries broken.happenings) past
-  pub offered : Never → HoldsAtMost longest_octets shelf → HaveOffered asks scenario before (all_entries broken.happenings) past
+  pub offered : Never → HaveOffered asks scenario before (all_entries broken.happenings) past
   pub answered : Never → HoldsAtMost most_octets shelf → HaveAnswered asks scenario before (all_entries broken.happenings) past
   pub serves : HaveAnswered asks scenario before (all_entries broken.happenings) past → OrderlyServer asks scenario.settings before (all_entries broken.happenings) broken.world.b.upper
   pub gained : HaveOffered asks scenario before (all_entries broken.happenings) past → (HasRisen shortages shortages' → ⊥)

@@ -8,3 +8,4 @@ pub mod Breaking
 pub mod Gaining
 pub mod Streaming
 pub mod PeakBounds
+pub mod BufferPeaks

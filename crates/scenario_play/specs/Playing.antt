@@ -1,12 +1,13 @@
 -- A scenario that both hosts played (this project's own).
 use Rattle.std.specs.Prelude.{ℕ, ◌≡◌, ◌≤◌, List, Option, None}
+use Rattle.std.specs.List.{AllByRecursion}
 use Rattle.bt_base.specs.Counts.{HasRisen}
 use Rattle.bt_base.specs.Objects.{Object, Contents}
 use Rattle.bt_base.specs.Streams.{gained}
 use Rattle.push_script.specs.declared.scenario.Scenario.{Scenario}
 use Rattle.push_terms.specs.declared.outcome.Outcome.{Outcome}
 use Rattle.push_terms.specs.declared.peaks.Peaks.{Peaks}
-use Rattle.capture.specs.Entries.{Entry, capture_octets}
+use Rattle.capture.specs.Entries.{Entry, capture_octets, IsEntry}
 use Rattle.radio_world.specs.Both.{Both}
 use Rattle.radio_world.specs.Scenes.{first_scene}
 use Rattle.radio_world.specs.Standing.{last_entries}
@@ -42,7 +43,8 @@ RoseNever faults faults' shortages shortages' = (HasRisen faults faults' → ⊥
 
 -- The scenario ran to its end, as the trace gained it: from an inbox that held `before` both hosts came to where all words were turned and
 -- all is at rest. The push that went on then ended with what had come of it, or else with the script; the outcomes are those that the
--- capture states, the peaks are those that the hosts noted on their way, and the inbox holds what host b made of it. What the shelf told in that
+-- capture states, the peaks are those that the hosts noted on their way, and the inbox holds what host b made of it. Each entry is one that has octets, so
+-- the trace is read in one way. What the shelf told in that
 -- run it holds, and where the inbox failed never, it granted all that it was asked.
 pub record IsPlayed (scenario : Scenario) (shelf : Option (List Object)) (before after : Option Contents) (trace trace' : Option (List ℕ)) (outcomes : List Outcome) (peaks : Peaks) (InboxFailedNever : Type 0) : Type 0 where
   pub capture : List Entry
@@ -54,3 +56,4 @@ pub record IsPlayed (scenario : Scenario) (shelf : Option (List Object)) (before
   pub granted : InboxFailedNever → HappenedServed scenario shelf before finished.ran.happenings finished.ran.world
   pub stored : after ≡ finished.ran.world.b.upper.profile.inbox.content
   pub written : trace' ≡ gained trace (capture_octets capture)
+  pub entries_are : AllByRecursion IsEntry capture

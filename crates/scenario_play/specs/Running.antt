@@ -1,8 +1,9 @@
 -- A world of any two hosts that goes from its beginning to the end of its last push (this project's own).
 use Rattle.std.specs.Prelude.{ℕ, ◌≡◌, List, [], Option}
+use Rattle.std.specs.List.{AllByRecursion}
 use Rattle.bt_base.specs.Streams.{gained}
 use Rattle.push_terms.specs.declared.word.Word.{Word}
-use Rattle.capture.specs.Entries.{capture_octets}
+use Rattle.capture.specs.Entries.{capture_octets, IsEntry}
 use Rattle.world_model.specs.Machines.{Upper}
 use Rattle.radio_world.specs.Scenes.{Scene, Stage, stage, Advances}
 use Rattle.radio_world.specs.Standing.{Stands, last_ended, last_entries, all_outcomes}
@@ -19,3 +20,4 @@ pub record RunsThrough {S T G H P Q : Type 0} (U : Upper S G) (V : Upper T H) (A
   pub medium_stays : new.scene.medium ≡ last.medium
   pub outcomes_are : new.scene.pushes.outcomes ≡ all_outcomes (last_ended (U.outcome (new.a.upper [])) last.pushes)
   pub written : new.trace ≡ gained trace (capture_octets (last_entries (U.outcome (new.a.upper [])) last.pushes))
+  pub each : AllByRecursion IsEntry (last_entries (U.outcome (new.a.upper [])) last.pushes)

@@ -1,6 +1,6 @@
 -- What a scenario comes to that was played over RFCOMM (this project's own).
 use Rattle.std.specs.Prelude.{ℕ, ◌≡◌, List, ◌++◌, Option, Some}
-use Rattle.std.specs.List.{AllByRecursion}
+use Rattle.bt_base.specs.Counts.{HasRisen}
 use Rattle.bt_base.specs.Objects.{Object, Contents}
 use Rattle.bt_base.specs.declared.settings.Transport.TheVariants.{Rfcomm}
 use Rattle.push_script.specs.declared.scenario.Scenario.{Scenario}
@@ -9,40 +9,58 @@ use Rattle.push_terms.specs.declared.peaks.Peaks.{Peaks}
 use Rattle.push_terms.specs.declared.word.Side.TheVariants.{B}
 use Rattle.capture.specs.Entries.{Entry}
 use Rattle.link_talk.specs.Captures.{objects_heard}
+use Rattle.world_model.specs.Worlds.{all_entries}
 use Rattle.push_laws.specs.Laws.{stored_in}
 use Rattle.host_laws.specs.Calls.{HostsAsk}
 use Rattle.scenario_laws.specs.Captures.{Ran}
 use Rattle.scenario_laws.specs.Gains.{holding}
 use Rattle.scenario_laws.specs.Parties.{party_of}
 use Rattle.pair_laws.specs.Keeping.{PairsKeepOrder}
-use Rattle.request_laws.specs.BothFed.{GrantsAll}
+use Rattle.pair_laws.specs.ServedOrder.{HeldInOrder}
 use Rattle.request_laws.specs.GainsCarried.{AllAreHeard}
 use Rattle.request_laws.specs.TogetherHeard.{HeardAnswer}
-use Rattle.scenario_play.specs.Gaining.{KeepsPlayed}
+use Rattle.credit_laws.specs.Kept.{StaysSolvent}
+use Rattle.scenario_play.specs.Breaking.{IsBroken}
+use Rattle.scenario_play.specs.Gaining.{KeepsPlayed, KeepsBroken}
 use Rattle.scenario_play.specs.Playing.{RoseNever, IsPlayed}
 
 -- Both hosts went through a run side by side, each channel in its order, in some way in which their ports answered: the shelf gave octets and told
--- of no object that is longer than 16,777,215 octets, and the inbox granted all calls.
+-- of no object that is longer than a client can push, and the inbox granted all calls.
 pub record HaveStreamed (asks : HostsAsk) (scenario : Scenario) (before : List Object) (capture : List Entry) (ran : Ran scenario (holding before) capture) : Type 0 where
   pub order : PairsKeepOrder asks scenario (holding before) capture ran
   pub answer : HeardAnswer asks scenario before capture ran order
 
--- They went through it so in some way in which the inbox granted all calls.
-pub record HaveStreamedGranted (asks : HostsAsk) (scenario : Scenario) (before : List Object) (capture : List Entry) (ran : Ran scenario (holding before) capture) : Type 0 where
-  pub order : PairsKeepOrder asks scenario (holding before) capture ran
-  pub granted : AllByRecursion GrantsAll order.turns.pairs.b.fed.so.lives.feeds
-
--- Of a scenario that was played to its end: what is so whatever ports answer; that the inbox granted all calls, where it failed never; and where
--- ports answered, that no request was ignored and the inbox gained exactly what the packets spell which host b heard.
-pub record StreamsPlayed (asks : HostsAsk) (scenario : Scenario) (before : List Object) (after : Option Contents) (outcomes : List Outcome) (capture : List Entry) (ran : Ran scenario (holding before) capture) (Never : Type 0) : Type 0 where
+-- Of a scenario that was played to its end: what is so whatever ports answer; that the shelf gave octets and told the lengths of its objects; that ports
+-- answered, where the inbox failed never; and where they answered, that no request was ignored and the inbox gained exactly what the packets spell which
+-- host b heard, of objects of any size. And the credits that host b holds are never below nothing, where the inbox failed never.
+pub record StreamsPlayed (asks : HostsAsk) (scenario : Scenario) (shelf : Option (List Object)) (before : List Object) (after : Option Contents) (outcomes : List Outcome) (capture : List Entry) (ran : Ran scenario (holding before) capture) (Never : Type 0) : Type 0 where
   pub kept : KeepsPlayed scenario outcomes capture
-  pub granted : Never → HaveStreamedGranted asks scenario before capture ran
+  pub told : HeldInOrder asks scenario shelf (holding before) capture ran
+  pub answered : Never → HaveStreamed asks scenario before capture ran
   pub heard : (have : HaveStreamed asks scenario before capture ran) → AllAreHeard asks scenario before capture ran have.order
   pub gained : HaveStreamed asks scenario before capture ran → stored_in after ≡ Some (before ++ objects_heard (party_of scenario.settings B) B capture)
+  pub solvent : Never → StaysSolvent scenario.settings B capture
 
--- So it is of every scenario that was played to its end over RFCOMM, whatever its script says. Nothing is asked of both hosts.
+-- Of one that broke off: all that happened is the capture of a run, of which the same is so. The inbox gained what that capture spells, unless it lacked
+-- memory; and the credits are so behind the next entry as well.
+pub record StreamsBroken (asks : HostsAsk) (scenario : Scenario) (shelf : Option (List Object)) (before : List Object) (after : Option Contents) (trace trace' : Option (List ℕ)) (shortages shortages' : ℕ) (Never : Type 0) (broken : IsBroken scenario shelf (holding before) after trace trace' (HasRisen shortages shortages') Never) : Type 0 where
+  pub past : Ran scenario (holding before) (all_entries broken.happenings)
+  pub world_is : past.world ≡ broken.world
+  pub kept : KeepsBroken scenario (all_entries broken.happenings ++ broken.next)
+  pub told : HeldInOrder asks scenario shelf (holding before) (all_entries broken.happenings) past
+  pub answered : Never → HaveStreamed asks scenario before (all_entries broken.happenings) past
+  pub heard : (have : HaveStreamed asks scenario before (all_entries broken.happenings) past) → AllAreHeard asks scenario before (all_entries broken.happenings) past have.order
+  pub gained : HaveStreamed asks scenario before (all_entries broken.happenings) past → (HasRisen shortages shortages' → ⊥)
+      → stored_in after ≡ Some (before ++ objects_heard (party_of scenario.settings B) B (all_entries broken.happenings))
+  pub solvent : Never → StaysSolvent scenario.settings B (all_entries broken.happenings ++ broken.next)
+
+-- So it is of every scenario that was played over RFCOMM, whatever its script says: to its end, or as far as it came. Nothing is asked of both
+-- hosts.
 pub record PlaysStream : Type 0 where
   pub asks : HostsAsk
   pub plays : (scenario : Scenario) (shelf : Option (List Object)) (before : List Object) (after : Option Contents) (trace trace' : Option (List ℕ)) (outcomes : List Outcome) (peaks : Peaks) (faults faults' shortages shortages' : ℕ)
       (played : IsPlayed scenario shelf (holding before) after trace trace' outcomes peaks (RoseNever faults faults' shortages shortages'))
-      → scenario.settings.transport ≡ Rfcomm → StreamsPlayed asks scenario before after outcomes played.capture played.finished.ran (RoseNever faults faults' shortages shortages')
+      → scenario.settings.transport ≡ Rfcomm → StreamsPlayed asks scenario shelf before after outcomes played.capture played.finished.ran (RoseNever faults faults' shortages shortages')
+  pub breaks : (scenario : Scenario) (shelf : Option (List Object)) (before : List Object) (after : Option Contents) (trace trace' : Option (List ℕ)) (faults faults' shortages shortages' : ℕ)
+      (broken : IsBroken scenario shelf (holding before) after trace trace' (HasRisen shortages shortages') (RoseNever faults faults' shortages shortages'))
+      → scenario.settings.transport ≡ Rfcomm → StreamsBroken asks scenario shelf before after trace trace' shortages shortages' (RoseNever faults faults' shortages shortages') broken

@@ -1,5 +1,6 @@
 //! What a scenario that was played comes to, as its capture says.
 
+ghost use Rattle.scenario_play.specs.BufferPeaks.{BufferPeaksAreTold};
 ghost use Rattle.scenario_play.specs.Ending.{PlaysBreakOff, PlaysEnd, PlaysServe, WantsAreTold};
 ghost use Rattle.scenario_play.specs.Gaining.{PlaysGain, PlaysKeep};
 ghost use Rattle.scenario_play.specs.PeakBounds.{PeaksAreBounded};
@@ -43,9 +44,9 @@ pub fn plays_gain()
     ensures { PlaysGain }
 {}
 
-/// What is so of every scenario that was played to its end over RFCOMM, over its capture alone: all that `plays_keep` says. And where the shelf gives
-/// octets and no object has more than 16,777,215 of them, and the inbox grants all calls, as it does where no count of it rose, no request is ignored,
-/// and the inbox gained exactly what the capture spells.
+/// What is so of every scenario that was played over RFCOMM, to its end or as far as it came, over its capture alone: all that `plays_keep` says. And where
+/// the inbox grants all calls, as it does where no count of it rose, no request is ignored, and the inbox gained exactly what the capture spells, of objects
+/// of any size.
 pub fn plays_stream()
     ensures { PlaysStream }
 {}
@@ -54,4 +55,9 @@ pub fn plays_stream()
 /// unacknowledged on a channel that it had not closed, wherever the run was at rest, as the capture has it (Core 5.1, Volume 3 Part A, 5.4 and 8.6).
 pub fn peaks_are_bounded()
     ensures { PeaksAreBounded }
+{}
+
+/// The greatest numbers of packets that a played scenario reports as outstanding are those of its capture, up to 65,535.
+pub fn buffer_peaks_are_told()
+    ensures { BufferPeaksAreTold }
 {}

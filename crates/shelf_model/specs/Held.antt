@@ -1,15 +1,47 @@
--- What a shelf tells of the objects that it holds (this project's own).
-use Rattle.std.specs.Prelude.{ℕ, ◌≡◌, ◌==◌, Bool, true, false, List, map, length, Option, Some, None, Result, Ok, Err}
+-- What a shelf answers: octets, and what it tells of the objects that it holds (this project's own).
+use Rattle.std.specs.Prelude.{ℕ, ◌≡◌, ◌≤◌, ◌==◌, ◌%◌, min, Bool, true, false, List, map, length, Option, Some, None, Result, Ok, Err}
+use Rattle.std.specs.List.{AllByRecursion}
 use Rattle.std.specs.Option.{option_map}
 use Rattle.bt_base.specs.Objects.{Object, octets_of}
+use Rattle.bt_base.specs.Octets.{IsOctets}
 use Rattle.bt_base.specs.declared.ports.PortFault.{PortFault}
 use Rattle.bt_base.specs.declared.ports.PortFault.TheVariants.{Failed}
+use Rattle.push_model.specs.Steps.{Part as Octets}
 use Rattle.world_model.specs.Machines.{News, Linked, Failed as NotLinked, Heard, TimerFired, Cancelled, Opening, Upper}
-use Rattle.host_model.specs.Circumstances.{Circumstance, Size, Part, Stored, size_in}
+use Rattle.host_model.specs.Circumstances.{Circumstance, Size, Part, Stored, size_in, parts_in}
 
 -- how long the object of that name is, where the shelf holds one
 abbrev pub length_of : List ℕ → List Object → Option ℕ
 length_of name objects = option_map length (octets_of name objects)
+
+-- ---- octets
+
+-- the longest object that a client can push: the header Length is a number of four octets (IrOBEX 1.5, 2.2.3)
+abbrev pub longest_octets : ℕ
+longest_octets = 4294967295
+
+-- the octet that has the low eight bits of a number; the number itself, where that is one
+abbrev pub low_octet : ℕ → ℕ
+low_octet n = n % 256
+
+abbrev pub part_in_octets : Octets → Octets
+part_in_octets (Ok part) = Ok (map low_octet part)
+part_in_octets (Err fault) = Err fault
+
+abbrev pub size_in_octets : Result ℕ PortFault → Result ℕ PortFault
+size_in_octets (Ok size) = Ok (min size longest_octets)
+size_in_octets (Err fault) = Err fault
+
+-- a part of an object in octets, and a length that stands in four of them
+abbrev pub in_octets : Circumstance → Circumstance
+in_octets (Size answer) = Size (size_in_octets answer)
+in_octets (Part answer) = Part (part_in_octets answer)
+in_octets (Stored answer) = Stored answer
+
+-- a part of an object that was given are octets
+abbrev pub IsPartOctets : Octets → Type 0
+IsPartOctets (Ok part) = IsOctets part
+IsPartOctets (Err fault) = Unit {0}
 
 -- ---- an answer
 
@@ -42,13 +74,22 @@ told_of objects TimerFired answers = answers
 told_of objects Cancelled answers = answers
 told_of objects (Opening name) answers = map (sized_in name objects) answers
 
--- a shelf that does not tell what it holds answers as it does
+-- a shelf that does not tell what it holds tells any length
+abbrev pub told_by : Option (List Object) → News → List Circumstance → List Circumstance
+told_by None news answers = answers
+told_by (Some objects) news answers = told_of objects news answers
+
+-- and each shelf answers in octets
 abbrev pub held_by : Option (List Object) → News → List Circumstance → List Circumstance
-held_by None news answers = answers
-held_by (Some objects) news answers = told_of objects news answers
+held_by shelf news answers = told_by shelf news (map in_octets answers)
 
--- ---- the law
+-- ---- the laws
 
--- So where such a shelf tells how long an object is, it holds one of that name, and that is as long.
+-- So all that a shelf gives are octets, and each length that it tells is a number of four octets.
+pub record ShelvesGiveOctets : Type 0 where
+  pub parts : (shelf : Option (List Object)) (news : News) (answers : List Circumstance) → AllByRecursion IsPartOctets (parts_in (held_by shelf news answers))
+  pub sizes : (shelf : Option (List Object)) (news : News) (answers : List Circumstance) (size : ℕ) → size_in (held_by shelf news answers) ≡ Ok size → size ≤ longest_octets
+
+-- And where such a shelf tells how long an object is, it holds one of that name, and that is as long.
 abbrev pub SizesAreOfObjects : Type 0
 SizesAreOfObjects = (objects : List Object) (name : List ℕ) (answers : List Circumstance) (size : ℕ) → size_in (told_of objects (Opening name) answers) ≡ Ok size → length_of name objects ≡ Some size

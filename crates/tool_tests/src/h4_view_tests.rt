@@ -172,6 +172,15 @@ const STREAM: [(&[u8], &str); 41] = [
     ),
 ];
 
+/// HCI_Reset and its CommandComplete, with the line of each.
+const RESET: [(&[u8], &str); 2] = [
+    (b"\x01\x03\x0C\x00", "0 cmd 0C03 Reset -\n"),
+    (
+        b"\x04\x0E\x04\x01\x03\x0C\x00",
+        "4 evt 0E CommandComplete 01030C00\n",
+    ),
+];
+
 /// The octets of units and all their lines.
 fn joined(alloc: Global, rows: &[(&[u8], &str)]) -> Result<(Vec<u8>, Vec<u8>), NoMemory> {
     let mut octets = Vec::new(alloc);
@@ -191,12 +200,26 @@ fn view_of(alloc: Global, octets: &[u8], step: usize) -> Result<MemSink, ViewFau
     Ok(sink)
 }
 
-/// Whether the view of a stream is its lines, in whatever pieces it is read.
+/// Whether the view of a stream is its lines, all at once, in pieces and octet by octet.
 fn is_shown(alloc: Global, rows: &[(&[u8], &str)]) -> Result<bool, ViewFault> {
     let (octets, lines) = joined(alloc, rows)?;
     let whole = view_of(alloc, &octets, 65_536)?;
     let pieces = view_of(alloc, &octets, 7)?;
-    Ok(whole.octets() == lines.as_slice() && pieces.octets() == lines.as_slice())
+    let single = view_of(alloc, &octets, 1)?;
+    Ok(
+        whole.octets() == lines.as_slice()
+            && pieces.octets() == lines.as_slice()
+            && single.octets() == lines.as_slice(),
+    )
+}
+
+#[test]
+fn packets_are_shown_in_whatever_pieces(rt: HostRuntime) -> Result<(), Fail> {
+    let Ok(shown) = is_shown(rt.alloc(), &RESET) else {
+        return Err(Fail::from("the stream is whole"));
+    };
+    assert!(rt; shown);
+    Ok(())
 }
 
 #[test]

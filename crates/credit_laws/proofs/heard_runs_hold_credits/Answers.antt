@@ -1,4 +1,4 @@
-use Rattle.credit_laws.proofs.HeardRuns.{heard-runs_hold}
+use Rattle.credit_laws.proofs.Runs.{heard-runs_hold}
 use Rattle.credit_laws.proofs.heard_runs_hold_credits.Goals as goal
 
 pub returns : goal.returns

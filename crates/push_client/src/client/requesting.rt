@@ -10,6 +10,7 @@ ghost use Rattle.push_client.specs.Requesting.{ask_of, asked, made_by, is_shorta
 
 use super::PushClient;
 use crate::asking::Ask;
+use crate::outgoing::are_octets;
 use bt_base::{NoMemory, PortFault, Shelf};
 use push_model::Contact;
 use push_terms::Outcome;
@@ -103,6 +104,7 @@ impl PushClient {
         if let Err(fault) = outgoing.put(&mut dialog.session, name, self.size, shelf, self.limit) {
             return Err(fault);
         }
+        are_octets(outgoing.octets());
         dialog.going = true;
         Ok(())
     }

@@ -35,6 +35,7 @@ returns-clause-runs g c =
       medium_stays = c.in_ok-finish.ensures.medium;
       outcomes_are = c.in_ok-finish.ensures.outcomes [];
       written = c.in_ok-finish.ensures.written [];
+      each = c.finish.ensures.entries [];
     }))
 
 pub returns-clause-each : goal.returns-clause-each
@@ -107,7 +108,7 @@ returns-in_err-finish-clause-breaks g c =
     let last = c.turn_all.new.self in
     let mid = stage last.scene (one.station last.a c.turn_all.new.shelf) (two.station last.b c.turn_all.new.inbox) c.turn_all.new.shelf c.turn_all.new.inbox (content c.turn_all.new.trace) in
     any_err c.from_residual-in_err-finish.result
-    (AtItsEnd mid (advances_then one.machine two.machine one.answers two.answers [] words first _ mid joins_a joins_b c.in_ok-start.ensures.advances c.in_ok-turn_all.ensures.turns) (last.b, refl) (c.finish.ensures.front []) refl refl)
+    (AtItsEnd mid (advances_then one.machine two.machine one.answers two.answers [] words first _ mid joins_a joins_b c.in_ok-start.ensures.advances c.in_ok-turn_all.ensures.turns) (last.b, refl) (c.finish.ensures.front []) (c.finish.ensures.entries []) refl refl)
 
 pub returns-in_err-finish-clause-lacks : goal.returns-in_err-finish-clause-lacks
 returns-in_err-finish-clause-lacks g c =

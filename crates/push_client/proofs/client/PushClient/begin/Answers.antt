@@ -10,6 +10,7 @@ returns-then-self-clause-begins g c =
     record {
       size = Err fault.Failed;
       client = sym (ap (λ (b : Bool). (if b then old else begun_by (Err fault.Failed) c.args.name.now old)) failed);
+      few = tt;
       told = λ works. tt;
       cause = λ works. absurd (let e : true ≡ false = sym failed ∙ works in cc);
       unasked = λ e. (refl, refl);

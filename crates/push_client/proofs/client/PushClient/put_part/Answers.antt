@@ -1,5 +1,6 @@
 use Rattle.std.proofs.Common.{true, List, ℕ, Result, Ok, Err, false, refl, ap, ◌∙◌, subst}
 use Rattle.bt_base.specs.Counts.{HasCause}
+use Rattle.bt_base.specs.Octets.{IsOctets}
 use Rattle.bt_base.specs.declared.ports.PortFault.{PortFault}
 use Rattle.push_model.specs.Client.{Client}
 use Rattle.push_model.specs.Steps.{put_count, puts}
@@ -18,7 +19,7 @@ returns-clause-comes g c =
     let named = subst (λ (name : List ℕ). IsPut old.session c.put.new.session name old.size old.limit content c.put.new.self) c.text-name.ensures.text c.in_default.ensures.puts in
     let cause = subst (λ (r : Result (Unit {0}) PortFault). HasCause (s.faults c.args.shelf.now) (s.faults c.put.new.shelf) (s.shortages c.args.shelf.now) (s.shortages c.put.new.shelf) r) c.in_default.is c.put.ensures.cause in
     subst (λ (x : Client). Comes (puts x) (made_by new (Ok tt)) x content (s.faults c.args.shelf.now) (s.faults c.put.new.shelf) (s.shortages c.args.shelf.now) (s.shortages c.put.new.shelf) false) c.self.view_is
-    (put_done (put_count old) old c.put.new.session c.put.new.self content _ _ _ _ refl named cause)
+    (put_done (put_count old) old c.put.new.session c.put.new.self content _ _ _ _ refl named (subst IsOctets c.octets.ensures c.are_octets.ensures) cause)
 
 pub returns-in-Err-clause-comes : goal.returns-in-Err-clause-comes
 returns-in-Err-clause-comes g c =

@@ -73,7 +73,7 @@ returns-clause-goes g c =
     goes_in_by host.machine c.args.side host.answers handed.coming (packet c.in-Whole.unit) c.args.self.now _ (host.station c.args.host.now c.args.port.now) (host.station c.hand_over.new.host c.hand_over.new.port) c.args.port.now c.hand_over.new.port
     (g.T.Sink.content c.args.trace.now) (g.T.Sink.content c.record.new.trace) comes after read
     (subst (λ (side : Side). Reacts host.machine side host.answers (hears_coming host.machine side handed.coming) (host.station c.args.host.now c.args.port.now) (host.station c.hand_over.new.host c.hand_over.new.port) c.args.port.now c.hand_over.new.port) c.requires.side reaction)
-    c.in_ok-record.ensures.ok
+    c.in_ok-record.ensures.ok handed.is
 
 pub returns-clause-none_held : goal.returns-clause-none_held
 returns-clause-none_held g c =
@@ -125,7 +125,7 @@ returns-in_err-record-clause-breaks g c =
     let comes : ComesFirst c.args.side handed.coming c.args.self.now.radio = subst (λ (m : Medium). ComesFirst c.args.side handed.coming m.radio) c.self.view_is handed.comes in
     any_err c.from_residual.result
     (entering_broken host.machine c.args.side host.answers host.lacked host.station g.met.H.Host.joins handed.coming (packet c.in-Whole.unit) c.args.self.now (host.station c.args.host.now c.args.port.now) c.args.port.now c.args.port.now
-    (content c.args.trace.now) (content c.record.new.trace) (c.args.host.now, refl) comes read c.record.ensures.front (inl refl))
+    (content c.args.trace.now) (content c.record.new.trace) (c.args.host.now, refl) comes read handed.is c.record.ensures.front (inl refl))
 
 pub returns-in_err-hand_over-clause-breaks : goal.returns-in_err-hand_over-clause-breaks
 returns-in_err-hand_over-clause-breaks g c =
@@ -137,4 +137,4 @@ returns-in_err-hand_over-clause-breaks g c =
     let comes : ComesFirst c.args.side handed.coming c.args.self.now.radio = subst (λ (m : Medium). ComesFirst c.args.side handed.coming m.radio) c.self.view_is handed.comes in
     any_err c.from_residual-in_err-hand_over.result
     (entering_broken host.machine c.args.side host.answers host.lacked host.station g.met.H.Host.joins handed.coming (packet c.in-Whole.unit) c.args.self.now (host.station c.args.host.now c.args.port.now) c.args.port.now c.hand_over.new.port
-    (content c.args.trace.now) (content c.record.new.trace) (c.args.host.now, refl) comes read c.record.ensures.front (inr c.in_err-hand_over.ensures.lacked))
+    (content c.args.trace.now) (content c.record.new.trace) (c.args.host.now, refl) comes read handed.is c.record.ensures.front (inr c.in_err-hand_over.ensures.lacked))

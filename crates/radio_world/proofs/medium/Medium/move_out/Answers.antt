@@ -37,7 +37,7 @@ returns-clause-goes g c =
     let goes = subst (λ (s : Side). Reacts host.machine s host.answers (λ used station. station) (record (host.station c.args.host.now c.args.port.now) { out = [] }) (host.station c.taken.new.self c.taken.new.port) c.args.port.now c.taken.new.port)
     c.requires.side c.in_ok-taken.ensures.goes in
     goes_out_by host.machine c.args.side host.answers c.args.self.now c.take_all.new.self (host.station c.args.host.now c.args.port.now) (host.station c.taken.new.self c.taken.new.port) c.args.port.now c.taken.new.port
-    (g.T.Sink.content c.args.trace.now) (g.T.Sink.content c.take_all.new.trace) moved.0 goes moved.1
+    (g.T.Sink.content c.args.trace.now) (g.T.Sink.content c.take_all.new.trace) moved.0 goes moved.1 sent
     (λ none. c.if-count-eq0.false (ap length (octets ∙ ap (λ os. order_octets c.args.side os) none)))
 
 pub returns-then-count-eq0-clause-medium : goal.returns-then-count-eq0-clause-medium
@@ -80,4 +80,4 @@ returns-in_err-taken-clause-breaks g c =
     let octets : c.out-offered.result.now ≡ order_octets c.args.side orders = c.out-offered.ensures.octets c.args.port.now c.requires.sound ∙ ap (λ s. order_octets s orders) c.requires.side in
     any_err c.from_residual-in_err-taken.result
     (taking_broken host.machine c.args.side host.answers host.lacked host.station g.met.H.Host.joins c.args.self.now (host.station c.args.host.now c.args.port.now) c.args.port.now c.taken.new.port (content c.args.trace.now) (content c.take_all.new.trace)
-    (c.args.host.now, refl) (c.in_ok-take_all.ensures.moved orders sent octets).1 c.in_err-taken.ensures.lacked)
+    (c.args.host.now, refl) (c.in_ok-take_all.ensures.moved orders sent octets).1 sent c.in_err-taken.ensures.lacked)

@@ -1,6 +1,6 @@
 use Rattle.std.proofs.Common.{ℕ, ◌+◌, inl, inr, refl, sym, ap, subst, ◌∙◌}
 use Rattle.bt_base.specs.Streams.{gained, GainedFront}
-use Rattle.capture.specs.Entries.{Begun, entry_octets}
+use Rattle.capture.specs.Entries.{Begun, IsEntry, entry_octets}
 use Rattle.world_model.specs.Pushes.{Pushes, next_name, one_begun}
 use Rattle.radio_world.specs.Scenes.{Scene}
 use Rattle.radio_world.proofs.Wanting.{any_err}
@@ -19,6 +19,7 @@ returns-clause-begins g c = λ is.
       reacts = c.in_ok-push.ensures.reacts;
       written = c.in_ok-record.ensures.ok ∙ ap (λ (n : ℕ). gained trace (entry_octets (Begun (n + 1)))) c.begun.ensures.begun
           ∙ ap (λ (s : Scene). gained trace (entry_octets (Begun (s.pushes.begun + 1)))) c.self.view_is;
+      entry = subst (λ (n : ℕ). IsEntry (Begun (n + 1))) (c.begun.ensures.begun ∙ ap (λ (s : Scene). s.pushes.begun) c.self.view_is) c.record.ensures.entry;
     }
 
 pub returns-in_err-record-clause-breaks : goal.returns-in_err-record-clause-breaks
@@ -29,6 +30,7 @@ returns-in_err-record-clause-breaks g c =
       name = c.in-Some.name.now;
       next = ap (λ (s : Scene). next_name s.pushes) (sym c.self.view_is) ∙ sym c.in-Some.ensures.next;
       front = subst (λ (n : ℕ). GainedFront (content c.args.trace.now) (content c.record.new.trace) (entry_octets (Begun (n + 1)))) (c.begun.ensures.begun ∙ ap (λ (s : Scene). s.pushes.begun) c.self.view_is) c.record.ensures.front;
+      entry = subst (λ (n : ℕ). IsEntry (Begun (n + 1))) (c.begun.ensures.begun ∙ ap (λ (s : Scene). s.pushes.begun) c.self.view_is) c.record.ensures.entry;
       left = inl refl;
     })
 
@@ -40,5 +42,6 @@ returns-in_err-push-clause-breaks g c =
       name = c.in-Some.name.now;
       next = ap (λ (s : Scene). next_name s.pushes) (sym c.self.view_is) ∙ sym c.in-Some.ensures.next;
       front = subst (λ (n : ℕ). GainedFront (content c.args.trace.now) (content c.record.new.trace) (entry_octets (Begun (n + 1)))) (c.begun.ensures.begun ∙ ap (λ (s : Scene). s.pushes.begun) c.self.view_is) c.record.ensures.front;
+      entry = subst (λ (n : ℕ). IsEntry (Begun (n + 1))) (c.begun.ensures.begun ∙ ap (λ (s : Scene). s.pushes.begun) c.self.view_is) c.record.ensures.entry;
       left = inr c.in_err-push.ensures.lacked;
     })

@@ -42,7 +42,7 @@ returns-clause-advances g c =
     (subst (λ (d : Deed). Reacts one.machine one.side one.answers (done_by one.machine A d) (one.station c.args.a.now c.args.shelf.now) (one.station c.client_acts.new.a c.client_acts.new.shelf) c.args.shelf.now c.client_acts.new.shelf) same c.in_ok-client_acts.ensures.reacts))
     (subst (λ (side : Side). Reacts two.machine side two.answers (done_by two.machine B deed) (two.station c.args.b.now c.args.inbox.now) (two.station c.server_acts.new.b c.server_acts.new.inbox) c.args.inbox.now c.server_acts.new.inbox) c.requires.sides.1
     (subst (λ (d : Deed). Reacts two.machine two.side two.answers (done_by two.machine B d) (two.station c.args.b.now c.args.inbox.now) (two.station c.server_acts.new.b c.server_acts.new.inbox) c.args.inbox.now c.server_acts.new.inbox) same c.in_ok-server_acts.ensures.reacts))
-    c.in_ok-act.ensures.written
+    c.in_ok-act.ensures.written c.requires.few
 
 pub returns-clause-none_back : goal.returns-clause-none_back
 returns-clause-none_back g c =
@@ -59,7 +59,7 @@ returns-in_err-act-clause-breaks g c =
     let content = g.T.Sink.content in
     any_err c.from_residual.result
     (word_broken one.machine two.machine one.answers two.answers one.lacked two.lacked two.station joins_a joins_b c.args.word c.args.self.now (one.station c.args.a.now c.args.shelf.now) (two.station c.args.b.now c.args.inbox.now) c.args.shelf.now c.args.shelf.now c.args.inbox.now c.args.inbox.now (content c.args.trace.now) (content c.act.new.trace)
-    (c.args.b.now, refl) c.requires.rest c.requires.word c.requires.finds c.act.ensures.front (went_left one.machine two.machine one.answers two.answers one.lacked two.lacked two.station joins_a joins_b c.args.shelf.now c.args.shelf.now (inl refl)) (inl refl))
+    (c.args.b.now, refl) c.requires.few c.requires.rest c.requires.word c.requires.finds c.act.ensures.front (went_left one.machine two.machine one.answers two.answers one.lacked two.lacked two.station joins_a joins_b c.args.shelf.now c.args.shelf.now (inl refl)) (inl refl))
 
 pub returns-in_err-client_acts-clause-breaks : goal.returns-in_err-client_acts-clause-breaks
 returns-in_err-client_acts-clause-breaks g c =
@@ -70,7 +70,7 @@ returns-in_err-client_acts-clause-breaks g c =
     let content = g.T.Sink.content in
     any_err c.from_residual-in_err-client_acts.result
     (word_broken one.machine two.machine one.answers two.answers one.lacked two.lacked two.station joins_a joins_b c.args.word c.args.self.now (one.station c.args.a.now c.args.shelf.now) (two.station c.args.b.now c.args.inbox.now) c.args.shelf.now c.client_acts.new.shelf c.args.inbox.now c.args.inbox.now (content c.args.trace.now) (content c.act.new.trace)
-    (c.args.b.now, refl) c.requires.rest c.requires.word c.requires.finds c.act.ensures.front (inr c.in_err-client_acts.ensures.lacked) (inl refl))
+    (c.args.b.now, refl) c.requires.few c.requires.rest c.requires.word c.requires.finds c.act.ensures.front (inr c.in_err-client_acts.ensures.lacked) (inl refl))
 
 pub returns-in_err-server_acts-clause-breaks : goal.returns-in_err-server_acts-clause-breaks
 returns-in_err-server_acts-clause-breaks g c =
@@ -82,4 +82,4 @@ returns-in_err-server_acts-clause-breaks g c =
     let acted = c.in_ok-client_acts.ensures.reacts in
     any_err c.from_residual-in_err-server_acts.result
     (word_broken one.machine two.machine one.answers two.answers one.lacked two.lacked two.station joins_a joins_b c.args.word c.args.self.now (one.station c.args.a.now c.args.shelf.now) (two.station c.args.b.now c.args.inbox.now) c.args.shelf.now c.client_acts.new.shelf c.args.inbox.now c.server_acts.new.inbox (content c.args.trace.now) (content c.act.new.trace)
-    (c.args.b.now, refl) c.requires.rest c.requires.word c.requires.finds c.act.ensures.front (inl (acted.used, acted.answered)) (inr c.in_err-server_acts.ensures.lacked))
+    (c.args.b.now, refl) c.requires.few c.requires.rest c.requires.word c.requires.finds c.act.ensures.front (inl (acted.used, acted.answered)) (inr c.in_err-server_acts.ensures.lacked))

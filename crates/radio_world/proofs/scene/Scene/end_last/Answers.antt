@@ -1,6 +1,6 @@
 use Rattle.std.proofs.Common.{rules, ◌≡◌, true, false}
 use Rattle.bt_base.proofs.PortLaws.{front_none}
-use Rattle.radio_world.proofs.Closing.{none_ends, none_written, one_ends, one_front, one_written}
+use Rattle.radio_world.proofs.Closing.{none_ends, none_is_entry, none_written, one_ends, one_front, one_is_entry, one_written}
 use Rattle.radio_world.proofs.scene.Scene.end_last.Goals as goal
 
 pub returns-then-not-going-clause-scene : goal.returns-then-not-going-clause-scene
@@ -12,6 +12,21 @@ pub returns-then-not-going-clause-written : goal.returns-then-not-going-clause-w
 returns-then-not-going-clause-written g c =
     let none : c.args.self.now.pushes.going ≡ false = search rules in
     none_written c.args.came c.args.self.now.pushes (g.T.Sink.content c.args.trace.now) none
+
+pub returns-then-not-going-clause-entries : goal.returns-then-not-going-clause-entries
+returns-then-not-going-clause-entries g c =
+    let none : c.args.self.now.pushes.going ≡ false = search rules in
+    none_is_entry c.args.came c.args.self.now.pushes none
+
+pub returns-clause-entries : goal.returns-clause-entries
+returns-clause-entries g c =
+    let going : c.args.self.now.pushes.going ≡ true = search rules in
+    one_is_entry c.args.came c.args.self.now.pushes c.unwrap_or-outcome.result going c.unwrap_or-outcome.ensures c.end.ensures.entry
+
+pub returns-in_err-end-clause-entries : goal.returns-in_err-end-clause-entries
+returns-in_err-end-clause-entries g c =
+    let going : c.args.self.now.pushes.going ≡ true = search rules in
+    one_is_entry c.args.came c.args.self.now.pushes c.unwrap_or-outcome.result going c.unwrap_or-outcome.ensures c.end.ensures.entry
 
 pub returns-clause-scene : goal.returns-clause-scene
 returns-clause-scene g c =

@@ -1,5 +1,0 @@
-use Rattle.channel_laws.proofs.Binding.{agreements-stay}
-use Rattle.channel_laws.proofs.pipes.agreements_stay.Goals as goal
-
-pub returns : goal.returns
-returns c = agreements-stay

@@ -1,5 +1,0 @@
-use Rattle.channel_laws.proofs.Arrived.{basic-arrive}
-use Rattle.channel_laws.proofs.pipes.basic_channels_arrive.Goals as goal
-
-pub returns : goal.returns
-returns c = basic-arrive

@@ -1,5 +1,0 @@
-use Rattle.channel_laws.proofs.Arrived.{basic-once}
-use Rattle.channel_laws.proofs.pipes.basic_channels_come_once.Goals as goal
-
-pub returns : goal.returns
-returns c = basic-once

@@ -1,5 +1,0 @@
-use Rattle.channel_laws.proofs.Flowing.{enhanced-are_pipes}
-use Rattle.channel_laws.proofs.pipes.enhanced_channels_are_pipes.Goals as goal
-
-pub returns : goal.returns
-returns c = enhanced-are_pipes

@@ -1,5 +1,0 @@
-use Rattle.channel_laws.proofs.Singling.{grants-are_single}
-use Rattle.channel_laws.proofs.pipes.grants_are_single.Goals as goal
-
-pub returns : goal.returns
-returns c = grants-are_single

@@ -1,5 +1,0 @@
-use Rattle.channel_laws.proofs.Modes.{modes-are_common}
-use Rattle.channel_laws.proofs.pipes.modes_are_common.Goals as goal
-
-pub returns : goal.returns
-returns c = modes-are_common

@@ -1,5 +1,0 @@
-use Rattle.channel_laws.proofs.Pending.{one-opens}
-use Rattle.channel_laws.proofs.pipes.one_opens.Goals as goal
-
-pub returns : goal.returns
-returns c = one-opens

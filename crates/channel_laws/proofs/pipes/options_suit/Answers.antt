@@ -1,5 +1,0 @@
-use Rattle.channel_laws.proofs.Suiting.{options-suit}
-use Rattle.channel_laws.proofs.pipes.options_suit.Goals as goal
-
-pub returns : goal.returns
-returns c = options-suit

@@ -1,5 +1,0 @@
-use Rattle.channel_laws.proofs.PlainTaken.{plain-is_delivered}
-use Rattle.channel_laws.proofs.pipes.plain_taken_is_delivered.Goals as goal
-
-pub returns : goal.returns
-returns c = plain-is_delivered

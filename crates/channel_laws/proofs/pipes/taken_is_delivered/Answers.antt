@@ -1,5 +1,0 @@
-use Rattle.channel_laws.proofs.Delivered.{taken-is_delivered}
-use Rattle.channel_laws.proofs.pipes.taken_is_delivered.Goals as goal
-
-pub returns : goal.returns
-returns c = taken-is_delivered

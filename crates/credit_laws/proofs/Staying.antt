@@ -1,0 +1,51 @@
+-- Host b holds credits at each moment of a run over RFCOMM whose inbox does not lack memory.
+use Rattle.std.proofs.Common.{◌≡◌, List, [], map, Option, sym, subst}
+use Rattle.bt_base.specs.declared.settings.Transport.TheVariants.{Rfcomm}
+use Rattle.bt_base.specs.Objects.{Object}
+use Rattle.push_script.specs.declared.scenario.Scenario.{Scenario}
+use Rattle.push_terms.specs.declared.word.Side.TheVariants.{B}
+use Rattle.capture.specs.Entries.{Entry}
+use Rattle.push_laws.specs.Laws.{new_over}
+use Rattle.push_laws.specs.Occurrences.{Occurrence}
+use Rattle.push_laws.specs.Premises.{NoneShort, AllMayFail}
+use Rattle.push_laws.specs.Searches.{AllServe}
+use Rattle.push_laws.proofs.Gaining.{all_alone}
+use Rattle.push_laws.proofs.Pushed.{pushed-are_taken}
+use Rattle.world_model.specs.Worlds.{all_words}
+use Rattle.shelf_model.specs.Held.{held_by}
+use Rattle.host_laws.specs.Serving.{served_from}
+use Rattle.scenario_laws.specs.Captures.{Ran}
+use Rattle.scenario_laws.specs.Gains.{holding, serving}
+use Rattle.pair_laws.specs.Enough.{remembered, HappenedEnough}
+use Rattle.pair_laws.specs.Keeping.{LosesNothing}
+use Rattle.pair_laws.proofs.Pairing.{enough-keep_order}
+use Rattle.request_laws.proofs.HeardTogether.{pushed_over, serves_over}
+use Rattle.request_laws.proofs.Summing.{both_ask}
+use Rattle.request_laws.proofs.Told.{none_longer, gives_octets, all_answer}
+use Rattle.credit_laws.specs.Kept.{IsSolvent}
+use Rattle.credit_laws.specs.Staying.{RunsStaySolvent}
+use Rattle.credit_laws.proofs.Fronts.{credits-are_kept}
+use Rattle.credit_laws.proofs.Runs.{missed_solvent}
+
+-- at its end
+enough_solvent : (scenario : Scenario) (shelf : Option (List Object)) (before : List Object) (capture : List Entry) (ran : Ran scenario (holding before) capture) → scenario.settings.transport ≡ Rfcomm → HappenedEnough scenario shelf (holding before) ran.happenings ran.world
+    → LosesNothing (all_words ran.happenings) → IsSolvent scenario.settings B capture
+enough_solvent scenario shelf before capture ran muxed happened gentle =
+    let settings = scenario.settings in
+    let so = enough-keep_order both_ask scenario shelf (holding before) capture ran happened gentle in
+    let order = so.order in
+    let pairs = order.turns.pairs in
+    let near = pairs.a.fed.so.lives.feeds in
+    let far = pairs.b.fed.so.lives.feeds in
+    let list : List Occurrence = served_from settings (holding before) (serving settings before).first far in
+    let all = pushed_over scenario before capture ran muxed order (gives_octets shelf near so.told) (none_longer shelf near so.told) in
+    let serve = serves_over scenario before capture ran muxed order NoneShort (all_answer NoneShort far so.enough) in
+    let may : AllMayFail settings [] (new_over settings before) list =
+    subst (AllMayFail settings [] (new_over settings before)) (sym all.is)
+    (pushed-are_taken settings before all.pushes all.last all.pushed all.last_pushed (subst (AllServe NoneShort (new_over settings before)) all.is serve)) in
+    missed_solvent scenario before capture ran order muxed (all_alone settings before list [] (new_over settings before) may)
+
+pub runs-stay_solvent : RunsStaySolvent
+runs-stay_solvent scenario shelf before capture ran muxed happened gentle =
+    credits-are_kept scenario (held_by shelf) (λ news answers. map remembered answers) (holding before) capture B ran happened gentle
+    (λ front run there softly. enough_solvent scenario shelf before front run muxed there softly)

@@ -1,0 +1,16 @@
+-- The credits that a side holds, over its capture alone (RFCOMM 1.2, 6.5).
+use Rattle.std.specs.Prelude.{ℕ, pos, ◌≡◌, List}
+use Rattle.bt_base.specs.declared.settings.Settings.{Settings}
+use Rattle.push_terms.specs.declared.word.Side.{Side}
+use Rattle.capture.specs.Entries.{Entry}
+use Rattle.capture.specs.Histories.{AtEach}
+use Rattle.link_talk.specs.Captures.{credits_of}
+use Rattle.scenario_laws.specs.Parties.{party_of}
+
+-- they are a whole number that is not below nothing
+abbrev pub IsSolvent : Settings → Side → List Entry → Type 0
+IsSolvent settings side past = (left : ℕ) × (credits_of (party_of settings side) side past ≡ pos left)
+
+-- at each moment
+abbrev pub StaysSolvent : Settings → Side → List Entry → Type 0
+StaysSolvent settings side capture = AtEach (IsSolvent settings side) capture

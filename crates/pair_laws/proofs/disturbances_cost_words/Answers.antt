@@ -1,5 +1,0 @@
-use Rattle.pair_laws.proofs.Pairing.{disturbances-cost_words}
-use Rattle.pair_laws.proofs.disturbances_cost_words.Goals as goal
-
-pub returns : goal.returns
-returns c = disturbances-cost_words

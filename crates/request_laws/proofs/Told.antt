@@ -1,0 +1,59 @@
+-- What the shelf told and the inbox answered, as it is said of all that a host went through.
+use Rattle.std.proofs.Common.{ℕ, List, [], ◌∷◌, Option}
+use Rattle.std.specs.List.{AllByRecursion}
+use Rattle.bt_base.specs.Objects.{Object}
+use Rattle.obex_session.specs.InboxCalls.{Answer}
+use Rattle.world_model.specs.Machines.{News, Linked, Failed, Heard, TimerFired, Cancelled, Opening}
+use Rattle.host_model.specs.Circumstances.{Circumstance, answers_in}
+use Rattle.shelf_model.specs.Held.{longest_octets}
+use Rattle.host_laws.specs.Answered.{TellsAtMost, BeginsAtMost}
+use Rattle.host_laws.specs.Feeds.{Feed, Gifts, Learns, Receives, Happens, Sent, Steps}
+use Rattle.host_laws.specs.Gifts.{gifts_of}
+use Rattle.pair_laws.specs.Served.{TellsOf, AnswersOf}
+use Rattle.request_laws.specs.BothFed.{InboxAnswers}
+use Rattle.request_laws.specs.TogetherHeard.{GivesOctets}
+
+-- ---- the shelf
+
+few_told : (shelf : Option (List Object)) (circumstances : List Circumstance) (news : News) → TellsOf shelf circumstances news → TellsAtMost longest_octets circumstances news
+few_told shelf circumstances (Linked event) told = tt
+few_told shelf circumstances (Failed status) told = tt
+few_told shelf circumstances (Heard pdu) told = tt
+few_told shelf circumstances TimerFired told = tt
+few_told shelf circumstances Cancelled told = tt
+few_told shelf circumstances (Opening name) told = λ size is. (told size is).0
+
+-- what follows for each of all that the client went through
+module _ (most : ℕ) (shelf : Option (List Object)) (tells : (circumstances : List Circumstance) (news : News) → TellsOf shelf circumstances news → TellsAtMost most circumstances news) where
+  pub all_tell : (feeds : List Feed) → AllByRecursion (AnswersOf shelf) feeds → AllByRecursion (BeginsAtMost most) feeds
+  all_tell [] all = tt
+  all_tell (Gifts circumstances ∷ feeds) all = (tt, all_tell feeds all.1)
+  all_tell (Learns circumstances news ∷ feeds) all = (tells circumstances news all.0, all_tell feeds all.1)
+  all_tell (Receives own psm sdu ∷ feeds) all = (tt, all_tell feeds all.1)
+  all_tell (Happens event v ∷ feeds) all = (tt, all_tell feeds all.1)
+  all_tell (Sent v ∷ feeds) all = (tt, all_tell feeds all.1)
+  all_tell (Steps v ∷ feeds) all = (tt, all_tell feeds all.1)
+
+-- no length that it told is longer than a client can push
+pub none_longer : (shelf : Option (List Object)) (feeds : List Feed) → AllByRecursion (AnswersOf shelf) feeds → AllByRecursion (BeginsAtMost longest_octets) feeds
+none_longer shelf feeds all = all_tell longest_octets shelf (few_told shelf) feeds all
+
+pub gives_octets : (shelf : Option (List Object)) (feeds : List Feed) → AllByRecursion (AnswersOf shelf) feeds → AllByRecursion GivesOctets feeds
+gives_octets shelf [] all = tt
+gives_octets shelf (Gifts circumstances ∷ feeds) all = (all.0, gives_octets shelf feeds all.1)
+gives_octets shelf (Learns circumstances news ∷ feeds) all = (tt, gives_octets shelf feeds all.1)
+gives_octets shelf (Receives own psm sdu ∷ feeds) all = (tt, gives_octets shelf feeds all.1)
+gives_octets shelf (Happens event v ∷ feeds) all = (tt, gives_octets shelf feeds all.1)
+gives_octets shelf (Sent v ∷ feeds) all = (tt, gives_octets shelf feeds all.1)
+gives_octets shelf (Steps v ∷ feeds) all = (tt, gives_octets shelf feeds all.1)
+
+-- ---- the inbox
+
+pub all_answer : (Are : List Answer → Type 0) (feeds : List Feed) → AllByRecursion (λ (gift : List Circumstance). Are (answers_in gift)) (gifts_of feeds) → AllByRecursion (InboxAnswers Are) feeds
+all_answer Are [] all = tt
+all_answer Are (Gifts circumstances ∷ feeds) all = (all.0, all_answer Are feeds all.1)
+all_answer Are (Learns circumstances news ∷ feeds) all = (tt, all_answer Are feeds all)
+all_answer Are (Receives own psm sdu ∷ feeds) all = (tt, all_answer Are feeds all)
+all_answer Are (Happens event v ∷ feeds) all = (tt, all_answer Are feeds all)
+all_answer Are (Sent v ∷ feeds) all = (tt, all_answer Are feeds all)
+all_answer Are (Steps v ∷ feeds) all = (tt, all_answer Are feeds all)

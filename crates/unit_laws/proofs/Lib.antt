@@ -1,0 +1,9 @@
+pub mod Shown
+pub mod Hearing
+pub mod Lining
+pub mod Running
+pub mod Written
+pub mod Doing
+pub mod Living
+pub mod Holding
+pub mod Gaining

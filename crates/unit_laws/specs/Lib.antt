@@ -1,0 +1,6 @@
+pub mod Units
+pub mod Laws
+pub mod Calls
+pub mod Living
+pub mod Holding
+pub mod Gaining

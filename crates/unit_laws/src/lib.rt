@@ -1,0 +1,48 @@
+//! What a whole host holds, was told and said is read off its own units: the packets that move between it and its controller. So are the channels of
+//! both hosts, what the inbox of a server gains, and what a client comes to.
+#![tactic(auto)]
+
+ghost use Rattle.unit_laws.specs.Calls.{CallsAreRuns};
+ghost use Rattle.unit_laws.specs.Gaining.{ClientsCome, ServersGain};
+ghost use Rattle.unit_laws.specs.Holding.{ChannelsAreSeen};
+ghost use Rattle.unit_laws.specs.Laws.{LinesAreRead, UnitsAreTalk};
+ghost use Rattle.unit_laws.specs.Living.{HostsLiveByUnits};
+ghost use Rattle.world_model.specs.Machines.{Upper};
+
+/// Whatever comes to a host, and whatever it does, its ledger is what its units say, and so are its link and the PDU that is coming in.
+pub fn lines_are_read<S, G>()
+    ensures { (U : Upper S G) → LinesAreRead U }
+{}
+
+/// Where a host hears one thing at a time, what it was told and said is what its units have of its links.
+pub fn units_are_talk<S, G>()
+    ensures { (U : Upper S G) → UnitsAreTalk U }
+{}
+
+/// All that a host does by itself, and what it makes of a unit, is a run of it over units: what it puts out are their octets.
+pub fn calls_are_runs<S, G>()
+    ensures { (U : Upper S G) → CallsAreRuns U }
+{}
+
+/// So a client and a server live by their own units: on each link their own talk is what moved there, but for what they gave up, and behind it what they
+/// let wait.
+#[tactic(auto, using(crate::proofs::Living::hosts_live_by_units))]
+pub fn hosts_live_by_units()
+    ensures { HostsLiveByUnits }
+{}
+
+/// The channels of both are those that their own units say, each as far as it says there.
+#[tactic(auto, using(crate::proofs::Holding::channels_are_seen))]
+pub fn channels_are_seen()
+    ensures { ChannelsAreSeen }
+{}
+
+/// On orderly input the inbox of a server gains exactly the objects that its own units spell, over L2CAP.
+pub fn servers_gain()
+    ensures { ServersGain }
+{}
+
+/// A client is what it is of what happened to it on the links that its own units have.
+pub fn clients_come()
+    ensures { ClientsCome }
+{}
