@@ -3,3 +3,10 @@ pub mod Hearing
 pub mod Talking
 pub mod Once
 pub mod Own
+pub mod Fitting
+pub mod Beginning
+pub mod Ends
+pub mod Pairs
+pub mod Order
+pub mod OwnPairs
+pub mod OwnGains

@@ -1,5 +1,5 @@
 -- A server that has the answers of its inbox from a tape.
-use Rattle.std.proofs.Common.{◌≡◌, Bool, true, List, [], ◌∷◌, map, Option, refl, ap}
+use Rattle.std.proofs.Common.{◌≡◌, Bool, true, List, [], ◌∷◌, ◌++◌, map, Option, refl, ap}
 use Rattle.bt_base.specs.declared.settings.Settings.{Settings}
 use Rattle.bt_base.specs.Objects.{Contents}
 use Rattle.obex_session.specs.InboxCalls.{Answer}
@@ -25,18 +25,18 @@ module _ (settings : Settings) (content : Option Contents) (answers : List Answe
   B = taped A (once answers)
 
   -- once it has run, it tells what is left
-  left_so : (feeds : List Feed) (serving : ServerProfile) → AreLeft settings content serving (untaped A (once answers) (record { profile = serving; at = true }) feeds)
-  left_so [] serving = tt
-  left_so (Gifts circumstances ∷ feeds) serving = (answers_are serving.inbox.answers, left_so feeds (A.given (map Stored serving.inbox.answers) serving))
-  left_so (Learns circumstances news ∷ feeds) serving = (tt, left_so feeds (A.told circumstances news serving))
-  left_so (Receives own psm sdu ∷ feeds) serving = (tt, left_so feeds (A.received own psm sdu serving))
-  left_so (Happens event v ∷ feeds) serving = (tt, left_so feeds (A.happened event v serving))
-  left_so (Sent v ∷ feeds) serving = (tt, left_so feeds (A.sent v serving))
-  left_so (Steps v ∷ feeds) serving = (tt, left_so feeds (A.steps v serving).profile)
+  left_so : (feeds : List Feed) (serving : ServerProfile) (past : List Feed) → AreLeft settings content serving (untaped A (once answers) (record { profile = serving; at = true; past = past }) feeds)
+  left_so [] serving past = tt
+  left_so (Gifts circumstances ∷ feeds) serving past = (answers_are serving.inbox.answers, left_so feeds (A.given (map Stored serving.inbox.answers) serving) (past ++ Gifts circumstances ∷ []))
+  left_so (Learns circumstances news ∷ feeds) serving past = (tt, left_so feeds (A.told circumstances news serving) (past ++ Learns circumstances news ∷ []))
+  left_so (Receives own psm sdu ∷ feeds) serving past = (tt, left_so feeds (A.received own psm sdu serving) (past ++ Receives own psm sdu ∷ []))
+  left_so (Happens event v ∷ feeds) serving past = (tt, left_so feeds (A.happened event v serving) (past ++ Happens event v ∷ []))
+  left_so (Sent v ∷ feeds) serving past = (tt, left_so feeds (A.sent v serving) (past ++ Sent v ∷ []))
+  left_so (Steps v ∷ feeds) serving past = (tt, left_so feeds (A.steps v serving).profile (past ++ Steps v ∷ []))
 
   once_so : (feeds : List Feed) → BeginsGiven feeds → AreGivenOnce settings content answers (given_once settings content answers feeds)
   once_so [] begins = tt
-  once_so (Gifts circumstances ∷ feeds) begins = (map Stored answers, refl, answers_are answers, left_so feeds (A.given (map Stored answers) A.first))
+  once_so (Gifts circumstances ∷ feeds) begins = (map Stored answers, refl, answers_are answers, left_so feeds (A.given (map Stored answers) A.first) (Gifts circumstances ∷ []))
   once_so (Learns circumstances news ∷ feeds) begins = absurd begins
   once_so (Receives own psm sdu ∷ feeds) begins = absurd begins
   once_so (Happens event v ∷ feeds) begins = absurd begins

@@ -10,11 +10,12 @@ use Rattle.channel_model.specs.Carrying.{Up as Handed, Nothing, Received}
 use Rattle.channel_model.specs.Hearing.{up}
 use Rattle.channel_laws.specs.Runs.{Occurrence}
 use Rattle.world_model.specs.Machines.{LinkEvent, Up, Down, News, Linked}
+use Rattle.world_model.specs.Talks.{Talk}
 use Rattle.host_model.specs.Circumstances.{Circumstance}
-use Rattle.host_model.specs.Hosts.{handed, tells_each}
+use Rattle.host_model.specs.Hosts.{Host, handed, tells_each}
 use Rattle.host_model.specs.Profiles.{Profile}
 use Rattle.host_laws.specs.Calls.{Asks, values_after}
-use Rattle.host_laws.specs.Fed.{feeds_up, next_happening, strand_feeds, woven_feeds, WovenFed, happenings, turned_feeds, behind_span, AreFed}
+use Rattle.host_laws.specs.Fed.{feeds_up, next_happening, strand_feeds, woven_feeds, WovenFed, happenings, turned_feeds, behind_span, AreFed, TalksFed}
 use Rattle.host_laws.specs.Feeds.{Feed, Gifts, Learns, Receives, Happens, Sent, Steps, fed, all_fed, asked_with, asked_from, Tiding, tidings_in, tidings_of}
 use Rattle.host_laws.specs.Lives.{Span}
 use Rattle.host_laws.specs.Woven.{Strand, Hearing, Giving, Firing, Telling, Gifting, Learning, Checking, Stepping, IsOnLink, told_next, strand_list, strand_profile, woven_list, woven_profile, turned}
@@ -76,7 +77,7 @@ module _ {P T : Type 0} (A : Profile P) (tape : Tape P T) where
   fed_so now (Sent v) = refl
   fed_so now (Steps v) = refl
 
-  all_so : (feeds : List Feed) (now : Now) → (all_fed B now feeds).profile ≡ all_fed A now.profile (bare now feeds)
+  pub all_so : (feeds : List Feed) (now : Now) → (all_fed B now feeds).profile ≡ all_fed A now.profile (bare now feeds)
   all_so [] now = refl
   all_so (feed ∷ feeds) now = let next = fed B now feed in all_so feeds next ∙ ap (λ (p : P). all_fed A p (bare next feeds)) (fed_so now feed)
 
@@ -88,7 +89,7 @@ module _ {P T : Type 0} (A : Profile P) (tape : Tape P T) where
   tiding_so now (Sent v) = refl
   tiding_so now (Steps v) = refl
 
-  tidings_so : (feeds : List Feed) (now : Now) → tidings_of (bare now feeds) ≡ tidings_of feeds
+  pub tidings_so : (feeds : List Feed) (now : Now) → tidings_of (bare now feeds) ≡ tidings_of feeds
   tidings_so [] now = refl
   tidings_so (feed ∷ feeds) now = ap₂ (λ (a b : List Tiding). a ++ b) (tiding_so now feed) (tidings_so feeds (fed B now feed))
 
@@ -183,7 +184,7 @@ module _ {P T : Type 0} (A : Profile P) (tape : Tape P T) where
     asked_one now (Sent v) = refl
     asked_one now (Steps v) = refl
 
-    asked_so : (feeds : List Feed) (now : Now) → asked_from B its now feeds ≡ asked_from A asks now.profile (bare now feeds)
+    pub asked_so : (feeds : List Feed) (now : Now) → asked_from B its now feeds ≡ asked_from A asks now.profile (bare now feeds)
     asked_so [] now = refl
     asked_so (feed ∷ feeds) now =
         let next = fed B now feed in
@@ -257,7 +258,7 @@ module _ {P T : Type 0} (A : Profile P) (tape : Tape P T) where
     ends_so : (list : List Occurrence) (feeds : List Feed) (first last : Now) → WovenFed B its list feeds first last → all_fed B first feeds ≡ last
     ends_so list feeds first last so = ap (λ (l : List Feed). all_fed B first l) so.feeds_are ∙ (weave_fed B its so.woven.weave no_channels first ∙ sym so.woven.last_is)
 
-    spans_so : (spans : List Span) (now : List Occurrence) (feeds : List Feed) (first last : Now) → AreFed B its spans now feeds first last → AreFed A asks spans now (bare first feeds) first.profile last.profile
+    pub spans_so : (spans : List Span) (now : List Occurrence) (feeds : List Feed) (first last : Now) → AreFed B its spans now feeds first last → AreFed A asks spans now (bare first feeds) first.profile last.profile
     spans_so [] now feeds first last so = woven_so now feeds first last so
     spans_so (span ∷ spans) now feeds first last (here, later, is, rest) =
         let v = values_after A.policy no_channels span.list in
@@ -275,7 +276,7 @@ module _ {P T : Type 0} (A : Profile P) (tape : Tape P T) where
 
 -- ---- the law
 
-pub taped_hosts_talk_so : {P T : Type 0} (A : Profile P) (tape : Tape P T) → TapedHostsTalkSo A tape
+unfoldable pub taped_hosts_talk_so : {P T : Type 0} (A : Profile P) (tape : Tape P T) → TapedHostsTalkSo A tape
 taped_hosts_talk_so {P} {T} A tape asks talk now is =
     let lives = is.so.lives in
     let first = (taped A tape).first in
@@ -302,3 +303,8 @@ taped_hosts_talk_so {P} {T} A tape asks talk now is =
       feeds_are = refl;
       lists_are = refl;
     }
+
+-- it goes over as many links
+pub taped_spans : {P T : Type 0} (A : Profile P) (tape : Tape P T) (asks : Asks A) (talk : List Talk) (now : Host (Taped P T)) (is : TalksFed (taped A tape) (taped_asks A tape asks) talk now) → (taped_hosts_talk_so A tape asks talk now is).fed.so.lives.spans ≡ is.so.lives.spans
+unfolding taped_hosts_talk_so
+taped_spans A tape asks talk now is = refl

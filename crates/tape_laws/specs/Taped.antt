@@ -1,5 +1,5 @@
 -- A host that has what its ports will answer from a tape, whatever they give (this project's own).
-use Rattle.std.specs.Prelude.{◌≡◌, List, [], ◌∷◌}
+use Rattle.std.specs.Prelude.{◌≡◌, List, [], ◌∷◌, ◌++◌}
 use Rattle.std.specs.List.{flat_map}
 use Rattle.world_model.specs.Talks.{Talk}
 use Rattle.host_model.specs.Circumstances.{Circumstance}
@@ -17,20 +17,22 @@ pub record Tape (P T : Type 0) : Type 0 where
   pub gives : T → P → List Circumstance
   pub runs_on : T → P → T
 
+-- how far it ran, and all that the profile went through with it
 pub record Taped (P T : Type 0) : Type 0 where
   pub profile : P
   pub at : T
+  pub past : List Feed
 
 abbrev pub taped : {P T : Type 0} → Profile P → Tape P T → Profile (Taped P T)
 taped {P} {T} A tape = record {
   policy = A.policy;
-  first = record { profile = A.first; at = tape.first };
-  given = λ circumstances now. record { profile = A.given (tape.gives now.at now.profile) now.profile; at = tape.runs_on now.at now.profile };
-  told = λ circumstances news now. record { profile = A.told circumstances news now.profile; at = now.at };
-  received = λ own psm sdu now. record { profile = A.received own psm sdu now.profile; at = now.at };
-  happened = λ event v now. record { profile = A.happened event v now.profile; at = now.at };
-  sent = λ v now. record { profile = A.sent v now.profile; at = now.at };
-  steps = λ v now. record { channels = (A.steps v now.profile).channels; profile = record { profile = (A.steps v now.profile).profile; at = now.at }; more = (A.steps v now.profile).more };
+  first = record { profile = A.first; at = tape.first; past = [] };
+  given = λ circumstances now. record { profile = A.given (tape.gives now.at now.profile) now.profile; at = tape.runs_on now.at now.profile; past = now.past ++ Gifts circumstances ∷ [] };
+  told = λ circumstances news now. record { profile = A.told circumstances news now.profile; at = now.at; past = now.past ++ Learns circumstances news ∷ [] };
+  received = λ own psm sdu now. record { profile = A.received own psm sdu now.profile; at = now.at; past = now.past ++ Receives own psm sdu ∷ [] };
+  happened = λ event v now. record { profile = A.happened event v now.profile; at = now.at; past = now.past ++ Happens event v ∷ [] };
+  sent = λ v now. record { profile = A.sent v now.profile; at = now.at; past = now.past ++ Sent v ∷ [] };
+  steps = λ v now. let stride = A.steps v now.profile in record { channels = stride.channels; profile = record { profile = stride.profile; at = now.at; past = now.past ++ Steps v ∷ [] }; more = stride.more };
   wants_link = λ now. A.wants_link now.profile;
   leaves_link = λ now. A.leaves_link now.profile;
   is_idle = λ now. A.is_idle now.profile;

@@ -1,9 +1,16 @@
 //! Laws of hosts that have what their ports will answer from a tape.
 #![tactic(auto)]
 
+ghost use Rattle.std.specs.Prelude.{Option};
+ghost use Rattle.bt_base.specs.Objects.{Contents};
 ghost use Rattle.host_model.specs.Profiles.{Profile};
+ghost use Rattle.host_model.specs.Servers.{ServerProfile};
+ghost use Rattle.push_script.specs.declared.scenario.Scenario.{Scenario};
 ghost use Rattle.tape_laws.specs.Once.{ServersHearNewsAlone, ServersSpendOnce};
 ghost use Rattle.tape_laws.specs.Own.{OwnServersAreTaped};
+ghost use Rattle.tape_laws.specs.OwnGains.{OwnServersGainLess};
+ghost use Rattle.tape_laws.specs.OwnPairs.{OwnServersKeepOrder};
+ghost use Rattle.tape_laws.specs.Pairs.{TapedKeepOrder, TapedTakeTurns};
 ghost use Rattle.tape_laws.specs.Runs.{TapedHostsHearSo, TapedRunsAreRuns};
 ghost use Rattle.tape_laws.specs.Talking.{TapedHostsComeSo};
 ghost use Rattle.tape_laws.specs.Taped.{Tape, TapedHostsTalkSo};
@@ -44,4 +51,26 @@ pub fn servers_hear_news_alone()
 /// What happens to a server that keeps the answers of its inbox from its first moment on, and to any machine, happens where it has the tape of them.
 pub fn own_servers_are_taped<S, G>()
     ensures { (U : Upper S G) → OwnServersAreTaped U }
+{}
+
+/// So a server with a tape goes through the links of a run in pairs with the client of host a, and is given what the tape tells.
+pub fn taped_take_turns<T>()
+    ensures { (scenario : Scenario) (content : Option Contents) (tape : Tape ServerProfile T) → TapedTakeTurns scenario content tape }
+{}
+
+/// And where besides the words of the run lose, cut, repeat and damage nothing, each way keeps its order.
+pub fn taped_keep_order<T>()
+    ensures { (scenario : Scenario) (content : Option Contents) (tape : Tape ServerProfile T) → TapedKeepOrder scenario content tape }
+{}
+
+/// So a server that keeps the answers of its inbox goes through the links of such a run in pairs, and its calls use up no more faults than there are in
+/// that list.
+pub fn own_servers_keep_order()
+    ensures { OwnServersKeepOrder }
+{}
+
+/// What the inbox of such a server gains are the objects that the capture spells, in their order, but for one at most for each fault among its answers,
+/// where none of these is want of memory: over L2CAP, and over RFCOMM where the words of the run lose nothing.
+pub fn own_servers_gain_less()
+    ensures { OwnServersGainLess }
 {}
