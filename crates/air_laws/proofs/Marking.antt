@@ -9,12 +9,10 @@ use Rattle.push_terms.specs.declared.word.Word.{Word}
 use Rattle.push_terms.specs.declared.outcome.Outcome.{Outcome}
 use Rattle.capture.specs.declared.flow.Flow.TheVariants.{Out, Into}
 use Rattle.capture.specs.Entries.{Entry, Moved, Acted, Begun, Ended}
-use Rattle.capture.specs.Histories.{EachAfter}
-use Rattle.capture.specs.Channels.{last_of}
+use Rattle.capture.specs.Histories.{EachAfter, last_of}
 use Rattle.capture.specs.Pushes.{under_way, NoLinkOutside, LinksWithin, NoLinkAtEnd}
-use Rattle.capture.proofs.HistoryLaws.{each_after-more}
+use Rattle.capture.proofs.HistoryLaws.{each_after-more, last_of-append}
 use Rattle.capture.proofs.FurtherLaws.{under_way-more}
-use Rattle.capture.proofs.Moding.{last_of-append}
 use Rattle.radio_air.specs.Controllers.{Controller, answer_packet, piece_packet}
 use Rattle.radio_air.specs.Radio.{is_together, found}
 use Rattle.radio_air.specs.Course.{push_begun, pushes_begun, KeepsTurn, PushesInTurn}

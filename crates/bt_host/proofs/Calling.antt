@@ -1,6 +1,6 @@
 -- Calls that ask a port, one after the other.
-use Rattle.std.proofs.Common.{◌≡◌, ◌∙◌, List, [], ◌++◌, refl, sym, ap, append_assoc}
-use Rattle.std.specs.Prelude.{Result, Ok, Err, OnErr, OnOk}
+use Rattle.std.proofs.Common.{◌≡◌, ◌∙◌, Bool, false, List, [], ◌++◌, refl, sym, ap, append_assoc}
+use Rattle.std.specs.Prelude.{Result, Ok, Err, OnErr, OnOk, is_err}
 use Rattle.bt_host.specs.Calls.{Does, JoinAnswers}
 
 module _ {G P : Type 0} (Answers : P → List G → P → Type 0) (join : JoinAnswers Answers) where
@@ -32,6 +32,7 @@ pub on_err_anyhow : {A E : Type 0} {X : Type 0} (result : Result A E) → X → 
 on_err_anyhow (Ok done) x = tt
 on_err_anyhow (Err fault) x = x
 
-pub on_ok_anyhow : {A E : Type 0} {X : Type 0} (result : Result A E) → X → OnOk result X
-on_ok_anyhow (Ok done) x = x
-on_ok_anyhow (Err fault) x = tt
+-- what holds of a call that did not fail, where it answers that it did
+pub on_ok_works : {A E : Type 0} {X : Type 0} (result : Result A E) (failed : Bool) → is_err result ≡ failed → (failed ≡ false → X) → OnOk result X
+on_ok_works (Ok done) failed is x = x (sym is)
+on_ok_works (Err fault) failed is x = tt

@@ -1,7 +1,9 @@
 -- The calls of a server as those of its profile.
 use Rattle.std.proofs.Common.{◌≡◌, ◌∙◌, ◌≤◌, ◌==◌, ◌&&◌, nat_lt, not, ℕ, Bool, true, false, List, [], ◌∷◌, ◌++◌, length, refl, sym, ap, subst, true≢false, arith, tests, if◌then◌else◌, map, inl, inr}
 use Rattle.std.specs.Prelude.{Option, Some, None, min}
+use Rattle.std.specs.List.{AllByRecursion}
 use Rattle.std.proofs.lemmas.Bool.{cases_Bool, eqb-true}
+use Rattle.std.proofs.lemmas.List.{append-nil}
 use Rattle.bt_base.specs.Numbers.{IsPsm}
 use Rattle.bt_base.specs.Octets.{IsOctets}
 use Rattle.bt_base.specs.Objects.{Contents}
@@ -24,6 +26,8 @@ use Rattle.push_model.specs.Sessions.{Gift, is_pending}
 use Rattle.push_model.specs.Server as push
 use Rattle.push_model.specs.Server.{Server, Reacted, Lent, on_sdu, hears_on, unless_failed, channel_down, link_down, lends, lent_sdu, stepped, filled, said_on, left_by, leaves_with, framed_by, framed, lends_by, lends_new, outlet_of, breaks_now}
 use Rattle.h4_framing.proofs.OctetLists.{IsOctets-tail}
+use Rattle.answer_laws.specs.Memory.{HadMemory, LackedNone}
+use Rattle.answer_laws.proofs.Memory.{unfailed_lacked_none}
 use Rattle.push_profile.specs.Reactions.{Comes}
 use Rattle.push_profile.specs.Serving.{reacted, has_failed, IsPsmOf, AreLent}
 use Rattle.world_model.specs.Machines.{Linked, Down}
@@ -37,7 +41,7 @@ use Rattle.host_model.proofs.Single.{only_sdu}
 use Rattle.l2cap_channels.specs.Machine.{Machine, with_channels}
 use Rattle.l2cap_channels.specs.Sending.{takes}
 use Rattle.bt_host.specs.Calls.{Does, JoinAnswers}
-use Rattle.bt_host.specs.Serving.{Served, serving, profile_of, Works}
+use Rattle.bt_host.specs.Serving.{Served, serving, profile_of, Works, Asks}
 use Rattle.bt_host.specs.ServingLaws.{joins}
 use Rattle.bt_host.proofs.Calling.{does_none, does_to}
 
@@ -71,46 +75,58 @@ takes-octets own sdu v octets = ap (λ (b : Bool). takes own (length sdu) v && b
     and_on false = refl
 
 module _ {P : Type 0} (content : P → Option Contents) (faults shortages : P → ℕ) where
-  abbrev Asks : P → List Circumstance → P → Type 0
-  Asks first used last = AreCounted (answers_in used) (counts_of faults shortages first) (counts_of faults shortages last)
+  abbrev Gave : P → List Circumstance → P → Type 0
+  Gave first used last = Asks faults shortages first used last
 
-  comes_does : (reaction : Gift → Reacted) (server : Server) (lacks : Bool) (f : Reacted → ServerProfile) (first last : P) → Comes reaction (reacted server) (content first) (content last) (counts_of faults shortages first) (counts_of faults shortages last) lacks
-      → Does Asks (λ rest. f (reaction (record { content = content first; answers = answers_in rest }))) (λ rest. f (reacted server (record { content = content last; answers = answers_in rest }))) first last
-  comes_does reaction server lacks f first last k = record {
+  -- where the server has not failed behind them, none of the answers that were used up was want of memory
+  none_short : (reaction : Gift → Reacted) (server : Server) (lacks : Bool) (first last : P) → ((gift : Gift) → LackedNone gift (reaction gift)) → has_failed server ≡ false
+      → (k : Comes reaction (reacted server) (content first) (content last) (counts_of faults shortages first) (counts_of faults shortages last) lacks) → AllByRecursion HadMemory k.used
+  none_short reaction server lacks first last had works k =
+      let gift : Gift = record { content = content first; answers = k.used ++ [] } in
+      let comes = subst (λ (after : Reacted). LackedNone gift after) (k.comes []) (had gift) in
+      subst (λ (answers : List Answer). AllByRecursion HadMemory answers) (append-nil k.used) (comes works tt)
+
+  comes_does : (reaction : Gift → Reacted) (server : Server) (lacks : Bool) (f : Reacted → ServerProfile) (first last : P) → ((gift : Gift) → LackedNone gift (reaction gift)) → has_failed server ≡ false
+      → Comes reaction (reacted server) (content first) (content last) (counts_of faults shortages first) (counts_of faults shortages last) lacks
+      → Does Gave (λ rest. f (reaction (record { content = content first; answers = answers_in rest }))) (λ rest. f (reacted server (record { content = content last; answers = answers_in rest }))) first last
+  comes_does reaction server lacks f first last had works k = record {
     used = map Stored k.used;
-    answered = subst (λ (xs : List Answer). AreCounted xs (counts_of faults shortages first) (counts_of faults shortages last)) (sym (all_stored k.used)) k.counted;
+    answered = record {
+      counted = subst (λ (xs : List Answer). AreCounted xs (counts_of faults shortages first) (counts_of faults shortages last)) (sym (all_stored k.used)) k.counted;
+      none_short = subst (λ (xs : List Answer). AllByRecursion HadMemory xs) (sym (all_stored k.used)) (none_short reaction server lacks first last had works k);
+    };
     does = λ rest. ap (λ (xs : List Answer). f (reaction (record { content = content first; answers = xs }))) (answers_stored k.used rest) ∙ ap f (k.comes (answers_in rest));
   }
 
-  pub link_down_does : (old new : Server) (endpoints : List Endpoint) (breaks lacks : Bool) (now after : Served) (reason : ℕ) (first last : P) → served old endpoints breaks ≡ now → after ≡ served new [] false
+  pub link_down_does : (old new : Server) (endpoints : List Endpoint) (breaks lacks : Bool) (now after : Served) (reason : ℕ) (first last : P) → served old endpoints breaks ≡ now → after ≡ served new [] false → has_failed new ≡ false
       → Comes (link_down old) (reacted new) (content first) (content last) (counts_of faults shortages first) (counts_of faults shortages last) lacks
-      → (settings : Settings) → Does Asks (λ rest. (profile_of settings).told [] (Linked (Down reason)) (serving now (content first) rest)) (λ rest. serving after (content last) rest) first last
-  link_down_does old new endpoints breaks lacks now after reason first last view is k settings =
-      subst (λ (n : Served). Does Asks (λ rest. (profile_of settings).told [] (Linked (Down reason)) (serving n (content first) rest)) (λ rest. serving after (content last) rest) first last) view
-      (does_to Asks _ (λ rest. serving (served new [] false) (content last) rest) _ first last (λ rest. ap (λ (s : Served). serving s (content last) rest) (sym is))
-      (comes_does (link_down old) new lacks (λ r. record { server = r.server; inbox = r.gift; endpoints = []; breaks = false }) first last k))
+      → (settings : Settings) → Does Gave (λ rest. (profile_of settings).told [] (Linked (Down reason)) (serving now (content first) rest)) (λ rest. serving after (content last) rest) first last
+  link_down_does old new endpoints breaks lacks now after reason first last view is works k settings =
+      subst (λ (n : Served). Does Gave (λ rest. (profile_of settings).told [] (Linked (Down reason)) (serving n (content first) rest)) (λ rest. serving after (content last) rest) first last) view
+      (does_to Gave _ (λ rest. serving (served new [] false) (content last) rest) _ first last (λ rest. ap (λ (s : Served). serving s (content last) rest) (sym is))
+      (comes_does (link_down old) new lacks (λ r. record { server = r.server; inbox = r.gift; endpoints = []; breaks = false }) first last (unfailed_lacked_none.link old) works k))
 
   pub closed_does : (old new : Server) (endpoints : List Endpoint) (breaks lacks : Bool) (now : Served) (event : ChannelEvent) (own psm : ℕ) (reason : CloseReason) (channels : Channels) (first last : P) → served old endpoints breaks ≡ now
-      → event ≡ Closed own psm reason → is_told reason ≡ true
+      → event ≡ Closed own psm reason → is_told reason ≡ true → has_failed new ≡ false
       → Comes (channel_down psm old) (reacted new) (content first) (content last) (counts_of faults shortages first) (counts_of faults shortages last) lacks
-      → (settings : Settings) → Does Asks (λ rest. (profile_of settings).happened event channels (serving now (content first) rest)) (λ rest. serving (served new endpoints breaks) (content last) rest) first last
-  closed_does old new endpoints breaks lacks now event own psm reason channels first last view is told k settings =
-      subst (λ (n : Served). Does Asks (λ rest. (profile_of settings).happened event channels (serving n (content first) rest)) (λ rest. serving (served new endpoints breaks) (content last) rest) first last) view
-      (subst (λ (e : ChannelEvent). Does Asks (λ rest. (profile_of settings).happened e channels (serving (served old endpoints breaks) (content first) rest)) (λ rest. serving (served new endpoints breaks) (content last) rest) first last) (sym is)
-      (subst (λ (b : Bool). Does Asks (λ rest. if b then model.reacts (channel_down psm old (record { content = content first; answers = answers_in rest })) (serving (served old endpoints breaks) (content first) rest) else serving (served old endpoints breaks) (content first) rest)
+      → (settings : Settings) → Does Gave (λ rest. (profile_of settings).happened event channels (serving now (content first) rest)) (λ rest. serving (served new endpoints breaks) (content last) rest) first last
+  closed_does old new endpoints breaks lacks now event own psm reason channels first last view is told works k settings =
+      subst (λ (n : Served). Does Gave (λ rest. (profile_of settings).happened event channels (serving n (content first) rest)) (λ rest. serving (served new endpoints breaks) (content last) rest) first last) view
+      (subst (λ (e : ChannelEvent). Does Gave (λ rest. (profile_of settings).happened e channels (serving (served old endpoints breaks) (content first) rest)) (λ rest. serving (served new endpoints breaks) (content last) rest) first last) (sym is)
+      (subst (λ (b : Bool). Does Gave (λ rest. if b then model.reacts (channel_down psm old (record { content = content first; answers = answers_in rest })) (serving (served old endpoints breaks) (content first) rest) else serving (served old endpoints breaks) (content first) rest)
       (λ rest. serving (served new endpoints breaks) (content last) rest) first last) (sym told)
-      (comes_does (channel_down psm old) new lacks (λ r. record { server = r.server; inbox = r.gift; endpoints = endpoints; breaks = breaks }) first last k)))
+      (comes_does (channel_down psm old) new lacks (λ r. record { server = r.server; inbox = r.gift; endpoints = endpoints; breaks = breaks }) first last (unfailed_lacked_none.channel psm old) works k)))
 
   pub received_does : (old new : Server) (endpoints put : List Endpoint) (breaks lacks : Bool) (now : Served) (own psm raw : ℕ) (sdu : List ℕ) (first last : P) → served old endpoints breaks ≡ now
-      → put ≡ with_endpoint raw own endpoints → psm ≡ raw
+      → put ≡ with_endpoint raw own endpoints → psm ≡ raw → has_failed new ≡ false
       → Comes (on_sdu psm sdu old) (reacted new) (content first) (content last) (counts_of faults shortages first) (counts_of faults shortages last) lacks
-      → (settings : Settings) → Does Asks (λ rest. (profile_of settings).received own raw sdu (serving now (content first) rest)) (λ rest. serving (served new put breaks) (content last) rest) first last
-  received_does old new endpoints put breaks lacks now own psm raw sdu first last view put_is same k settings =
-      subst (λ (n : Served). Does Asks (λ rest. (profile_of settings).received own raw sdu (serving n (content first) rest)) (λ rest. serving (served new put breaks) (content last) rest) first last) view
-      (subst (λ (es : List Endpoint). Does Asks (λ rest. (profile_of settings).received own raw sdu (serving (served old endpoints breaks) (content first) rest)) (λ rest. serving (served new es breaks) (content last) rest) first last) (sym put_is)
-      (subst (λ (n : ℕ). Does Asks (λ rest. model.reacts (on_sdu n sdu old (record { content = content first; answers = answers_in rest })) (record (serving (served old endpoints breaks) (content first) rest) { endpoints = with_endpoint raw own endpoints }))
+      → (settings : Settings) → Does Gave (λ rest. (profile_of settings).received own raw sdu (serving now (content first) rest)) (λ rest. serving (served new put breaks) (content last) rest) first last
+  received_does old new endpoints put breaks lacks now own psm raw sdu first last view put_is same works k settings =
+      subst (λ (n : Served). Does Gave (λ rest. (profile_of settings).received own raw sdu (serving n (content first) rest)) (λ rest. serving (served new put breaks) (content last) rest) first last) view
+      (subst (λ (es : List Endpoint). Does Gave (λ rest. (profile_of settings).received own raw sdu (serving (served old endpoints breaks) (content first) rest)) (λ rest. serving (served new es breaks) (content last) rest) first last) (sym put_is)
+      (subst (λ (n : ℕ). Does Gave (λ rest. model.reacts (on_sdu n sdu old (record { content = content first; answers = answers_in rest })) (record (serving (served old endpoints breaks) (content first) rest) { endpoints = with_endpoint raw own endpoints }))
       (λ rest. serving (served new (with_endpoint raw own endpoints) breaks) (content last) rest) first last) same
-      (comes_does (on_sdu psm sdu old) new lacks (λ r. record { server = r.server; inbox = r.gift; endpoints = with_endpoint raw own endpoints; breaks = breaks }) first last k)))
+      (comes_does (on_sdu psm sdu old) new lacks (λ r. record { server = r.server; inbox = r.gift; endpoints = with_endpoint raw own endpoints; breaks = breaks }) first last (unfailed_lacked_none.sdu psm sdu old) works k)))
 
   -- ---- an SDU of a PSM that is none
 
@@ -127,17 +143,17 @@ module _ {P : Type 0} (content : P → Option Contents) (faults shortages : P �
 
   pub passed_does : (old : Server) (endpoints put : List Endpoint) (breaks : Bool) (now : Served) (own raw : ℕ) (sdu : List ℕ) (port : P) → served old endpoints breaks ≡ now
       → put ≡ with_endpoint raw own endpoints → (IsPsm raw → ⊥)
-      → (settings : Settings) → Does Asks (λ rest. (profile_of settings).received own raw sdu (serving now (content port) rest)) (λ rest. serving (served old put breaks) (content port) rest) port port
+      → (settings : Settings) → Does Gave (λ rest. (profile_of settings).received own raw sdu (serving now (content port) rest)) (λ rest. serving (served old put breaks) (content port) rest) port port
   passed_does old endpoints put breaks now own raw sdu port view put_is none settings =
-      subst (λ (n : Served). Does Asks (λ rest. (profile_of settings).received own raw sdu (serving n (content port) rest)) (λ rest. serving (served old put breaks) (content port) rest) port port) view
-      (subst (λ (es : List Endpoint). Does Asks (λ rest. (profile_of settings).received own raw sdu (serving (served old endpoints breaks) (content port) rest)) (λ rest. serving (served old es breaks) (content port) rest) port port) (sym put_is)
-      (does_none Asks (joins faults shortages) _ _ port (λ rest. ap (λ (r : Reacted). model.reacts r (record (serving (served old endpoints breaks) (content port) rest) { endpoints = with_endpoint raw own endpoints })) (passes raw sdu old (record { content = content port; answers = answers_in rest }) none))))
+      subst (λ (n : Served). Does Gave (λ rest. (profile_of settings).received own raw sdu (serving n (content port) rest)) (λ rest. serving (served old put breaks) (content port) rest) port port) view
+      (subst (λ (es : List Endpoint). Does Gave (λ rest. (profile_of settings).received own raw sdu (serving (served old endpoints breaks) (content port) rest)) (λ rest. serving (served old es breaks) (content port) rest) port port) (sym put_is)
+      (does_none Gave (joins faults shortages) _ _ port (λ rest. ap (λ (r : Reacted). model.reacts r (record (serving (served old endpoints breaks) (content port) rest) { endpoints = with_endpoint raw own endpoints })) (passes raw sdu old (record { content = content port; answers = answers_in rest }) none))))
 
   -- ---- a step
 
   abbrev steps_to : (v v' : Channels) (server : Server) (endpoints : List Endpoint) (breaks more : Bool) (now : Served) (port : P) → Type 0
   steps_to v v' server endpoints breaks more now port =
-      (settings : Settings) → Does Asks (λ rest. (profile_of settings).steps v (serving now (content port) rest)) (λ rest. record { channels = v'; profile = serving (served server endpoints breaks) (content port) rest; more = more }) port port
+      (settings : Settings) → Does Gave (λ rest. (profile_of settings).steps v (serving now (content port) rest)) (λ rest. record { channels = v'; profile = serving (served server endpoints breaks) (content port) rest; more = more }) port port
 
   abbrev Finds : Option Lent → ℕ → List ℕ → Type 0
   Finds lent psm sdu = (payload : Payload) × (lent ≡ Some (record { psm = psm; payload = payload })) × (sdu ≡ sdu_of payload)
@@ -183,15 +199,15 @@ module _ {P : Type 0} (content : P → Option Contents) (faults shortages : P �
       → new ≡ lends old → IsPsmOf (lent_sdu new) (Some psm) → endpoint_of psm endpoints ≡ None → steps_to v v new endpoints breaks false now port
   unplaced_does old new endpoints breaks now v psm port view is psm_is none settings =
       let found = placed (lent_sdu new) psm psm_is in
-      subst (λ (n : Served). Does Asks (λ rest. (profile_of settings).steps v (serving n (content port) rest)) (λ rest. record { channels = v; profile = serving (served new endpoints breaks) (content port) rest; more = false }) port port) view
-      (does_none Asks (joins faults shortages) _ _ port (λ rest. no_step old new endpoints breaks v psm found.0 (content port) rest is found.1 none))
+      subst (λ (n : Served). Does Gave (λ rest. (profile_of settings).steps v (serving n (content port) rest)) (λ rest. record { channels = v; profile = serving (served new endpoints breaks) (content port) rest; more = false }) port port) view
+      (does_none Gave (joins faults shortages) _ _ port (λ rest. no_step old new endpoints breaks v psm found.0 (content port) rest is found.1 none))
 
   pub waits_does : (old new : Server) (endpoints : List Endpoint) (breaks test : Bool) (now : Served) (v : Channels) (psm own : ℕ) (sdu : List ℕ) (port : P) → served old endpoints breaks ≡ now
       → new ≡ lends old → IsPsmOf (lent_sdu new) (Some psm) → AreLent (lent_sdu new) sdu → IsOctets sdu → endpoint_of psm endpoints ≡ Some own → takes own (length sdu) v ≡ test → test ≡ false → steps_to v v new endpoints breaks false now port
   waits_does old new endpoints breaks test now v psm own sdu port view is psm_is said octets endpoint may off settings =
       let found = finds (lent_sdu new) psm sdu psm_is said in
-      subst (λ (n : Served). Does Asks (λ rest. (profile_of settings).steps v (serving n (content port) rest)) (λ rest. record { channels = v; profile = serving (served new endpoints breaks) (content port) rest; more = false }) port port) view
-      (does_none Asks (joins faults shortages) _ _ port (λ rest. one_step old new endpoints breaks false v psm own sdu found.0 (content port) rest is found.1 found.2 octets endpoint (may ∙ off)))
+      subst (λ (n : Served). Does Gave (λ rest. (profile_of settings).steps v (serving n (content port) rest)) (λ rest. record { channels = v; profile = serving (served new endpoints breaks) (content port) rest; more = false }) port port) view
+      (does_none Gave (joins faults shortages) _ _ port (λ rest. one_step old new endpoints breaks false v psm own sdu found.0 (content port) rest is found.1 found.2 octets endpoint (may ∙ off)))
 
   pub submits_does : (old new after : Server) (endpoints : List Endpoint) (breaks test : Bool) (now : Served) (machine machine' : Machine) (psm own : ℕ) (sdu : List ℕ) (port : P) → served old endpoints breaks ≡ now
       → new ≡ lends old → IsPsmOf (lent_sdu new) (Some psm) → AreLent (lent_sdu new) sdu → IsOctets sdu → endpoint_of psm endpoints ≡ Some own → takes own (length sdu) machine.channels ≡ test → test ≡ true
@@ -199,8 +215,8 @@ module _ {P : Type 0} (content : P → Option Contents) (faults shortages : P �
   submits_does old new after endpoints breaks test now machine machine' psm own sdu port view is psm_is said octets endpoint may on machine_is after_is settings =
       let v = machine.channels in
       let found = finds (lent_sdu new) psm sdu psm_is said in
-      subst (λ (n : Served). Does Asks (λ rest. (profile_of settings).steps v (serving n (content port) rest)) (λ rest. record { channels = machine'.channels; profile = serving (served after endpoints breaks) (content port) rest; more = true }) port port) view
-      (does_none Asks (joins faults shortages) _ _ port (λ rest. one_step old new endpoints breaks true v psm own sdu found.0 (content port) rest is found.1 found.2 octets endpoint (may ∙ on)
+      subst (λ (n : Served). Does Gave (λ rest. (profile_of settings).steps v (serving n (content port) rest)) (λ rest. record { channels = machine'.channels; profile = serving (served after endpoints breaks) (content port) rest; more = true }) port port) view
+      (does_none Gave (joins faults shortages) _ _ port (λ rest. one_step old new endpoints breaks true v psm own sdu found.0 (content port) rest is found.1 found.2 octets endpoint (may ∙ on)
       ∙ ap (λ (w : Channels). record { channels = w; profile = serving (served (stepped new) endpoints breaks) (content port) rest; more = true }) (ap (λ xs. sends own xs v) (sym found.2) ∙ ap (λ (m : Machine). m.channels) (sym machine_is))
       ∙ ap (λ (s : Server). record { channels = machine'.channels; profile = serving (served s endpoints breaks) (content port) rest; more = true }) (sym after_is)))
 

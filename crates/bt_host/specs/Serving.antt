@@ -1,5 +1,6 @@
 -- The end of a server, as its profile (this project's own).
 use Rattle.std.specs.Prelude.{◌≡◌, ◌≤◌, Bool, false, List}
+use Rattle.std.specs.List.{AllByRecursion}
 use Rattle.bt_base.specs.Counts.{HasRisen}
 use Rattle.bt_base.specs.Objects.{Contents}
 use Rattle.bt_base.specs.declared.settings.Settings.{Settings}
@@ -7,6 +8,7 @@ use Rattle.std.specs.Prelude.{Option, None, ℕ}
 use Rattle.obex_session.specs.Counting.{AreCounted, counts_of}
 use Rattle.push_model.specs.Server.{Server}
 use Rattle.push_model.specs.Sessions.{is_pending}
+use Rattle.answer_laws.specs.Memory.{HadMemory}
 use Rattle.push_profile.specs.Serving.{has_failed}
 use Rattle.host_model.specs.Circumstances.{Circumstance, answers_in}
 use Rattle.host_model.specs.Endpoints.{Endpoint}
@@ -40,9 +42,10 @@ pub record Works (end : Served) (pending : Bool) : Type 0 where
 
 -- ---- a server as a host, by what its inbox holds, and by its counts
 
--- both counts say what the inbox answered: where neither rose it granted all calls
-abbrev pub Asks : {P : Type 0} → (faults shortages : P → ℕ) → P → List Circumstance → P → Type 0
-Asks faults shortages first used last = AreCounted (answers_in used) (counts_of faults shortages first) (counts_of faults shortages last)
+-- The inbox gave these answers: both counts say what they are, and none of them is want of memory.
+pub record Asks {P : Type 0} (faults shortages : P → ℕ) (first : P) (used : List Circumstance) (last : P) : Type 0 where
+  pub counted : AreCounted (answers_in used) (counts_of faults shortages first) (counts_of faults shortages last)
+  pub none_short : AllByRecursion HadMemory (answers_in used)
 
 abbrev pub Lacks : {P : Type 0} → (P → ℕ) → P → P → Type 0
 Lacks shortages first last = HasRisen (shortages first) (shortages last) × (shortages first ≤ shortages last)

@@ -13,11 +13,11 @@ use Rattle.btpush_forms.specs.Run.{HasCauses, HasEnded}
 use Rattle.btpush_forms.specs.Words.{AskForTrace, hosted_form}
 use Rattle.btpush_forms.specs.declared.hosted.Hosted.{Hosted}
 use Rattle.h4_view.specs.View.{IsAnswered}
+use Rattle.object_push.specs.Ports.{Ports}
+use Rattle.object_push.specs.Pushing.{Pushes, NotRead}
 use Rattle.making.specs.Making.{IsKnown, Makes, NotMade}
 use Rattle.receiving.specs.Receiving.{Receives}
 use Rattle.receiving.proofs.Beginning.{nothing_received}
-use Rattle.small_push.specs.Plays.{Stocked}
-use Rattle.small_push.specs.Pushing.{Pushes, NotRead}
 
 -- words for a push ask for no other form
 pub not_push : (words : List Text) (form : Form) → AsksFor words Push → (form ≡ Push → ⊥) → AsksFor words form → ⊥
@@ -37,10 +37,10 @@ pub push_traces : (words : List Text) → AsksFor words Push → AskForTrace wor
 push_traces words asks = (Push, tt, asks)
 
 -- there was no memory to read the words
-pub nothing_pushed : (content left : Option (List ℕ)) (stock : Stocked) (sink sink' trace trace' : Option (List ℕ)) (failed untouched : Type 0) (result : Status) → result ≡ NoMemory → left ≡ content → sink' ≡ sink → trace' ≡ trace → untouched
-    → IfSome content (λ input. Pushes input stock stock left sink sink' trace trace' failed untouched result)
-nothing_pushed None left stock sink sink' trace trace' failed untouched result is same_source same_sink same_trace same = tt
-nothing_pushed (Some input) left stock sink sink' trace trace' failed untouched result is same_source same_sink same_trace same = rw (is, same_source, same_sink, same_trace) (NotRead 0 refl refl same tt)
+pub nothing_pushed : (content left : Option (List ℕ)) (old new : Ports) (Untouched : Type 0) (result : Status) → result ≡ NoMemory → left ≡ content → new.sink.content ≡ old.sink.content → Untouched
+    → IfSome content (λ input. Pushes input left old new Untouched result)
+nothing_pushed None left old new Untouched result is same_source same_sink same = tt
+nothing_pushed (Some input) left old new Untouched result is same_source same_sink same = rw (is, same_source) (NotRead 0 refl same_sink same tt)
 
 pub receives_nothing : (source sink trace : Option (List ℕ)) (inbox : Option Contents) (source' sink' trace' : Option (List ℕ)) (result : Status) → result ≡ NoMemory → source' ≡ source → sink' ≡ sink → trace' ≡ trace
     → Receives source source' sink sink' trace trace' inbox inbox result

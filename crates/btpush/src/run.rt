@@ -8,10 +8,10 @@ ghost use Rattle.btpush_forms.specs.Run.{Decodes, RefusesWords, HasCauses, HasEn
 ghost use Rattle.btpush_forms.specs.Words.{AskForTrace, AskToMake};
 ghost use Rattle.btpush_forms.specs.Snooping.{Snoops};
 ghost use Rattle.btpush_forms.specs.Carrying.{IsWell};
-ghost use Rattle.btpush.specs.Ports.{PushesOver};
 ghost use Rattle.command_words.specs.Forms.{AsksFor, AsksForNone};
 ghost use Rattle.making.specs.Making.{Makes};
 ghost use Rattle.object_push.specs.Ports.{ports_of};
+ghost use Rattle.object_push.specs.Pushing.{IsShort, Pushes};
 ghost use Rattle.receiving.specs.Ports as received;
 ghost use Rattle.receiving.specs.Ports.{LacksMemory};
 ghost use Rattle.receiving.specs.Receiving.{Receives};
@@ -22,9 +22,9 @@ use bt_base::{Inbox, Shelf, Sink, Source};
 use btpush_forms::{Hosted, Status, Viewing, run_alone};
 use command_words::Form;
 use making::make;
+use object_push::push;
 use push_terms::Side;
 use receiving::receive;
-use small_push::push;
 use std::alloc::Global;
 
 /// Runs the program on these words, over these ports. The first word is the program's name and is
@@ -57,9 +57,9 @@ pub fn run<S: Source, K: Sink, T: Sink, F: Shelf, B: Inbox>(
     ensures decode { AsksFor (map string_bytes words.now.items) Form.Decode → IfSome (S.content source.old) (λ input. Decodes Viewing.Raw input (S.content source.new) (K.content sink.old) (K.content sink.new) result) }
     ensures decode_tagged { AsksFor (map string_bytes words.now.items) Form.DecodeTagged → IfSome (S.content source.old) (λ input. Decodes Viewing.Tagged input (S.content source.new) (K.content sink.old) (K.content sink.new) result) }
     ensures decode_snoop { AsksFor (map string_bytes words.now.items) Form.DecodeSnoop → IfSome (S.content source.old) (λ input. Decodes Viewing.Snoop input (S.content source.new) (K.content sink.old) (K.content sink.new) result) }
-    // `push` runs the scenario that the input is, or tells why it is none. Where it stops short, the whole entries in the
-    // trace are those of a run so far: both hosts kept within the buffers, and the air to the script.
-    ensures push { AsksFor (map string_bytes words.now.items) Form.Push → IfSome (S.content source.old) (λ input. let at = ports_of K.Sink T.Sink F.Shelf B.Inbox in PushesOver input (S.content source.new) (at sink.old trace.old shelf.old inbox.old) (at sink.new trace.new shelf.new inbox.new) ((trace.new ≡ trace.old) × (shelf.new ≡ shelf.old) × (inbox.new ≡ inbox.old)) result) }
+    // `push` runs the scenario that the input is, or tells why it is none. The trace gains the capture of the run, or what there was of it where it
+    // stopped short, and all that is said of the run is said over that capture: what the inbox gained, what was reported, and what both hosts kept to.
+    ensures push { AsksFor (map string_bytes words.now.items) Form.Push → IfSome (S.content source.old) (λ input. let at = ports_of K.Sink T.Sink F.Shelf B.Inbox in Pushes input (S.content source.new) (at sink.old trace.old shelf.old inbox.old) (at sink.new trace.new shelf.new inbox.new) ((trace.new ≡ trace.old) × (shelf.new ≡ shelf.old) × (inbox.new ≡ inbox.old)) result) }
     // `receive` feeds the input to a host: the sink gains what this says, and the inbox what it stores. It wants memory before
     // anything happens, or where a port found none.
     ensures receive { AsksFor (map string_bytes words.now.items) Form.Receive → Receives (S.content source.old) (S.content source.new) (K.content sink.old) (K.content sink.new) (T.content trace.old) (T.content trace.new) (B.content inbox.old) (B.content inbox.new) result }
@@ -80,12 +80,12 @@ pub fn run<S: Source, K: Sink, T: Sink, F: Shelf, B: Inbox>(
     ensures finish_push { AsksFor (map string_bytes words.now.items) Form.Push → HasEnded result → IfSome (S.content source.new) (λ left. left ≡ []) }
     // Each fault has its cause.
     ensures causes { HasCauses (S.faults source.old) (S.faults source.new) (K.faults sink.old) (K.faults sink.new) (T.faults trace.old) (T.faults trace.new) result }
-    // A shortage of memory of a port is answered.
+    // A shortage of memory of a port is answered, one of shelf or inbox by `WriteFault` where the trace failed too.
     ensures source_short { IsAnswered (S.shortages source.old) (S.shortages source.new) (result ≡ Status.NoMemory) }
     ensures sink_short { IsAnswered (K.shortages sink.old) (K.shortages sink.new) (result ≡ Status.NoMemory) }
     ensures trace_short { IsAnswered (T.shortages trace.old) (T.shortages trace.new) (result ≡ Status.NoMemory) }
-    ensures shelf_short { IsAnswered (F.shortages shelf.old) (F.shortages shelf.new) (result ≡ Status.NoMemory) }
-    ensures inbox_short { (AsksFor (map string_bytes words.now.items) Form.Receive → ⊥) → IsAnswered (B.shortages inbox.old) (B.shortages inbox.new) (result ≡ Status.NoMemory) }
+    ensures shelf_short { IsAnswered (F.shortages shelf.old) (F.shortages shelf.new) (IsShort (T.faults trace.old) (T.faults trace.new) result) }
+    ensures inbox_short { (AsksFor (map string_bytes words.now.items) Form.Receive → ⊥) → IsAnswered (B.shortages inbox.old) (B.shortages inbox.new) (IsShort (T.faults trace.old) (T.faults trace.new) result) }
     ensures inbox_stays { B.shortages inbox.old ≤ B.shortages inbox.new }
     // The objects on the shelf stay, and no count of shelf and inbox falls (of the inbox's faults, but for `receive`).
     ensures shelf_content { F.content shelf.new ≡ F.content shelf.old }

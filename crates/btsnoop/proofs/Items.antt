@@ -9,7 +9,8 @@ use Rattle.h4_framing.proofs.OctetLists.{IsOctets-drop, IsOctets-take}
 use Rattle.btsnoop.specs.declared.fields.Part.TheVariants.{Header, Body}
 use Rattle.btsnoop.specs.Files.{Record, IsRecord, identification, version, uart_datalink, file_header, record_octets}
 use Rattle.btsnoop.specs.Fields.{field, fault_in, told_length, record_at}
-use Rattle.btsnoop.proofs.Parts.{long_front, header_parts, record_parts}
+use Rattle.tagged_entries.proofs.LongNumbers.{long_front}
+use Rattle.btsnoop.proofs.Parts.{header_parts, record_parts}
 use Rattle.btsnoop.proofs.FieldLemmas.{sound_header, header_sound, head_is, sound_body, body_sound, told_body}
 
 -- ---- from the octets

@@ -1,8 +1,9 @@
 -- One member more, and a history in two parts.
-use Rattle.std.proofs.Common.{◌≡◌, ℕ, ◌+◌, ◌<◌, List, [], ◌∷◌, ◌++◌, length, map, take, get_or, inl, inr, sym, ap, subst, ◌∙◌, length-append, arith}
+use Rattle.std.proofs.Common.{◌≡◌, ℕ, ◌+◌, ◌<◌, List, [], ◌∷◌, ◌++◌, length, map, take, get_or, inl, inr, Option, Some, None, refl, sym, ap, subst, ◌∙◌, length-append, arith}
+use Rattle.std.specs.Option.{option_or}
 use Rattle.std.proofs.lemmas.List.{map-append, take_more, append_assoc, append-nil, take_all, take-append-le}
 use Rattle.std.proofs.lemmas.Bool.{cases_lt}
-use Rattle.capture.specs.Histories.{each_after, given_by, led_by, EachAfter, AtEach}
+use Rattle.capture.specs.Histories.{each_after, given_by, led_by, EachAfter, AtEach, last_of}
 
 -- what a history in two parts gives
 pub each_after-append : {X Y : Type 0} (given : List X → X → List Y) (past xs ys : List X)
@@ -73,3 +74,18 @@ pub given_by-turn : {L X Y : Type 0} (given : List X → X → List Y) (view : L
     → after ≡ given_by given (map view (take (i + 1) raw))
 given_by-turn given view raw i d before after now below so_far grown gives =
     grown ∙ (ap (λ xs. xs ++ now) so_far ∙ (ap (λ xs. given_by given (map view (take i raw)) ++ xs) gives ∙ sym (given_by-front given view raw i d below)))
+
+-- ---- the last of a list
+
+either_or : {X : Type 0} (x y z : Option X) → option_or (option_or x y) z ≡ option_or x (option_or y z)
+either_or None y z = refl
+either_or (Some x) y z = refl
+
+none_or : {X : Type 0} (x : Option X) → option_or x None ≡ x
+none_or None = refl
+none_or (Some x) = refl
+
+-- the last of two lists, one behind the other
+pub last_of-append : {X : Type 0} (xs ys : List X) → last_of (xs ++ ys) ≡ option_or (last_of ys) (last_of xs)
+last_of-append [] ys = sym (none_or (last_of ys))
+last_of-append (x ∷ xs) ys = ap (λ found. option_or found (Some x)) (last_of-append xs ys) ∙ either_or (last_of ys) (last_of xs) (Some x)

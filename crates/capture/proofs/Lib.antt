@@ -1,10 +1,6 @@
 pub mod HistoryLaws
 pub mod MoreLaws
-pub mod ClosingLaws
 pub mod Completing
-pub mod Opening
-pub mod Hearing
-pub mod Moding
 pub mod EntryLaws
 pub mod FrontLaws
 pub mod OneFront

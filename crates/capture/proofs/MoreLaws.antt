@@ -13,12 +13,8 @@ use Rattle.capture.specs.Moves.{move_of}
 use Rattle.capture.specs.Links.{after_move, no_links}
 use Rattle.capture.specs.Buffers.{buffer_events}
 use Rattle.capture.specs.Pdus.{completed, pdus}
-use Rattle.capture.specs.Talk.{said_by}
-use Rattle.capture.specs.Channels.{born, with_new}
-use Rattle.capture.specs.Hearing.{heard}
-use Rattle.capture.specs.Air.{after_entry, no_air, KeepsTo}
-use Rattle.capture.specs.Laws.{MovesMore, LinksMore, OutstandingMore, PdusMore, TalkMore, ChannelsMore, HeardMore, AirMore, KeepsMore, OctetsInParts, MovesInParts, LinksInParts}
-use Rattle.capture.proofs.HistoryLaws.{given_by-more, led_by-append, each_after-more}
+use Rattle.capture.specs.Laws.{MovesMore, LinksMore, OutstandingMore, PdusMore, OctetsInParts, MovesInParts, LinksInParts}
+use Rattle.capture.proofs.HistoryLaws.{given_by-more}
 
 one_or_none : {X : Type 0} (x : Option X) → cons_option x [] ≡ option_to_list x
 one_or_none None = refl
@@ -37,21 +33,6 @@ outstanding-more link move =
 
 pub pdus-more : PdusMore
 pdus-more link move = given_by-more (completed link.handle) link.moves move
-
-pub talk-more : TalkMore
-talk-more link move = ap (flat_map said_by) (pdus-more link move) ∙ flat_map-append said_by (pdus link) (completed link.handle link.moves move)
-
-pub channels-more : ChannelsMore
-channels-more said more = ap (fold with_new []) (given_by-more born said more) ∙ fold-append with_new [] (given_by born said) (born said more)
-
-pub heard-more : HeardMore
-heard-more said more = given_by-more heard said more
-
-pub air-more : AirMore
-air-more size entries entry = led_by-append (after_entry size) [] no_air entries (entry ∷ [])
-
-pub keeps-more : KeepsMore
-keeps-more size script entries entry before now = each_after-more (KeepsTo size script) entries entry before now
 
 pub octets-in_parts : OctetsInParts
 octets-in_parts first second = flat_map-append entry_octets first second

@@ -1,5 +1,6 @@
 -- Histories: lists of what happened, the first first (this project's own).
-use Rattle.std.specs.Prelude.{ℕ, List, [], ◌∷◌, ◌++◌, take}
+use Rattle.std.specs.Prelude.{ℕ, List, [], ◌∷◌, ◌++◌, take, Option, Some, None}
+use Rattle.std.specs.Option.{option_or}
 
 -- what each member of a history gives after those before it, one after the other
 abbrev pub each_after : {X Y : Type 0} → (List X → X → List Y) → List X → List X → List Y
@@ -23,3 +24,8 @@ EachAfter P past (x ∷ rest) = P past x × EachAfter P (past ++ x ∷ []) rest
 -- something holds at each moment of a history: of each of its fronts
 abbrev pub AtEach : {X : Type 0} → (List X → Type 0) → List X → Type 0
 AtEach P history = (n : ℕ) → P (take n history)
+
+-- the last of a list
+abbrev pub last_of : {X : Type 0} → List X → Option X
+last_of [] = None
+last_of (x ∷ xs) = option_or (last_of xs) (Some x)

@@ -1,21 +1,15 @@
 -- What code holds, apart from where its octets lie in memory.
 use Rattle.std.specs.Prelude.{List, map}
 use Rattle.h4_framing.specs.Packets.{packet}
-use Rattle.l2cap_signal.specs.Commands.{command}
 use Rattle.capture.specs.declared.entry.Entry.{Entry as LentEntry}
 use Rattle.capture.specs.declared.entry.Entry.TheVariants as lent
 use Rattle.capture.specs.declared.readers.Move.{Move as LentMove}
 use Rattle.capture.specs.declared.readers.Link.{Link as LentLink}
 use Rattle.capture.specs.declared.readers.Pdu.{Pdu as LentPdu}
-use Rattle.capture.specs.declared.readers.Talk.{Talk as LentTalk}
-use Rattle.capture.specs.declared.readers.Talk.TheVariants as said
-use Rattle.capture.specs.declared.readers.Heard.{Heard as LentHeard}
 use Rattle.capture.specs.Entries.{Entry, Moved, Acted, Begun, Ended}
 use Rattle.capture.specs.Moves.{Move}
 use Rattle.capture.specs.Links.{Link}
 use Rattle.capture.specs.Pdus.{Pdu}
-use Rattle.capture.specs.Talk.{Talk, Signal, Payload}
-use Rattle.capture.specs.Hearing.{Heard}
 
 abbrev pub plain_entry : LentEntry → Entry
 plain_entry (lent.Moved side flow unit) = Moved side flow (packet unit)
@@ -37,10 +31,3 @@ plain_link link = record { handle = link.handle; moves = plain_moves link.moves.
 
 abbrev pub plain_pdu : LentPdu → Pdu
 plain_pdu pdu = record { flow = pdu.flow; octets = pdu.octets.items }
-
-abbrev pub plain_talk : LentTalk → Talk
-plain_talk (said.Signal flow signal) = Signal flow (command signal)
-plain_talk (said.Payload flow endpoint octets) = Payload flow endpoint octets.now
-
-abbrev pub plain_heard : LentHeard → Heard
-plain_heard heard = record { channel = heard.channel; octets = heard.octets.now }

@@ -3,7 +3,7 @@
 ghost use Rattle.capture.specs.EntryLaws.{NoEntryBeginsAnother, OneCapture};
 ghost use Rattle.capture.specs.EntryReading.{OneFront};
 ghost use Rattle.capture.specs.CaptureReading.{OneReading};
-ghost use Rattle.capture.specs.Laws.{MovesMore, LinksMore, OutstandingMore, PdusMore, TalkMore, ChannelsMore, ChannelsWithin, ClosedMore, HeardMore, AirMore, KeepsMore, OctetsInParts, MovesInParts, LinksInParts, EntryLinksMore, WithinMore, PeakMore, OpenedMore, OwnModeMore, PartsMore, PacketsMore, SpokenMore, ObjectsMore, ExchangesMore, UnderWayMore, WordsMore};
+ghost use Rattle.capture.specs.Laws.{MovesMore, LinksMore, OutstandingMore, PdusMore, OctetsInParts, MovesInParts, LinksInParts, EntryLinksMore, WithinMore, PeakMore, UnderWayMore, WordsMore};
 
 /// One entry more is a packet of its host, or none.
 pub fn entry_is_packet_or_none()
@@ -25,41 +25,6 @@ pub fn packet_completes_pdus()
     ensures { PdusMore }
 {}
 
-/// What is said on a link with one packet more.
-pub fn packet_says_more()
-    ensures { TalkMore }
-{}
-
-/// The channels of a link with one thing more that is said.
-pub fn channels_with_more()
-    ensures { ChannelsMore }
-{}
-
-/// A channel stands where something was said.
-pub fn channels_stand_within()
-    ensures { ChannelsWithin }
-{}
-
-/// A closed channel stays closed.
-pub fn closed_stays_closed()
-    ensures { ClosedMore }
-{}
-
-/// What is heard with one thing more that is said.
-pub fn heard_with_more()
-    ensures { HeardMore }
-{}
-
-/// The air after one entry more.
-pub fn air_with_more()
-    ensures { AirMore }
-{}
-
-/// An entry more keeps to the script where it does so after those before it.
-pub fn rules_with_more()
-    ensures { KeepsMore }
-{}
-
 /// One entry more leads the links of a host on where it is a packet of the host.
 pub fn entry_leads_links_on()
     ensures { EntryLinksMore }
@@ -73,41 +38,6 @@ pub fn buffers_stay_within()
 /// The peak of the buffers with one entry more.
 pub fn peak_with_more()
     ensures { PeakMore }
-{}
-
-/// The channels that were opened with one thing more that is said.
-pub fn opened_with_more()
-    ensures { OpenedMore }
-{}
-
-/// The mode that a host asks for with one thing more that is said.
-pub fn own_mode_with_more()
-    ensures { OwnModeMore }
-{}
-
-/// The options that a host accepted with one thing more that is said.
-pub fn parts_with_more()
-    ensures { PartsMore }
-{}
-
-/// The packets that are heard with one thing more that is said.
-pub fn packets_with_more()
-    ensures { PacketsMore }
-{}
-
-/// The packets both ways with one thing more that is said.
-pub fn spoken_with_more()
-    ensures { SpokenMore }
-{}
-
-/// The objects with one packet more.
-pub fn objects_with_more()
-    ensures { ObjectsMore }
-{}
-
-/// The exchanges with one packet more.
-pub fn exchanges_with_more()
-    ensures { ExchangesMore }
 {}
 
 /// The push that is under way after one entry more.

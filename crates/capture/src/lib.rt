@@ -1,9 +1,8 @@
-//! What a capture of two hosts says: which packets moved, which links and channels there were, what
-//! each host heard, and which objects that spells.
+//! What a capture of two hosts says: which packets moved, which links there were, which PDUs crossed them, and what was
+//! outstanding.
 #![tactic(auto)]
 
 mod capture_reading;
-mod channel;
 mod entry;
 mod entry_refusal;
 mod flow;
@@ -13,7 +12,6 @@ mod reading;
 mod writing;
 
 pub use capture_reading::entries_of;
-pub use channel::Channel;
 pub use entry::Entry;
 pub use entry_refusal::{CaptureFault, EntryRefusal};
 pub use flow::Flow;

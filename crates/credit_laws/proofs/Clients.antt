@@ -1,23 +1,19 @@
 -- A client pays for what it sends with what its peer grants it.
-use Rattle.std.proofs.Common.{arith, ◌≡◌, ◌≤◌, ◌<◌, ◌⊎◌, inl, inr, ℕ, ◌==◌, Bool, true, false, ◌&&◌, cond, List, [], ◌∷◌, ◌++◌, map, drop, length, Option, Some, None, Result, Ok, Err, refl, sym, ap, subst, ◌∙◌, append-nil, append_assoc}
+use Rattle.std.proofs.Common.{◌≡◌, ◌<◌, ℕ, ◌==◌, Bool, true, false, ◌&&◌, cond, List, [], ◌∷◌, ◌++◌, map, drop, length, Option, Some, None, Result, Ok, Err, refl, sym, ap, subst, ◌∙◌, append-nil, append_assoc}
 use Rattle.std.specs.Prelude.{not}
-use Rattle.std.specs.List.{flat_map, cons_option}
+use Rattle.std.specs.List.{flat_map}
 use Rattle.bt_base.specs.declared.ports.PortFault.{PortFault}
 use Rattle.bt_base.specs.declared.settings.Transport.{Transport}
 use Rattle.bt_base.specs.declared.settings.Transport.TheVariants.{L2cap, Rfcomm}
 use Rattle.push_terms.specs.declared.outcome.Outcome.{Outcome}
 use Rattle.rfcomm_frames.specs.declared.connection.Role.TheVariants.{Initiator, Responder}
-use Rattle.rfcomm_frames.specs.Answers.{Answer}
-use Rattle.rfcomm_frames.specs.Ending.{no_course, has_last, to_closing}
 use Rattle.rfcomm_frames.specs.Frames.{PlainFrame}
 use Rattle.rfcomm_frames.specs.FrameReading.{frame_answer, is_empty}
-use Rattle.rfcomm_frames.specs.Multiplexing.{Framed, framed, no_connections, granted, spent}
+use Rattle.rfcomm_frames.specs.Multiplexing.{Framed}
 use Rattle.rfcomm_model.specs.Hearing.{up, hears}
 use Rattle.rfcomm_model.specs.Machine.{Mux, is_ready, taken_count, sends, leaves}
 use Rattle.rfcomm_model.specs.Saying.{Said, next}
 use Rattle.rfcomm_model.specs.Sides.{heard_frame}
-use Rattle.rfcomm_model.proofs.Ended.{to_all, to_more, to_over}
-use Rattle.rfcomm_model.proofs.Reading.{granted_more, spent_more, peer_spends}
 use Rattle.push_model.specs.declared.course.Contact.TheVariants.{Closing}
 use Rattle.push_model.specs.declared.course.Point.{Point}
 use Rattle.push_model.specs.declared.course.Point.TheVariants.{Due, Asked}
@@ -35,62 +31,31 @@ use Rattle.push_laws.specs.Parties.{sdu_if}
 use Rattle.push_laws.proofs.Driving.{Stays, up_stays, news_stays, cancels_stays, requests_same}
 use Rattle.push_laws.proofs.Late.{IsLate, by_late, Anchor, anchor_of, all_late}
 use Rattle.credit_laws.specs.Clients.{own_frame, framed_by, all_framed, ClientsAreCovered}
-use Rattle.credit_laws.proofs.Paying.{Pays, Owes, Over as IsOver, hears_pays, says_pays, sends_pays, leaves_pays, new_pays}
-
-abbrev Paid : ℕ → List Framed → Type 0
-Paid d fs = spent d Initiator (to_closing d Initiator no_course fs) ≤ granted d Initiator no_connections (to_closing d Initiator no_course fs)
-
--- ---- a frame that comes grants
-
-heard_more : (d : ℕ) (fs : List Framed) (f : PlainFrame) → Paid d fs → Paid d (fs ++ record { from = Responder; frame = f } ∷ [])
-heard_more d fs f paid = by (has_last d Initiator no_course fs) refl
-  where
-    by : (b : Bool) → has_last d Initiator no_course fs ≡ b → Paid d (fs ++ record { from = Responder; frame = f } ∷ [])
-    by true over = subst (λ (xs : List Framed). spent d Initiator xs ≤ granted d Initiator no_connections xs) (sym (to_over d Initiator no_course fs (record { from = Responder; frame = f } ∷ []) over)) paid
-    by false none =
-        let before : spent d Initiator fs ≤ granted d Initiator no_connections fs = subst (λ (xs : List Framed). spent d Initiator xs ≤ granted d Initiator no_connections xs) (to_all d Initiator no_course fs none) paid in
-        let spends = spent_more d Initiator fs (record { from = Responder; frame = f }) in
-        let grants = granted_more d Initiator no_connections fs (record { from = Responder; frame = f }) in
-        let nothing = peer_spends d Initiator f in
-        subst (λ (xs : List Framed). spent d Initiator xs ≤ granted d Initiator no_connections xs) (sym (to_more d Initiator no_course fs (record { from = Responder; frame = f }) none)) (omega (arith, before, spends, grants, nothing))
-
-heard_paid : (d : ℕ) (fs : List Framed) (a : Answer) → Paid d fs → Paid d (fs ++ heard_frame Responder a)
-heard_paid d fs (Ok f) paid = heard_more d fs f paid
-heard_paid d fs (Err refusal) paid = subst (Paid d) (sym (append-nil fs)) paid
-
-pays_paid : (d : ℕ) (m : Mux) (fs : List Framed) → Pays d Initiator m fs → Paid d fs
-pays_paid d m fs p = by p.state
-  where
-    by : Owes d Initiator m fs ⊎ IsOver d Initiator fs → Paid d fs
-    by (inl o) = let held = o.held_is in subst (λ (xs : List Framed). spent d Initiator xs ≤ granted d Initiator no_connections xs) (sym (to_all d Initiator no_course fs o.open_still)) (omega (arith, held))
-    by (inr over) = over.paid
-
-frame_is : (a : Answer) → cons_option (framed Responder a) [] ≡ heard_frame Responder a
-frame_is (Ok f) = refl
-frame_is (Err refusal) = refl
+use Rattle.credit_laws.proofs.Paying.{Paid}
+use Rattle.credit_laws.proofs.Aside.{heard_paid, PaysOn, hears_on, says_on, sends_on, leaves_on, on_paid, new_on}
 
 -- ---- a step on the channel of the object
 
 module _ (d : ℕ) (some : 0 < d) (fs : List Framed) where
   abbrev At : Client → Type 0
-  At client = Pays d Initiator client.mux fs
+  At client = PaysOn d client.mux fs
 
   abbrev Then : Stepped → Type 0
-  Then s = Pays d Initiator s.client.mux (fs ++ map own_frame (frames_of s.step))
+  Then s = PaysOn d s.client.mux (fs ++ map own_frame (frames_of s.step))
 
-  none_then : (m : Mux) → Pays d Initiator m fs → Pays d Initiator m (fs ++ [])
-  none_then m p = subst (Pays d Initiator m) (sym (append-nil fs)) p
+  none_then : (m : Mux) → PaysOn d m fs → PaysOn d m (fs ++ [])
+  none_then m p = subst (PaysOn d m) (sym (append-nil fs)) p
 
   fills : (client : Client) → At client → At (filled client)
   fills client p = by (is_ready client.mux && not (is_empty client.rest))
     where
       by : (b : Bool) → At (cond b (record client { mux = sends client.rest client.mux; rest = drop (taken_count (length client.rest) client.mux) client.rest }) client)
-      by true = sends_pays d Initiator client.rest client.mux fs p
+      by true = sends_on d client.rest client.mux fs p
       by false = p
 
   said_then : (said : Option Said) (client : Client) (parts : List Part) → next client.mux ≡ said → At client → Then (said_by said client parts)
   said_then None client parts is p = none_then client.mux p
-  said_then (Some said) client parts is p = says_pays d Initiator client.mux said fs some is p
+  said_then (Some said) client parts is p = says_on d client.mux said fs some is p
 
   says_then : (client : Client) (parts : List Part) → At client → Then (says client parts)
   says_then client parts p = let full = filled client in said_then (next full.mux) full parts refl (fills client p)
@@ -102,14 +67,14 @@ module _ (d : ℕ) (some : 0 < d) (fs : List Framed) where
   through_then : (ask : Ask) (client : Client) (parts : List Part) → At client → Then (asks_through ask client parts)
   through_then ask client parts p =
       let request = requests ask (record client { rest = [] }) parts in
-      by (takes_some client.mux) (sent_then request.outcome request (subst (λ (m : Mux). Pays d Initiator m fs) (sym (requests_same client.mux ask (record client { rest = [] }) parts refl)) p))
+      by (takes_some client.mux) (sent_then request.outcome request (subst (λ (m : Mux). PaysOn d m fs) (sym (requests_same client.mux ask (record client { rest = [] }) parts refl)) p))
     where
       by : (b : Bool) → Then (let request = requests ask (record client { rest = [] }) parts in sends_muxed request.outcome request) → Then (cond b (let request = requests ask (record client { rest = [] }) parts in sends_muxed request.outcome request) (rests client parts))
       by true t = t
       by false t = none_then client.mux p
 
   muxed_then : (ask : Ask) (client : Client) (parts : List Part) → At client → Then (asks_muxed ask client parts)
-  muxed_then Close client parts p = says_then (record client { mux = leaves client.mux; contact = Closing }) parts (leaves_pays d Initiator client.mux fs p)
+  muxed_then Close client parts p = says_then (record client { mux = leaves client.mux; contact = Closing }) parts (leaves_on d client.mux fs p)
   muxed_then Nothing client parts p = none_then client.mux p
   muxed_then Connect client parts p = through_then Connect client parts p
   muxed_then Put client parts p = through_then Put client parts p
@@ -129,15 +94,15 @@ module _ (d : ℕ) (some : 0 < d) (fs : List Framed) where
 
 -- ---- a client
 
-record State (d : ℕ) (client : Client) (fs : List Framed) : Type 0 where
-  late : IsLate client.stage
-  muxed : client.transport ≡ Rfcomm
-  psm_is : client.psm ≡ rfcomm_psm
-  open_pays : is_object client.stage ≡ true → Pays d Initiator client.mux fs
-  paid : Paid d fs
+pub record State (d : ℕ) (client : Client) (fs : List Framed) : Type 0 where
+  pub late : IsLate client.stage
+  pub muxed : client.transport ≡ Rfcomm
+  pub psm_is : client.psm ≡ rfcomm_psm
+  pub open_pays : is_object client.stage ≡ true → PaysOn d client.mux fs
+  pub paid : Paid d Initiator fs
 
 -- behind a deed it is late still, with its channel
-after_deed : (d : ℕ) (deed : Deed) (client : Client) (fs new : List Framed) → State d client fs → (is_object (done deed client).stage ≡ true → Pays d Initiator (done deed client).mux new) → Paid d new → State d (done deed client) new
+after_deed : (d : ℕ) (deed : Deed) (client : Client) (fs new : List Framed) → State d client fs → (is_object (done deed client).stage ≡ true → PaysOn d (done deed client).mux new) → Paid d Initiator new → State d (done deed client) new
 after_deed d deed client fs new s pays paid =
     let late = all_late (anchor_of client) (deed ∷ []) client (s.late, refl) in
     record {
@@ -151,7 +116,7 @@ after_deed d deed client fs new s pays paid =
 -- the multiplexer is as it was
 still_deed : (d : ℕ) (deed : Deed) (client : Client) (fs : List Framed) → State d client fs → (is_object (done deed client).stage ≡ true → is_object client.stage ≡ true) → (done deed client).mux ≡ client.mux → State d (done deed client) (fs ++ [])
 still_deed d deed client fs s was same =
-    subst (State d (done deed client)) (sym (append-nil fs)) (after_deed d deed client fs fs s (λ here. subst (λ (m : Mux). Pays d Initiator m fs) (sym same) (s.open_pays (was here))) s.paid)
+    subst (State d (done deed client)) (sym (append-nil fs)) (after_deed d deed client fs fs s (λ here. subst (λ (m : Mux). PaysOn d m fs) (sym same) (s.open_pays (was here))) s.paid)
 
 start : (client : Client) → IsLate client.stage → Stays client.mux client.rest (is_object client.stage) client
 start client late = (late, (λ e. e), refl, refl)
@@ -179,18 +144,18 @@ sdu_open d at sdu client fs some s here = by (at == rfcomm_psm) refl
         let after : done (Hears (events.Sdu at sdu)) client ≡ hears_up (up sdu client.mux) heard = hears_it ∙ ap (λ (b : Bool). cond b (hears_up (up sdu client.mux) heard) client) is in
         let new : List Framed = fs ++ (heard_frame Responder (frame_answer sdu) ++ []) in
         let stays = up_stays (hears sdu client.mux) client.rest (is_object client.stage) (up sdu client.mux) heard (s.late, (λ e. e), refl, refl) in
-        let pays : Pays d Initiator (hears sdu client.mux) new =
-        subst (Pays d Initiator (hears sdu client.mux)) (ap (λ (xs : List Framed). fs ++ xs) (frame_is (frame_answer sdu) ∙ sym (append-nil (heard_frame Responder (frame_answer sdu)))))
-        (hears_pays d Initiator sdu client.mux fs some (s.open_pays (ap is_object here))) in
+        let pays : PaysOn d (hears sdu client.mux) new =
+        subst (PaysOn d (hears sdu client.mux)) (ap (λ (xs : List Framed). fs ++ xs) (sym (append-nil (heard_frame Responder (frame_answer sdu)))))
+        (hears_on d sdu client.mux fs some (s.open_pays (ap is_object here))) in
         after_deed d (Hears (events.Sdu at sdu)) client fs new s
-        (λ there. subst (λ (c : Client). Pays d Initiator c.mux new) (sym after) (subst (λ (m : Mux). Pays d Initiator m new) (sym stays.2) pays))
-        (pays_paid d (hears sdu client.mux) new pays)
+        (λ there. subst (λ (c : Client). PaysOn d c.mux new) (sym after) (subst (λ (m : Mux). PaysOn d m new) (sym stays.2) pays))
+        (on_paid d (hears sdu client.mux) new pays)
 
-sdu_paid : (d : ℕ) (fs : List Framed) (b : Bool) (sdu : List ℕ) → Paid d fs → Paid d (fs ++ flat_map (λ x. heard_frame Responder (frame_answer x)) (sdu_if b sdu))
-sdu_paid d fs true sdu paid = subst (λ (xs : List Framed). Paid d (fs ++ xs)) (sym (append-nil (heard_frame Responder (frame_answer sdu)))) (heard_paid d fs (frame_answer sdu) paid)
-sdu_paid d fs false sdu paid = subst (Paid d) (sym (append-nil fs)) paid
+sdu_paid : (d : ℕ) (fs : List Framed) (b : Bool) (sdu : List ℕ) → Paid d Initiator fs → Paid d Initiator (fs ++ flat_map (λ x. heard_frame Responder (frame_answer x)) (sdu_if b sdu))
+sdu_paid d fs true sdu paid = subst (λ (xs : List Framed). Paid d Initiator (fs ++ xs)) (sym (append-nil (heard_frame Responder (frame_answer sdu)))) (heard_paid d fs (frame_answer sdu) paid)
+sdu_paid d fs false sdu paid = subst (Paid d Initiator) (sym (append-nil fs)) paid
 
-sdu_late : (d : ℕ) (at : ℕ) (sdu : List ℕ) (client : Client) (fs new : List Framed) → State d client fs → Paid d new → is_object client.stage ≡ false → done (Hears (events.Sdu at sdu)) client ≡ client → State d (done (Hears (events.Sdu at sdu)) client) new
+sdu_late : (d : ℕ) (at : ℕ) (sdu : List ℕ) (client : Client) (fs new : List Framed) → State d client fs → Paid d Initiator new → is_object client.stage ≡ false → done (Hears (events.Sdu at sdu)) client ≡ client → State d (done (Hears (events.Sdu at sdu)) client) new
 sdu_late d at sdu client fs new s paid off same =
     after_deed d (Hears (events.Sdu at sdu)) client fs new s
     (λ here. let never : false ≡ true = sym off ∙ (ap (λ (c : Client). is_object c.stage) (sym same) ∙ here) in absurd cc) paid
@@ -222,15 +187,15 @@ record Aside (client : Client) (s : Stepped) : Type 0 where
   here : is_object s.client.stage ≡ true → is_object client.stage ≡ true
 
 record Stepping (d : ℕ) (client : Client) (fs : List Framed) (s : Stepped) : Type 0 where
-  open_pays : is_object s.client.stage ≡ true → Pays d Initiator s.client.mux (fs ++ map own_frame (frames_of s.step))
-  paid : Paid d (fs ++ map own_frame (frames_of s.step))
+  open_pays : is_object s.client.stage ≡ true → PaysOn d s.client.mux (fs ++ map own_frame (frames_of s.step))
+  paid : Paid d Initiator (fs ++ map own_frame (frames_of s.step))
 
 aside_steps : (d : ℕ) (client : Client) (fs : List Framed) (s : Stepped) → State d client fs → Aside client s → Stepping d client fs s
 aside_steps d client fs s state a =
     let same : fs ++ map own_frame (frames_of s.step) ≡ fs = ap (λ (frames : List PlainFrame). fs ++ map own_frame frames) a.none ∙ append-nil fs in
     record {
-      open_pays = λ here. subst (Pays d Initiator s.client.mux) (sym same) (subst (λ (m : Mux). Pays d Initiator m fs) (sym a.mux_is) (state.open_pays (a.here here)));
-      paid = subst (Paid d) (sym same) state.paid;
+      open_pays = λ here. subst (PaysOn d s.client.mux) (sym same) (subst (λ (m : Mux). PaysOn d m fs) (sym a.mux_is) (state.open_pays (a.here here)));
+      paid = subst (Paid d Initiator) (sym same) state.paid;
     }
 
 step_if : (d : ℕ) (client : Client) (fs : List Framed) (b : Bool) (x y : Stepped) → Stepping d client fs x → Stepping d client fs y → Stepping d client fs (cond b x y)
@@ -241,11 +206,11 @@ tells_aside : (cause : Option Outcome) (client : Client) (parts : List Part) →
 tells_aside None client parts = record { none = refl; mux_is = refl; here = λ e. e }
 tells_aside (Some outcome) client parts = record { none = refl; mux_is = refl; here = λ e. let never : false ≡ true = e in absurd cc }
 
-object_steps : (d : ℕ) (client : Client) (parts : List Part) (fs : List Framed) (t : Transport) → 0 < d → t ≡ Rfcomm → Pays d Initiator client.mux fs → Stepping d client fs (steps_object t client parts)
+object_steps : (d : ℕ) (client : Client) (parts : List Part) (fs : List Framed) (t : Transport) → 0 < d → t ≡ Rfcomm → PaysOn d client.mux fs → Stepping d client fs (steps_object t client parts)
 object_steps d client parts fs L2cap some is p = cc
 object_steps d client parts fs Rfcomm some is p =
     let then = steps_then d some fs client parts p in
-    record { open_pays = λ here. then; paid = pays_paid d (steps_muxed client parts).client.mux (fs ++ map own_frame (frames_of (steps_muxed client parts).step)) then }
+    record { open_pays = λ here. then; paid = on_paid d (steps_muxed client parts).client.mux (fs ++ map own_frame (frames_of (steps_muxed client parts).step)) then }
 
 stage_steps : (d : ℕ) (client : Client) (parts : List Part) (fs : List Framed) → 0 < d → State d client fs → Stepping d client fs (steps_at client.stage client parts)
 stage_steps d client parts fs some s =
@@ -277,7 +242,7 @@ asked_state d client parts fs some s =
 
 -- ---- all deeds
 
-deed_state : (d : ℕ) (deed : Deed) (client : Client) (fs : List Framed) → 0 < d → State d client fs → State d (done deed client) (fs ++ framed_by deed client)
+pub deed_state : (d : ℕ) (deed : Deed) (client : Client) (fs : List Framed) → 0 < d → State d client fs → State d (done deed client) (fs ++ framed_by deed client)
 deed_state d (Hears events.LinkUp) client fs some s = no_sdu events.LinkUp (λ at sdu e. cc) d client fs s
 deed_state d (Hears (events.LinkDown reason)) client fs some s = no_sdu (events.LinkDown reason) (λ at sdu e. cc) d client fs s
 deed_state d (Hears (events.LinkFailed status)) client fs some s = no_sdu (events.LinkFailed status) (λ at sdu e. cc) d client fs s
@@ -292,18 +257,18 @@ deed_state d (Asks parts) client fs some s = asked_state d client parts fs some 
 deed_state d Finishes client fs some s = still_deed d Finishes client fs s (λ e. e) refl
 deed_state d Cancels client fs some s = let stays = cancels_stays client.mux client.rest (is_object client.stage) client (start client s.late) in still_deed d Cancels client fs s stays.1 stays.2
 
-all_states : (d : ℕ) (deeds : List Deed) (client : Client) (fs : List Framed) → 0 < d → State d client fs → Paid d (fs ++ all_framed deeds client)
-all_states d [] client fs some s = subst (Paid d) (sym (append-nil fs)) s.paid
+all_states : (d : ℕ) (deeds : List Deed) (client : Client) (fs : List Framed) → 0 < d → State d client fs → Paid d Initiator (fs ++ all_framed deeds client)
+all_states d [] client fs some s = subst (Paid d Initiator) (sym (append-nil fs)) s.paid
 all_states d (deed ∷ deeds) client fs some s =
-    subst (Paid d) (append_assoc fs (framed_by deed client) (all_framed deeds (done deed client))) (all_states d deeds (done deed client) (fs ++ framed_by deed client) some (deed_state d deed client fs some s))
+    subst (Paid d Initiator) (append_assoc fs (framed_by deed client) (all_framed deeds (done deed client))) (all_states d deeds (done deed client) (fs ++ framed_by deed client) some (deed_state d deed client fs some s))
 
 pub clients-are_covered : ClientsAreCovered
 clients-are_covered d client deeds some opened =
-    let pays : Pays d Initiator client.mux [] = subst (λ (m : Mux). Pays d Initiator m []) (sym opened.mux) (new_pays d Initiator opened.largest opened.own opened.cap) in
+    let pays : PaysOn d client.mux [] = subst (λ (m : Mux). PaysOn d m []) (sym opened.mux) (new_on d d opened.largest opened.own opened.cap [] tt) in
     all_states d deeds client [] some (record {
       late = subst IsLate (sym opened.here) tt;
       muxed = opened.muxed;
       psm_is = opened.psm;
       open_pays = λ here. pays;
-      paid = pays_paid d client.mux [] pays;
+      paid = on_paid d client.mux [] pays;
     })

@@ -25,7 +25,7 @@ use Rattle.pair_laws.specs.Granted.{answered_by}
 use Rattle.pair_laws.specs.Keeping.{LosesNothing}
 use Rattle.pair_laws.proofs.Answered.{runs-so}
 use Rattle.request_laws.proofs.Feeding.{all_ahead}
-use Rattle.credit_laws.specs.Fronts.{HappenedWith, CreditsAreKept}
+use Rattle.credit_laws.specs.Fronts.{HappenedWith, IsGentle, CreditsAreKept}
 use Rattle.credit_laws.specs.Kept.{IsSolvent, StaysSolvent}
 
 -- ---- happenings
@@ -80,17 +80,17 @@ ended_holds scenario side past push outcome kept =
 
 -- ---- a run
 
--- what a run is whose ports answer so, and whose words lose nothing
+-- what a run is whose ports answer so
 module _ (scenario : Scenario) (to_a to_b : News → List Circumstance → List Circumstance) (content : Option Contents) where
   front_with : (happenings front later : List Happening) (world : BothHosts) → front ++ later ≡ happenings → HappenedWith scenario to_a to_b content happenings world → (mid : BothHosts) × HappenedWith scenario to_a to_b content front mid
   front_with happenings front later world is so =
       runs_front (answered_by to_a (client_of scenario)) (answered_by to_b (server_of scenario content)) front later (beginning scenario content) world
       (subst (λ (hs : List Happening). HappenedWith scenario to_a to_b content hs world) (sym is) so)
 
-  front_gentle : (happenings front later : List Happening) → front ++ later ≡ happenings → LosesNothing (all_words happenings) → LosesNothing (all_words front)
-  front_gentle happenings front later is gentle =
+  front_gentle : (happenings front later : List Happening) → front ++ later ≡ happenings → IsGentle scenario happenings → IsGentle scenario front
+  front_gentle happenings front later is gentle muxed =
       (all_ahead (λ (word : Word). is_lossy word ≡ false) (all_words front) (all_words later)
-      (subst LosesNothing (ap all_words (sym is) ∙ flat_map-append words_in front later) gentle)).0
+      (subst LosesNothing (ap all_words (sym is) ∙ flat_map-append words_in front later) (gentle muxed))).0
 
   run_of_front : (front : List Happening) (mid : BothHosts) → HappenedWith scenario to_a to_b content front mid → Ran scenario content (all_entries front)
   run_of_front front mid so = record {

@@ -1,72 +1,48 @@
 -- On each of its links the own talk of a host is covered where what came and went at its server is, and so is what moved there.
-use Rattle.std.proofs.Common.{◌≡◌, ℕ, ◌==◌, List, [], ◌∷◌, ◌++◌, map, Bool, true, false, cond, inl, inr, Option, Some, None, refl, sym, ap, ap₂, subst, ◌∙◌, append_assoc, append-nil, fold}
+use Rattle.std.proofs.Common.{◌≡◌, ℕ, ◌==◌, List, [], ◌∷◌, ◌++◌, map, Bool, true, false, cond, Option, Some, None, refl, sym, ap, ap₂, subst, ◌∙◌, append_assoc, append-nil, fold}
 use Rattle.std.specs.Prelude.{drop, option_to_list}
-use Rattle.std.specs.List.{AllByRecursion, AllZip, filter_map, flat_map, cons_option, list_any}
+use Rattle.std.specs.List.{AllByRecursion, filter_map, flat_map, cons_option, list_any}
 use Rattle.std.proofs.lemmas.List.{map-append}
-use Rattle.std.proofs.lemmas.List.Concat.{flat_map-append}
 use Rattle.bt_base.specs.Objects.{Contents}
 use Rattle.bt_base.specs.declared.settings.Settings.{Settings}
-use Rattle.bt_base.specs.declared.settings.Transport.{Transport}
-use Rattle.push_script.specs.declared.scenario.Scenario.{Scenario}
 use Rattle.capture.specs.declared.flow.Flow.TheVariants.{Out, Into}
-use Rattle.capture.specs.Entries.{Entry as Capture}
-use Rattle.capture.specs.Histories.{EachAfter}
-use Rattle.capture.specs.Links.{Link, links}
-use Rattle.capture.specs.Pdus.{Pdu, pdus}
 use Rattle.acl_fragments.specs.Pieces.{channel_of}
 use Rattle.l2cap_signal.specs.Reading.{Answer, answers}
-use Rattle.link_talk.specs.Accounts.{credits}
-use Rattle.link_talk.specs.Captures.{last_talk}
 use Rattle.link_talk.specs.Channels.{Entry, fresh, entry_after, is_owner, with_fresh, made_by, reading}
 use Rattle.link_talk.specs.Meanings.{Meaning, meant}
 use Rattle.link_talk.specs.Senses.{sense}
 use Rattle.link_talk.specs.declared.channel.Channel.{Channel}
 use Rattle.link_talk.specs.declared.party.Party.{Party}
 use Rattle.link_talk.specs.Packets.{passed}
-use Rattle.link_talk.specs.Sayings.{Saying, Command, Carried, GaveUp, said_by, talk}
+use Rattle.link_talk.specs.Sayings.{Saying, Command, Carried, GaveUp, said_by}
 use Rattle.link_talk.specs.Sdus.{Spoken, spoken, spoken_as}
 use Rattle.link_talk.proofs.Growing.{reading-grows}
 use Rattle.push_terms.specs.declared.word.Side.TheVariants as sides
 use Rattle.rfcomm_frames.specs.declared.connection.Role.TheVariants.{Initiator, Responder}
 use Rattle.rfcomm_frames.specs.Multiplexing.{Passed}
-use Rattle.channel_model.specs.Policies.{Policy, policy}
+use Rattle.channel_model.specs.Policies.{policy}
 use Rattle.channel_laws.specs.Frames.{AreUttered}
 use Rattle.channel_laws.specs.Runs.{Occurrence, run_of}
-use Rattle.channel_laws.specs.Singly.{AsksForNoChannel}
 use Rattle.push_model.specs.Server.{rfcomm_psm}
 use Rattle.push_laws.specs.Occurrences as served
 use Rattle.push_laws.specs.Readings.{passed_by}
 use Rattle.host_laws.specs.Carriers.{move_on}
 use Rattle.host_laws.specs.OneCarrier.{IsFor}
-use Rattle.host_laws.specs.OverLinks.{GoesOut, IsTalkOf, parts, moved_in, talk_marks}
-use Rattle.host_laws.specs.Calm.{pdus_in}
-use Rattle.world_model.specs.Talks.{Talk}
-use Rattle.scenario_laws.specs.Coming.{out_of, FallTo}
-use Rattle.scenario_laws.specs.Captures.{Ran}
+use Rattle.host_laws.specs.OverLinks.{GoesOut}
+use Rattle.scenario_laws.specs.Coming.{out_of}
 use Rattle.scenario_laws.specs.Parties.{party_of}
-use Rattle.scenario_laws.proofs.Orderly.{parts-are_asked}
-use Rattle.request_laws.proofs.Paired.{lists_of}
 use Rattle.host_laws.specs.OneOnLinks.{CarriesOneOn}
-use Rattle.host_laws.specs.Calls.{Asks}
 use Rattle.host_laws.specs.Fed.{WovenFed}
 use Rattle.host_laws.specs.Feeds.{Feed}
 use Rattle.host_laws.specs.Serving.{served_from}
 use Rattle.host_laws.proofs.Asking.{hosts_ask}
-use Rattle.host_laws.specs.InOrder.{AsksForOneObject, AsksNoChannels}
-use Rattle.host_laws.specs.Lives.{Span}
 use Rattle.host_laws.specs.Seen.{spoken_of}
-use Rattle.host_laws.specs.Spoken.{AsksForNone, GrantsAnew, IsServed}
-use Rattle.host_laws.proofs.InOrder.{links-ask_none}
-use Rattle.host_laws.proofs.Seeking.{is-served}
 use Rattle.host_model.specs.Servers.{ServerProfile, server_profile}
-use Rattle.pair_laws.specs.OnLinks.{LivedOver}
 use Rattle.request_laws.proofs.Feeding.{all_both, all_ahead}
 use Rattle.request_laws.proofs.Moved.{moves_in, link-moves}
 use Rattle.credit_laws.specs.Covered.{IsCovered}
-use Rattle.credit_laws.specs.Kept.{IsSolvent}
-use Rattle.credit_laws.specs.Seen.{IsCoveredOn, AreCovered, IsSaidOut, HoldsSome}
-use Rattle.credit_laws.proofs.Moves.{credits-move}
-use Rattle.credit_laws.proofs.Seeing.{earlier-is_covered, covered-hold_some}
+use Rattle.credit_laws.specs.Seen.{IsCoveredOn, AreCovered, IsSaidOut}
+use Rattle.credit_laws.proofs.Seeing.{earlier-is_covered}
 
 -- ---- what passed is what came and went
 
@@ -175,7 +151,7 @@ are_earlier party said last out all =
 
 -- ---- what moved on a link
 
-goes_out : (list : List Saying) → AllByRecursion GoesOut list → AllByRecursion IsSaidOut list
+pub goes_out : (list : List Saying) → AllByRecursion GoesOut list → AllByRecursion IsSaidOut list
 goes_out [] all = tt
 goes_out (one ∷ rest) all = (by one all.0, goes_out rest all.1)
   where
@@ -197,19 +173,19 @@ pdu_out pdu = by (channel_of pdu == 0x0001)
     by true = commands_out (answers (drop 4 pdu))
     by false = (tt, tt)
 
-unsent_out : (list : List (List ℕ)) → AllByRecursion IsSaidOut (flat_map said_by (map out_of list))
+pub unsent_out : (list : List (List ℕ)) → AllByRecursion IsSaidOut (flat_map said_by (map out_of list))
 unsent_out [] = tt
 unsent_out (pdu ∷ rest) = all_both IsSaidOut (said_by (out_of pdu)) (flat_map said_by (map out_of rest)) (pdu_out pdu) (unsent_out rest)
 
 -- a talk in two parts, by what moved
-record Split (said moved waits : List Saying) : Type 0 where
-  front : List Saying
-  back : List Saying
-  all : said ≡ front ++ back
-  first : spoken_of front ≡ moved
-  rest : spoken_of back ≡ waits
+pub record Split (said moved waits : List Saying) : Type 0 where
+  pub front : List Saying
+  pub back : List Saying
+  pub all : said ≡ front ++ back
+  pub first : spoken_of front ≡ moved
+  pub rest : spoken_of back ≡ waits
 
-split : (said moved waits : List Saying) → spoken_of said ≡ moved ++ waits → Split said moved waits
+pub split : (said moved waits : List Saying) → spoken_of said ≡ moved ++ waits → Split said moved waits
 split said [] waits is = record { front = []; back = said; all = refl; first = refl; rest = is }
 split [] (m ∷ moved) waits is = cc
 split (Command flow answer ∷ said) (m ∷ moved) waits is =
@@ -224,66 +200,8 @@ split (GaveUp forgone ∷ said) (m ∷ moved) waits is =
     let later = split said (m ∷ moved) waits is in
     record { front = GaveUp forgone ∷ later.front; back = later.back; all = ap (λ (s : List Saying). GaveUp forgone ∷ s) later.all; first = later.first; rest = later.rest }
 
-unheard_out : (said : List Saying) → AllByRecursion IsSaidOut (spoken_of said) → AllByRecursion IsSaidOut said
+pub unheard_out : (said : List Saying) → AllByRecursion IsSaidOut (spoken_of said) → AllByRecursion IsSaidOut said
 unheard_out [] out = tt
 unheard_out (Command flow answer ∷ said) out = (out.0, unheard_out said out.1)
 unheard_out (Carried flow pdu ∷ said) out = (out.0, unheard_out said out.1)
 unheard_out (GaveUp forgone ∷ said) out = (tt, unheard_out said out)
-
-anew_front : (past xs ys : List Saying) → EachAfter GrantsAnew past (xs ++ ys) → EachAfter GrantsAnew past xs
-anew_front past [] ys all = tt
-anew_front past (x ∷ xs) ys all = (all.0, anew_front (past ++ x ∷ []) xs ys all.1)
-
-served_front : (xs ys : List Saying) → IsServed (xs ++ ys) → IsServed xs
-served_front xs ys once = record { asks_for_none = (all_ahead AsksForNone xs ys once.asks_for_none).0; given_once = anew_front [] xs ys once.given_once }
-
-abbrev pub MovesHold : Party → List Pdu → Type 0
-MovesHold party moved = HoldsSome party (flat_map said_by moved)
-
-link_holds : (T : Transport) (policy : Policy) (party : Party) (list : List Occurrence) (part : List Talk) (link : List Pdu) (unsent : List (List ℕ)) → IsTalkOf policy list part → flat_map pdus_in part ≡ link ++ map out_of unsent → AllByRecursion AsksForNoChannel list
-    → AsksForOneObject T (moved_in part) → AreCovered party (run_of policy list).said → MovesHold party link
-link_holds T policy party list part link unsent talk is none sought covered =
-    let here = flat_map said_by link in
-    let outs = flat_map said_by (map out_of unsent) in
-    let moved : moved_in part ≡ here ++ outs = ap (flat_map said_by) is ∙ flat_map-append said_by link (map out_of unsent) in
-    let once = is-served T policy list (moved_in part) talk.waits (record { none = none; talk_is = talk.talk_is; go_out = talk.go_out; sought = sought }) in
-    let cut = split (run_of policy list).said here (outs ++ talk.waits) (talk.talk_is ∙ (ap (λ (l : List Saying). l ++ talk.waits) moved ∙ append_assoc here outs talk.waits)) in
-    let out = unheard_out cut.back (subst (AllByRecursion IsSaidOut) (sym cut.rest) (all_both IsSaidOut outs talk.waits (unsent_out unsent) (goes_out talk.waits talk.go_out))) in
-    let held = covered-hold_some party cut.front (are_earlier party cut.front cut.back out (subst (AreCovered party) cut.all covered)) in
-    let same = credits-move party cut.front (subst IsServed (sym cut.first) (served_front here outs (subst IsServed moved once))) ∙ ap (credits party) cut.first in
-    record { left = held.left; held = sym same ∙ held.held }
-
-pub fall_holds : (T : Transport) (policy : Policy) (party : Party) (lists : List (List Occurrence)) (parts : List (List Talk)) (links : List (List Pdu)) → AllZip (IsTalkOf policy) lists parts → FallTo parts links → AllByRecursion (AllByRecursion AsksForNoChannel) lists
-    → AllByRecursion (λ part. AsksForOneObject T (moved_in part)) parts → AllByRecursion (λ (list : List Occurrence). AreCovered party (run_of policy list).said) lists → AllByRecursion (MovesHold party) links
-fall_holds T policy party [] [] links zip falls none sought covered = subst (AllByRecursion (MovesHold party)) (sym falls) tt
-fall_holds T policy party [] (part ∷ parts) links zip falls none sought covered = absurd zip
-fall_holds T policy party (list ∷ lists) [] links zip falls none sought covered = absurd zip
-fall_holds T policy party (list ∷ lists) (part ∷ parts) links zip (inl falls) none sought covered = fall_holds T policy party lists parts links zip.1 falls.1 none.1 sought.1 covered.1
-fall_holds T policy party (list ∷ lists) (part ∷ parts) links zip (inr (link, rest, unsent, links_are, moved, falls)) none sought covered =
-    subst (AllByRecursion (MovesHold party)) (sym links_are)
-    (link_holds T policy party list part link unsent zip.0 moved none.0 sought.0 covered.0, fall_holds T policy party lists parts rest zip.1 falls none.1 sought.1 covered.1)
-
--- ---- of a host that asks for no channel, over its capture
-
-lists_ask : (spans : List Span) (now : List Occurrence) → AllByRecursion (λ (span : Span). AllByRecursion AsksForNoChannel span.list) spans → AllByRecursion AsksForNoChannel now → AllByRecursion (AllByRecursion AsksForNoChannel) (lists_of spans now)
-lists_ask [] now before last = (last, tt)
-lists_ask (span ∷ spans) now before last = (before.0, lists_ask spans now before.1 last)
-
-last_holds : (party : Party) (list : List Link) → AllByRecursion (MovesHold party) (map pdus list) → HoldsSome party (last_talk (map talk list))
-last_holds party [] all = record { left = 0; held = refl }
-last_holds party (one ∷ []) all = all.0
-last_holds party (one ∷ next ∷ rest) all = last_holds party (next ∷ rest) all.1
-
--- where the own talk of host b on each link is covered, it holds credits by its capture
-pub capture_holds : (scenario : Scenario) (content : Option Contents) (capture : List Capture) (ran : Ran scenario content capture) (asks : Asks (server_profile scenario.settings content)) (b : LivedOver (server_profile scenario.settings content) asks sides.B capture ran.world.b.upper)
-    → AsksNoChannels (server_profile scenario.settings content) asks
-    → AllByRecursion (λ (list : List Occurrence). AreCovered (party_of scenario.settings sides.B) (run_of (policy scenario.settings true) list).said) (lists_of b.fed.so.lives.spans b.fed.so.lives.now) → IsSolvent scenario.settings sides.B capture
-capture_holds scenario content capture ran asks b nothing covered =
-    let settings = scenario.settings in
-    let party = party_of settings sides.B in
-    let lives = b.fed.so.lives in
-    let none = links-ask_none (server_profile settings content) asks (flat_map talk_marks b.came.talk) ran.world.b.upper lives nothing in
-    let held = last_holds party (links sides.B capture)
-    (fall_holds settings.transport (policy settings true) party (lists_of lives.spans lives.now) (parts b.came.talk) (map pdus (links sides.B capture)) b.fed.so.talks_are b.came.fall (lists_ask lives.spans lives.now none.before none.last)
-    (parts-are_asked scenario content capture ran (parts b.came.talk) b.came.fall) covered) in
-    (held.left, held.held)

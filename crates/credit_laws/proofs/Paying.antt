@@ -14,7 +14,7 @@ use Rattle.rfcomm_frames.specs.Frames.{PlainFrame}
 use Rattle.rfcomm_frames.specs.FrameReading.{frame_answer, is_empty}
 use Rattle.rfcomm_frames.specs.Connections.{other_role, is_left}
 use Rattle.rfcomm_frames.specs.Ending.{is_closed_by, Course, no_course, course_after, is_last, has_last, to_closing}
-use Rattle.rfcomm_frames.specs.Multiplexing.{Passed, Framed, framed, frames, Connections, no_connections, connections_after, granted_by, granted, spent}
+use Rattle.rfcomm_frames.specs.Multiplexing.{Passed, Framed, framed, frames, Connections, no_connections, connections_after, granted_by, granted, spent, spent_by}
 use Rattle.rfcomm_frames.specs.UserChannel.{live_frames}
 use Rattle.rfcomm_frames.proofs.FrameReading.{spelled_answered}
 use Rattle.rfcomm_model.specs.declared.state.MuxReason.{MuxReason}
@@ -43,7 +43,7 @@ use Rattle.credit_laws.proofs.Owing.{kind_after}
 
 -- ---- the frames, one by one
 
-abbrev course_of : ℕ → Role → Course → List Framed → Course
+abbrev pub course_of : ℕ → Role → Course → List Framed → Course
 course_of d role c [] = c
 course_of d role c (f ∷ fs) = course_of d role (course_after d role c f) fs
 
@@ -67,7 +67,7 @@ or_none : (x b : Bool) → x ≡ b → (x || false) ≡ b
 or_none true b is = is
 or_none false b is = is
 
-last_more : (d : ℕ) (role : Role) (c : Course) (fs : List Framed) (f : Framed) (b : Bool) → has_last d role c fs ≡ false → is_last d role (course_of d role c fs) f ≡ b → has_last d role c (fs ++ f ∷ []) ≡ b
+pub last_more : (d : ℕ) (role : Role) (c : Course) (fs : List Framed) (f : Framed) (b : Bool) → has_last d role c fs ≡ false → is_last d role (course_of d role c fs) f ≡ b → has_last d role c (fs ++ f ∷ []) ≡ b
 last_more d role c [] f b none is = or_none (is_last d role c f) b is
 last_more d role c (g ∷ fs) f b none is =
     ap (λ (x : Bool). x || has_last d role (course_after d role c g) (fs ++ f ∷ [])) (or_first (is_last d role c g) (has_last d role (course_after d role c g) fs) none)
@@ -85,6 +85,27 @@ peer_last d role c f = ap (λ (b : Bool). not b && is_closed_by d (other_role ro
 
 -- ---- what is paid
 
+-- the frames that count grant the side at least what it spent
+abbrev pub Paid : ℕ → Role → List Framed → Type 0
+Paid d role fs = spent d role (to_closing d role no_course fs) ≤ granted d role no_connections (to_closing d role no_course fs)
+
+-- so it is with one more that costs nothing
+pub free_more : (d : ℕ) (role : Role) (fs : List Framed) (f : Framed) → spent_by d role f ≡ 0 → Paid d role fs → Paid d role (fs ++ f ∷ [])
+free_more d role fs f none paid = by (has_last d role no_course fs) refl
+  where
+    by : (b : Bool) → has_last d role no_course fs ≡ b → Paid d role (fs ++ f ∷ [])
+    by true over = subst (λ (xs : List Framed). spent d role xs ≤ granted d role no_connections xs) (sym (to_over d role no_course fs (f ∷ []) over)) paid
+    by false open_still =
+        let before : spent d role fs ≤ granted d role no_connections fs = subst (λ (xs : List Framed). spent d role xs ≤ granted d role no_connections xs) (to_all d role no_course fs open_still) paid in
+        let spends = spent_more d role fs f in
+        let grants = granted_more d role no_connections fs f in
+        subst (λ (xs : List Framed). spent d role xs ≤ granted d role no_connections xs) (sym (to_more d role no_course fs f open_still)) (omega (arith, before, spends, grants, none))
+
+-- what comes does
+pub heard_more : (d : ℕ) (role : Role) (fs : List Framed) (a : Answer) → Paid d role fs → Paid d role (fs ++ cons_option (framed (other_role role) a) [])
+heard_more d role fs (Ok f) paid = free_more d role fs (record { from = other_role role; frame = f }) (peer_spends d role f) paid
+heard_more d role fs (Err refusal) paid = subst (Paid d role) (sym (append-nil fs)) paid
+
 -- no frame closed it, and it owes nothing; or one did, and it owed nothing then
 pub record Owes (d : ℕ) (role : Role) (m : Mux) (fs : List Framed) : Type 0 where
   pub open_still : has_last d role no_course fs ≡ false
@@ -93,7 +114,7 @@ pub record Owes (d : ℕ) (role : Role) (m : Mux) (fs : List Framed) : Type 0 wh
 
 pub record Over (d : ℕ) (role : Role) (fs : List Framed) : Type 0 where
   pub over : has_last d role no_course fs ≡ true
-  pub paid : spent d role (to_closing d role no_course fs) ≤ granted d role no_connections (to_closing d role no_course fs)
+  pub paid : Paid d role fs
 
 pub record Pays (d : ℕ) (role : Role) (m : Mux) (fs : List Framed) : Type 0 where
   pub role_is : m.role ≡ role
@@ -101,7 +122,7 @@ pub record Pays (d : ℕ) (role : Role) (m : Mux) (fs : List Framed) : Type 0 wh
   pub quiet : AllQuiet d m.answers
   pub state : Owes d role m fs ⊎ Over d role fs
 
-over_stays : (d : ℕ) (role : Role) (fs more : List Framed) → Over d role fs → Over d role (fs ++ more)
+pub over_stays : (d : ℕ) (role : Role) (fs more : List Framed) → Over d role fs → Over d role (fs ++ more)
 over_stays d role fs more o =
     let same = to_over d role no_course fs more o.over in
     record { over = over_more d role no_course fs more o.over; paid = subst (λ (live : List Framed). spent d role live ≤ granted d role no_connections live) (sym same) o.paid }
@@ -193,7 +214,7 @@ heard_owes sdu m f fs reads some last o = by m.closed refl
           near = λ stands. subst (λ (x : Connections). IsNear m.role m.dlci x (hears_frame m.closed f m)) (sym (lines_more m.dlci no_connections fs (peer_frame m f))) (a.near stands);
         }
 
-heard_over : (m : Mux) (f : PlainFrame) (fs : List Framed) → is_last m.dlci m.role (course_of m.dlci m.role no_course fs) (peer_frame m f) ≡ true → Owes m.dlci m.role m fs → Over m.dlci m.role (fs ++ peer_frame m f ∷ [])
+pub heard_over : (m : Mux) (f : PlainFrame) (fs : List Framed) → is_last m.dlci m.role (course_of m.dlci m.role no_course fs) (peer_frame m f) ≡ true → Owes m.dlci m.role m fs → Over m.dlci m.role (fs ++ peer_frame m f ∷ [])
 heard_over m f fs last o =
     let live = to_more m.dlci m.role no_course fs (peer_frame m f) o.open_still in
     let before = o.held_is in
@@ -222,7 +243,7 @@ refused_state : (m : Mux) (fs : List Framed) → Owes m.dlci m.role m fs ⊎ Ove
 refused_state m fs (inl o) = inl (refused_owes m fs m.closed refl o)
 refused_state m fs (inr over) = inr over
 
-quiet_heard : (d : ℕ) (a : Answer) (m : Mux) → 0 < d → AllQuiet d m.answers → AllQuiet d (hears_answer a m).answers
+pub quiet_heard : (d : ℕ) (a : Answer) (m : Mux) → 0 < d → AllQuiet d m.answers → AllQuiet d (hears_answer a m).answers
 quiet_heard d a m some all =
     answer_walks d some (λ x. AllQuiet d x.answers) (λ reason x p. p) (λ f x reply p. all_more (IsReply d) x.answers f p reply) (λ control user asks ready held peer frame agreed stated x p. p) a m all
 
@@ -423,20 +444,23 @@ new_pays d role largest own cap = record { role_is = refl; dlci_is = refl; quiet
 left_over : (s h : ℕ) → pos (s + h) -ℤ pos s ≡ pos h
 left_over s h = ap (λ n. pos n -ℤ pos s) (omega arith) ∙ (ap (λ m. m -ℤ pos s) (sym (pos-+ℤ-pos h s)) ∙ +ℤ-neg_ℤ_cancel (pos h) (pos s))
 
-pub paid_covers : (d : ℕ) (role : Role) (passed : List Passed) → spent d role (live_frames d role passed) ≤ granted d role no_connections (live_frames d role passed) → IsCovered d role passed
+pub paid_covers : (d : ℕ) (role : Role) (passed : List Passed) → Paid d role (frames passed) → IsCovered d role passed
 paid_covers d role passed less =
     let s : ℕ = spent d role (live_frames d role passed) in
     let g : ℕ = granted d role no_connections (live_frames d role passed) in
     record { covered = less; left = g - s; held = ap (λ (n : ℕ). pos n -ℤ pos s) (omega (arith, less)) ∙ left_over s (g - s) }
 
-pub pays_covered : (d : ℕ) (role : Role) (m : Mux) (passed : List Passed) → Pays d role m (frames passed) → IsCovered d role passed
-pays_covered d role m passed p = paid_covers d role passed (by p.state)
+pub pays_paid : (d : ℕ) (role : Role) (m : Mux) (fs : List Framed) → Pays d role m fs → Paid d role fs
+pays_paid d role m fs p = by p.state
   where
-    by : Owes d role m (frames passed) ⊎ Over d role (frames passed) → spent d role (live_frames d role passed) ≤ granted d role no_connections (live_frames d role passed)
+    by : Owes d role m fs ⊎ Over d role fs → Paid d role fs
     by (inl o) =
         let held = o.held_is in
-        subst (λ (xs : List Framed). spent d role xs ≤ granted d role no_connections xs) (sym (to_all d role no_course (frames passed) o.open_still)) (omega (arith, held))
+        subst (λ (xs : List Framed). spent d role xs ≤ granted d role no_connections xs) (sym (to_all d role no_course fs o.open_still)) (omega (arith, held))
     by (inr over) = over.paid
+
+pub pays_covered : (d : ℕ) (role : Role) (m : Mux) (passed : List Passed) → Pays d role m (frames passed) → IsCovered d role passed
+pays_covered d role m passed p = paid_covers d role passed (pays_paid d role m (frames passed) p)
 
 -- ---- all deeds
 

@@ -45,7 +45,8 @@ use Rattle.credit_laws.specs.Runs.{RunsHoldCredits, AllAreMissed, HeardRunsHoldC
 use Rattle.credit_laws.specs.Seen.{AreCovered}
 use Rattle.credit_laws.proofs.Alone.{all_alone}
 use Rattle.credit_laws.proofs.Heard.{passed_in, AllHold, hold_front, quiet_hold, heard_hold, missed_hold, since_both, heard_covered}
-use Rattle.credit_laws.proofs.Parts.{part_covered, capture_holds}
+use Rattle.credit_laws.proofs.Landing.{capture_holds}
+use Rattle.credit_laws.proofs.Parts.{part_covered}
 use Rattle.credit_laws.proofs.Spans.{NoDown, still_kept, weave_stays, span_served, part_served, turn_served, span_parts, served_up, served_down, turned_bare, part_behind}
 
 still_since : (kept xs : List Occurrence) → passed_in kept ≡ [] → AllByRecursion IsStill xs → passed_in (since_from rfcomm_psm kept xs) ≡ []

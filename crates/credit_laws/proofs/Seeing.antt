@@ -5,7 +5,7 @@ use Rattle.std.specs.List.{AllByRecursion, filter_map, cons_option}
 use Rattle.std.proofs.lemmas.Bool.{eqb-true}
 use Rattle.std.proofs.lemmas.List.{map-append}
 use Rattle.std.specs.Option.{option_or}
-use Rattle.capture.specs.Channels.{last_of}
+use Rattle.capture.specs.Histories.{last_of}
 use Rattle.capture.specs.declared.flow.Flow.TheVariants.{Out, Into}
 use Rattle.link_talk.specs.Accounts.{carries_rfcomm, credits_on}
 use Rattle.link_talk.specs.Carriages.{Carriage, is_heard, is_on, taker, carried, stretch, mode_of}
@@ -20,20 +20,17 @@ use Rattle.talk_laws.specs.Sdus.{Ears, ear_of, sdus_with, spoken_from, ears_so_f
 use Rattle.talk_laws.proofs.Waits.{spoken-more}
 use Rattle.rfcomm_frames.specs.declared.connection.Role.{Role}
 use Rattle.rfcomm_frames.specs.Answers.{Answer}
-use Rattle.rfcomm_frames.specs.Ending.{no_course, has_last, to_closing}
+use Rattle.rfcomm_frames.specs.Ending.{no_course, has_last}
 use Rattle.rfcomm_frames.specs.Frames.{PlainFrame}
 use Rattle.rfcomm_frames.specs.FrameReading.{frame_answer}
 use Rattle.rfcomm_frames.specs.Multiplexing.{Passed, Framed, framed, frames, no_connections, granted, spent}
 use Rattle.rfcomm_model.specs.Sides.{connections_of}
 use Rattle.rfcomm_model.proofs.Ended.{to_all, to_more, to_over}
 use Rattle.rfcomm_model.proofs.Reading.{granted_more, spent_more, own_grants}
-use Rattle.credit_laws.specs.Seen.{IsCoveredOn, IsSaidOut, EarlierIsCovered, CoveredHoldSome}
-use Rattle.credit_laws.proofs.Paying.{frames_more, paid_covers}
+use Rattle.credit_laws.specs.Seen.{IsCoveredOn, IsSaidOut, EarlierIsCovered, HoldsSome, CoveredHoldSome}
+use Rattle.credit_laws.proofs.Paying.{Paid, frames_more, paid_covers}
 
 -- ---- one own SDU less
-
-abbrev Paid : ℕ → Role → List Framed → Type 0
-Paid d role fs = spent d role (to_closing d role no_course fs) ≤ granted d role no_connections (to_closing d role no_course fs)
 
 own_back : (d : ℕ) (role : Role) (fs : List Framed) (f : PlainFrame) → Paid d role (fs ++ record { from = role; frame = f } ∷ []) → Paid d role fs
 own_back d role fs f paid = by (has_last d role no_course fs) refl
@@ -124,20 +121,28 @@ last_holds : (party : Party) (said : List Saying) (channels : List Channel) → 
 last_holds party said [] all = (0, refl)
 last_holds party said (one ∷ rest) all = either_holds party said (last_of rest) one (last_holds party said rest all.1) all.0
 
-abbrev Covers : Party → List Saying → Entry → Type 0
-Covers party said entry = entry.channel.psm ≡ 0x0003 → IsCoveredOn party entry.channel said
+-- of one that its host has not closed
+abbrev pub Covers : Party → List Saying → Entry → Type 0
+Covers party said entry = entry.channel.psm ≡ 0x0003 → is_alive entry.life ≡ true → IsCoveredOn party entry.channel said
 
 carried_hold : (party : Party) (said : List Saying) (entries : List Entry) → AllByRecursion (Covers party said) entries → AllByRecursion (λ (channel : Channel). HoldsOn party said (Some channel)) (filter_map carries_rfcomm entries)
 carried_hold party said [] all = tt
-carried_hold party said (entry ∷ rest) all = by (entry.channel.psm == 0x0003) (is_alive entry.life) refl (carried_hold party said rest all.1)
+carried_hold party said (entry ∷ rest) all = by (entry.channel.psm == 0x0003) (is_alive entry.life) refl refl (carried_hold party said rest all.1)
   where
-    by : (mine alive : Bool) → (entry.channel.psm == 0x0003) ≡ mine → AllByRecursion (λ (channel : Channel). HoldsOn party said (Some channel)) (filter_map carries_rfcomm rest)
+    by : (mine alive : Bool) → (entry.channel.psm == 0x0003) ≡ mine → is_alive entry.life ≡ alive → AllByRecursion (λ (channel : Channel). HoldsOn party said (Some channel)) (filter_map carries_rfcomm rest)
         → AllByRecursion (λ (channel : Channel). HoldsOn party said (Some channel)) (cons_option (cond (mine && alive) (Some entry.channel) None) (filter_map carries_rfcomm rest))
-    by true true is later = let covered = all.0 (eqb-true entry.channel.psm 0x0003 is) in ((covered.left, covered.held), later)
-    by true false is later = later
-    by false alive is later = later
+    by true true is lives later = let covered = all.0 (eqb-true entry.channel.psm 0x0003 is) lives in ((covered.left, covered.held), later)
+    by true false is lives later = later
+    by false alive is lives later = later
 
-pub covered-hold_some : CoveredHoldSome
-covered-hold_some party said all =
+pub alive-hold_some : (party : Party) (said : List Saying) → AllByRecursion (Covers party said) (reading said).entries → HoldsSome party said
+alive-hold_some party said all =
     let held = last_holds party said (filter_map carries_rfcomm (reading said).entries) (carried_hold party said (reading said).entries all) in
     record { left = held.0; held = held.1 }
+
+pub covered-hold_some : CoveredHoldSome
+covered-hold_some party said all = alive-hold_some party said (each (reading said).entries all)
+  where
+    each : (entries : List Entry) → AllByRecursion (λ (entry : Entry). entry.channel.psm ≡ 0x0003 → IsCoveredOn party entry.channel said) entries → AllByRecursion (Covers party said) entries
+    each [] all' = tt
+    each (entry ∷ rest) all' = ((λ psm alive. all'.0 psm), each rest all'.1)

@@ -1,9 +1,11 @@
--- Host b holds credits at each moment of a run over RFCOMM whose inbox does not lack memory.
-use Rattle.std.proofs.Common.{◌≡◌, List, [], map, Option, sym, subst}
-use Rattle.bt_base.specs.declared.settings.Transport.TheVariants.{Rfcomm}
+-- Both hosts hold credits at each moment of a run whose inbox does not lack memory.
+use Rattle.std.proofs.Common.{◌≡◌, List, [], map, Option, refl, sym, subst}
+use Rattle.bt_base.specs.declared.settings.Transport.{Transport}
+use Rattle.bt_base.specs.declared.settings.Transport.TheVariants.{L2cap, Rfcomm}
 use Rattle.bt_base.specs.Objects.{Object}
 use Rattle.push_script.specs.declared.scenario.Scenario.{Scenario}
-use Rattle.push_terms.specs.declared.word.Side.TheVariants.{B}
+use Rattle.push_terms.specs.declared.word.Side.{Side}
+use Rattle.push_terms.specs.declared.word.Side.TheVariants.{A, B}
 use Rattle.capture.specs.Entries.{Entry}
 use Rattle.push_laws.specs.Laws.{new_over}
 use Rattle.push_laws.specs.Occurrences.{Occurrence}
@@ -22,12 +24,15 @@ use Rattle.pair_laws.proofs.Pairing.{enough-keep_order}
 use Rattle.request_laws.proofs.HeardTogether.{pushed_over, serves_over}
 use Rattle.request_laws.proofs.Summing.{both_ask}
 use Rattle.request_laws.proofs.Told.{none_longer, gives_octets, all_answer}
+use Rattle.credit_laws.specs.Fronts.{IsGentle}
 use Rattle.credit_laws.specs.Kept.{IsSolvent}
 use Rattle.credit_laws.specs.Staying.{RunsStaySolvent}
+use Rattle.credit_laws.proofs.Direct.{direct_solvent}
 use Rattle.credit_laws.proofs.Fronts.{credits-are_kept}
+use Rattle.credit_laws.proofs.Initiating.{initiator_solvent}
 use Rattle.credit_laws.proofs.Runs.{missed_solvent}
 
--- at its end
+-- host b at its end over RFCOMM
 enough_solvent : (scenario : Scenario) (shelf : Option (List Object)) (before : List Object) (capture : List Entry) (ran : Ran scenario (holding before) capture) → scenario.settings.transport ≡ Rfcomm → HappenedEnough scenario shelf (holding before) ran.happenings ran.world
     → LosesNothing (all_words ran.happenings) → IsSolvent scenario.settings B capture
 enough_solvent scenario shelf before capture ran muxed happened gentle =
@@ -45,7 +50,19 @@ enough_solvent scenario shelf before capture ran muxed happened gentle =
     (pushed-are_taken settings before all.pushes all.last all.pushed all.last_pushed (subst (AllServe NoneShort (new_over settings before)) all.is serve)) in
     missed_solvent scenario before capture ran order muxed (all_alone settings before list [] (new_over settings before) may)
 
+-- over either transport
+solvent_over : (transport : Transport) (scenario : Scenario) (shelf : Option (List Object)) (before : List Object) (capture : List Entry) (ran : Ran scenario (holding before) capture) → scenario.settings.transport ≡ transport
+    → HappenedEnough scenario shelf (holding before) ran.happenings ran.world → IsGentle scenario ran.happenings → IsSolvent scenario.settings B capture
+solvent_over L2cap scenario shelf before capture ran direct happened gentle = direct_solvent scenario (holding before) capture ran direct
+solvent_over Rfcomm scenario shelf before capture ran muxed happened gentle = enough_solvent scenario shelf before capture ran muxed happened (gentle muxed)
+
+-- of either side
+side_solvent : (side : Side) (scenario : Scenario) (shelf : Option (List Object)) (before : List Object) (capture : List Entry) (ran : Ran scenario (holding before) capture) → HappenedEnough scenario shelf (holding before) ran.happenings ran.world → IsGentle scenario ran.happenings
+    → IsSolvent scenario.settings side capture
+side_solvent A scenario shelf before capture ran happened gentle = initiator_solvent scenario.settings.transport scenario shelf before capture ran refl happened gentle
+side_solvent B scenario shelf before capture ran happened gentle = solvent_over scenario.settings.transport scenario shelf before capture ran refl happened gentle
+
 pub runs-stay_solvent : RunsStaySolvent
-runs-stay_solvent scenario shelf before capture ran muxed happened gentle =
-    credits-are_kept scenario (held_by shelf) (λ news answers. map remembered answers) (holding before) capture B ran happened gentle
-    (λ front run there softly. enough_solvent scenario shelf before front run muxed there softly)
+runs-stay_solvent scenario shelf before capture side ran happened gentle =
+    credits-are_kept scenario (held_by shelf) (λ news answers. map remembered answers) (holding before) capture side ran happened gentle
+    (λ front run there softly. side_solvent side scenario shelf before front run there softly)

@@ -1,5 +1,6 @@
 -- That what each run holds is kept at each moment of a run (this project's own).
-use Rattle.std.specs.Prelude.{List, Option}
+use Rattle.std.specs.Prelude.{◌≡◌, List, Option}
+use Rattle.bt_base.specs.declared.settings.Transport.TheVariants.{Rfcomm}
 use Rattle.bt_base.specs.Objects.{Contents}
 use Rattle.push_script.specs.declared.scenario.Scenario.{Scenario}
 use Rattle.push_terms.specs.declared.word.Side.{Side}
@@ -16,10 +17,13 @@ use Rattle.credit_laws.specs.Kept.{IsSolvent, StaysSolvent}
 abbrev pub HappenedWith : Scenario → (to_a to_b : News → List Circumstance → List Circumstance) → Option Contents → List Happening → BothHosts → Type 0
 HappenedWith scenario to_a to_b content happenings world = Runs (answered_by to_a (client_of scenario)) (answered_by to_b (server_of scenario content)) happenings (beginning scenario content) world
 
--- Where a host holds credits at the end of each run whose ports answer so and whose words lose nothing: it holds some at each moment of such a run,
--- over its capture.
+-- over RFCOMM its words lose, cut, repeat and damage nothing
+abbrev pub IsGentle : Scenario → List Happening → Type 0
+IsGentle scenario happenings = scenario.settings.transport ≡ Rfcomm → LosesNothing (all_words happenings)
+
+-- Where a host holds credits at the end of each such run whose ports answer so: it holds some at each moment of such a run, over its capture.
 abbrev pub CreditsAreKept : Type 0
 CreditsAreKept = (scenario : Scenario) (to_a to_b : News → List Circumstance → List Circumstance) (content : Option Contents) (capture : List Entry) (side : Side) (ran : Ran scenario content capture) → HappenedWith scenario to_a to_b content ran.happenings ran.world
-    → LosesNothing (all_words ran.happenings)
-    → ((front : List Entry) (run : Ran scenario content front) → HappenedWith scenario to_a to_b content run.happenings run.world → LosesNothing (all_words run.happenings) → IsSolvent scenario.settings side front)
+    → IsGentle scenario ran.happenings
+    → ((front : List Entry) (run : Ran scenario content front) → HappenedWith scenario to_a to_b content run.happenings run.world → IsGentle scenario run.happenings → IsSolvent scenario.settings side front)
     → StaysSolvent scenario.settings side capture

@@ -1,5 +1,6 @@
 pub mod Covered
 pub mod Seen
+pub mod Moved
 pub mod Serving
 pub mod Kept
 pub mod Fronts

@@ -10,8 +10,6 @@ use Rattle.link_talk.specs.declared.party.Party.{Party}
 use Rattle.link_talk.specs.Packets.{passed}
 use Rattle.link_talk.specs.Sayings.{Saying, Command, Carried, GaveUp}
 use Rattle.link_talk.specs.Sdus.{spoken}
-use Rattle.host_laws.specs.Seen.{spoken_of}
-use Rattle.host_laws.specs.Spoken.{IsServed}
 use Rattle.credit_laws.specs.Covered.{IsCovered}
 
 -- the SDUs on a channel of a talk grant the host at least what it spent
@@ -41,7 +39,3 @@ pub record HoldsSome (party : Party) (said : List Saying) : Type 0 where
 
 abbrev pub CoveredHoldSome : Type 0
 CoveredHoldSome = (party : Party) (said : List Saying) → AreCovered party said → HoldsSome party said
-
--- What a host gave up takes none of them: they are those by what moved, where it asks for no channel and its peer gives each of its endpoints to one.
-abbrev pub CreditsMove : Type 0
-CreditsMove = (party : Party) (said : List Saying) → IsServed (spoken_of said) → credits party said ≡ credits party (spoken_of said)

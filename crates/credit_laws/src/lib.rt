@@ -4,10 +4,11 @@
 ghost use Rattle.credit_laws.specs.Clients.{ClientsAreCovered};
 ghost use Rattle.credit_laws.specs.Covered.{GrantsCoverSpending};
 ghost use Rattle.credit_laws.specs.Fronts.{CreditsAreKept};
+ghost use Rattle.credit_laws.specs.Moved.{MovedHoldSome};
 ghost use Rattle.credit_laws.specs.Runs.{HeardRunsHoldCredits, RunsHoldCredits};
 ghost use Rattle.credit_laws.specs.Serving.{ServersAreCovered};
 ghost use Rattle.credit_laws.specs.Staying.{RunsStaySolvent};
-ghost use Rattle.credit_laws.specs.Seen.{CoveredHoldSome, CreditsMove, EarlierIsCovered};
+ghost use Rattle.credit_laws.specs.Seen.{CoveredHoldSome, EarlierIsCovered};
 
 /// At every moment, whatever the peer sends and whatever is asked of a side, also where it refuses its peer or ignores something for want of
 /// room: the SDUs that passed grant it at least what it spent. So the credits that it holds, a whole number, are never below nothing.
@@ -32,10 +33,10 @@ pub fn servers_are_covered()
     ensures { ServersAreCovered }
 {}
 
-/// What a host gave up takes none of the credits that it holds: they are those by what moved, where it asks for no channel and its peer gives each
-/// of its endpoints to one.
-pub fn credits_move()
-    ensures { CreditsMove }
+/// What a host gave up takes none of the credits that it holds: where its own talk covers what it spent, so does what moved. Its peer gives each of its
+/// endpoints to one of the host's, which the host asked for once; and what the host sends goes over a channel that it has.
+pub fn moved_hold_some()
+    ensures { MovedHoldSome }
 {}
 
 /// In each run of a scenario, wherever it broke off and whatever was given up, the credits that host b holds by the capture over RFCOMM are not below
@@ -50,13 +51,14 @@ pub fn heard_runs_hold_credits()
     ensures { HeardRunsHoldCredits }
 {}
 
-/// Where a host holds credits at the end of each run whose ports answer so and whose words lose nothing, it holds some at each moment of such a run.
+/// Where a host holds credits at the end of each run whose ports answer so and whose words lose nothing over RFCOMM, it holds some at each moment of
+/// such a run.
 pub fn credits_are_kept()
     ensures { CreditsAreKept }
 {}
 
-/// At each moment of each run over RFCOMM whose words lose nothing, wherever it broke off and whatever its ports answer, the credits that host b holds by
-/// the capture are not below nothing: its shelf answers in octets, and its inbox does not lack memory.
+/// At each moment of each run, wherever it broke off and whatever its ports answer, the credits that either host holds by the capture are not below nothing:
+/// its shelf answers in octets, its inbox does not lack memory, and over RFCOMM its words lose nothing.
 pub fn runs_stay_solvent()
     ensures { RunsStaySolvent }
 {}

@@ -1,14 +1,11 @@
 -- Each list of octets has a view as a btsnoop file, and a file is shown whole.
 use Rattle.std.proofs.Common.{◌≡◌, ◌≢◌, ℕ, ◌+◌, ◌<◌, ◌≤◌, ◌⊎◌, List, [], ◌∷◌, ◌++◌, length, take, drop, min, map, Option, Some, None, refl, sym, ap, subst, ◌∙◌, append_assoc, arith, inl, inr, length-append}
-use Rattle.std.specs.Prelude.{MatchOption}
 use Rattle.std.specs.List.{AllByRecursion}
 use Rattle.std.proofs.lemmas.Bool.{cases_lt}
 use Rattle.std.proofs.lemmas.List.{append-nil, take-append-drop, take_all, length-take, length-drop}
 use Rattle.bt_base.specs.Octets.{IsOctets}
-use Rattle.h4_framing.specs.Packets.{Packet, spelling, IsPacket}
-use Rattle.h4_framing.specs.Stream.{Ending as PacketEnding, Whole as whole_packets, Cut as cut_packets, Fault as fault_packets, Reads as reads_packets}
-use Rattle.h4_framing.proofs.ReadingLemmas.{each_read as packets_read, one_reading as one_stream}
 use Rattle.h4_framing.proofs.OctetLists.{IsOctets-take}
+use Rattle.tagged_entries.proofs.Fronts.{packet_in}
 use Rattle.btsnoop.specs.declared.fields.Part.{Part}
 use Rattle.btsnoop.specs.declared.fields.Part.TheVariants.{Header, Body}
 use Rattle.btsnoop.specs.Files.{Record, IsRecord}
@@ -21,33 +18,11 @@ use Rattle.item_stream.specs.Running.{input_limit}
 use Rattle.btsnoop.specs.Converting.{read_of}
 use Rattle.h4_view.specs.declared.refusal.ViewRefusal.{ViewRefusal}
 use Rattle.h4_view.specs.declared.refusal.ViewRefusal.TheVariants.{Truncated, TooLong}
-use Rattle.h4_view.specs.Snoop.{Kept, IsNoPacket, IsKept, view_refusal, Stops, AtEnd, Wrong, Cut, Long, led_by, IsSnoopView, snoop_file}
+use Rattle.h4_view.specs.Snoop.{Kept, IsKept, view_refusal, Stops, AtEnd, Wrong, Cut, Long, led_by, IsSnoopView, snoop_file}
 use Rattle.h4_view.specs.Laws.{EachIsViewedAs, FilesAreShown}
 use Rattle.btsnoop.proofs.Limits.{some_behind, all_read}
 use Rattle.h4_view.proofs.SnoopLines.{item_of}
 use Rattle.h4_view.proofs.SnoopEnds.{is_unfinished}
-
--- ---- the packet of a record
-
--- the packet that octets are, where they are exactly one
-abbrev IsThat : List ℕ → Option Packet → Type 0
-IsThat octets found = MatchOption found (IsNoPacket octets) (λ packet. IsPacket 65535 packet × (spelling packet ≡ octets))
-
--- octets that are exactly one packet are read as it
-only_one : (octets : List ℕ) (ps : List Packet) (e : PacketEnding) → reads_packets 65535 octets ps e → (q : Packet) → IsPacket 65535 q → spelling q ≡ octets → (ps ≡ q ∷ []) × (e ≡ whole_packets)
-only_one octets ps e read q is spelled =
-    one_stream 65535 octets ps (q ∷ []) e whole_packets read (record { each = (is, tt); rest = []; whole = sym spelled ∙ sym (append-nil (spelling q)) ∙ sym (append-nil (spelling q ++ [])); ends = refl })
-
-packet_by : (octets : List ℕ) (ps : List Packet) (e : PacketEnding) → reads_packets 65535 octets ps e → (found : Option Packet) × IsThat octets found
-packet_by octets [] e read = (None, λ q is spelled. let only = only_one octets [] e read q is spelled in let lists : [] ≡ q ∷ [] = only.0 in cc)
-packet_by octets (p ∷ r ∷ ps) e read = (None, λ q is spelled. let only = only_one octets (p ∷ r ∷ ps) e read q is spelled in let lists : p ∷ r ∷ ps ≡ q ∷ [] = only.0 in cc)
-packet_by octets (p ∷ []) whole_packets read =
-    (Some p, (read.each.0, sym (read.whole ∙ ap (λ (t : List ℕ). (spelling p ++ []) ++ t) read.ends ∙ append-nil (spelling p ++ []) ∙ append-nil (spelling p))))
-packet_by octets (p ∷ []) cut_packets read = (None, λ q is spelled. let only = only_one octets (p ∷ []) cut_packets read q is spelled in let ends : cut_packets ≡ whole_packets = only.1 in cc)
-packet_by octets (p ∷ []) (fault_packets refusal place) read = (None, λ q is spelled. let only = only_one octets (p ∷ []) (fault_packets refusal place) read q is spelled in let ends : fault_packets refusal place ≡ whole_packets = only.1 in cc)
-
-packet_in : (octets : List ℕ) → IsOctets octets → (found : Option Packet) × IsThat octets found
-packet_in octets fits = let read = packets_read 65535 octets (omega arith) fits in packet_by octets read.0 read.1 read.2
 
 -- each record with its packet
 all_kept : (items : List Record) → AllByRecursion IsRecord items → (ks : List Kept) × AllByRecursion IsKept ks × (map item_of ks ≡ items)

@@ -15,3 +15,4 @@ pub mod SnoopEnds
 pub mod OneTagged
 pub mod OneSnoop
 pub mod EachSnoop
+pub mod EachTagged

@@ -32,7 +32,7 @@ begins first now input taken rest said h whole within = record { each = h.each; 
 record_more : (held more : List ℕ) → IsFront held (Err entry.BadRecord) → IsFront (held ++ more) (Err entry.BadRecord)
 record_more held more (tag, payload, rest, is, whole, none) = (tag, payload, rest ++ more, is, ap (λ (t : List ℕ). t ++ more) whole ∙ append_assoc (record_octets tag payload) rest more, none)
 
-tag_more : (held more : List ℕ) → IsFront held (Err entry.BadTag) → IsFront (held ++ more) (Err entry.BadTag)
+pub tag_more : (held more : List ℕ) → IsFront held (Err entry.BadTag) → IsFront (held ++ more) (Err entry.BadTag)
 tag_more held more (tag, rest, is, none) = (tag, rest ++ more, ap (λ (t : List ℕ). t ++ more) is, none)
 
 past_stops : (now : TaggedView) (taken held left : List ℕ) → length taken + length held ≤ input_limit → GoesPast Finds now taken held left → Stops (length taken) (held ++ left) (Some (TooLong, input_limit))

@@ -1,7 +1,7 @@
 -- What stands under a packet's line (this project's own).
 use Rattle.std.proofs.Common.{set}
 use Rattle.std.specs.List.{AllByRecursion}
-use Rattle.std.specs.Prelude.{ℕ, ◌≡◌, ◌-◌, ◌/◌, ◌%◌, ◌<◌, zero, suc, List, [], ◌∷◌, ◌++◌, length, drop, get_or, fold, Bool, true, false, cond, not, is_none, ◌==◌, ◌&&◌, ◌||◌, Option, None, Some, codes, decimal}
+use Rattle.std.specs.Prelude.{ℕ, ◌≡◌, ◌≢◌, ◌-◌, ◌/◌, ◌%◌, ◌<◌, zero, suc, List, [], ◌∷◌, ◌++◌, length, drop, get_or, fold, Bool, true, false, cond, not, is_none, ◌==◌, ◌&&◌, ◌||◌, Option, None, Some, codes, decimal}
 use Rattle.byteorder.specs.Endian.{little_number}
 use Rattle.h4_framing.specs.Packets.{Packet, Command, Acl, Sync, Event}
 use Rattle.hci_packets.specs.declared.refusal.HciRefusal.{HciRefusal}
@@ -13,8 +13,6 @@ use Rattle.hci_packets.specs.Commands.{command_refusal}
 use Rattle.hci_packets.specs.Events.{event_refusal}
 use Rattle.acl_fragments.specs.declared.joined.DropReason.{DropReason}
 use Rattle.acl_fragments.specs.declared.joined.DropReason.TheVariants as drops
-use Rattle.acl_fragments.specs.declared.joined.Got.{Got}
-use Rattle.acl_fragments.specs.declared.joined.Got.TheVariants as lent
 use Rattle.acl_fragments.specs.Pieces.{Piece, starts}
 use Rattle.acl_fragments.specs.Answers.{Answer, Pdu, More, Dropped, open_after, leaves_unfinished}
 use Rattle.acl_fragments.specs.Joiners.{Held}
@@ -106,10 +104,14 @@ under past (Event code params) = bad_text (event_refusal code params)
 under past (Sync word octets) = []
 under past (Acl word octets) = piece_text past octets (link_of word)
 
--- a joiner, where there is one, holds what is open after these pieces
+-- a joiner holds what is open after these pieces
+abbrev pub IsHolding : List Piece → Held → Type 0
+IsHolding pieces held = (held.limit ≡ pdu_limit) × (held.octets ≡ open_after pdu_limit pieces)
+
+-- there is a joiner only while a group is open, and it holds that
 abbrev pub IsJoinerOf : List Piece → Option Held → Type 0
 IsJoinerOf pieces None = open_after pdu_limit pieces ≡ []
-IsJoinerOf pieces (Some held) = (held.limit ≡ pdu_limit) × (held.octets ≡ open_after pdu_limit pieces)
+IsJoinerOf pieces (Some held) = IsHolding pieces held × (held.octets ≢ [])
 
 -- a joiner that holds nothing
 abbrev pub IsSpare : Held → Type 0
@@ -137,11 +139,11 @@ abbrev pub HeardPdus : Direction → Answer → List ℕ → List ℕ → Channe
 HeardPdus direction answer text text' channels channels' =
     (before : Learnt) → Keeps before channels → (text' ≡ text ++ answer_text before direction answer) × Keeps (fold with_pdu before (said_in direction answer)) channels'
 
--- whether the group of a piece goes on
-abbrev pub goes_on : Got → Bool
-goes_on (lent.Pdu channel pdu) = false
-goes_on lent.More = true
-goes_on (lent.Dropped reason) = false
+-- whether the group of a piece goes on that gives this
+abbrev pub goes_on : Answer → Bool
+goes_on (Pdu channel pdu) = false
+goes_on More = true
+goes_on (Dropped reason) = false
 
 -- the handle, if there is one, is the one whose link the event tells the end of
 abbrev pub ClosesBy : ℕ → List ℕ → Option ℕ → Type 0

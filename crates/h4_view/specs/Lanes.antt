@@ -1,5 +1,5 @@
 -- What a piece gives where its link's pieces of the same direction, and what is known of the link's channels, are given.
-use Rattle.std.specs.Prelude.{ℕ, ◌≡◌, List, [], ◌∷◌, ◌++◌, Bool, false, cond, fold, codes, Option, Some, None}
+use Rattle.std.specs.Prelude.{ℕ, ◌≡◌, ◌+◌, ◌≤◌, ◌⊎◌, List, [], ◌∷◌, ◌++◌, length, Bool, false, cond, fold, codes, Option, Some, None}
 use Rattle.hci_packets.specs.declared.acl.Boundary.{Boundary}
 use Rattle.acl_fragments.specs.declared.joined.Got.{Got}
 use Rattle.acl_fragments.specs.Pieces.{Piece, starts}
@@ -26,7 +26,7 @@ pub record LaneShown (past : List Piece) (known : Learnt) (direction : Direction
   pub written : text' ≡ text ++ lane_text past known direction piece
   pub limit : joiner'.limit ≡ pdu_limit
   pub holds : HoldsOpen (past ++ piece ∷ []) joiner'
-  pub ends : on ≡ false → joiner'.octets ≡ []
+  pub goes : on ≡ goes_on (given past piece)
   pub channels : Keeps (learnt_with past known direction piece) channels'
 
 -- a piece was shown, and what holds the group of its direction is kept
@@ -35,14 +35,24 @@ pub record LaneKept (past : List Piece) (known : Learnt) (direction : Direction)
   pub joiner : IsJoinerOf (past ++ piece ∷ []) lane'
   pub channels : Keeps (learnt_with past known direction piece) channels'
 
+-- how many joiners a lane has
+abbrev pub joiners : Option Held → ℕ
+joiners None = 0
+joiners (Some held) = 1
+
+-- No joiner is made while one is spare: there are no more than before, or none is spare.
+abbrev pub MakesFew : (spare spare' : List Held) (lane lane' : Option Held) → Type 0
+MakesFew spare spare' lane lane' = (length spare' + joiners lane' ≤ length spare + joiners lane) ⊎ (spare' ≡ [])
+
 -- this is given, and its group does not go on; none is given where the group does
 abbrev pub IsGiven : Answer → Option Got → Type 0
 IsGiven wanted None = wanted ≡ More
-IsGiven wanted (Some got) = (plain_answer got ≡ wanted) × (goes_on got ≡ false)
+IsGiven wanted (Some got) = (plain_answer got ≡ wanted) × (goes_on wanted ≡ false)
 
--- what a piece gives where no group is open
-abbrev pub IsAlone : Boundary → List ℕ → Option Got → Type 0
-IsAlone boundary octets got = IsGiven (answer pdu_limit [] (starts boundary) octets) got
+-- what a piece gives where there is no joiner; none is given where there is one
+abbrev pub IsAlone : Option Held → Boundary → List ℕ → Option Got → Type 0
+IsAlone lane boundary octets None = lane ≡ None → answer pdu_limit [] (starts boundary) octets ≡ More
+IsAlone lane boundary octets (Some got) = (lane ≡ None) × IsGiven (answer pdu_limit [] (starts boundary) octets) (Some got)
 
 -- what a start gives, which is judged by itself
 abbrev pub IsWholeStart : List ℕ → Option Got → Type 0

@@ -3,12 +3,14 @@ use Rattle.std.specs.Prelude.{ℕ, ◌≡◌, ◌≤◌, List, length, map, Opti
 use Rattle.bt_base.specs.Octets.{IsOctets}
 use Rattle.bt_base.specs.Streams.{GainedFront}
 use Rattle.h4_framing.specs.Packets.{Packet}
+use Rattle.capture.specs.Entries.{Entry, IsCapture}
 use Rattle.btsnoop.specs.Files.{Record, IsFile}
 use Rattle.item_stream.specs.Running.{input_limit}
 use Rattle.h4_view.specs.declared.refusal.ViewRefusal.{ViewRefusal}
 use Rattle.h4_view.specs.declared.refusal.ViewFault.{ViewFault}
 use Rattle.h4_view.specs.View.{IsView, Views, view_text}
 use Rattle.h4_view.specs.Viewing.{Viewed}
+use Rattle.h4_view.specs.Tagged.{IsTaggedView}
 use Rattle.h4_view.specs.Snoop.{Kept, IsSnoopView}
 
 -- An input has no two views: the packets that are shown, and why and where the view stops, are those of the input.
@@ -34,3 +36,7 @@ EachIsViewedAs {I} kind = (input : List ℕ) → IsOctets input → (items : Lis
 -- A btsnoop file within the greatest length is shown whole: all its records, and no refusal.
 abbrev pub FilesAreShown : Type 0
 FilesAreShown = (file : List ℕ) (records : List Record) → IsFile file records → length file ≤ input_limit → (items : List Kept) × (map (λ kept. kept.item) items ≡ records) × IsSnoopView file items None
+
+-- A capture within the greatest length is shown whole: all its entries, and no refusal.
+abbrev pub CapturesAreShown : Type 0
+CapturesAreShown = (capture : List ℕ) (entries : List Entry) → IsCapture capture entries → length capture ≤ input_limit → IsTaggedView capture entries None

@@ -10,7 +10,7 @@ ghost use Rattle.seen_channels.specs.Tellings.{Learnt};
 ghost use Rattle.seen_channels.specs.Tables.{Keeps};
 ghost use Rattle.h4_view.specs.Pdus.{pdu_limit, turned, with_pdu};
 ghost use Rattle.h4_view.specs.Details.{drop_name, joined_text, link_of, under, IsJoinerOf, IsSpare, IsLink, IsLinkOf, Knows, HeardPdus, goes_on};
-ghost use Rattle.h4_view.specs.Lanes.{LaneShown, LaneKept, IsAlone, IsWholeStart};
+ghost use Rattle.h4_view.specs.Lanes.{LaneShown, LaneKept, MakesFew, IsAlone, IsWholeStart};
 
 use crate::line::{Text, push_decimal, push_hex, push_reason, push_text};
 use crate::links::{Link, Links, keep_joiner, take_joiner};
@@ -109,7 +109,7 @@ fn push_got(
 
 /// Whether the group of a piece goes on.
 fn goes_on(got: Got<'_>) -> bool
-    ensures { result ≡ goes_on got.entry }
+    ensures { result ≡ goes_on (plain_answer got.entry) }
 {
     match got {
         Got::More => true,
@@ -137,10 +137,13 @@ fn push_joined(
     Ok(on)
 }
 
-/// What a piece gives where no group is open: none where it begins a PDU that is cut.
-fn take_alone<'a>(boundary: Boundary, piece: &'a [u8]) -> Option<Got<'a>>
-    ensures { IsAlone boundary piece.now result }
+/// What a piece gives by itself: none where a group is open, and where it begins a PDU that is cut.
+fn take_alone<'a>(lane: &Option<Joiner>, boundary: Boundary, piece: &'a [u8]) -> Option<Got<'a>>
+    ensures { IsAlone lane.now boundary piece.now result }
 {
+    if lane.is_some() {
+        return None;
+    }
     match boundary {
         Boundary::First | Boundary::FirstFromController => take_start(piece),
         Boundary::Continuing => Some(Got::Dropped(DropReason::StrayContinuation)),
@@ -177,11 +180,10 @@ pub(crate) fn push_on_lane(
     octets: &[u8],
 ) -> Result<(), NoMemory>
     ensures { OnOk result ((past : List Piece) (known : Learnt) → IsJoinerOf past lane.old → Keeps known channels.old → AllByRecursion IsSpare spare.old.items →
-        LaneKept past known direction (record { boundary = boundary; octets = octets.now }) text.old.items text.new.items lane.new channels.new × AllByRecursion IsSpare spare.new.items) }
+        LaneKept past known direction (record { boundary = boundary; octets = octets.now }) text.old.items text.new.items lane.new channels.new
+        × AllByRecursion IsSpare spare.new.items × MakesFew spare.old.items spare.new.items lane.old lane.new) }
 {
-    if lane.is_none()
-        && let Some(got) = take_alone(boundary, octets)
-    {
+    if let Some(got) = take_alone(lane, boundary, octets) {
         push_got(text, channels, direction, got)?;
         return Ok(());
     }

@@ -1,6 +1,6 @@
 //! Laws of the view of an input. Each is the contract of a function that does nothing.
 
-ghost use Rattle.h4_view.specs.Laws.{OneView, EachInputIsViewed, FrontIsOfTheView, OneViewOf, EachIsViewedAs, FilesAreShown};
+ghost use Rattle.h4_view.specs.Laws.{OneView, EachInputIsViewed, FrontIsOfTheView, OneViewOf, EachIsViewedAs, FilesAreShown, CapturesAreShown};
 ghost use Rattle.h4_view.specs.Tagged.{tagged_capture};
 ghost use Rattle.h4_view.specs.Snoop.{snoop_file};
 
@@ -22,6 +22,16 @@ pub fn front_is_of_the_view()
 /// A capture of two hosts has no two views.
 pub fn one_tagged_view()
     ensures { OneViewOf tagged_capture }
+{}
+
+/// Each list of octets has a view as a capture of two hosts.
+pub fn each_tagged_is_viewed()
+    ensures { EachIsViewedAs tagged_capture }
+{}
+
+/// A capture of two hosts within the greatest length is shown whole.
+pub fn captures_are_shown()
+    ensures { CapturesAreShown }
 {}
 
 /// A btsnoop file has no two views.

@@ -1,9 +1,10 @@
 //! What is kept of each link: a group of pieces that is open, and the channels.
 
-ghost use Rattle.std.specs.Prelude.{◌≡◌, ◌++◌, ◌∷◌, List, Option, [], None, Some, IfOk, OnOk, if◌then◌else◌};
+ghost use Rattle.std.specs.Prelude.{◌≡◌, ◌+◌, ◌≤◌, ◌⊎◌, ◌++◌, ◌∷◌, List, length, Option, [], None, Some, IfOk, OnOk, if◌then◌else◌};
 ghost use Rattle.std.specs.List.{AllByRecursion};
 ghost use Rattle.acl_fragments.specs.Pieces.{Piece};
-ghost use Rattle.h4_view.specs.Details.{IsJoinerOf, IsSpare, IsLink, Knows};
+ghost use Rattle.h4_view.specs.Details.{IsHolding, IsJoinerOf, IsSpare, IsLink, Knows};
+ghost use Rattle.h4_view.specs.Lanes.{joiners};
 
 use acl_fragments::Joiner;
 use bt_base::NoMemory;
@@ -69,7 +70,8 @@ pub(crate) fn take_joiner(
     kept: Option<Joiner>,
     spare: &mut Vec<Joiner>,
 ) -> Result<Joiner, NoMemory>
-    ensures joiner { IfOk result (λ joiner. AllByRecursion IsSpare spare.old.items → (pieces : List Piece) → IsJoinerOf pieces kept → IsJoinerOf pieces (Some joiner)) }
+    ensures joiner { IfOk result (λ joiner. AllByRecursion IsSpare spare.old.items → (pieces : List Piece) → IsJoinerOf pieces kept → IsHolding pieces joiner) }
+    ensures few { OnOk result ((length spare.new.items + 1 ≤ length spare.old.items + joiners kept) ⊎ (spare.new.items ≡ [])) }
     ensures spare { OnOk result (AllByRecursion IsSpare spare.old.items → AllByRecursion IsSpare spare.new.items) }
 {
     if let Some(joiner) = kept {

@@ -56,7 +56,7 @@ losses (DisconnectLost own ∷ list) = refl
 no_loss : (v : Channels) (told : List ChannelEvent) → notes v.events ≡ told → list_any is_loss told ≡ false → any_lost true v.events ≡ false
 no_loss v told is none = losses v.events ∙ (ap (list_any is_loss) is ∙ none)
 
-clean_quiet : (c : Client) (v : Channels) → Clean c v → any_lost true v.events ≡ false
+pub clean_quiet : (c : Client) (v : Channels) → Clean c v → any_lost true v.events ≡ false
 clean_quiet c v (Lives psm asked leaving uses live) = no_loss v [] live.none refl
 clean_quiet c v (Ends psm own used closes' bare) = no_loss v (Closed own psm OwnClosed ∷ []) bare.notes_are refl
 clean_quiet c v (Idle bare) = no_loss v [] bare.notes_are refl
@@ -220,7 +220,7 @@ module _ (settings : Settings) (asks : Asks (client_profile settings)) where
 
   -- ---- how it stands, and what was said
 
-  data Stands (c : Client) (run : Run) : Type 0 where
+  pub data Stands (c : Client) (run : Run) : Type 0 where
     Off : is_off c.stage ≡ true → Stands c run
     Doomed : Fatal c run.value → Stands c run
     Well : Clean c run.value → AllSpoken run.said → Stands c run
@@ -422,7 +422,7 @@ module _ (settings : Settings) (asks : Asks (client_profile settings)) where
   run_behind : (past list : List Occurrence) → run_of wanted (past ++ list) ≡ fold (run_on wanted) (run_of wanted past) list
   run_behind past list = fold-append (run_on wanted) new_link past list
 
-  strand_stands : (strand : Strand) (past : List Occurrence) (p : ClientProfile) → IsOnLink strand → Stands p.client (run_of wanted past)
+  pub strand_stands : (strand : Strand) (past : List Occurrence) (p : ClientProfile) → IsOnLink strand → Stands p.client (run_of wanted past)
       → (let v = (run_of wanted past).value in Stands (strand_profile A strand v p).client (fold (run_on wanted) (run_of wanted past) (strand_list A asks strand v p)))
   strand_stands (Hearing pdu) past p on stands =
       let run = run_of wanted past in

@@ -83,3 +83,11 @@ pub mod OneOnLinks
 pub mod SearchHosts
 pub mod SearchUp
 pub mod SearchSent
+mod ServicesTold
+mod Replies
+mod Phases
+mod Knowing
+mod ServiceHeard
+mod MuxReplies
+mod AsTold
+mod StepsAsTold

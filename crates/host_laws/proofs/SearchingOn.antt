@@ -65,7 +65,7 @@ pub one_alive : (c : Client) (v : Channels) (one : Held) → HasOne c v one → 
 one_alive c v one has = alive_by has.asked has.leaving one.stage (subst (λ (h : Held). lives_by has.asked has.leaving (kind h.stage) ≡ true) has.is has.live.stage_is)
 
 -- there is none where there was none
-was_one : (c : Client) (v w : Channels) (next : Held) → ((K : Channels → Type 0) → Fine K → K v → K w) → is_asking_features c.stage ≡ false → w.held ≡ next ∷ [] → Clean c v → (one : Held) × (v.held ≡ one ∷ [])
+pub was_one : (c : Client) (v w : Channels) (next : Held) → ((K : Channels → Type 0) → Fine K → K v → K w) → is_asking_features c.stage ≡ false → w.held ≡ next ∷ [] → Clean c v → (one : Held) × (v.held ≡ one ∷ [])
 was_one c v w next goes quiet is (Lives psm asked leaving uses live) = (live.one, live.held_is)
 was_one c v w next goes quiet is (Ends psm own used closes bare) =
     let later = goes (IsBare _) (bare-fine _) bare in let never : [] ≡ next ∷ [] = sym later.held_is ∙ is in absurd cc

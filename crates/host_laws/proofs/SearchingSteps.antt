@@ -91,7 +91,7 @@ module _ (settings : Settings) where
 
     -- ---- its first channel
 
-    none_held : in_use c.stage c.psm ≡ None → is_asking_features c.stage ≡ false → v.held ≡ []
+    pub none_held : in_use c.stage c.psm ≡ None → is_asking_features c.stage ≡ false → v.held ≡ []
     none_held none quiet = by clean
       where
         by : Clean c v → v.held ≡ []

@@ -74,7 +74,7 @@ end_off (CloseChannel psm) c d off now = off
 end_off BreakLink c d off now = off
 end_off NoMemory c d off now = off
 
-ended_off : (c : Client) → is_off c.stage ≡ true → is_off (ended c).stage ≡ true
+pub ended_off : (c : Client) → is_off c.stage ≡ true → is_off (ended c).stage ≡ true
 ended_off c off = let one = steps c [] in end_off one.step c one.client off (steps_off c [] off)
 
 end_same : (step : Step) (c d : Client) → is_off c.stage ≡ false → onward.StepSo c d step → after_end step d c ≡ c

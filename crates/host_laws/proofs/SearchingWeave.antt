@@ -64,12 +64,12 @@ use Rattle.host_laws.proofs.SearchingSteps.{G, Utters, request_step, opens_searc
 use Rattle.host_laws.proofs.StandingClients.{Clean, Lives, Ends, Idle, Waits, Told as ToldThem, Fatal, Shut, Missed}
 use Rattle.host_laws.proofs.Taking.{Taken, Gone, Lost, Stood, step_taken, takes_off}
 
-each_split : {X : Type 0} (P : List X → X → Type 0) (past xs ys : List X) → EachAfter P past (xs ++ ys) → EachAfter P past xs × EachAfter P (past ++ xs) ys
+pub each_split : {X : Type 0} (P : List X → X → Type 0) (past xs ys : List X) → EachAfter P past (xs ++ ys) → EachAfter P past xs × EachAfter P (past ++ xs) ys
 each_split P past [] ys each = (tt, subst (λ l. EachAfter P l ys) (sym (append-nil past)) each)
 each_split P past (x ∷ xs) ys (now, each) =
     let both = each_split P (past ++ x ∷ []) xs ys each in ((now, both.0), subst (λ l. EachAfter P l ys) (append_assoc past (x ∷ []) xs) both.1)
 
-all_split : {X : Type 0} (P : X → Type 0) (xs ys : List X) → AllByRecursion P (xs ++ ys) → AllByRecursion P xs × AllByRecursion P ys
+pub all_split : {X : Type 0} (P : X → Type 0) (xs ys : List X) → AllByRecursion P (xs ++ ys) → AllByRecursion P xs × AllByRecursion P ys
 all_split P [] ys all = (tt, all)
 all_split P (x ∷ xs) ys (now, all) = let both = all_split P xs ys all in ((now, both.0), both.1)
 
@@ -209,13 +209,13 @@ module _ (settings : Settings) where
 
     -- ---- all that happens
 
-    abbrev UttersAt : List Occurrence → Occurrence → Type 0
+    abbrev pub UttersAt : List Occurrence → Occurrence → Type 0
     UttersAt front one = IsUttered one (run_of wanted front).value
 
-    call_utters : (past : List Occurrence) (call : Option Call) → EachAfter UttersAt past (from_call call) → (own : ℕ) (sdu : List ℕ) → call ≡ Some (Send own sdu) → IsUttered (Sends own sdu) (run_of wanted past).value
+    pub call_utters : (past : List Occurrence) (call : Option Call) → EachAfter UttersAt past (from_call call) → (own : ℕ) (sdu : List ℕ) → call ≡ Some (Send own sdu) → IsUttered (Sends own sdu) (run_of wanted past).value
     call_utters past call each own sdu is = (subst (λ x. EachAfter UttersAt past (from_call x)) is each).0
 
-    strand_sees : (strand : Strand) (past : List Occurrence) (p : ClientProfile) → BeginsNone strand → (let v = (run_of wanted past).value in EachAfter UttersAt past (strand_list A asks strand v p) → AllByRecursion ComesInOctets (strand_list A asks strand v p) → Sees settings p (run_of wanted past)
+    pub strand_sees : (strand : Strand) (past : List Occurrence) (p : ClientProfile) → BeginsNone strand → (let v = (run_of wanted past).value in EachAfter UttersAt past (strand_list A asks strand v p) → AllByRecursion ComesInOctets (strand_list A asks strand v p) → Sees settings p (run_of wanted past)
         → Sees settings (strand_profile A strand v p) (fold (run_on wanted) (run_of wanted past) (strand_list A asks strand v p)))
     strand_sees (Hearing pdu) past p none uttered octets sees = hearing settings past pdu p octets.0 sees
     strand_sees (Giving pdu) past p none uttered octets sees = changes settings past (Gives pdu) p (λ K fine k. gives-fine K fine (run_of wanted past).value (all-sound wanted past).core.lone k) tt uttered.0 (λ own. refl) sees
@@ -228,7 +228,7 @@ module _ (settings : Settings) where
     strand_sees Checking past p none uttered octets sees = checking settings (run_of wanted past) p sees
     strand_sees Stepping past p none uttered octets sees = stepping past p (call_utters past (asks.call (run_of wanted past).value p) uttered) sees
 
-    run_behind : (past list : List Occurrence) → run_of wanted (past ++ list) ≡ fold (run_on wanted) (run_of wanted past) list
+    pub run_behind : (past list : List Occurrence) → run_of wanted (past ++ list) ≡ fold (run_on wanted) (run_of wanted past) list
     run_behind past list = fold-append (run_on wanted) new_link past list
 
     weave_sees : (weave : List Strand) (past : List Occurrence) (p : ClientProfile) (v : Channels) → (run_of wanted past).value ≡ v → AllByRecursion BeginsNone weave → EachAfter UttersAt past (woven_list A asks weave v p) → AllByRecursion ComesInOctets (woven_list A asks weave v p)
@@ -247,7 +247,7 @@ module _ (settings : Settings) where
         subst (λ l. Sees settings (woven_profile A asks weave u q) (run_of wanted l)) (append_assoc past list rest)
         (weave_sees weave (past ++ list) q u value none.1 utters.1 comes.1 (subst (Sees settings q) (sym (run_behind past list)) here))
 
-    begins_sees : (first : ClientProfile) → BeginsSearch first → Sees settings first new_link
+    pub begins_sees : (first : ClientProfile) → BeginsSearch first → Sees settings first new_link
     begins_sees first (inl (at, new, empty)) = Well (Idle (record { held_is = refl; quiet = refl; notes_are = refl })) (at_of wanted first.endpoints first.submitted new_link (SearchChannel Due) first.client at (new, empty))
     begins_sees first (inr off) = Off off
 

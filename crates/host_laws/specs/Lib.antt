@@ -33,3 +33,4 @@ pub mod Searching
 pub mod SearchOrder
 pub mod OneOnLinks
 pub mod SearchSent
+pub mod Services

@@ -1,7 +1,7 @@
 use bt_base::MemSink;
 use capture::{Entry, Flow, entries_of};
 use h4_framing::Unit;
-use push_script::{Scenario, scenario_without};
+use push_script::{Scenario, scenario_of};
 use push_terms::{Outcome, Side, Way};
 use radio_world::World;
 use std::alloc::Global;
@@ -14,10 +14,10 @@ type Both = World<TinyHost<Counter>, TinyHost<Echo>>;
 const HEAD: &str = "transport l2cap\nserves both\nacl 27 2\nchunk 3\nobject a\nobject b\nradio\n";
 
 /// The scenario of two objects and these words.
-fn scenario_of(alloc: Global, words: &str) -> Result<Scenario, Fail> {
+fn read_scenario(alloc: Global, words: &str) -> Result<Scenario, Fail> {
     let mut text = String::from_str(alloc, HEAD)?;
     text.push_str(words)?;
-    match scenario_without(alloc, &[], text.as_bytes()) {
+    match scenario_of(alloc, text.as_bytes()) {
         Ok(scenario) => Ok(scenario),
         Err(_) => Err(Fail::from("a scenario")),
     }
@@ -180,7 +180,7 @@ fn comes_to(alloc: Global, scenario: &Scenario, row: &Row) -> Result<bool, Fail>
 
 /// Whether a script comes to what its row says.
 fn comes_true(alloc: Global, row: &Row) -> Result<bool, Fail> {
-    let scenario = scenario_of(alloc, row.words)?;
+    let scenario = read_scenario(alloc, row.words)?;
     comes_to(alloc, &scenario, row)
 }
 

@@ -1,12 +1,14 @@
 -- A server that reads what its inbox answers off its own state is the server of the scenario, which is given that with each thing that it
--- hears; and where these answers are grants, it is the one whose inbox grants all.
-use Rattle.std.proofs.Common.{◌≡◌, ℕ, List, [], ◌∷◌, map, Some, None, refl, sym, ap, ap₂, subst, ◌∙◌}
+-- hears; where these answers are grants, it is the one whose inbox grants all, and where none of them is want of memory, the one whose inbox lacks none.
+use Rattle.std.proofs.Common.{◌≡◌, ℕ, List, [], ◌∷◌, map, Some, None, Ok, Err, refl, sym, ap, ap₂, subst, ◌∙◌}
+use Rattle.std.specs.List.{AllByRecursion}
 use Rattle.bt_base.specs.declared.settings.Settings.{Settings}
 use Rattle.channel_model.specs.Giving.{next_given}
+use Rattle.bt_base.specs.declared.ports.PortFault.TheVariants as fault
 use Rattle.obex_session.specs.InboxCalls.{Answer}
-use Rattle.push_laws.specs.Premises.{AllGranted}
-use Rattle.world_model.specs.Machines.{Up, Down, News, Linked, Failed, Heard, TimerFired, Cancelled, Opening}
-use Rattle.world_model.specs.Worlds.{Runs}
+use Rattle.answer_laws.specs.Memory.{HadMemory}
+use Rattle.world_model.specs.Machines.{Upper, Up, Down, News, Linked, Failed, Heard, TimerFired, Cancelled, Opening}
+use Rattle.world_model.specs.Worlds.{World, Happening, Runs}
 use Rattle.rest_laws.specs.Premises.{AreOrderly}
 use Rattle.alike_laws.specs.Twins.{world_with}
 use Rattle.alike_laws.proofs.Alike.{AreAlike, runs_on, rest_on}
@@ -18,21 +20,18 @@ use Rattle.host_model.specs.Servers.{ServerProfile, with_answers, server_profile
 use Rattle.host_model.specs.Settings.{SetHost, set_to, said_with, client_machine, server_machine}
 use Rattle.host_model.proofs.Setting.{said_by, set_hosts_are_orderly}
 use Rattle.scenario_laws.proofs.SetHosts.{hear_same, says_same}
-use Rattle.pair_laws.specs.Granted.{granted, granting}
+use Rattle.pair_laws.specs.Enough.{remembered}
+use Rattle.pair_laws.specs.Granted.{answered_by, granted}
 use Rattle.pair_laws.proofs.Answered.{same_alike}
-use Rattle.inbox_laws.specs.Owned.{own_profile, own_machine, HasGrants, IsGranting, BothSet, OwnRunsAreRuns, OwnRestsAreRests, GrantedRunsAreGranted}
-use Rattle.inbox_laws.proofs.Granting.{grants_kept}
-use Rattle.inbox_laws.proofs.Keeping.{hear_kept, next_kept}
+use Rattle.inbox_laws.specs.Owned.{own_profile, own_machine, BothSet, OwnRunsAreRuns, OwnRestsAreRests, GrantedRunsAreGranted, EnoughRunsAreEnough}
+use Rattle.inbox_laws.proofs.Granting.{all_left, answers_kept}
+use Rattle.inbox_laws.proofs.Keeping.{KeepsSo, hear_kept, next_kept}
 
 -- ---- its answers, as they are given
 
 stored_are : (answers : List Answer) → answers_in (map Stored answers) ≡ answers
 stored_are [] = refl
 stored_are (answer ∷ answers) = ap (λ (l : List Answer). answer ∷ l) (stored_are answers)
-
-granted_are : (answers : List Answer) → AllGranted answers → map granted (map Stored answers) ≡ map Stored answers
-granted_are [] all = refl
-granted_are (answer ∷ answers) all = ap₂ (λ (one : Answer) (l : List Circumstance). Stored one ∷ l) (sym all.0) (granted_are answers all.1)
 
 abbrev its : ServerProfile → List Circumstance
 its serving = map Stored serving.inbox.answers
@@ -91,27 +90,71 @@ own_alike = record {
   has_check = λ s t own is. ap (λ x. server_machine.has_check x own) is;
 }
 
-granted_hears : (answers : List Circumstance) (news : News) (s t : SetHost ServerProfile) → t ≡ s → IsGranting s → (granting server_machine).hear (its s.host.profile) news t ≡ own_machine.hear answers news s
-granted_hears answers news s t is all = ap (λ (gifts : List Circumstance). server_machine.hear gifts news t) (granted_are s.host.profile.inbox.answers all) ∙ set_hears answers news s t is
+abbrev IsSame : {S : Type 0} → S → S → Type 0
+IsSame s t = t ≡ s
 
-granting_on : (s : SetHost ServerProfile) (pdu : List ℕ) (after : SetHost ServerProfile) → own_machine.next s ≡ Some (pdu, after) → IsGranting s → IsGranting after
-granting_on s pdu after is all =
-    let (host, said, same) = said_by s.settings (next (own_profile s.settings) s.host) pdu after is in
-    subst IsGranting (sym same) (next_kept (own_profile s.settings) HasGrants (grants_kept s.settings) s.host pdu host said all)
+itself : {S G : Type 0} (U : Upper S G) → AreAlike (IsSame {S = S}) U U
+itself {G = G} U = same_alike (λ news (answers : List G). answers) U
 
-pub granted_alike : AreAlike (λ s t. (t ≡ s) × IsGranting s) own_machine (granting server_machine)
-granted_alike = record {
-  hear = λ answers news s t so. (its s.host.profile, (granted_hears answers news s t so.0 so.1, hear_kept (own_profile s.settings) HasGrants (grants_kept s.settings) answers news s.host so.1));
-  says = λ s t so pdu after same. (after, (refl, granting_on s pdu after same so.1), set_next s t so.0 ∙ same);
-  silent = λ s t so none. set_next s t so.0 ∙ none;
-  wants_link = λ s t so. ap server_machine.wants_link so.0;
-  leaves_link = λ s t so. ap server_machine.leaves_link so.0;
-  is_idle = λ s t so. ap server_machine.is_idle so.0;
-  outcome = λ s t so. ap server_machine.outcome so.0;
-  armed = λ s t so. ap server_machine.armed so.0;
-  may_cancel = λ s t so. ap server_machine.may_cancel so.0;
-  has_check = λ s t own so. ap (λ x. server_machine.has_check x own) so.0;
-}
+-- where each answer that is left is one which other ports give as well, it goes as a server with these ports
+module _ (to : Circumstance → Circumstance) (P : Answer → Type 0) (stays : (answer : Answer) → P answer → to (Stored answer) ≡ Stored answer) where
+  abbrev Answering : Upper (SetHost ServerProfile) Circumstance
+  Answering = answered_by (λ news circumstances. map to circumstances) server_machine
+
+  abbrev Has : ServerProfile → Type 0
+  Has serving = AllByRecursion P serving.inbox.answers
+
+  abbrev IsAnswering : SetHost ServerProfile → SetHost ServerProfile → Type 0
+  IsAnswering s t = (t ≡ s) × Has s.host.profile
+
+  are_given : (answers : List Answer) → AllByRecursion P answers → map to (map Stored answers) ≡ map Stored answers
+  are_given [] all = refl
+  are_given (answer ∷ answers) all = ap₂ (λ (one : Circumstance) (l : List Circumstance). one ∷ l) (stays answer all.0) (are_given answers all.1)
+
+  has_kept : (settings : Settings) → KeepsSo (own_profile settings) Has
+  has_kept settings = answers_kept (AllByRecursion P) (all_left P) settings
+
+  answering_hears : (answers : List Circumstance) (news : News) (s t : SetHost ServerProfile) → IsAnswering s t → Answering.hear (its s.host.profile) news t ≡ own_machine.hear answers news s
+  answering_hears answers news s t so = ap (λ (gifts : List Circumstance). server_machine.hear gifts news t) (are_given s.host.profile.inbox.answers so.1) ∙ set_hears answers news s t so.0
+
+  answering_on : (s : SetHost ServerProfile) (pdu : List ℕ) (after : SetHost ServerProfile) → own_machine.next s ≡ Some (pdu, after) → Has s.host.profile → Has after.host.profile
+  answering_on s pdu after is all =
+      let (host, said, same) = said_by s.settings (next (own_profile s.settings) s.host) pdu after is in
+      subst (λ (x : SetHost ServerProfile). Has x.host.profile) (sym same) (next_kept (own_profile s.settings) Has (has_kept s.settings) s.host pdu host said all)
+
+  answering_alike : AreAlike IsAnswering own_machine Answering
+  answering_alike = record {
+    hear = λ answers news s t so. (its s.host.profile, (answering_hears answers news s t so, hear_kept (own_profile s.settings) Has (has_kept s.settings) answers news s.host so.1));
+    says = λ s t so pdu after same. (after, (refl, answering_on s pdu after same so.1), set_next s t so.0 ∙ same);
+    silent = λ s t so none. set_next s t so.0 ∙ none;
+    wants_link = λ s t so. ap server_machine.wants_link so.0;
+    leaves_link = λ s t so. ap server_machine.leaves_link so.0;
+    is_idle = λ s t so. ap server_machine.is_idle so.0;
+    outcome = λ s t so. ap server_machine.outcome so.0;
+    armed = λ s t so. ap server_machine.armed so.0;
+    may_cancel = λ s t so. ap server_machine.may_cancel so.0;
+    has_check = λ s t own so. ap (λ x. server_machine.has_check x own) so.0;
+  }
+
+  -- beside any machine
+  pub answering_runs : {S G : Type 0} (U : Upper S G) (happenings : List Happening) (old new : World S (SetHost ServerProfile)) → Has old.b.upper.host.profile → Runs U own_machine happenings old new → Runs U Answering happenings old new
+  answering_runs {S = S} U happenings old new all runs =
+      let (there, alike, ran) = runs_on IsSame IsAnswering U U own_machine Answering (itself U) answering_alike happenings old.a.upper old.b.upper old new refl (refl, all) runs in
+      let same : there ≡ new = alike.same ∙ ap₂ (λ (x : S) (y : SetHost ServerProfile). world_with x y new) alike.a alike.b.0 in
+      subst (λ (w : World S (SetHost ServerProfile)). Runs U Answering happenings old w) same ran
+
+abbrev pub IsGranted : Answer → Type 0
+IsGranted answer = answer ≡ Ok tt
+
+-- an inbox that grants all gives grants as well
+pub grants_stay : (answer : Answer) → IsGranted answer → granted (Stored answer) ≡ Stored answer
+grants_stay answer is = ap Stored (sym is)
+
+-- and one that does not lack memory what is not want of memory
+pub memory_stays : (answer : Answer) → HadMemory answer → remembered (Stored answer) ≡ Stored answer
+memory_stays (Ok done) had = refl
+memory_stays (Err fault.Failed) had = refl
+memory_stays (Err fault.NoMemory) had = absurd (had refl)
 
 pub own_orderly : AreOrderly client_machine own_machine
 own_orderly =
@@ -120,26 +163,20 @@ own_orderly =
 
 -- ---- runs
 
-abbrev IsSame : {S : Type 0} → S → S → Type 0
-IsSame s t = t ≡ s
-
-itself : AreAlike (IsSame {S = SetHost ClientProfile}) client_machine client_machine
-itself = same_alike (λ news (answers : List Circumstance). answers) client_machine
-
 -- what happens to such a server happens to that of the scenario
 pub own_runs : OwnRunsAreRuns
 own_runs happenings old new runs =
-    let (there, alike, ran) = runs_on IsSame IsSame client_machine client_machine own_machine server_machine itself own_alike happenings old.a.upper old.b.upper old new refl refl runs in
+    let (there, alike, ran) = runs_on IsSame IsSame client_machine client_machine own_machine server_machine (itself client_machine) own_alike happenings old.a.upper old.b.upper old new refl refl runs in
     let same : there ≡ new = alike.same ∙ ap₂ (λ (x : SetHost ClientProfile) (y : SetHost ServerProfile). world_with x y new) alike.a alike.b in
     subst (λ (w : BothSet). Runs client_machine server_machine happenings old w) same ran
 
 pub own_rest : OwnRestsAreRests
-own_rest w rest = rest_on IsSame IsSame client_machine client_machine own_machine server_machine itself own_alike w w (record { a = refl; b = refl; same = refl }) rest
+own_rest w rest = rest_on IsSame IsSame client_machine client_machine own_machine server_machine (itself client_machine) own_alike w w (record { a = refl; b = refl; same = refl }) rest
 
--- and where its answers are grants, to one whose inbox grants all
+-- where its answers are grants, to one whose inbox grants all
 pub granted_runs : GrantedRunsAreGranted
-granted_runs happenings old new all runs =
-    let Q : SetHost ServerProfile → SetHost ServerProfile → Type 0 = λ s t. (t ≡ s) × IsGranting s in
-    let (there, alike, ran) = runs_on IsSame Q client_machine client_machine own_machine (granting server_machine) itself granted_alike happenings old.a.upper old.b.upper old new refl (refl, all) runs in
-    let same : there ≡ new = alike.same ∙ ap₂ (λ (x : SetHost ClientProfile) (y : SetHost ServerProfile). world_with x y new) alike.a alike.b.0 in
-    subst (λ (w : BothSet). Runs client_machine (granting server_machine) happenings old w) same ran
+granted_runs = answering_runs granted IsGranted grants_stay client_machine
+
+-- and where none of them is want of memory, to one whose inbox does not lack memory
+pub enough_runs : EnoughRunsAreEnough
+enough_runs = answering_runs remembered HadMemory memory_stays client_machine

@@ -21,7 +21,9 @@ use Rattle.host_laws.specs.Gifts.{gifts_of}
 use Rattle.host_laws.specs.Serving.{news_served, event_served, taken_by, lent_by, served_with, served_from, reacted}
 use Rattle.host_laws.proofs.Serving.{feed_done}
 use Rattle.inbox_laws.specs.Spending.{AreLeft, SpendsWhatIsGiven, GivesWhatIsLeft}
-use Rattle.inbox_laws.proofs.Granting.{sdu_heard, channel_closed, link_gone, answers_kept}
+use Rattle.answer_laws.specs.Memory.{HadMemory}
+use Rattle.answer_laws.proofs.Using.{sdu_heard, channel_closed, link_gone}
+use Rattle.inbox_laws.proofs.Granting.{all_left, answers_kept}
 
 -- ---- what is kept of answers that are used up
 
@@ -33,12 +35,6 @@ few_left most [] answers few = few
 few_left most (call ∷ calls) [] few = few
 few_left most (call ∷ calls) (Ok done ∷ answers) few = few_left most calls answers few
 few_left most (call ∷ calls) (Err fault ∷ answers) few = omega (arith, few)
-
-unshort_left : (calls : List InboxCall) (answers : List Answer) → NoneShort answers → NoneShort (left_by calls answers)
-unshort_left [] answers none = none
-unshort_left (call ∷ calls) [] none = tt
-unshort_left (call ∷ calls) (Ok done ∷ answers) none = unshort_left calls answers none.1
-unshort_left (call ∷ calls) (Err fault ∷ answers) none = none.1
 
 -- ---- along what happens to a server
 
@@ -54,14 +50,14 @@ TellsNone (Answering answers) = ⊥
 spent_with : (one : Occurrence) (at : Reacted) → TellsNone one → spends at one + faults_of (done one at).gift.answers ≤ faults_of at.gift.answers
 spent_with (Came psm sdu) at none =
     let most = faults_of at.gift.answers in
-    let less : faults_of (done (Came psm sdu) at).gift.answers ≤ most = sdu_heard (FewFaults most) (few_left most) psm sdu at.server at.gift (omega arith) in omega (arith, less)
+    let less : faults_of (done (Came psm sdu) at).gift.answers ≤ most = sdu_heard (λ failed. FewFaults most) (λ failed. few_left most) psm sdu at.server at.gift (omega arith) in omega (arith, less)
 spent_with (Went psm sdu) at none = omega arith
 spent_with (Closed psm) at none =
     let most = faults_of at.gift.answers in
-    let less : faults_of (done (Closed psm) at).gift.answers ≤ most = channel_closed (FewFaults most) (few_left most) psm at.server at.gift (omega arith) in omega (arith, less)
+    let less : faults_of (done (Closed psm) at).gift.answers ≤ most = channel_closed (λ failed. FewFaults most) (λ failed. few_left most) psm at.server at.gift (omega arith) in omega (arith, less)
 spent_with LinkDown at none =
     let most = faults_of at.gift.answers in
-    let less : faults_of (done LinkDown at).gift.answers ≤ most = link_gone (FewFaults most) (few_left most) at.server at.gift (omega arith) in omega (arith, less)
+    let less : faults_of (done LinkDown at).gift.answers ≤ most = link_gone (λ failed. FewFaults most) (λ failed. few_left most) at.server at.gift (omega arith) in omega (arith, less)
 spent_with Asked at none = omega arith
 spent_with (Answering answers) at none = absurd none
 
@@ -140,11 +136,11 @@ module _ (settings : Settings) (content : Option Contents) where
 
   gift_kept : (feed : Feed) (p : ServerProfile) (left : AreLeft settings content p (feed ∷ [])) → NoneShort p.inbox.answers → NoneShort (after p feed).inbox.answers
   gift_kept (Gifts circumstances) p left none = subst NoneShort (sym left.0) none
-  gift_kept (Learns circumstances news) p left none = (answers_kept NoneShort unshort_left settings).told circumstances news p none
-  gift_kept (Receives own psm sdu) p left none = (answers_kept NoneShort unshort_left settings).received own psm sdu p none
-  gift_kept (Happens event v) p left none = (answers_kept NoneShort unshort_left settings).happened event v p none
+  gift_kept (Learns circumstances news) p left none = (answers_kept NoneShort (all_left HadMemory) settings).told circumstances news p none
+  gift_kept (Receives own psm sdu) p left none = (answers_kept NoneShort (all_left HadMemory) settings).received own psm sdu p none
+  gift_kept (Happens event v) p left none = (answers_kept NoneShort (all_left HadMemory) settings).happened event v p none
   gift_kept (Sent v) p left none = none
-  gift_kept (Steps v) p left none = (answers_kept NoneShort unshort_left settings).steps v p none
+  gift_kept (Steps v) p left none = (answers_kept NoneShort (all_left HadMemory) settings).steps v p none
 
   abbrev AreEnough : List Feed → Type 0
   AreEnough feeds = AllByRecursion (λ (gift : List Circumstance). NoneShort (answers_in gift)) (gifts_of feeds)

@@ -1,7 +1,7 @@
 //! Laws of a server that keeps what its inbox is to answer.
 #![tactic(auto)]
 
-ghost use Rattle.inbox_laws.specs.Owned.{GrantedRunsAreGranted, OwnRestsAreRests, OwnRunsAreRuns};
+ghost use Rattle.inbox_laws.specs.Owned.{EnoughRunsAreEnough, GrantedRunsAreGranted, OwnRestsAreRests, OwnRunsAreRuns};
 ghost use Rattle.inbox_laws.specs.Spending.{GivesWhatIsLeft, SpendsWhatIsGiven};
 
 /// What happens to both hosts, where the server keeps the answers of its inbox from its first moment on and uses them up one by one, happens
@@ -18,6 +18,11 @@ pub fn own_rests_are_rests()
 /// Where all answers that it keeps are grants, it happens to a server whose inbox grants whatever it is asked.
 pub fn granted_runs_are_granted()
     ensures { GrantedRunsAreGranted }
+{}
+
+/// And where none of them is want of memory, it happens to a server whose inbox does not lack memory.
+pub fn enough_runs_are_enough()
+    ensures { EnoughRunsAreEnough }
 {}
 
 /// Where a server is given all answers of its inbox with the first thing that it hears, and then what is left of them, its calls use up no more faults than

@@ -7,7 +7,7 @@ use Rattle.std.proofs.lemmas.Bool.{eqb-true}
 use Rattle.std.proofs.lemmas.List.Sums.{sum_by-cons}
 use Rattle.std.proofs.lemmas.List.{drop_all, length-drop}
 use Rattle.bt_base.specs.Octets.{IsOctets}
-use Rattle.capture.specs.Channels.{last_of}
+use Rattle.capture.specs.Histories.{last_of}
 use Rattle.rfcomm_frames.specs.declared.control.Control.{Control}
 use Rattle.rfcomm_frames.specs.declared.refusal.MuxRefusal.{MuxRefusal}
 use Rattle.rfcomm_frames.specs.Controls.{PlainControl, SpellsControl, plain_control}

@@ -2,7 +2,7 @@
 
 ghost use Rattle.std.specs.Prelude.{◌≡◌, ◌+◌, ◌*◌, ◌≤◌, ◌<◌, ◌^◌, sum_by, length, drop, map, Ok, IfOk, IfSome};
 ghost use Rattle.bt_base.specs.Octets.{IsOctets};
-ghost use Rattle.capture.specs.Channels.{last_of};
+ghost use Rattle.capture.specs.Histories.{last_of};
 ghost use Rattle.rfcomm_frames.specs.Controls.{plain_control};
 ghost use Rattle.rfcomm_frames.specs.ControlAnswers.{control_answer};
 ghost use Rattle.rfcomm_frames.specs.FrameReading.{message_answer, messages};

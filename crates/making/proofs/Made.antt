@@ -6,6 +6,7 @@ use Rattle.bt_base.specs.Counts.{HasRisen}
 use Rattle.bt_base.specs.Memory.{MemoryShelved, MemoryStored, no_calls}
 use Rattle.bt_base.specs.Objects.{Object, Contents}
 use Rattle.bt_base.specs.Streams.{gained}
+use Rattle.capture.specs.Entries.{Entry}
 use Rattle.push_terms.specs.declared.outcome.Outcome.{Outcome}
 use Rattle.push_terms.specs.declared.outcome.Outcome.TheVariants.{ScriptEnded}
 use Rattle.push_terms.specs.declared.peaks.Peaks.{Peaks}
@@ -16,7 +17,6 @@ use Rattle.push_script.specs.Reading.{Script, script_of, reading, with_defaults}
 use Rattle.push_script.specs.Reports.{report_text, peaks_text}
 use Rattle.radio_world.specs.declared.fault.WorldFault.{WorldFault}
 use Rattle.radio_world.specs.declared.fault.WorldFault.TheVariants as world
-use Rattle.scenario_play.specs.Playing.{IsPlayed}
 use Rattle.scenario_laws.specs.Outcomes.{outcomes_in}
 use Rattle.btpush_forms.specs.declared.status.Status.{Status}
 use Rattle.btpush_forms.specs.declared.status.Status.TheVariants as status
@@ -24,7 +24,9 @@ use Rattle.btpush_forms.specs.Run.{HasEnded, HasCauses}
 use Rattle.btpush_forms.specs.Ports.{Written}
 use Rattle.object_push.specs.Ports.{Ports}
 use Rattle.object_push.specs.Pushing.{Pushes, NotRead, NotTaken, Taken, IsUnread}
-use Rattle.object_push.specs.Running.{Runs, RanToEnd, RanShort, Reports, status_of}
+use Rattle.object_push.specs.Running.{Reports, status_of}
+use Rattle.object_push.specs.Told as told_by
+use Rattle.object_push.specs.Told.{Tells, ToTheEnd, NotToTheEnd}
 use Rattle.making.specs.Counting.{done_lines, octets_counted}
 use Rattle.making.specs.Making.{IsRun, IsReported, first_ports, Sums, Makes, NotMade, Stopped, Told, StopsShort, IsKnown, EndsSo}
 use Rattle.making.specs.MadePorts.{AreMade}
@@ -72,14 +74,14 @@ same_script a b e = cc
 never : (refusal : ℕ × ScriptRefusal) (script : Script) → ill refusal ≡ well script → ⊥
 never refusal script e = absurd cc
 
-comes : (number : ℕ) (trace : Written) (input : List ℕ) (left : Option (List ℕ)) (old after : Ports) (Untouched : Type 0) (end : Status) → reading [] input ≡ Ok (made_script number) → old ≡ first_ports number trace → (end ≡ status.ReadFault → ⊥)
+comes : (number : ℕ) (trace : Written) (input : List ℕ) (left : Option (List ℕ)) (old after : Ports) (Untouched : Type 0) (end : Status) → reading input ≡ Ok (made_script number) → old ≡ first_ports number trace → (end ≡ status.ReadFault → ⊥)
     → Pushes input left old after Untouched end → Comes number trace Untouched after end
 comes number trace input left old after Untouched end made same other (NotRead n l kept is unread) = NotBegun (unread_short end unread other) is
 comes number trace input left old after Untouched end made same other (NotTaken line refusal l read refuses is) = absurd (never (line, refusal) (made_script number) (sym read ∙ made))
-comes number trace input left old after Untouched end made same other (Taken scenario l read runs) = Ran (record {
+comes number trace input left old after Untouched end made same other (Taken scenario l read tells) = Ran (record {
   scenario = scenario;
   made = same_script (script_of scenario) (made_script number) (sym read ∙ made);
-  runs = subst (λ (ports : Ports). Runs scenario ports after end) same runs;
+  tells = subst (λ (ports : Ports). Tells scenario ports after end) same tells;
 })
 
 -- ---- a run that came to its end
@@ -89,11 +91,11 @@ unfolding with_defaults
 names_are number script e = ap (λ (x : Script). x.names) e
 
 -- each name has its outcome
-pub enough : (scenario : Scenario) (shelf : Option (List Object)) (before after : Option Contents) (trace trace' : Option (List ℕ)) (outcomes : List Outcome) (peaks : Peaks) (Never : Type 0) → IsPlayed scenario shelf before after trace trace' outcomes peaks Never → length scenario.names ≤ length outcomes
-enough scenario shelf before after trace trace' outcomes peaks Never played =
-    let front : List Outcome = outcomes_in played.capture in
+pub enough : (scenario : Scenario) (old new : Ports) (outcomes : List Outcome) (kept : ℕ) (peaks : Peaks) (capture : List Entry) → told_by.EndsSo scenario old new outcomes kept peaks capture → length scenario.names ≤ length outcomes
+enough scenario old new outcomes kept peaks capture ends =
+    let front : List Outcome = outcomes_in capture in
     let rest : List Outcome = replicate (length scenario.names - length front) ScriptEnded in
-    let all : length outcomes ≡ length (front ++ rest) = ap (λ (os : List Outcome). length os) played.outcomes_are in
+    let all : length outcomes ≡ length (front ++ rest) = ap (λ (os : List Outcome). length os) ends.keeps.outcomes_are in
     omega (arith, all, length-append front rest, length-replicate (length scenario.names - length front) ScriptEnded)
 
 -- what its report tells of it
@@ -131,39 +133,39 @@ short_of_end world.TraceFault ended = ended
 short_of_end world.NoMemory ended = ended
 
 pub told : (number : ℕ) (trace : Written) (after : Ports) (end : Status) (scenario : Scenario) (text : List ℕ) (contents : Contents) → script_of scenario ≡ made_script number → HasEnded end
-    → after.sink.content ≡ Some text → after.inbox.content ≡ Some contents → Runs scenario (first_ports number trace) after end → HasTold scenario (first_ports number trace) after end text contents.stored
-told number trace after end scenario text contents made ended is holds (RanToEnd outcomes kept peaks played gains reports) =
+    → after.sink.content ≡ Some text → after.inbox.content ≡ Some contents → Tells scenario (first_ports number trace) after end → HasTold scenario (first_ports number trace) after end text contents.stored
+told number trace after end scenario text contents made ended is holds (ToTheEnd outcomes kept peaks capture came reports) =
     let names : scenario.names ≡ made_names = names_are number (script_of scenario) made in
     let whole : after.sink.content ≡ Some (report_text made_names outcomes kept peaks) =
     whole_report (report_text scenario.names outcomes kept peaks) outcomes (Some []) after.sink.content _ end ended reports ∙ ap (λ (ns : List (List ℕ)). Some (report_text ns outcomes kept peaks)) names in
-    let enough_are : length made_names ≤ length outcomes = subst (λ (ns : List (List ℕ)). length ns ≤ length outcomes) names (enough _ _ _ _ _ _ outcomes peaks _ played) in
+    let enough_are : length made_names ≤ length outcomes = subst (λ (ns : List (List ℕ)). length ns ≤ length outcomes) names (enough scenario (first_ports number trace) after outcomes kept peaks capture came) in
     record {
       outcomes = outcomes;
-      reported = record { ends = ends_so (report_text scenario.names outcomes kept peaks) outcomes (Some []) after.sink.content _ end ended reports; kept = kept; peaks = peaks; played = played; report = whole; pending = contents.pending; inbox = holds };
+      reported = record { ends = ends_so (report_text scenario.names outcomes kept peaks) outcomes (Some []) after.sink.content _ end ended reports; kept = kept; peaks = peaks; capture = capture; played = came; report = whole; pending = contents.pending; inbox = holds };
       done = ap (done_lines 8) (same_text text (report_text made_names outcomes kept peaks) (sym is ∙ whole)) ∙ done_told 1 outcomes made_names (peaks_text kept peaks) enough_are (refl, (refl, (refl, (refl, (refl, (refl, (refl, (refl, tt))))))));
     }
-told number trace after end scenario text contents made ended is holds (RanShort fault end_is reason broken grows silent) = absurd (short_of_end fault (subst HasEnded end_is ended))
+told number trace after end scenario text contents made ended is holds (NotToTheEnd fault past next end_is why stops silent) = absurd (short_of_end fault (subst HasEnded end_is ended))
 
 -- ---- what is told in the end
 
-run_known : (scenario : Scenario) (before after : Ports) (end : Status) → Runs scenario before after end → IsKnown end
-run_known scenario before after status.Ok runs = inl tt
-run_known scenario before after status.SomeFailed runs = inl tt
-run_known scenario before after status.NoMemory runs = inr (inl refl)
-run_known scenario before after status.WriteFault runs = inr (inr refl)
-run_known scenario before after status.BadWords (RanToEnd outcomes kept peaks played gains reports) = absurd reports
-run_known scenario before after status.InputRefused (RanToEnd outcomes kept peaks played gains reports) = absurd reports
-run_known scenario before after status.ReadFault (RanToEnd outcomes kept peaks played gains reports) = absurd reports
-run_known scenario before after status.BadWords (RanShort fault end_is reason broken grows silent) = absurd (no_other fault status.BadWords end_is (λ e. cc) (λ e. cc))
-run_known scenario before after status.InputRefused (RanShort fault end_is reason broken grows silent) = absurd (no_other fault status.InputRefused end_is (λ e. cc) (λ e. cc))
-run_known scenario before after status.ReadFault (RanShort fault end_is reason broken grows silent) = absurd (no_other fault status.ReadFault end_is (λ e. cc) (λ e. cc))
+run_known : (scenario : Scenario) (before after : Ports) (end : Status) → Tells scenario before after end → IsKnown end
+run_known scenario before after status.Ok tells = inl tt
+run_known scenario before after status.SomeFailed tells = inl tt
+run_known scenario before after status.NoMemory tells = inr (inl refl)
+run_known scenario before after status.WriteFault tells = inr (inr refl)
+run_known scenario before after status.BadWords (ToTheEnd outcomes kept peaks capture came reports) = absurd reports
+run_known scenario before after status.InputRefused (ToTheEnd outcomes kept peaks capture came reports) = absurd reports
+run_known scenario before after status.ReadFault (ToTheEnd outcomes kept peaks capture came reports) = absurd reports
+run_known scenario before after status.BadWords (NotToTheEnd fault past next end_is why stops silent) = absurd (no_other fault status.BadWords end_is (λ e. cc) (λ e. cc))
+run_known scenario before after status.InputRefused (NotToTheEnd fault past next end_is why stops silent) = absurd (no_other fault status.InputRefused end_is (λ e. cc) (λ e. cc))
+run_known scenario before after status.ReadFault (NotToTheEnd fault past next end_is why stops silent) = absurd (no_other fault status.ReadFault end_is (λ e. cc) (λ e. cc))
 
 makes_told : (number : ℕ) (sink sink' trace trace' : Written) (Untouched : Type 0) (after : Ports) (end result : Status) (text : List ℕ) (contents : Contents) → HasEnded end → Comes number trace Untouched after end → after.trace ≡ trace'
     → after.sink.content ≡ Some text → after.inbox.content ≡ Some contents → Sums (summary_text (done_lines 8 text) (length contents.stored) (octets_counted contents.stored)) end sink.content sink'.content (HasRisen sink.shortages sink'.shortages) result
     → Makes number sink sink' trace trace' result
 makes_told number sink sink' trace trace' Untouched after end result text contents ended (NotBegun end_is is) traced reported holds sums = absurd (subst HasEnded end_is ended)
 makes_told number sink sink' trace trace' Untouched after end result text contents ended (Ran ran) traced reported holds sums =
-    let has : HasTold ran.scenario (first_ports number trace) after end text contents.stored = told number trace after end ran.scenario text contents ran.made ended reported holds ran.runs in
+    let has : HasTold ran.scenario (first_ports number trace) after end text contents.stored = told number trace after end ran.scenario text contents ran.made ended reported holds ran.tells in
     Told after end has.outcomes contents.stored ran has.reported traced
     (subst (λ (done : ℕ). Sums (summary_text done (length contents.stored) (octets_counted contents.stored)) end sink.content sink'.content (HasRisen sink.shortages sink'.shortages) result) has.done sums)
 
@@ -191,7 +193,7 @@ stops_short number sink trace trace' Untouched after end not_ok not_failed still
   short = inl end_is;
 }
 stops_short number sink trace trace' Untouched after end not_ok not_failed still traced (Ran ran) =
-    let short : StopsShort end = shortly end (run_known ran.scenario (first_ports number trace) after end ran.runs) not_ok not_failed in
+    let short : StopsShort end = shortly end (run_known ran.scenario (first_ports number trace) after end ran.tells) not_ok not_failed in
     record { makes = Stopped after ran short traced refl; short = short }
 
 -- a sink that was not written to

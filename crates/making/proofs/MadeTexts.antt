@@ -1,5 +1,5 @@
 -- The text of a made scenario is short enough to be read again.
-use Rattle.std.proofs.Common.{◌≡◌, ℕ, ◌*◌, ◌^◌, ◌<◌, ◌≤◌, Bool, true, false, List, [], ◌++◌, length, Ok, refl, ap, subst, ◌∙◌, arith}
+use Rattle.std.proofs.Common.{◌≡◌, ℕ, ◌*◌, ◌^◌, ◌<◌, ◌≤◌, Bool, true, false, List, ◌++◌, length, Ok, refl, ap, subst, ◌∙◌, arith}
 use Rattle.std.proofs.lemmas.List.{length-append}
 use Rattle.std.proofs.lemmas.Fmt.{length-decimal-le}
 use Rattle.std.specs.Fmt.{digits}
@@ -17,7 +17,7 @@ use Rattle.push_script.specs.Reading.{Script, script_of, reading, text_limit, wi
 use Rattle.push_script.specs.Runs.{IsRun}
 use Rattle.push_script.specs.Scenarios.{key_line, transport_text, serves_text, switch_text, object_line, run_line, scenario_text}
 use Rattle.push_script.specs.Turns.{turns}
-use Rattle.push_script.proofs.Again.{text_again, nothing_missing}
+use Rattle.push_script.proofs.Again.{text_again}
 
 -- the text of a scenario by what it states, in front of its runs and whole
 abbrev front_of : Script → List ℕ
@@ -77,10 +77,10 @@ unfolding with_defaults
 runs_are number script e = ap (λ (x : Script). x.runs) e
 
 -- the text of the scenario of a number is read as that scenario
-pub made_again : (number : ℕ) (s : Scenario) (text : List ℕ) → script_of s ≡ made_script number → text ≡ scenario_text s → reading [] text ≡ Ok (made_script number)
+pub made_again : (number : ℕ) (s : Scenario) (text : List ℕ) → script_of s ≡ made_script number → text ≡ scenario_text s → reading text ≡ Ok (made_script number)
 made_again number s text e te =
     let spelled : AllByRecursion IsRun (made_runs (is_even number) (enough_of number)) = subst (λ (runs : List (ℕ × Word)). AllByRecursion IsRun runs) (runs_are number (script_of s) e) s.spelled in
     let same : scenario_text s ≡ text_of (made_script number) = stated s ∙ ap text_of e in
     let fits : length (text_of (made_script number)) ≤ text_limit = text_length (made_transport (is_even number)) (is_even number) (enough_of number) spelled in
     let short : length (scenario_text s) ≤ text_limit = omega (arith, ap length same, fits) in
-    ap (reading []) te ∙ text_again [] s (nothing_missing s) short ∙ ap (λ (script : Script). Ok script) e
+    ap reading te ∙ text_again s short ∙ ap (λ (script : Script). Ok script) e

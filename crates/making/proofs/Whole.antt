@@ -22,7 +22,7 @@ Wholly sink sink' = (stored : List Object) × (sink'.content ≡ gained sink.con
 
 all_eight : (number : ℕ) (trace : Written) (after : Ports) (outcomes : List Outcome) (stored : List Object) (ran : IsRun number trace after status.Ok) → IsReported ran.scenario (first_ports number trace) after status.Ok outcomes stored → done_count outcomes made_names ≡ 8
 all_eight number trace after outcomes stored ran reported =
-    let each : length made_names ≤ length outcomes = subst (λ (names : List (List ℕ)). length names ≤ length outcomes) (names_are number (script_of ran.scenario) ran.made) (enough _ _ _ _ _ _ outcomes _ _ reported.played) in
+    let each : length made_names ≤ length outcomes = subst (λ (names : List (List ℕ)). length names ≤ length outcomes) (names_are number (script_of ran.scenario) ran.made) (enough _ _ _ outcomes _ _ _ reported.played) in
     all_counted outcomes made_names reported.ends each
 
 told_wholly : (number : ℕ) (sink sink' trace : Written) (after : Ports) (end : Status) (outcomes : List Outcome) (stored : List Object) (ran : IsRun number trace after end) → status.Ok ≡ end → IsReported ran.scenario (first_ports number trace) after end outcomes stored

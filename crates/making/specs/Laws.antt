@@ -1,5 +1,5 @@
 -- Laws of the scenarios of numbers (this project's own).
-use Rattle.std.specs.Prelude.{ℕ, ◌≡◌, List, [], length, Ok}
+use Rattle.std.specs.Prelude.{ℕ, ◌≡◌, List, length, Ok}
 use Rattle.bt_base.specs.Objects.{Object}
 use Rattle.bt_base.specs.Streams.{gained}
 use Rattle.push_script.specs.declared.scenario.Scenario.{Scenario}
@@ -14,7 +14,7 @@ use Rattle.making.specs.Summary.{summary_text}
 
 -- the text of the scenario of a number is read as that scenario
 abbrev pub MadeTextsAgain : Type 0
-MadeTextsAgain = (number : ℕ) (scenario : Scenario) → script_of scenario ≡ made_script number → reading [] (scenario_text scenario) ≡ Ok (made_script number)
+MadeTextsAgain = (number : ℕ) (scenario : Scenario) → script_of scenario ≡ made_script number → reading (scenario_text scenario) ≡ Ok (made_script number)
 
 -- where it ends well, the summary says that eight of eight pushes are done
 abbrev pub GoodEndsAreWhole : Type 0

@@ -8,7 +8,7 @@ use Rattle.making.specs.declared.memory_ports.MemoryPorts.{MemoryPorts}
 -- The source has a text that is read as the scenario of that number, nothing is reported yet, the objects of the number lie on the shelf,
 -- and the inbox is empty. No port was called yet, and no call of one is to fail.
 pub record AreMade (number : ℕ) (ports : MemoryPorts) : Type 0 where
-  pub text : reading [] ports.source ≡ Ok (made_script number)
+  pub text : reading ports.source ≡ Ok (made_script number)
   pub report : ports.report.text.items ≡ []
   pub report_short : ports.report.shortages ≡ 0
   pub shelf : ports.shelf ≡ record { objects = put_first (made_objects number) []; calls = no_calls []; absences = 0 }

@@ -4,20 +4,21 @@ use Rattle.std.specs.List.{list_all}
 use Rattle.bt_base.specs.Counts.{HasRisen}
 use Rattle.bt_base.specs.Objects.{Object}
 use Rattle.bt_base.specs.Streams.{gained, GainedFront}
+use Rattle.capture.specs.Entries.{Entry}
 use Rattle.push_terms.specs.declared.outcome.Outcome.{Outcome}
 use Rattle.push_terms.specs.declared.peaks.Peaks.{Peaks}
 use Rattle.push_script.specs.declared.scenario.Scenario.{Scenario}
 use Rattle.push_script.specs.Made.{made_names, made_objects, made_script, put_first}
 use Rattle.push_script.specs.Reading.{script_of}
 use Rattle.push_script.specs.Reports.{report_text}
-use Rattle.scenario_play.specs.Playing.{IsPlayed}
 use Rattle.btpush_forms.specs.declared.status.Status.{Status}
 use Rattle.btpush_forms.specs.declared.status.Status.TheVariants as status
 use Rattle.btpush_forms.specs.Run.{HasEnded}
 use Rattle.btpush_forms.specs.Ports.{Written}
 use Rattle.object_push.specs.Ports.{Ports}
-use Rattle.object_push.specs.Gaining.{InboxNever}
-use Rattle.object_push.specs.Running.{Runs, is_done}
+use Rattle.object_push.specs.Running.{is_done}
+use Rattle.object_push.specs.Told as told
+use Rattle.object_push.specs.Told.{Tells}
 use Rattle.making.specs.Counting.{octets_counted}
 use Rattle.making.specs.Outcomes.{done_count}
 use Rattle.making.specs.Summary.{summary_text}
@@ -36,7 +37,7 @@ first_ports number trace = record {
 pub record IsRun (number : ℕ) (trace : Written) (after : Ports) (end : Status) : Type 0 where
   pub scenario : Scenario
   pub made : script_of scenario ≡ made_script number
-  pub runs : Runs scenario (first_ports number trace) after end
+  pub tells : Tells scenario (first_ports number trace) after end
 
 -- how a run with these outcomes ends: well where every push is done
 abbrev pub EndsSo : List Outcome → Status → Type 0
@@ -44,13 +45,14 @@ EndsSo outcomes status.Ok = list_all is_done outcomes ≡ true
 EndsSo outcomes status.SomeFailed = list_all is_done outcomes ≡ false
 EndsSo outcomes _ = ⊥
 
--- A scenario was played to its end over ports that were `before` and are `after`, as its trace has it, with these outcomes, which are
--- reported; these objects are stored.
+-- A scenario was played to its end over ports that were `before` and are `after`, as the capture says that its trace gained, with these outcomes, which
+-- are reported; these objects are stored.
 pub record IsReported (scenario : Scenario) (before after : Ports) (end : Status) (outcomes : List Outcome) (stored : List Object) : Type 0 where
   pub ends : EndsSo outcomes end
   pub kept : ℕ
   pub peaks : Peaks
-  pub played : IsPlayed scenario before.shelf.content before.inbox.content after.inbox.content before.trace.content after.trace.content outcomes peaks (InboxNever before after)
+  pub capture : List Entry
+  pub played : told.EndsSo scenario before after outcomes kept peaks capture
   pub report : after.sink.content ≡ Some (report_text made_names outcomes kept peaks)
   pub pending : Option Object
   pub inbox : after.inbox.content ≡ Some (record { stored = stored; pending = pending })

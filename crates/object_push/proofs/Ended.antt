@@ -6,6 +6,7 @@ use Rattle.std.specs.List.{AllByRecursion}
 use Rattle.bt_base.specs.Objects.{Object, Contents}
 use Rattle.bt_base.specs.Streams.{gained, GainedFront}
 use Rattle.bt_base.proofs.PortLaws.{gained-gained, front_whole}
+use Rattle.obex_session.specs.Counting.{Counts}
 use Rattle.push_script.specs.declared.scenario.Scenario.{Scenario}
 use Rattle.push_terms.specs.declared.outcome.Outcome.{Outcome}
 use Rattle.push_terms.specs.declared.outcome.Outcome.TheVariants.{ScriptEnded}
@@ -13,11 +14,11 @@ use Rattle.push_terms.specs.declared.peaks.Peaks.{Peaks}
 use Rattle.push_terms.specs.declared.word.Word.{Word}
 use Rattle.capture.specs.Entries.{Entry, Ended, entry_octets, capture_octets, IsEntry}
 use Rattle.world_model.specs.Pushes.{Pushes}
-use Rattle.world_model.specs.Worlds.{all_entries, all_words}
+use Rattle.world_model.specs.Worlds.{Happening, all_entries, all_words}
 use Rattle.radio_world.specs.Standing.{last_entries}
 use Rattle.scenario_laws.specs.Captures.{client_of}
 use Rattle.scenario_play.specs.Breaking.{IsBroken}
-use Rattle.scenario_play.specs.Playing.{IsPlayed}
+use Rattle.scenario_play.specs.Playing.{RanAnswered, IsPlayed}
 
 -- one entry at most ends the last push
 few_last : (came : Option Outcome) (pushes : Pushes) → length (last_entries came pushes) ≤ 1
@@ -32,9 +33,23 @@ written_behind trace trace' past ends capture is written =
     front_whole (gained trace (capture_octets past)) trace' (capture_octets ends)
     (written ∙ ap (λ (es : List Entry). gained trace (capture_octets es)) is ∙ ap (λ (os : List ℕ). gained trace os) (flat_map-append entry_octets past ends) ∙ sym (gained-gained trace (capture_octets past) (capture_octets ends)))
 
-pub broken_at_end : (scenario : Scenario) (shelf : Option (List Object)) (before after : Option Contents) (trace trace' : Option (List ℕ)) (outcomes : List Outcome) (peaks : Peaks) (Lacked Never : Type 0) → IsPlayed scenario shelf before after trace trace' outcomes peaks Never
-    → IsBroken scenario shelf before after trace trace' Lacked Never
-broken_at_end scenario shelf before after trace trace' outcomes peaks Lacked Never played =
+-- the end of the last push is nothing that happened
+without_ends : {scenario : Scenario} {shelf : Option (List Object)} {before after : Option Contents} {counts counts' : Counts} {happenings : List Happening} {capture : List Entry} → RanAnswered scenario shelf before after counts counts' happenings capture
+    → RanAnswered scenario shelf before after counts counts' happenings (all_entries happenings)
+without_ends answered =
+    let own = answered.own in
+    record {
+      answers = answered.answers;
+      enough = answered.enough;
+      counted = answered.counted;
+      own = record { happenings = own.happenings; world = own.world; happened = own.happened; ends = []; last = tt; capture_is = ap (λ (hs : List Happening). all_entries hs) (sym answered.happenings_are) ∙ sym (append-nil (all_entries own.happenings)) };
+      happenings_are = answered.happenings_are;
+      stored = answered.stored;
+    }
+
+pub broken_at_end : (scenario : Scenario) (shelf : Option (List Object)) (before after : Option Contents) (trace trace' : Option (List ℕ)) (outcomes : List Outcome) (peaks : Peaks) (counts counts' : Counts) → IsPlayed scenario shelf before after trace trace' outcomes peaks counts counts'
+    → IsBroken scenario shelf before after trace trace' counts counts'
+broken_at_end scenario shelf before after trace trace' outcomes peaks counts counts' played =
     let ran = played.finished.ran in
     record {
       happenings = ran.happenings;
@@ -49,7 +64,8 @@ broken_at_end scenario shelf before after trace trace' outcomes peaks Lacked Nev
       words_are = sym played.finished.words_are ∙ sym (append-nil (all_words ran.happenings));
       written = written_behind trace trace' (all_entries ran.happenings) ran.ends played.capture ran.capture_is played.written;
       entries_are = subst (λ (es : List Entry). AllByRecursion IsEntry es) ran.capture_is played.entries_are;
-      held = (played.held, played.held);
+      enough = (played.enough, played.enough);
       granted = λ never. (played.granted never, played.granted never);
+      answered = λ lacked. without_ends (played.answered lacked);
       stored = inl played.stored;
     }

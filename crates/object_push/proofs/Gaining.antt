@@ -1,7 +1,6 @@
 -- What a run of a scenario over L2CAP comes to.
 use Rattle.std.proofs.Common.{◌≡◌, ℕ, List, ◌++◌, length, Option, Some, None, sym, ap, ◌∙◌, subst, arith, length-append}
 use Rattle.std.specs.Prelude.{min}
-use Rattle.bt_base.specs.Counts.{HasRisen}
 use Rattle.bt_base.specs.Objects.{Object, Contents}
 use Rattle.bt_base.specs.declared.settings.Transport.TheVariants.{L2cap}
 use Rattle.watched_ports.specs.Gains.{most_kept}
@@ -13,9 +12,9 @@ use Rattle.scenario_play.specs.Gaining.{PlaysGain}
 use Rattle.scenario_play.specs.Playing.{IsPlayed}
 use Rattle.scenario_play.proofs.Gained.{plays_gain}
 use Rattle.btpush_forms.specs.declared.status.Status.{Status}
-use Rattle.object_push.specs.Gaining.{ComesTo, ToItsEnd, Short, RunsGain, InboxNever}
+use Rattle.object_push.specs.Gaining.{ComesTo, ToItsEnd, Short, RunsGain}
 use Rattle.object_push.specs.Gains.{Gains}
-use Rattle.object_push.specs.Ports.{Ports}
+use Rattle.object_push.specs.Ports.{Ports, counts_in}
 use Rattle.object_push.specs.Running.{Runs, RanToEnd, RanShort}
 
 -- as many objects were counted as stand behind those that were there
@@ -36,15 +35,15 @@ counted before heard kept (Some after) gains stored =
 pub comes_from : (law : PlaysGain) (scenario : Scenario) (before : List Object) (old new : Ports) (result : Status) → old.inbox.content ≡ holding before → scenario.settings.transport ≡ L2cap → Runs scenario old new result
     → ComesTo law.asks scenario before old new result
 comes_from law scenario before old new result held direct (RanToEnd outcomes kept peaks played gains reports) =
-    let over : IsPlayed scenario old.shelf.content (holding before) new.inbox.content old.trace.content new.trace.content outcomes peaks (InboxNever old new) =
-    subst (λ (c : Option Contents). IsPlayed scenario old.shelf.content c new.inbox.content old.trace.content new.trace.content outcomes peaks (InboxNever old new)) held played in
-    let so = law.plays scenario old.shelf.content before new.inbox.content old.trace.content new.trace.content outcomes peaks old.inbox.faults new.inbox.faults old.inbox.shortages new.inbox.shortages over direct in
+    let over : IsPlayed scenario old.shelf.content (holding before) new.inbox.content old.trace.content new.trace.content outcomes peaks (counts_in old.inbox) (counts_in new.inbox) =
+    subst (λ (c : Option Contents). IsPlayed scenario old.shelf.content c new.inbox.content old.trace.content new.trace.content outcomes peaks (counts_in old.inbox) (counts_in new.inbox)) held played in
+    let so = law.plays scenario old.shelf.content before new.inbox.content old.trace.content new.trace.content outcomes peaks (counts_in old.inbox) (counts_in new.inbox) over direct in
     let more : Gains (holding before) kept new.inbox.content = subst (λ (c : Option Contents). Gains c kept new.inbox.content) held gains in
     ToItsEnd outcomes kept peaks over so (λ have. counted before _ kept new.inbox.content more (so.gained have)) reports
 comes_from law scenario before old new result held direct (RanShort fault is stops broken grows silent) =
-    let over : IsBroken scenario old.shelf.content (holding before) new.inbox.content old.trace.content new.trace.content (HasRisen old.inbox.shortages new.inbox.shortages) (InboxNever old new) =
-    subst (λ (c : Option Contents). IsBroken scenario old.shelf.content c new.inbox.content old.trace.content new.trace.content (HasRisen old.inbox.shortages new.inbox.shortages) (InboxNever old new)) held broken in
-    Short fault is stops over (law.breaks scenario old.shelf.content before new.inbox.content old.trace.content new.trace.content old.inbox.faults new.inbox.faults old.inbox.shortages new.inbox.shortages over direct) silent
+    let over : IsBroken scenario old.shelf.content (holding before) new.inbox.content old.trace.content new.trace.content (counts_in old.inbox) (counts_in new.inbox) =
+    subst (λ (c : Option Contents). IsBroken scenario old.shelf.content c new.inbox.content old.trace.content new.trace.content (counts_in old.inbox) (counts_in new.inbox)) held broken in
+    Short fault is stops over (law.breaks scenario old.shelf.content before new.inbox.content old.trace.content new.trace.content (counts_in old.inbox) (counts_in new.inbox) over direct) silent
 
 pub runs_gain : RunsGain
 runs_gain = record { asks = plays_gain.asks; gains = comes_from plays_gain }

@@ -8,21 +8,22 @@ use Rattle.push_script.specs.declared.scenario.Scenario.{Scenario}
 use Rattle.radio_world.specs.declared.fault.WorldFault.{WorldFault}
 use Rattle.radio_world.specs.declared.fault.WorldFault.TheVariants.{TraceFault, NoMemory}
 use Rattle.scenario_play.specs.Breaking.{IsBroken}
-use Rattle.scenario_play.specs.Playing.{RoseNever, IsPlayed}
+use Rattle.scenario_play.specs.Playing.{IsPlayed}
 use Rattle.watched_ports.specs.Gains.{Keeps}
 use Rattle.watched_ports.specs.Pasts.{ShelfPast, InboxPast, IsShelf, IsInbox}
 use Rattle.object_push.specs.declared.halting.Ended.{Ended}
 use Rattle.object_push.specs.Halting.{HasReason}
 use Rattle.object_push.specs.Playing.{Lent, GoesOn}
+use Rattle.object_push.specs.Ports.{counts_in}
 use Rattle.object_push.proofs.Gained.{gained_by, grows_by}
 use Rattle.object_push.proofs.Handing.{ok_then}
 
 -- the same over what the ports were at the beginning
 pub record Watched (scenario : Scenario) (old new : Lent) (of_shelf : ShelfPast) (of_inbox : InboxPast) (result : Result Ended WorldFault) : Type 0 where
-  pub plays : IfOk result (λ ended. IsPlayed scenario old.shelf.content old.inbox.content new.inbox.content old.trace.content new.trace.content ended.played.outcomes.items ended.played.peaks (RoseNever old.inbox.faults new.inbox.faults old.inbox.shortages new.inbox.shortages))
+  pub plays : IfOk result (λ ended. IsPlayed scenario old.shelf.content old.inbox.content new.inbox.content old.trace.content new.trace.content ended.played.outcomes.items ended.played.peaks (counts_in old.inbox) (counts_in new.inbox))
   pub each : IfOk result (λ ended. length ended.played.outcomes.items ≡ length scenario.names)
   pub kept : IfOk result (λ ended. Keeps of_inbox.content ended.kept new.inbox.content)
-  pub breaks : IfErr result (λ fault. IsBroken scenario old.shelf.content old.inbox.content new.inbox.content old.trace.content new.trace.content (HasRisen old.inbox.shortages new.inbox.shortages) (RoseNever old.inbox.faults new.inbox.faults old.inbox.shortages new.inbox.shortages))
+  pub breaks : IfErr result (λ fault. IsBroken scenario old.shelf.content old.inbox.content new.inbox.content old.trace.content new.trace.content (counts_in old.inbox) (counts_in new.inbox))
   pub reason : IfErr result (λ fault. HasReason fault scenario old.inbox.content new.inbox.content old.trace.content new.trace.content (HasRisen old.trace.faults new.trace.faults) (HasRisen old.trace.shortages new.trace.shortages)
       (HasRisen old.shelf.shortages new.shelf.shortages) (HasRisen old.inbox.shortages new.inbox.shortages))
   pub grows : (kept : ℕ) × Keeps of_inbox.content kept new.inbox.content

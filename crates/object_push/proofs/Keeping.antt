@@ -1,10 +1,11 @@
 -- What each run of a scenario keeps, over either transport.
 use Rattle.scenario_play.proofs.Gained.{plays_keep}
 use Rattle.object_push.specs.Keeping.{RunsKeep}
+use Rattle.object_push.specs.Ports.{counts_in}
 use Rattle.object_push.specs.Running.{RanToEnd, RanShort}
 
 pub runs_keep : RunsKeep
 runs_keep scenario old new result (RanToEnd outcomes kept peaks played gains reports) =
-    plays_keep.plays scenario old.shelf.content old.inbox.content new.inbox.content old.trace.content new.trace.content outcomes peaks old.inbox.faults new.inbox.faults old.inbox.shortages new.inbox.shortages played
+    plays_keep.plays scenario old.shelf.content old.inbox.content new.inbox.content old.trace.content new.trace.content outcomes peaks (counts_in old.inbox) (counts_in new.inbox) played
 runs_keep scenario old new result (RanShort fault is stops broken grows silent) =
-    plays_keep.breaks scenario old.shelf.content old.inbox.content new.inbox.content old.trace.content new.trace.content old.inbox.faults new.inbox.faults old.inbox.shortages new.inbox.shortages broken
+    plays_keep.breaks scenario old.shelf.content old.inbox.content new.inbox.content old.trace.content new.trace.content (counts_in old.inbox) (counts_in new.inbox) broken

@@ -1,34 +1,37 @@
 -- What a push of a scenario comes to, over its ports and its capture alone.
-use Rattle.std.proofs.Common.{◌≡◌, ℕ, List, [], ◌++◌, length, Option, Some, None, IfSome, inl, inr, refl, sym, ap, subst, ◌∙◌}
+use Rattle.std.proofs.Common.{◌≡◌, ℕ, ◌<◌, arith, List, [], ◌++◌, length, Option, Some, None, IfSome, inl, inr, refl, sym, ap, subst, ◌∙◌}
 use Rattle.std.proofs.lemmas.List.{append_cancel_left}
+use Rattle.std.specs.Prelude.{◌^◌}
 use Rattle.bt_base.specs.Counts.{HasRisen}
 use Rattle.bt_base.specs.Objects.{Object, Contents}
-use Rattle.bt_base.specs.declared.settings.Transport.{Transport}
-use Rattle.bt_base.specs.declared.settings.Transport.TheVariants.{L2cap, Rfcomm}
+use Rattle.capture.specs.Air.{words_of}
 use Rattle.capture.specs.Entries.{Entry}
-use Rattle.push_laws.specs.Laws.{stored_in}
+use Rattle.obex_session.specs.Counting.{Counts}
 use Rattle.push_script.specs.declared.scenario.Scenario.{Scenario}
 use Rattle.push_terms.specs.declared.outcome.Outcome.{Outcome}
 use Rattle.push_terms.specs.declared.peaks.Peaks.{Peaks}
+use Rattle.push_terms.specs.declared.word.Side.{Side}
 use Rattle.world_model.specs.Worlds.{all_entries}
 use Rattle.radio_world.specs.declared.fault.WorldFault.{WorldFault}
 use Rattle.radio_world.specs.declared.fault.WorldFault.TheVariants.{TraceFault, NoMemory}
 use Rattle.scenario_laws.specs.Gains.{holding}
 use Rattle.scenario_laws.proofs.Broken.{crowds_are_told}
+use Rattle.credit_laws.specs.Kept.{StaysSolvent}
 use Rattle.scenario_play.specs.Breaking as breaking
 use Rattle.scenario_play.specs.Breaking.{IsBroken, IsWanting}
-use Rattle.scenario_play.specs.Playing.{IsPlayed}
+use Rattle.scenario_play.specs.Losing.{LeavesOutCounted, GainsLess}
+use Rattle.scenario_play.specs.Playing.{LackedNever, IsPlayed}
 use Rattle.scenario_play.proofs.BufferPeaks.{buffer_peaks_are_told}
-use Rattle.scenario_play.proofs.Gained.{plays_keep, plays_gain}
+use Rattle.scenario_play.proofs.Gained.{plays_keep}
+use Rattle.scenario_play.proofs.Lost.{none_left_out, plays_gain_less}
 use Rattle.scenario_play.proofs.PeakBounds.{peaks_are_bounded}
-use Rattle.scenario_play.proofs.Streamed.{plays_stream}
+use Rattle.scenario_play.proofs.Solvent.{plays_stay_solvent}
 use Rattle.btpush_forms.specs.declared.status.Status.{Status}
-use Rattle.object_push.specs.Gaining.{InboxNever}
 use Rattle.object_push.specs.Gains.{Gains, Grows}
 use Rattle.object_push.specs.Halting.{HasReason}
-use Rattle.object_push.specs.Ports.{Ports}
+use Rattle.object_push.specs.Ports.{Ports, counts_in}
 use Rattle.object_push.specs.Running.{Stops, Runs, RanToEnd, RanShort}
-use Rattle.object_push.specs.Told.{spelled_in, GainsSo, HasGained, ArePeaks, EndsSo, StopsSo, WantsMemory, TraceLacked, ShelfLacked, InboxLacked, NothingYet, AirCrowded, ManyWords, HasWhy, Tells, ToTheEnd, NotToTheEnd, RunsTell}
+use Rattle.object_push.specs.Told.{spelled_in, GainsSo, HasGained, HoldsCredits, ArePeaks, EndsSo, StopsSo, WantsMemory, TraceLacked, ShelfLacked, InboxLacked, NothingYet, AirCrowded, HasWhy, Tells, ToTheEnd, NotToTheEnd, RunsTell}
 
 some_is : (one other : List Object) → Some one ≡ Some other → one ≡ other
 some_is one other is = cc
@@ -36,40 +39,50 @@ some_is one other is = cc
 held_is : (before : Contents) → before.pending ≡ None → Some before ≡ holding before.stored
 held_is before none = ap (λ (p : Option Object). Some (record { stored = before.stored; pending = p })) none
 
--- the inbox, where it is known what it gained if it failed never
-has_gained : (scenario : Scenario) (before after : Option Contents) (kept : ℕ) (Never : Type 0) (capture : List Entry) → IfSome before (λ held. held.pending ≡ None) → Gains before kept after
-    → ((stored : List Object) → before ≡ holding stored → Never → stored_in after ≡ Some (stored ++ spelled_in scenario capture))
-    → IfSome before (λ held. IfSome after (λ now. GainsSo scenario held.stored now.stored Never capture))
-has_gained scenario None after kept Never capture none gains exactly = tt
-has_gained scenario (Some held) None kept Never capture none gains exactly = tt
-has_gained scenario (Some held) (Some now) kept Never capture none gains exactly = record {
+-- the inbox, where it is known what it gained if it never lacked memory
+has_gained : (scenario : Scenario) (before after : Option Contents) (kept : ℕ) (counts counts' : Counts) (capture : List Entry) → IfSome before (λ held. held.pending ≡ None) → Gains before kept after
+    → ((stored : List Object) → before ≡ holding stored → LackedNever counts counts' → GainsLess scenario stored after counts counts' capture)
+    → IfSome before (λ held. IfSome after (λ now. GainsSo scenario held.stored now.stored counts counts' capture))
+has_gained scenario None after kept counts counts' capture none gains known = tt
+has_gained scenario (Some held) None kept counts counts' capture none gains known = tt
+has_gained scenario (Some held) (Some now) kept counts counts' capture none gains known = record {
   gain = gains.gain;
   stored = gains.stored;
-  exactly = λ never. append_cancel_left held.stored gains.gain (spelled_in scenario capture) (sym gains.stored ∙ some_is now.stored (held.stored ++ spelled_in scenario capture) (exactly held.stored (held_is held none) never));
+  less = less;
+  exactly = λ never. none_left_out gains.gain (spelled_in scenario capture) counts.faults counts'.faults never.0 (less never.1);
 }
+  where
+    less : LackedNever counts counts' → LeavesOutCounted gains.gain (spelled_in scenario capture) counts.faults counts'.faults
+    less enough =
+        let so = known held.stored (held_is held none) enough in
+        let same : so.gain ≡ gains.gain = append_cancel_left held.stored so.gain gains.gain (sym (some_is now.stored (held.stored ++ so.gain) so.stored) ∙ gains.stored) in
+        subst (λ (gain : List Object). LeavesOutCounted gain (spelled_in scenario capture) counts.faults counts'.faults) same so.leaves
 
 -- ---- to its end
 
 module _ (scenario : Scenario) (old new : Ports) where
   abbrev Played : Option Contents → List Outcome → Peaks → Type 0
-  Played before outcomes peaks = IsPlayed scenario old.shelf.content before new.inbox.content old.trace.content new.trace.content outcomes peaks (InboxNever old new)
+  Played before outcomes peaks = IsPlayed scenario old.shelf.content before new.inbox.content old.trace.content new.trace.content outcomes peaks (counts_in old.inbox) (counts_in new.inbox)
 
-  exactly_played : (transport : Transport) → scenario.settings.transport ≡ transport → (stored : List Object) (outcomes : List Outcome) (peaks : Peaks) (played : Played (holding stored) outcomes peaks) → InboxNever old new
-      → stored_in new.inbox.content ≡ Some (stored ++ spelled_in scenario played.capture)
-  exactly_played L2cap over stored outcomes peaks played never =
-      let so = plays_gain.plays scenario old.shelf.content stored new.inbox.content old.trace.content new.trace.content outcomes peaks old.inbox.faults new.inbox.faults old.inbox.shortages new.inbox.shortages played over in
-      so.gained (so.offered never)
-  exactly_played Rfcomm over stored outcomes peaks played never =
-      let so = plays_stream.plays scenario old.shelf.content stored new.inbox.content old.trace.content new.trace.content outcomes peaks old.inbox.faults new.inbox.faults old.inbox.shortages new.inbox.shortages played over in
-      so.gained (so.answered never)
+  abbrev Less : List Object → List Entry → Type 0
+  Less stored capture = LackedNever (counts_in old.inbox) (counts_in new.inbox) → GainsLess scenario stored new.inbox.content (counts_in old.inbox) (counts_in new.inbox) capture
 
-  exactly_from : (before : Option Contents) (outcomes : List Outcome) (peaks : Peaks) (played : Played before outcomes peaks) (stored : List Object) → before ≡ holding stored → InboxNever old new → stored_in new.inbox.content ≡ Some (stored ++ spelled_in scenario played.capture)
-  exactly_from before outcomes peaks played stored is = from before is outcomes peaks played
+  less_played : (before : Option Contents) (outcomes : List Outcome) (peaks : Peaks) (played : Played before outcomes peaks) (stored : List Object) → before ≡ holding stored → Less stored played.capture
+  less_played before outcomes peaks played stored is = from played
     where
-      from : (before : Option Contents) → before ≡ holding stored → (outcomes : List Outcome) (peaks : Peaks) (played : Played before outcomes peaks) → InboxNever old new → stored_in new.inbox.content ≡ Some (stored ++ spelled_in scenario played.capture)
-      from before is =
-          subst (λ (c : Option Contents). (outcomes : List Outcome) (peaks : Peaks) (played : Played c outcomes peaks) → InboxNever old new → stored_in new.inbox.content ≡ Some (stored ++ spelled_in scenario played.capture)) (sym is)
-          (λ outcomes peaks played never. exactly_played scenario.settings.transport refl stored outcomes peaks played never)
+      from : (played : Played before outcomes peaks) → Less stored played.capture
+      from =
+          subst (λ (c : Option Contents). (played : Played c outcomes peaks) → Less stored played.capture) (sym is)
+          (λ played enough. plays_gain_less.plays scenario old.shelf.content stored new.inbox.content old.trace.content new.trace.content outcomes peaks (counts_in old.inbox) (counts_in new.inbox) played enough)
+
+  solvent_played : (before : Option Contents) (outcomes : List Outcome) (peaks : Peaks) (played : Played before outcomes peaks) → IfSome before (λ held. held.pending ≡ None) → HoldsCredits scenario before played.capture
+  solvent_played None outcomes peaks played none = tt
+  solvent_played (Some held) outcomes peaks played none = from played
+    where
+      from : (played : Played (Some held) outcomes peaks) (side : Side) → StaysSolvent scenario.settings side played.capture
+      from =
+          subst (λ (c : Option Contents). (played : Played c outcomes peaks) (side : Side) → StaysSolvent scenario.settings side played.capture) (sym (held_is held none))
+          (λ played. plays_stay_solvent.plays scenario old.shelf.content held.stored new.inbox.content old.trace.content new.trace.content outcomes peaks (counts_in old.inbox) (counts_in new.inbox) played)
 
   ends_so : (outcomes : List Outcome) (kept : ℕ) (peaks : Peaks) (played : Played old.inbox.content outcomes peaks) → IfSome old.inbox.content (λ before. before.pending ≡ None) → Gains old.inbox.content kept new.inbox.content
       → EndsSo scenario old new outcomes kept peaks played.capture
@@ -77,11 +90,12 @@ module _ (scenario : Scenario) (old new : Ports) where
       let bounds = peaks_are_bounded scenario old.inbox.content played.finished.ran.happenings peaks played.reached in
       record {
         captured = record { each = played.entries_are; written = played.written };
-        keeps = plays_keep.plays scenario old.shelf.content old.inbox.content new.inbox.content old.trace.content new.trace.content outcomes peaks old.inbox.faults new.inbox.faults old.inbox.shortages new.inbox.shortages played;
-        gains = has_gained scenario old.inbox.content new.inbox.content kept (InboxNever old new) played.capture none gains (exactly_from old.inbox.content outcomes peaks played);
+        keeps = plays_keep.plays scenario old.shelf.content old.inbox.content new.inbox.content old.trace.content new.trace.content outcomes peaks (counts_in old.inbox) (counts_in new.inbox) played;
+        gains = has_gained scenario old.inbox.content new.inbox.content kept (counts_in old.inbox) (counts_in new.inbox) played.capture none gains (less_played old.inbox.content outcomes peaks played);
         counted = gains;
+        credits = solvent_played old.inbox.content outcomes peaks played none;
         peaks_are = record {
-          buffers = buffer_peaks_are_told scenario old.shelf.content old.inbox.content new.inbox.content old.trace.content new.trace.content outcomes peaks old.inbox.faults new.inbox.faults old.inbox.shortages new.inbox.shortages played;
+          buffers = buffer_peaks_are_told scenario old.shelf.content old.inbox.content new.inbox.content old.trace.content new.trace.content outcomes peaks (counts_in old.inbox) (counts_in new.inbox) played;
           window_a = bounds.stated_a;
           window_b = bounds.stated_b;
         };
@@ -90,49 +104,50 @@ module _ (scenario : Scenario) (old new : Ports) where
   -- ---- short of it
 
   abbrev Broke : Option Contents → Type 0
-  Broke before = IsBroken scenario old.shelf.content before new.inbox.content old.trace.content new.trace.content (HasRisen old.inbox.shortages new.inbox.shortages) (InboxNever old new)
+  Broke before = IsBroken scenario old.shelf.content before new.inbox.content old.trace.content new.trace.content (counts_in old.inbox) (counts_in new.inbox)
 
-  exactly_broken : (transport : Transport) → scenario.settings.transport ≡ transport → (stored : List Object) (broken : Broke (holding stored)) → InboxNever old new
-      → stored_in new.inbox.content ≡ Some (stored ++ spelled_in scenario (all_entries broken.happenings))
-  exactly_broken L2cap over stored broken never =
-      let so = plays_gain.breaks scenario old.shelf.content stored new.inbox.content old.trace.content new.trace.content old.inbox.faults new.inbox.faults old.inbox.shortages new.inbox.shortages broken over in
-      so.gained (so.offered never) never.1
-  exactly_broken Rfcomm over stored broken never =
-      let so = plays_stream.breaks scenario old.shelf.content stored new.inbox.content old.trace.content new.trace.content old.inbox.faults new.inbox.faults old.inbox.shortages new.inbox.shortages broken over in
-      so.gained (so.answered never) never.1
-
-  exactly_so_far : (before : Option Contents) (broken : Broke before) (stored : List Object) → before ≡ holding stored → InboxNever old new → stored_in new.inbox.content ≡ Some (stored ++ spelled_in scenario (all_entries broken.happenings))
-  exactly_so_far before broken stored is = from before is broken
+  less_broken : (before : Option Contents) (broken : Broke before) (stored : List Object) → before ≡ holding stored → Less stored (all_entries broken.happenings)
+  less_broken before broken stored is = from broken
     where
-      from : (before : Option Contents) → before ≡ holding stored → (broken : Broke before) → InboxNever old new → stored_in new.inbox.content ≡ Some (stored ++ spelled_in scenario (all_entries broken.happenings))
-      from before is =
-          subst (λ (c : Option Contents). (broken : Broke c) → InboxNever old new → stored_in new.inbox.content ≡ Some (stored ++ spelled_in scenario (all_entries broken.happenings))) (sym is)
-          (λ broken never. exactly_broken scenario.settings.transport refl stored broken never)
+      from : (broken : Broke before) → Less stored (all_entries broken.happenings)
+      from =
+          subst (λ (c : Option Contents). (broken : Broke c) → Less stored (all_entries broken.happenings)) (sym is)
+          (λ broken enough. plays_gain_less.breaks scenario old.shelf.content stored new.inbox.content old.trace.content new.trace.content (counts_in old.inbox) (counts_in new.inbox) broken enough)
+
+  solvent_broken : (before : Option Contents) (broken : Broke before) → IfSome before (λ held. held.pending ≡ None) → HoldsCredits scenario before (all_entries broken.happenings ++ broken.next)
+  solvent_broken None broken none = tt
+  solvent_broken (Some held) broken none = from broken
+    where
+      from : (broken : Broke (Some held)) (side : Side) → StaysSolvent scenario.settings side (all_entries broken.happenings ++ broken.next)
+      from =
+          subst (λ (c : Option Contents). (broken : Broke c) (side : Side) → StaysSolvent scenario.settings side (all_entries broken.happenings ++ broken.next)) (sym (held_is held none))
+          (λ broken. plays_stay_solvent.breaks scenario old.shelf.content held.stored new.inbox.content old.trace.content new.trace.content (counts_in old.inbox) (counts_in new.inbox) broken)
 
   stops_so : (broken : Broke old.inbox.content) → IfSome old.inbox.content (λ before. before.pending ≡ None) → Grows old.inbox.content new.inbox.content → StopsSo scenario old new (all_entries broken.happenings) broken.next
   stops_so broken none (kept, gains) = record {
     few = broken.few;
     each = broken.entries_are;
     written = broken.written;
-    keeps = plays_keep.breaks scenario old.shelf.content old.inbox.content new.inbox.content old.trace.content new.trace.content old.inbox.faults new.inbox.faults old.inbox.shortages new.inbox.shortages broken;
-    gains = has_gained scenario old.inbox.content new.inbox.content kept (InboxNever old new) (all_entries broken.happenings) none gains (exactly_so_far old.inbox.content broken);
+    keeps = plays_keep.breaks scenario old.shelf.content old.inbox.content new.inbox.content old.trace.content new.trace.content (counts_in old.inbox) (counts_in new.inbox) broken;
+    gains = has_gained scenario old.inbox.content new.inbox.content kept (counts_in old.inbox) (counts_in new.inbox) (all_entries broken.happenings) none gains (less_broken old.inbox.content broken);
+    credits = solvent_broken old.inbox.content broken none;
   }
 
   -- ---- why
 
-  wanting : IsWanting scenario old.inbox.content new.inbox.content old.trace.content new.trace.content (HasRisen old.shelf.shortages new.shelf.shortages) (HasRisen old.inbox.shortages new.inbox.shortages) → WantsMemory scenario old new
-  wanting (breaking.NothingYet stored written) = NothingYet stored written
-  wanting (breaking.ShelfWants lacked) = ShelfLacked lacked
-  wanting (breaking.InboxWants lacked) = InboxLacked lacked
-  wanting (breaking.AirCrowded run) = AirCrowded (all_entries run.happenings) (record { each = run.entries_are; written = run.written }) (crowds_are_told scenario old.inbox.content run.happenings run.world run.happened run.crowded)
-  wanting (breaking.ManyWords many) = ManyWords many
+  wanting : length (words_of scenario.script) < 2 ^ 64 → IsWanting scenario old.inbox.content new.inbox.content old.trace.content new.trace.content (HasRisen old.shelf.shortages new.shelf.shortages) (HasRisen old.inbox.shortages new.inbox.shortages) → WantsMemory scenario old new
+  wanting few (breaking.NothingYet stored written) = NothingYet stored written
+  wanting few (breaking.ShelfWants lacked) = ShelfLacked lacked
+  wanting few (breaking.InboxWants lacked) = InboxLacked lacked
+  wanting few (breaking.AirCrowded run) = AirCrowded (all_entries run.happenings) (record { each = run.entries_are; written = run.written }) (crowds_are_told scenario old.inbox.content run.happenings run.world run.happened run.crowded)
+  wanting few (breaking.ManyWords many) = absurd (omega (arith, few, many))
 
-  has_why : (fault : WorldFault) → Stops fault scenario old new → HasWhy fault scenario old new
-  has_why TraceFault failed = failed
-  has_why NoMemory (inl lacked) = TraceLacked lacked
-  has_why NoMemory (inr wants) = wanting wants
+  has_why : length (words_of scenario.script) < 2 ^ 64 → (fault : WorldFault) → Stops fault scenario old new → HasWhy fault scenario old new
+  has_why few TraceFault failed = failed
+  has_why few NoMemory (inl lacked) = TraceLacked lacked
+  has_why few NoMemory (inr wants) = wanting few wants
 
 pub runs_tell : RunsTell
-runs_tell scenario old new result none (RanToEnd outcomes kept peaks played gains reports) = ToTheEnd outcomes kept peaks played.capture (ends_so scenario old new outcomes kept peaks played none gains) reports
-runs_tell scenario old new result none (RanShort fault is stops broken grows silent) =
-    NotToTheEnd fault (all_entries broken.happenings) broken.next is (has_why scenario old new fault stops) (stops_so scenario old new broken none grows) silent
+runs_tell scenario old new result none few (RanToEnd outcomes kept peaks played gains reports) = ToTheEnd outcomes kept peaks played.capture (ends_so scenario old new outcomes kept peaks played none gains) reports
+runs_tell scenario old new result none few (RanShort fault is stops broken grows silent) =
+    NotToTheEnd fault (all_entries broken.happenings) broken.next is (has_why scenario old new few fault stops) (stops_so scenario old new broken none grows) silent

@@ -16,26 +16,22 @@ use Rattle.scenario_laws.specs.Gains.{holding}
 use Rattle.scenario_laws.specs.Parties.{party_of}
 use Rattle.scenario_play.specs.Breaking.{IsBroken}
 use Rattle.scenario_play.specs.Gaining.{HaveOffered, GainsPlayed, GainsBroken}
-use Rattle.scenario_play.specs.Playing.{RoseNever, IsPlayed}
+use Rattle.scenario_play.specs.Playing.{IsPlayed}
 use Rattle.btpush_forms.specs.declared.status.Status.{Status}
-use Rattle.object_push.specs.Ports.{Ports}
+use Rattle.object_push.specs.Ports.{Ports, counts_in}
 use Rattle.object_push.specs.Running.{Reports, status_of, Stops, Runs}
-
--- neither count of the inbox rose
-abbrev pub InboxNever : (old new : Ports) → Type 0
-InboxNever old new = RoseNever old.inbox.faults new.inbox.faults old.inbox.shortages new.inbox.shortages
 
 -- What a run comes to, from an inbox that held `before`, over ports that were `old` and are `new`.
 pub data ComesTo (asks : HostsAsk) (scenario : Scenario) (before : List Object) (old new : Ports) (result : Status) : Type 0 where
   -- It was played to its end, and reported: the report says how many objects the capture spells, where the inbox granted all calls.
-  ToItsEnd : (outcomes : List Outcome) (kept : ℕ) (peaks : Peaks) (played : IsPlayed scenario old.shelf.content (holding before) new.inbox.content old.trace.content new.trace.content outcomes peaks (InboxNever old new))
-      → GainsPlayed asks scenario old.shelf.content before new.inbox.content outcomes played.capture played.finished (InboxNever old new)
+  ToItsEnd : (outcomes : List Outcome) (kept : ℕ) (peaks : Peaks) (played : IsPlayed scenario old.shelf.content (holding before) new.inbox.content old.trace.content new.trace.content outcomes peaks (counts_in old.inbox) (counts_in new.inbox))
+      → GainsPlayed asks scenario old.shelf.content before new.inbox.content outcomes played.capture played.finished (counts_in old.inbox) (counts_in new.inbox)
       → (HaveOffered asks scenario before played.capture played.finished.ran → kept ≡ min (length (objects_heard (party_of scenario.settings B) B played.capture)) most_kept)
       → Reports (report_text scenario.names outcomes kept peaks) outcomes old.sink.content new.sink.content (HasRisen old.sink.shortages new.sink.shortages) result → ComesTo asks scenario before old new result
   -- It stopped short, and nothing is reported.
   Short : (fault : WorldFault) → result ≡ status_of fault → Stops fault scenario old new
-      → (broken : IsBroken scenario old.shelf.content (holding before) new.inbox.content old.trace.content new.trace.content (HasRisen old.inbox.shortages new.inbox.shortages) (InboxNever old new))
-      → GainsBroken asks scenario old.shelf.content before new.inbox.content old.trace.content new.trace.content old.inbox.shortages new.inbox.shortages (InboxNever old new) broken → new.sink.content ≡ old.sink.content → ComesTo asks scenario before old new result
+      → (broken : IsBroken scenario old.shelf.content (holding before) new.inbox.content old.trace.content new.trace.content (counts_in old.inbox) (counts_in new.inbox))
+      → GainsBroken asks scenario old.shelf.content before new.inbox.content old.trace.content new.trace.content (counts_in old.inbox) (counts_in new.inbox) broken → new.sink.content ≡ old.sink.content → ComesTo asks scenario before old new result
 
 -- So it is of each run of a scenario over L2CAP with an inbox that tells what it holds.
 pub record RunsGain : Type 0 where

@@ -7,10 +7,10 @@ use Rattle.push_script.specs.declared.scenario.Scenario.{Scenario}
 use Rattle.radio_world.specs.declared.fault.WorldFault.{WorldFault}
 use Rattle.radio_world.specs.declared.fault.WorldFault.TheVariants.{TraceFault, NoMemory}
 use Rattle.scenario_play.specs.Breaking.{IsBroken}
-use Rattle.scenario_play.specs.Playing.{RoseNever, IsPlayed}
+use Rattle.scenario_play.specs.Playing.{IsPlayed}
 use Rattle.object_push.specs.declared.halting.Ended.{Ended}
 use Rattle.btpush_forms.specs.Ports.{Written}
-use Rattle.object_push.specs.Ports.{Shelved, Kept}
+use Rattle.object_push.specs.Ports.{Shelved, Kept, counts_in}
 use Rattle.object_push.specs.Gains.{Gains, Grows}
 use Rattle.object_push.specs.Halting.{HasReason}
 
@@ -35,10 +35,10 @@ lent_by trace_is shelf_is inbox_is trace shelf inbox = record { trace = trace_is
 -- It was played to its end, with an outcome for each object, and the inbox gained what was counted; or it stopped short for a reason. What a
 -- shelf has stays, no count of a port falls, and each fault and each want of memory of a port is answered.
 pub record GoesOn (scenario : Scenario) (old new : Lent) (result : Result Ended WorldFault) : Type 0 where
-  pub plays : IfOk result (λ ended. IsPlayed scenario old.shelf.content old.inbox.content new.inbox.content old.trace.content new.trace.content ended.played.outcomes.items ended.played.peaks (RoseNever old.inbox.faults new.inbox.faults old.inbox.shortages new.inbox.shortages))
+  pub plays : IfOk result (λ ended. IsPlayed scenario old.shelf.content old.inbox.content new.inbox.content old.trace.content new.trace.content ended.played.outcomes.items ended.played.peaks (counts_in old.inbox) (counts_in new.inbox))
   pub each : IfOk result (λ ended. length ended.played.outcomes.items ≡ length scenario.names)
   pub gained : IfOk result (λ ended. Gains old.inbox.content ended.kept new.inbox.content)
-  pub breaks : IfErr result (λ fault. IsBroken scenario old.shelf.content old.inbox.content new.inbox.content old.trace.content new.trace.content (HasRisen old.inbox.shortages new.inbox.shortages) (RoseNever old.inbox.faults new.inbox.faults old.inbox.shortages new.inbox.shortages))
+  pub breaks : IfErr result (λ fault. IsBroken scenario old.shelf.content old.inbox.content new.inbox.content old.trace.content new.trace.content (counts_in old.inbox) (counts_in new.inbox))
   pub reason : IfErr result (λ fault. HasReason fault scenario old.inbox.content new.inbox.content old.trace.content new.trace.content (HasRisen old.trace.faults new.trace.faults) (HasRisen old.trace.shortages new.trace.shortages)
       (HasRisen old.shelf.shortages new.shelf.shortages) (HasRisen old.inbox.shortages new.inbox.shortages))
   pub grows : Grows old.inbox.content new.inbox.content

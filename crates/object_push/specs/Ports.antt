@@ -4,6 +4,7 @@ use Rattle.bt_base.specs.Objects.{Object, Contents}
 use Rattle.bt_base.specs.declared.ports.Sink as sink
 use Rattle.bt_base.specs.declared.ports.Shelf as shelf
 use Rattle.bt_base.specs.declared.ports.Inbox as inbox
+use Rattle.obex_session.specs.Counting.{Counts}
 use Rattle.btpush_forms.specs.Ports.{Written, written}
 
 -- a shelf: its objects, where it tells them, and how often it failed, found no memory, and was asked for what it lacks
@@ -18,6 +19,10 @@ pub record Kept : Type 0 where
   pub content : Option Contents
   pub faults : ℕ
   pub shortages : ℕ
+
+-- both counts of it
+abbrev pub counts_in : Kept → Counts
+counts_in inbox = record { faults = inbox.faults; shortages = inbox.shortages }
 
 -- the ports of a push: its sink, for the report, its trace, its shelf and its inbox
 pub record Ports : Type 0 where

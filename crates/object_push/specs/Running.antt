@@ -10,11 +10,11 @@ use Rattle.push_script.specs.declared.scenario.Scenario.{Scenario}
 use Rattle.push_script.specs.Reports.{report_text}
 use Rattle.radio_world.specs.declared.fault.WorldFault.{WorldFault}
 use Rattle.radio_world.specs.declared.fault.WorldFault.TheVariants as world
-use Rattle.scenario_play.specs.Playing.{RoseNever, IsPlayed}
+use Rattle.scenario_play.specs.Playing.{IsPlayed}
 use Rattle.scenario_play.specs.Breaking.{IsBroken}
 use Rattle.btpush_forms.specs.declared.status.Status.{Status}
 use Rattle.btpush_forms.specs.declared.status.Status.TheVariants as status
-use Rattle.object_push.specs.Ports.{Ports}
+use Rattle.object_push.specs.Ports.{Ports, counts_in}
 use Rattle.object_push.specs.Gains.{Gains, Grows}
 use Rattle.object_push.specs.Halting.{HasReason}
 
@@ -49,9 +49,9 @@ Stops fault scenario old new =
 pub data Runs (scenario : Scenario) (old new : Ports) (result : Status) : Type 0 where
   -- It is played to its end, as the trace has it, and reported: what came of its pushes, how many objects the inbox gained, and what the hosts
   -- held at most.
-  RanToEnd : (outcomes : List Outcome) (kept : ℕ) (peaks : Peaks) → IsPlayed scenario old.shelf.content old.inbox.content new.inbox.content old.trace.content new.trace.content outcomes peaks (RoseNever old.inbox.faults new.inbox.faults old.inbox.shortages new.inbox.shortages) → Gains old.inbox.content kept new.inbox.content
+  RanToEnd : (outcomes : List Outcome) (kept : ℕ) (peaks : Peaks) → IsPlayed scenario old.shelf.content old.inbox.content new.inbox.content old.trace.content new.trace.content outcomes peaks (counts_in old.inbox) (counts_in new.inbox) → Gains old.inbox.content kept new.inbox.content
       → Reports (report_text scenario.names outcomes kept peaks) outcomes old.sink.content new.sink.content (HasRisen old.sink.shortages new.sink.shortages) result → Runs scenario old new result
   -- It stops short: the trace has the capture of a run so far, and a front of its next entry. Nothing is reported.
   RanShort : (fault : WorldFault) → result ≡ status_of fault → Stops fault scenario old new
-      → IsBroken scenario old.shelf.content old.inbox.content new.inbox.content old.trace.content new.trace.content (HasRisen old.inbox.shortages new.inbox.shortages) (RoseNever old.inbox.faults new.inbox.faults old.inbox.shortages new.inbox.shortages)
+      → IsBroken scenario old.shelf.content old.inbox.content new.inbox.content old.trace.content new.trace.content (counts_in old.inbox) (counts_in new.inbox)
       → Grows old.inbox.content new.inbox.content → new.sink.content ≡ old.sink.content → Runs scenario old new result

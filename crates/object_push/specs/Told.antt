@@ -1,28 +1,32 @@
 -- What a push of a scenario comes to, over its ports and its capture alone (this project's own).
-use Rattle.std.specs.Prelude.{ℕ, ◌≡◌, ◌≤◌, ◌^◌, ◌++◌, List, [], length, Option, Some, None, IfSome}
+use Rattle.std.specs.Prelude.{ℕ, ◌≡◌, ◌≤◌, ◌<◌, ◌^◌, ◌++◌, List, [], length, Option, Some, None, IfSome}
 use Rattle.std.specs.List.{AllByRecursion}
 use Rattle.bt_base.specs.Counts.{HasRisen}
-use Rattle.bt_base.specs.Objects.{Object}
+use Rattle.bt_base.specs.Objects.{Object, Contents}
 use Rattle.bt_base.specs.Streams.{gained, GainedFront}
 use Rattle.capture.specs.Air.{words_of}
 use Rattle.capture.specs.Entries.{Entry, IsEntry, capture_octets}
 use Rattle.air_laws.specs.Crowded.{IsCrowded}
 use Rattle.link_talk.specs.Captures.{objects_heard}
+use Rattle.obex_session.specs.Counting.{Counts}
 use Rattle.push_script.specs.declared.scenario.Scenario.{Scenario}
 use Rattle.push_script.specs.Reports.{report_text}
 use Rattle.push_terms.specs.declared.outcome.Outcome.{Outcome}
 use Rattle.push_terms.specs.declared.peaks.Peaks.{Peaks}
+use Rattle.push_terms.specs.declared.word.Side.{Side}
 use Rattle.push_terms.specs.declared.word.Side.TheVariants.{B}
 use Rattle.radio_world.specs.declared.fault.WorldFault.{WorldFault}
 use Rattle.radio_world.specs.declared.fault.WorldFault.TheVariants as world
 use Rattle.scenario_laws.specs.Air.{hosts_of}
 use Rattle.scenario_laws.specs.Parties.{party_of}
+use Rattle.credit_laws.specs.Kept.{StaysSolvent}
 use Rattle.scenario_play.specs.BufferPeaks.{AreBufferPeaks}
 use Rattle.scenario_play.specs.Gaining.{KeepsPlayed, KeepsBroken}
+use Rattle.scenario_play.specs.Losing.{LeavesOutCounted}
+use Rattle.scenario_play.specs.Playing.{LackedNever, RoseNever}
 use Rattle.btpush_forms.specs.declared.status.Status.{Status}
-use Rattle.object_push.specs.Gaining.{InboxNever}
 use Rattle.object_push.specs.Gains.{Gains}
-use Rattle.object_push.specs.Ports.{Ports}
+use Rattle.object_push.specs.Ports.{Ports, counts_in}
 use Rattle.object_push.specs.Running.{Reports, status_of, Runs}
 
 -- ---- the inbox
@@ -31,15 +35,24 @@ use Rattle.object_push.specs.Running.{Reports, status_of, Runs}
 abbrev pub spelled_in : Scenario → List Entry → List Object
 spelled_in scenario capture = objects_heard (party_of scenario.settings B) B capture
 
--- Behind what it held stand the objects that the inbox gained: where neither count of it rose, exactly those that the capture spells.
-pub record GainsSo (scenario : Scenario) (before after : List Object) (InboxFailedNever : Type 0) (capture : List Entry) : Type 0 where
+-- Behind what it held stand the objects that the inbox gained. Where it never lacked memory these are those that the capture spells, in their order, but
+-- for as many at most as its count of faults rose by; and where neither count of it rose, exactly those.
+pub record GainsSo (scenario : Scenario) (before after : List Object) (counts counts' : Counts) (capture : List Entry) : Type 0 where
   pub gain : List Object
   pub stored : after ≡ before ++ gain
-  pub exactly : InboxFailedNever → gain ≡ spelled_in scenario capture
+  pub less : LackedNever counts counts' → LeavesOutCounted gain (spelled_in scenario capture) counts.faults counts'.faults
+  pub exactly : RoseNever counts counts' → gain ≡ spelled_in scenario capture
 
 -- so it is where the inbox tells what it holds
 abbrev pub HasGained : (scenario : Scenario) (old new : Ports) (capture : List Entry) → Type 0
-HasGained scenario old new capture = IfSome old.inbox.content (λ before. IfSome new.inbox.content (λ after. GainsSo scenario before.stored after.stored (InboxNever old new) capture))
+HasGained scenario old new capture = IfSome old.inbox.content (λ before. IfSome new.inbox.content (λ after. GainsSo scenario before.stored after.stored (counts_in old.inbox) (counts_in new.inbox) capture))
+
+-- ---- credits
+
+-- At each moment of the capture the credits that either host holds are a whole number that is not below nothing. So it is where the inbox tells what it holds,
+-- whatever any port answers.
+abbrev pub HoldsCredits : Scenario → (inbox : Option Contents) → List Entry → Type 0
+HoldsCredits scenario inbox capture = IfSome inbox (λ before. (side : Side) → StaysSolvent scenario.settings side capture)
 
 -- ---- to its end
 
@@ -54,34 +67,34 @@ pub record ArePeaks (scenario : Scenario) (capture : List Entry) (peaks : Peaks)
   pub window_a : peaks.window_a ≤ scenario.settings.window
   pub window_b : peaks.window_b ≤ scenario.settings.window
 
--- It was played to its end: what its hosts kept to, what the inbox gained and how much of that was counted, and what was held at most.
+-- It was played to its end: what its hosts kept to, what the inbox gained and how much of that was counted, the credits, and what was held at most.
 pub record EndsSo (scenario : Scenario) (old new : Ports) (outcomes : List Outcome) (kept : ℕ) (peaks : Peaks) (capture : List Entry) : Type 0 where
   pub captured : HasCapture old.trace.content new.trace.content capture
   pub keeps : KeepsPlayed scenario outcomes capture
   pub gains : HasGained scenario old new capture
   pub counted : Gains old.inbox.content kept new.inbox.content
+  pub credits : HoldsCredits scenario old.inbox.content capture
   pub peaks_are : ArePeaks scenario capture peaks
 
 -- ---- short of it
 
 -- The trace gained the capture of what happened, and a front of its next entry, if one was begun. The inbox gained what that capture spells, by the same
--- rule.
+-- rule; and the credits are so behind that entry as well.
 pub record StopsSo (scenario : Scenario) (old new : Ports) (past next : List Entry) : Type 0 where
   pub few : length next ≤ 1
   pub each : AllByRecursion IsEntry (past ++ next)
   pub written : GainedFront (gained old.trace.content (capture_octets past)) new.trace.content (capture_octets next)
   pub keeps : KeepsBroken scenario (past ++ next)
   pub gains : HasGained scenario old new past
+  pub credits : HoldsCredits scenario old.inbox.content (past ++ next)
 
--- Why memory was wanting: a port lacked some; nothing happened yet; more frames wait in the air than memory is reserved for; or the words of the script
--- cannot be counted.
+-- Why memory was wanting: a port lacked some; nothing happened yet; or more frames wait in the air than memory is reserved for.
 pub data WantsMemory (scenario : Scenario) (old new : Ports) : Type 0 where
   TraceLacked : HasRisen old.trace.shortages new.trace.shortages → WantsMemory scenario old new
   ShelfLacked : HasRisen old.shelf.shortages new.shelf.shortages → WantsMemory scenario old new
   InboxLacked : HasRisen old.inbox.shortages new.inbox.shortages → WantsMemory scenario old new
   NothingYet : new.inbox.content ≡ old.inbox.content → new.trace.content ≡ old.trace.content → WantsMemory scenario old new
   AirCrowded : (capture : List Entry) → HasCapture old.trace.content new.trace.content capture → IsCrowded (hosts_of scenario.settings) scenario.acl_length capture → WantsMemory scenario old new
-  ManyWords : 2 ^ 64 ≤ length (words_of scenario.script) → WantsMemory scenario old new
 
 -- the trace failed; or memory was wanting
 abbrev pub HasWhy : WorldFault → Scenario → (old new : Ports) → Type 0
@@ -97,6 +110,7 @@ pub data Tells (scenario : Scenario) (old new : Ports) (result : Status) : Type 
   -- it stopped short, for a reason, and nothing was reported
   NotToTheEnd : (fault : WorldFault) (past next : List Entry) → result ≡ status_of fault → HasWhy fault scenario old new → StopsSo scenario old new past next → new.sink.content ≡ old.sink.content → Tells scenario old new result
 
--- So it is of each run of a scenario, over either transport, whatever its script says and its ports answer; in its inbox no object is pending at first.
+-- So it is of each run of a scenario whose words can be counted, over either transport, whatever its script says and its ports answer; in its inbox no
+-- object is pending at first.
 abbrev pub RunsTell : Type 0
-RunsTell = (scenario : Scenario) (old new : Ports) (result : Status) → IfSome old.inbox.content (λ before. before.pending ≡ None) → Runs scenario old new result → Tells scenario old new result
+RunsTell = (scenario : Scenario) (old new : Ports) (result : Status) → IfSome old.inbox.content (λ before. before.pending ≡ None) → length (words_of scenario.script) < 2 ^ 64 → Runs scenario old new result → Tells scenario old new result

@@ -11,7 +11,7 @@ use crate::reporting::{refuse, report};
 use crate::running::play_on;
 use bt_base::{Inbox, Shelf, Sink, Source};
 use btpush_forms::{GatherFault, Status, gather};
-use push_script::{Scenario, ScriptFault, scenario_without};
+use push_script::{Scenario, ScriptFault, scenario_of};
 use radio_world::WorldFault;
 use std::alloc::Global;
 
@@ -78,7 +78,7 @@ pub fn push<S: Source, K: Sink, T: Sink, F: Shelf, B: Inbox>(
         Err(GatherFault::ReadFault) => return Status::ReadFault,
         Err(GatherFault::NoMemory) => return Status::NoMemory,
     };
-    let scenario = match scenario_without(alloc, &[], &text) {
+    let scenario = match scenario_of(alloc, &text) {
         Ok(scenario) => scenario,
         Err(ScriptFault::Refused(line, refusal)) => return refuse(line, refusal, sink),
         Err(ScriptFault::NoMemory) => return Status::NoMemory,

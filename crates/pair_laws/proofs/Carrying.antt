@@ -65,6 +65,14 @@ use Rattle.pair_laws.proofs.Silence.{no-answer}
 
 -- ---- one host
 
+-- what comes in does so on a link
+comes_on : {S G : Type 0} (U : Upper S G) (link : Bool) (e : carriages.End S) (pdu : List ℕ) → Sound U link e → e.coming ≡ pdu ∷ [] → e.linked ≡ true
+comes_on U link e pdu sound first = by e.linked refl
+  where
+    by : (linked : Bool) → e.linked ≡ linked → e.linked ≡ true
+    by true is = is
+    by false is = let never : pdu ∷ [] ≡ [] = sym first ∙ sound.off_coming is in cc
+
 module _ {P : Type 0} (A : Profile P) (asks : Asks A) (K R : P → Type 0) (keeps : KeepsFit A IsSoberPdu (IsProper A.policy) K) (away : Keeps A R) where
   abbrev Fit : Host P → Type 0
   Fit host = FitHost (IsProper A.policy) K host
@@ -117,35 +125,31 @@ module _ {P : Type 0} (A : Profile P) (asks : Asks A) (K R : P → Type 0) (keep
       let tame : AreTame (pdu ∷ []) = subst AreTame first fine.tame.coming in
       (by fine.acted.ready quiet.none_next, λ here. let one = tame.0.1 here in (tame.0.0, omega (arith, one)))
     where
-      linked : (is : Bool) → e.linked ≡ is → e.linked ≡ true
-      linked true is = is
-      linked false is = let never : pdu ∷ [] ≡ [] = sym first ∙ fine.sound.off_coming is in cc
-
       by : (e.coming ≡ []) ⊎ (e.linked ≡ true → HoldsNothingBack A e.upper) → HoldsNothingBack A e.upper
       by (inl none) = let never : pdu ∷ [] ≡ [] = sym first ∙ none in cc
-      by (inr ready) = ready (linked e.linked refl)
+      by (inr ready) = ready (comes_on (upper A) link e pdu fine.sound first)
 
 -- where its ports answer so, and that is so
 module _ {P : Type 0} (A : Profile P) (asks : Asks A) (K R : P → Type 0) (keeps : KeepsFit A IsSoberPdu (IsProper A.policy) K) (away : Keeps A R)
-    (to : News → List Circumstance → List Circumstance) (G : Feed → Type 0) (allows : Allows to G) where
+    (to : News → List Circumstance → List Circumstance) (G : Feed → Type 0) (allows : Allows to G) (H : List Occurrence → Type 0) where
   wanted_by : (W : P → Type 0) (event : LinkEvent) (more : List LinkEvent) (gifts : List Circumstance) (e : carriages.End (Host P)) → e.owed ≡ event ∷ more → ((answers : List Circumstance) (rest : List LinkEvent) → e.owed ≡ Up ∷ rest → W (A.given answers e.upper.profile)) → IsWantedAt W event (A.given gifts e.upper.profile)
   wanted_by W Up more gifts e first wants = wants gifts more first
   wanted_by W (Down reason) more gifts e first wants = tt
 
   motion_held : {T : Type 0} (W : P → Type 0) (side : View) (theirs : Policy) (number : ℕ) (link : Bool) (motion : Motion) (e e' : carriages.End (Host P)) (other : ℕ → List Occurrence) (j : ℕ) (f : carriages.End T) → DoesMotion (answered_by to (upper A)) motion e e' → Fine A asks K R keeps away link e
-      → ((answers : List Circumstance) (rest : List LinkEvent) → e.owed ≡ Up ∷ rest → W (A.given answers e.upper.profile)) → Held side A asks W G theirs number e other j f → Held side A asks W G theirs number e' other j f
+      → ((answers : List Circumstance) (rest : List LinkEvent) → e.owed ≡ Up ∷ rest → W (A.given answers e.upper.profile)) → Held side A asks W G H theirs number e other j f → Held side A asks W G H theirs number e' other j f
   motion_held W side theirs number link (Saying pdu) e e' other j f does fine wants held =
-      subst (λ (x : carriages.End (Host P)). Held side A asks W G theirs number x other j f) (sym does.is)
-      (says-held A asks W G allows.silent side theirs number e other j f pdu does.after does.next (reads-so A e.upper does.after pdu fine.tame.upper.channels does.next) does.none_comes held)
+      subst (λ (x : carriages.End (Host P)). Held side A asks W G H theirs number x other j f) (sym does.is)
+      (says-held A asks W G allows.silent H side theirs number e other j f pdu does.after does.next (reads-so A e.upper does.after pdu fine.tame.upper.channels does.next) does.none_comes held)
   motion_held W side theirs number link (Departure pdu) e e' other j f does fine wants held =
-      subst (λ (x : carriages.End (Host P)). Held side A asks W G theirs number x other j f) (sym does.is) (moves-held A asks W G allows.silent side theirs number e other j f pdu does.left does.first held)
+      subst (λ (x : carriages.End (Host P)). Held side A asks W G H theirs number x other j f) (sym does.is) (moves-held A asks W G allows.silent H side theirs number e other j f pdu does.left does.first held)
   motion_held W side theirs number link (Arrival pdu) e e' other j f does fine wants held =
       let quiet = quiet_there (upper A) e pdu [] fine.sound.hearing does.first in
-      subst (λ (x : carriages.End (Host P)). Held side A asks W G theirs number x other j f) (sym does.is)
-      (hears-held A asks W G allows.silent side theirs number e other j f (to (Heard pdu) does.answers) pdu (calm_hearing A asks K R keeps away link e pdu fine does.first) (allows.given (Heard pdu) does.answers) quiet.none_waits does.first held)
+      subst (λ (x : carriages.End (Host P)). Held side A asks W G H theirs number x other j f) (sym does.is)
+      (hears-held A asks W G allows.silent H side theirs number e other j f (to (Heard pdu) does.answers) pdu (calm_hearing A asks K R keeps away link e pdu fine does.first) (allows.given (Heard pdu) does.answers) (comes_on (upper A) link e pdu fine.sound does.first) quiet.none_waits does.first held)
   motion_held W side theirs number link (Telling event) e e' other j f does fine wants held =
-      subst (λ (x : carriages.End (Host P)). Held side A asks W G theirs number x other j f) (sym does.is)
-      (turns-held A asks W G allows.silent side theirs number e other j f (to (Linked event) does.answers) event does.more does.first (wanted_by W event does.more (to (Linked event) does.answers) e does.first wants) (allows.given (Linked event) does.answers) does.none_comes (fine.sound.owed_queue (ap (λ (l : List LinkEvent). is_empty l) does.first)) held)
+      subst (λ (x : carriages.End (Host P)). Held side A asks W G H theirs number x other j f) (sym does.is)
+      (turns-held A asks W G allows.silent H side theirs number e other j f (to (Linked event) does.answers) event does.more does.first (wanted_by W event does.more (to (Linked event) does.answers) e does.first wants) (allows.given (Linked event) does.answers) does.none_comes (fine.sound.owed_queue (ap (λ (l : List LinkEvent). is_empty l) does.first)) held)
 
 -- ---- a frame meets its fate
 
@@ -190,24 +194,37 @@ as_it_is news answers = answers
 pub any_allowed : Allows as_it_is Always
 any_allowed = record { silent = λ feed silent. tt; given = λ news answers. tt; told = λ news answers. tt }
 
+-- Where all is at rest, a host on a link stays on it.
+abbrev pub StayOn : {S T : Type 0} → (S → Type 0) → (T → Type 0) → Carriage S T → Type 0
+StayOn Z Y c = (c.a.linked ≡ true → Z c.a.upper) × (c.b.linked ≡ true → Y c.b.upper)
+
+first_rests : {S T : Type 0} (X Y : Carriage S T → Type 0) (doing : Doing) (c : Carriage S T) → RestsIn (λ c. X c × Y c) doing c → RestsIn X doing c
+first_rests X Y (Deeds word) c rests = rests.0
+first_rests X Y (Misses word) c rests = tt
+first_rests X Y (Moved side motion) c rests = tt
+first_rests X Y Rises c rests = tt
+first_rests X Y (Falls by) c rests = tt
+first_rests X Y (Opens name) c rests = tt
+first_rests X Y (Closes outcome) c rests = tt
+
 -- on each link at most so many turns disturbed
-module _ {P Q : Type 0} (whole : Bool) (most : ℕ) (A : Profile P) (asks_a : Asks A) (B : Profile Q) (asks_b : Asks B) (to_a : News → List Circumstance → List Circumstance) (F : Feed → Type 0) (allows_a : Allows to_a F) (to_b : News → List Circumstance → List Circumstance) (G : Feed → Type 0) (allows_b : Allows to_b G) where
+module _ {P Q : Type 0} (whole : Bool) (most : ℕ) (A : Profile P) (asks_a : Asks A) (B : Profile Q) (asks_b : Asks B) (to_a : News → List Circumstance → List Circumstance) (F : Feed → Type 0) (allows_a : Allows to_a F) (to_b : News → List Circumstance → List Circumstance) (G : Feed → Type 0) (allows_b : Allows to_b G) (H J : List Occurrence → Type 0) where
   pub record PairsOf (e : carriages.End (Host P)) (f : carriages.End (Host Q)) : Type 0 where
     pub number : ℕ
-    pub a : HostAt A asks_a (Wants A) F e
-    pub b : HostAt B asks_b Always G f
+    pub a : HostAt A asks_a (Wants A) F H e
+    pub b : HostAt B asks_b Always G J f
     pub level_a : length a.so.lives.spans + length e.owed ≡ number
     pub level_b : length b.so.lives.spans + length f.owed ≡ number
     pub links : Links (NearBy whole most) A.policy B.policy a.so.lives.spans a.so.lives.now e (λ k. part_at k b.so.lives.spans b.so.lives.now) (length b.so.lives.spans) f
 
   -- one of them does something
-  on_a : (e e' : carriages.End (Host P)) (f : carriages.End (Host Q)) → ((number : ℕ) (other : ℕ → List Occurrence) (j : ℕ) → Held (NearBy whole most) A asks_a (Wants A) F B.policy number e other j f → Held (NearBy whole most) A asks_a (Wants A) F B.policy number e' other j f) → PairsOf e f → PairsOf e' f
+  on_a : (e e' : carriages.End (Host P)) (f : carriages.End (Host Q)) → ((number : ℕ) (other : ℕ → List Occurrence) (j : ℕ) → Held (NearBy whole most) A asks_a (Wants A) F H B.policy number e other j f → Held (NearBy whole most) A asks_a (Wants A) F H B.policy number e' other j f) → PairsOf e f → PairsOf e' f
   on_a e e' f does both =
       let b = both.b.so.lives in
       let after = does both.number (λ k. part_at k b.spans b.now) (length b.spans) (record { host = both.a; level = both.level_a; links = both.links }) in
       record { number = both.number; a = after.host; b = both.b; level_a = after.level; level_b = both.level_b; links = after.links }
 
-  on_b : (e : carriages.End (Host P)) (f f' : carriages.End (Host Q)) → ((number : ℕ) (other : ℕ → List Occurrence) (j : ℕ) → Held (FarBy whole most) B asks_b Always G A.policy number f other j e → Held (FarBy whole most) B asks_b Always G A.policy number f' other j e) → PairsOf e f → PairsOf e f'
+  on_b : (e : carriages.End (Host P)) (f f' : carriages.End (Host Q)) → ((number : ℕ) (other : ℕ → List Occurrence) (j : ℕ) → Held (FarBy whole most) B asks_b Always G J A.policy number f other j e → Held (FarBy whole most) B asks_b Always G J A.policy number f' other j e) → PairsOf e f → PairsOf e f'
   on_b e f f' does both =
       let a = both.a.so.lives in
       let b = both.b.so.lives in
@@ -226,8 +243,8 @@ module _ {P Q : Type 0} (whole : Bool) (most : ℕ) (A : Profile P) (asks_a : As
       let others = length-append f.owed (Up ∷ []) in
       record {
         number = both.number + 1;
-        a = besides A asks_a (Wants A) F allows_a.silent e e.talk e.queue e.coming (e.owed ++ Up ∷ []) refl both.a;
-        b = besides B asks_b Always G allows_b.silent f f.talk f.queue f.coming (f.owed ++ Up ∷ []) refl both.b;
+        a = besides A asks_a (Wants A) F allows_a.silent H e e.talk e.queue e.coming (e.owed ++ Up ∷ []) refl both.a both.a.comes;
+        b = besides B asks_b Always G allows_b.silent J f f.talk f.queue f.coming (f.owed ++ Up ∷ []) refl both.b both.b.comes;
         level_a = omega (arith, one, more);
         level_b = omega (arith, two, others);
         links = owes-both (NearBy whole most) A.policy B.policy a.spans a.now (λ k. part_at k b.spans b.now) (length b.spans) Up Up e f both.links;
@@ -243,8 +260,8 @@ module _ {P Q : Type 0} (whole : Bool) (most : ℕ) (A : Profile P) (asks_a : As
       let others = length-append f.owed (Down y ∷ []) in
       record {
         number = both.number + 1;
-        a = besides A asks_a (Wants A) F allows_a.silent e e.talk [] e.coming (e.owed ++ Down x ∷ []) refl both.a;
-        b = besides B asks_b Always G allows_b.silent f f.talk [] f.coming (f.owed ++ Down y ∷ []) refl both.b;
+        a = besides A asks_a (Wants A) F allows_a.silent H e e.talk [] e.coming (e.owed ++ Down x ∷ []) refl both.a both.a.comes;
+        b = besides B asks_b Always G allows_b.silent J f f.talk [] f.coming (f.owed ++ Down y ∷ []) refl both.b both.b.comes;
         level_a = omega (arith, one, more);
         level_b = omega (arith, two, others);
         links = owes-both (NearBy whole most) A.policy B.policy a.spans a.now (λ k. part_at k b.spans b.now) (length b.spans) (Down x) (Down y) e f both.links;
@@ -257,7 +274,7 @@ module _ {P Q : Type 0} (whole : Bool) (most : ℕ) (A : Profile P) (asks_a : As
       let b = both.b.so.lives in
       record {
         number = both.number;
-        a = besides A asks_a (Wants A) F allows_a.silent e (e.talk ++ Done outcome ∷ []) e.queue e.coming e.owed (silent_marks e.talk e.waiting (Done outcome) refl) both.a;
+        a = besides A asks_a (Wants A) F allows_a.silent H e (e.talk ++ Done outcome ∷ []) e.queue e.coming e.owed (silent_marks e.talk e.waiting (Done outcome) refl) both.a both.a.comes;
         b = both.b;
         level_a = both.level_a;
         level_b = both.level_b;
@@ -273,12 +290,12 @@ module _ {P Q : Type 0} (whole : Bool) (most : ℕ) (A : Profile P) (asks_a : As
       let y : length f.owed ≡ 0 = ap length none_b in
       omega (arith, one, two, x, y)
 
-module _ {P Q : Type 0} (whole : Bool) (most m : ℕ) (A : Profile P) (asks_a : Asks A) (B : Profile Q) (asks_b : Asks B) (to_a : News → List Circumstance → List Circumstance) (F : Feed → Type 0) (allows_a : Allows to_a F) (to_b : News → List Circumstance → List Circumstance) (G : Feed → Type 0) (allows_b : Allows to_b G) where
+module _ {P Q : Type 0} (whole : Bool) (most m : ℕ) (A : Profile P) (asks_a : Asks A) (B : Profile Q) (asks_b : Asks B) (to_a : News → List Circumstance → List Circumstance) (F : Feed → Type 0) (allows_a : Allows to_a F) (to_b : News → List Circumstance → List Circumstance) (G : Feed → Type 0) (allows_b : Allows to_b G) (H J : List Occurrence → Type 0) where
   abbrev Before : carriages.End (Host P) → carriages.End (Host Q) → Type 0
-  Before e f = PairsOf whole most A asks_a B asks_b to_a F allows_a to_b G allows_b e f
+  Before e f = PairsOf whole most A asks_a B asks_b to_a F allows_a to_b G allows_b H J e f
 
   abbrev Behind : carriages.End (Host P) → carriages.End (Host Q) → Type 0
-  Behind e f = PairsOf whole m A asks_a B asks_b to_a F allows_a to_b G allows_b e f
+  Behind e f = PairsOf whole m A asks_a B asks_b to_a F allows_a to_b G allows_b H J e f
 
   -- more may be spent
   pub richer_pairs : (e : carriages.End (Host P)) (f : carriages.End (Host Q)) → most ≤ m → Before e f → Behind e f
@@ -297,9 +314,9 @@ module _ {P Q : Type 0} (whole : Bool) (most m : ℕ) (A : Profile P) (asks_a : 
     pub enough : one_if (not free) + most ≤ m
     pub still : free ≡ true → (e.queue ≡ []) × (f.queue ++ f.waiting ≡ [])
 
-  silent_now : {R : Type 0} (C : Profile R) (asks_c : Asks C) (W : R → Type 0) (H : Feed → Type 0) (f : carriages.End (Host R)) (host : HostAt C asks_c W H f) (i : ℕ) → i ≡ length host.so.lives.spans → answers_of f.upper.channels.queue ≡ []
+  silent_now : {R : Type 0} (C : Profile R) (asks_c : Asks C) (W : R → Type 0) (X : Feed → Type 0) (Z : List Occurrence → Type 0) (f : carriages.End (Host R)) (host : HostAt C asks_c W X Z f) (i : ℕ) → i ≡ length host.so.lives.spans → answers_of f.upper.channels.queue ≡ []
       → list_any is_answer (run_of C.policy (part_at i host.so.lives.spans host.so.lives.now)).value.queue ≡ false
-  silent_now C asks_c W H f host i same silent =
+  silent_now C asks_c W X Z f host i same silent =
       let lives = host.so.lives in
       let here : part_at i lives.spans lives.now ≡ lives.now = ap (λ (n : ℕ). part_at n lives.spans lives.now) same ∙ part-now lives.spans lives.now in
       ap (λ (l : List Occurrence). list_any is_answer (run_of C.policy l).value.queue) here
@@ -309,46 +326,46 @@ module _ {P Q : Type 0} (whole : Bool) (most m : ℕ) (A : Profile P) (asks_a : 
   fires_a free e f g given calm can silent both =
       let a = both.a.so.lives in
       let b = both.b.so.lives in
-      let held : Held (NearBy whole most) A asks_a (Wants A) F B.policy both.number e (λ k. part_at k b.spans b.now) (length b.spans) f = record { host = both.a; level = both.level_a; links = both.links } in
-      let level : length a.spans ≡ length b.spans = same_number whole most A asks_a B asks_b to_a F allows_a to_b G allows_b e f both can.owed can.far_owed in
-      let after = fires-held A asks_a (Wants A) F allows_a.silent (NearBy whole most) m B.policy both.number e (λ k. part_at k b.spans b.now) (length b.spans) f g free calm given can.waits can.coming can.owed can.far_owed can.far_coming can.enough held level
-      (λ on. let still = can.still on in (still.0, still.1, silent_now B asks_b Always G f both.b (length a.spans) level (silent on))) in
+      let held : Held (NearBy whole most) A asks_a (Wants A) F H B.policy both.number e (λ k. part_at k b.spans b.now) (length b.spans) f = record { host = both.a; level = both.level_a; links = both.links } in
+      let level : length a.spans ≡ length b.spans = same_number whole most A asks_a B asks_b to_a F allows_a to_b G allows_b H J e f both can.owed can.far_owed in
+      let after = fires-held A asks_a (Wants A) F allows_a.silent H (NearBy whole most) m B.policy both.number e (λ k. part_at k b.spans b.now) (length b.spans) f g free calm given can.waits can.coming can.owed can.far_owed can.far_coming can.enough held level
+      (λ on. let still = can.still on in (still.0, still.1, silent_now B asks_b Always G J f both.b (length a.spans) level (silent on))) in
       record { number = both.number; a = after.host; b = both.b; level_a = after.level; level_b = both.level_b; links = after.links }
 
   fires_b : (free : Bool) (e : carriages.End (Host P)) (f : carriages.End (Host Q)) (g : List Circumstance) → G (Gifts g) → IsCalmNews B.policy TimerFired f.upper.channels → CanFire free f e → (free ≡ true → answers_of e.upper.channels.queue ≡ []) → Before e f → Behind e (told (upper B) g TimerFired f)
   fires_b free e f g allowed calm can silent both =
       let a = both.a.so.lives in
       let b = both.b.so.lives in
-      let held : Held (FarBy whole most) B asks_b Always G A.policy both.number f (λ k. part_at k a.spans a.now) (length a.spans) e =
+      let held : Held (FarBy whole most) B asks_b Always G J A.policy both.number f (λ k. part_at k a.spans a.now) (length a.spans) e =
       record { host = both.b; level = both.level_b; links = turned-links (NearBy whole most) A.policy B.policy a.spans b.spans a.now b.now e f both.links } in
-      let level : length b.spans ≡ length a.spans = sym (same_number whole most A asks_a B asks_b to_a F allows_a to_b G allows_b e f both can.far_owed can.owed) in
-      let after = fires-held B asks_b Always G allows_b.silent (FarBy whole most) m A.policy both.number f (λ k. part_at k a.spans a.now) (length a.spans) e g free calm allowed can.waits can.coming can.owed can.far_owed can.far_coming can.enough held level
-      (λ on. let still = can.still on in (still.0, still.1, silent_now A asks_a (Wants A) F e both.a (length b.spans) level (silent on))) in
+      let level : length b.spans ≡ length a.spans = sym (same_number whole most A asks_a B asks_b to_a F allows_a to_b G allows_b H J e f both can.far_owed can.owed) in
+      let after = fires-held B asks_b Always G allows_b.silent J (FarBy whole most) m A.policy both.number f (λ k. part_at k a.spans a.now) (length a.spans) e g free calm allowed can.waits can.coming can.owed can.far_owed can.far_coming can.enough held level
+      (λ on. let still = can.still on in (still.0, still.1, silent_now A asks_a (Wants A) F H e both.a (length b.spans) level (silent on))) in
       let later = after.host.so.lives in
       record { number = both.number; a = both.a; b = after.host; level_a = both.level_a; level_b = after.level; links = turned-links (FarBy whole m) B.policy A.policy later.spans a.spans later.now a.now (told (upper B) g TimerFired f) e after.links }
 
-  met_ab : (size : ℕ) (fate : Fate) (e : carriages.End (Host P)) (f : carriages.End (Host Q)) (e' : carriages.End (Host P)) (f' : carriages.End (Host Q)) → MeetsFate (answered_by to_b (upper B)) size fate e f e' f' → IsRight whole fate e.queue → fate_cost fate + most ≤ m → e.owed ≡ [] → f.owed ≡ [] → f.coming ≡ [] → has_fcs 0x0001 f.upper.channels ≡ false → Before e f → Behind e' f'
-  met_ab size fate e f e' f' meeting right enough none_a none_b idle unchecked both =
+  met_ab : (size : ℕ) (fate : Fate) (e : carriages.End (Host P)) (f : carriages.End (Host Q)) (e' : carriages.End (Host P)) (f' : carriages.End (Host Q)) → MeetsFate (answered_by to_b (upper B)) size fate e f e' f' → IsRight whole fate e.queue → fate_cost fate + most ≤ m → e.owed ≡ [] → f.owed ≡ [] → f.coming ≡ [] → has_fcs 0x0001 f.upper.channels ≡ false → (both : Before e f) → (f.linked ≡ true → J both.b.so.lives.now) → Behind e' f'
+  met_ab size fate e f e' f' meeting right enough none_a none_b idle unchecked both heard =
       let a = both.a.so.lives in
       let b = both.b.so.lives in
       let rest = (meets size fate meeting.checked meeting.frame).stays ++ meeting.rest in
       let talk = e.talk ++ Met fate meeting.checked ∷ [] in
       let e1 : carriages.End (Host P) = record e { queue = rest; talk = talk } in
       let f1 : carriages.End (Host Q) = record f { coming = comes_of size fate meeting.checked meeting.frame } in
-      let links = met_links B (FarBy whole most) m A.policy b.spans b.now (λ k. part_at k a.spans a.now) (length a.spans) size fate e f meeting.frame meeting.rest meeting.checked meeting.is meeting.checked_is right enough (sym (same_number whole most A asks_a B asks_b to_a F allows_a to_b G allows_b e f both none_a none_b)) none_a idle b.channels_run unchecked
+      let links = met_links B (FarBy whole most) m A.policy b.spans b.now (λ k. part_at k a.spans a.now) (length a.spans) size fate e f meeting.frame meeting.rest meeting.checked meeting.is meeting.checked_is right enough (sym (same_number whole most A asks_a B asks_b to_a F allows_a to_b G allows_b H J e f both none_a none_b)) none_a idle b.channels_run unchecked
       (turned-links (NearBy whole most) A.policy B.policy a.spans b.spans a.now b.now e f both.links) in
       let now : Behind e1 f1 = record {
         number = both.number;
-        a = besides A asks_a (Wants A) F allows_a.silent e talk rest e.coming e.owed (silent_marks e.talk e.waiting (Met fate meeting.checked) refl) both.a;
-        b = besides B asks_b Always G allows_b.silent f f.talk f.queue (comes_of size fate meeting.checked meeting.frame) f.owed refl both.b;
+        a = besides A asks_a (Wants A) F allows_a.silent H e talk rest e.coming e.owed (silent_marks e.talk e.waiting (Met fate meeting.checked) refl) both.a both.a.comes;
+        b = besides B asks_b Always G allows_b.silent J f f.talk f.queue (comes_of size fate meeting.checked meeting.frame) f.owed refl both.b (inr heard);
         level_a = both.level_a;
         level_b = both.level_b;
         links = turned-links (FarBy whole m) B.policy A.policy b.spans a.spans b.now a.now f1 e1 links;
       } in
       subst (λ (x : carriages.End (Host P)). Behind x f') (sym meeting.one_is) (subst (λ (y : carriages.End (Host Q)). Behind e1 y) (sym meeting.other_is) now)
 
-  met_ba : (size : ℕ) (fate : Fate) (f : carriages.End (Host Q)) (e : carriages.End (Host P)) (f' : carriages.End (Host Q)) (e' : carriages.End (Host P)) → MeetsFate (answered_by to_a (upper A)) size fate f e f' e' → IsRight whole fate f.queue → fate_cost fate + most ≤ m → e.owed ≡ [] → f.owed ≡ [] → e.coming ≡ [] → has_fcs 0x0001 e.upper.channels ≡ false → Before e f → Behind e' f'
-  met_ba size fate f e f' e' meeting right enough none_a none_b idle unchecked both =
+  met_ba : (size : ℕ) (fate : Fate) (f : carriages.End (Host Q)) (e : carriages.End (Host P)) (f' : carriages.End (Host Q)) (e' : carriages.End (Host P)) → MeetsFate (answered_by to_a (upper A)) size fate f e f' e' → IsRight whole fate f.queue → fate_cost fate + most ≤ m → e.owed ≡ [] → f.owed ≡ [] → e.coming ≡ [] → has_fcs 0x0001 e.upper.channels ≡ false → (both : Before e f) → (e.linked ≡ true → H both.a.so.lives.now) → Behind e' f'
+  met_ba size fate f e f' e' meeting right enough none_a none_b idle unchecked both heard =
       let a = both.a.so.lives in
       let b = both.b.so.lives in
       let rest = (meets size fate meeting.checked meeting.frame).stays ++ meeting.rest in
@@ -357,11 +374,11 @@ module _ {P Q : Type 0} (whole : Bool) (most m : ℕ) (A : Profile P) (asks_a : 
       let e1 : carriages.End (Host P) = record e { coming = comes_of size fate meeting.checked meeting.frame } in
       let now : Behind e1 f1 = record {
         number = both.number;
-        a = besides A asks_a (Wants A) F allows_a.silent e e.talk e.queue (comes_of size fate meeting.checked meeting.frame) e.owed refl both.a;
-        b = besides B asks_b Always G allows_b.silent f talk rest f.coming f.owed (silent_marks f.talk f.waiting (Met fate meeting.checked) refl) both.b;
+        a = besides A asks_a (Wants A) F allows_a.silent H e e.talk e.queue (comes_of size fate meeting.checked meeting.frame) e.owed refl both.a (inr heard);
+        b = besides B asks_b Always G allows_b.silent J f talk rest f.coming f.owed (silent_marks f.talk f.waiting (Met fate meeting.checked) refl) both.b both.b.comes;
         level_a = both.level_a;
         level_b = both.level_b;
-        links = met_links A (NearBy whole most) m B.policy a.spans a.now (λ k. part_at k b.spans b.now) (length b.spans) size fate f e meeting.frame meeting.rest meeting.checked meeting.is meeting.checked_is right enough (same_number whole most A asks_a B asks_b to_a F allows_a to_b G allows_b e f both none_a none_b) none_b idle a.channels_run unchecked both.links;
+        links = met_links A (NearBy whole most) m B.policy a.spans a.now (λ k. part_at k b.spans b.now) (length b.spans) size fate f e meeting.frame meeting.rest meeting.checked meeting.is meeting.checked_is right enough (same_number whole most A asks_a B asks_b to_a F allows_a to_b G allows_b H J e f both none_a none_b) none_b idle a.channels_run unchecked both.links;
       } in
       subst (λ (x : carriages.End (Host P)). Behind x f') (sym meeting.other_is) (subst (λ (y : carriages.End (Host Q)). Behind e1 y) (sym meeting.one_is) now)
 
@@ -384,7 +401,9 @@ first_links whole most U V near far k = record {
 
 module _ {P Q : Type 0} (whole : Bool) (A : Profile P) (asks_a : Asks A) (B : Profile Q) (asks_b : Asks B) (K R : P → Type 0) (L S : Q → Type 0) (keeps_a : KeepsFit A IsSoberPdu (IsProper A.policy) K) (keeps_b : KeepsFit B IsSoberPdu (IsProper B.policy) L) (away_a : Keeps A R) (away_b : Keeps B S)
     (F : Host Q → Type 0) (awaits : Awaits (upper A) (upper B) HasToldAll F) (same_wish : (gifts : List Circumstance) (p : P) → A.wants_link (A.given gifts p) ≡ A.wants_link p)
-    (to_a : News → List Circumstance → List Circumstance) (E : Feed → Type 0) (allows_a : Allows to_a E) (to_b : News → List Circumstance → List Circumstance) (G : Feed → Type 0) (allows_b : Allows to_b G) where
+    (to_a : News → List Circumstance → List Circumstance) (E : Feed → Type 0) (allows_a : Allows to_a E) (to_b : News → List Circumstance → List Circumstance) (G : Feed → Type 0) (allows_b : Allows to_b G)
+    (H J : List Occurrence → Type 0) (Z : Host P → Type 0) (Y : Host Q → Type 0) (so_a : (e : carriages.End (Host P)) (host : HostAt A asks_a (Wants A) E H e) → e.linked ≡ true → Z e.upper → H host.so.lives.now)
+    (so_b : (f : carriages.End (Host Q)) (host : HostAt B asks_b Always G J f) → f.linked ≡ true → Y f.upper → J host.so.lives.now) where
   -- both hosts where their ports answer so
   abbrev U : Upper (Host P) Circumstance
   U = answered_by to_a (upper A)
@@ -396,7 +415,7 @@ module _ {P Q : Type 0} (whole : Bool) (A : Profile P) (asks_a : Asks A) (B : Pr
     pub both : Both (upper A) (upper B) c
     pub acted : ActedBoth (upper A) (upper B) (free_where A) (free_where B) c
     pub tame : TameBoth (FitHost (IsProper A.policy) K) (FitHost (IsProper B.policy) L) c
-    pub pairs : PairsOf whole most A asks_a B asks_b to_a E allows_a to_b G allows_b c.a c.b
+    pub pairs : PairsOf whole most A asks_a B asks_b to_a E allows_a to_b G allows_b H J c.a c.b
     pub abreast : Abreast (upper A) (upper B) HasToldAll F c
 
   fine_a : (most : ℕ) (c : Carriage (Host P) (Host Q)) → Sane most c → Fine A asks_a K R keeps_a away_a c.link c.a
@@ -406,40 +425,40 @@ module _ {P Q : Type 0} (whole : Bool) (A : Profile P) (asks_a : Asks A) (B : Pr
   fine_b most c sane = record { sound = sane.both.b; acted = sane.acted.b; tame = sane.tame.b }
 
   abbrev PairsIn : ℕ → Carriage (Host P) (Host Q) → Type 0
-  PairsIn most c = PairsOf whole most A asks_a B asks_b to_a E allows_a to_b G allows_b c.a c.b
+  PairsIn most c = PairsOf whole most A asks_a B asks_b to_a E allows_a to_b G allows_b H J c.a c.b
 
-  word_a : (most : ℕ) (c : Carriage (Host P) (Host Q)) (g : List Circumstance) (news : News) → IsWord A asks_a (Wants A) E allows_a.silent news → (c.a.linked ≡ true → IsOfLink news) → IsCalmNews A.policy news c.a.upper.channels → IsIdle (upper A) c.a → Sane most c → PairsOf whole most A asks_a B asks_b to_a E allows_a to_b G allows_b (told U g news c.a) c.b
+  word_a : (most : ℕ) (c : Carriage (Host P) (Host Q)) (g : List Circumstance) (news : News) → IsWord A asks_a (Wants A) E allows_a.silent H news → (c.a.linked ≡ true → IsOfLink news) → IsCalmNews A.policy news c.a.upper.channels → IsIdle (upper A) c.a → Sane most c → PairsOf whole most A asks_a B asks_b to_a E allows_a to_b G allows_b H J (told U g news c.a) c.b
   word_a most c g news word of calm idle sane =
-      on_a whole most A asks_a B asks_b to_a E allows_a to_b G allows_b c.a (told U g news c.a) c.b
-      (λ number there j held. told-held A asks_a (Wants A) E allows_a.silent (NearBy whole most) B.policy number c.a there j c.b (to_a news g) news word of calm (allows_a.given news g) (allows_a.told news g) (waits_none A asks_a K R keeps_a away_a c.link c.a (fine_a most c sane) idle) idle.none_comes held) sane.pairs
+      on_a whole most A asks_a B asks_b to_a E allows_a to_b G allows_b H J c.a (told U g news c.a) c.b
+      (λ number there j held. told-held A asks_a (Wants A) E allows_a.silent H (NearBy whole most) B.policy number c.a there j c.b (to_a news g) news word of calm (allows_a.given news g) (allows_a.told news g) (waits_none A asks_a K R keeps_a away_a c.link c.a (fine_a most c sane) idle) idle.none_comes held) sane.pairs
 
   -- ---- timers
 
   abbrev Ready : Carriage (Host P) (Host Q) → Type 0
-  Ready c = AreReady (upper A) (upper B) (free_where A) (free_where B) c
+  Ready c = AreReady (upper A) (upper B) (free_where A) (free_where B) c × StayOn Z Y c
 
   calm_a : (most : ℕ) (c : Carriage (Host P) (Host Q)) → IsIdle (upper A) c.a → Ready c → Sane most c → (upper A).armed c.a.upper ≡ true → IsCalmNews A.policy TimerFired c.a.upper.channels
-  calm_a most c idle ready sane armed = calm_firing A asks_a K R keeps_a away_a c.link c.a (fine_a most c sane) idle (λ on. (ready.0 on).1 armed)
+  calm_a most c idle ready sane armed = calm_firing A asks_a K R keeps_a away_a c.link c.a (fine_a most c sane) idle (λ on. (ready.0.0 on).1 armed)
 
   calm_b : (most : ℕ) (c : Carriage (Host P) (Host Q)) → IsIdle (upper B) c.b → Ready c → Sane most c → (upper B).armed c.b.upper ≡ true → IsCalmNews B.policy TimerFired c.b.upper.channels
-  calm_b most c idle ready sane armed = calm_firing B asks_b L S keeps_b away_b c.link c.b (fine_b most c sane) idle (λ on. (ready.1 on).1 armed)
+  calm_b most c idle ready sane armed = calm_firing B asks_b L S keeps_b away_b c.link c.b (fine_b most c sane) idle (λ on. (ready.0.1 on).1 armed)
 
   -- alone
-  fires_one_a : (most m : ℕ) (c : Carriage (Host P) (Host Q)) (g : List Circumstance) → 1 + most ≤ m → (upper A).armed c.a.upper ≡ true → IsAtRest (upper A) (upper B) c → Ready c → Sane most c → PairsOf whole m A asks_a B asks_b to_a E allows_a to_b G allows_b (told U g TimerFired c.a) c.b
+  fires_one_a : (most m : ℕ) (c : Carriage (Host P) (Host Q)) (g : List Circumstance) → 1 + most ≤ m → (upper A).armed c.a.upper ≡ true → IsAtRest (upper A) (upper B) c → Ready c → Sane most c → PairsOf whole m A asks_a B asks_b to_a E allows_a to_b G allows_b H J (told U g TimerFired c.a) c.b
   fires_one_a most m c g enough armed rest ready sane =
-      fires_a whole most m A asks_a B asks_b to_a E allows_a to_b G allows_b false c.a c.b (to_a TimerFired g) (allows_a.given TimerFired g) (calm_a most c rest.idle_a ready sane armed)
+      fires_a whole most m A asks_a B asks_b to_a E allows_a to_b G allows_b H J false c.a c.b (to_a TimerFired g) (allows_a.given TimerFired g) (calm_a most c rest.idle_a ready sane armed)
       (record { waits = waits_none A asks_a K R keeps_a away_a c.link c.a (fine_a most c sane) rest.idle_a; coming = rest.idle_a.none_comes; owed = rest.idle_a.none_owed; far_coming = rest.idle_b.none_comes; far_owed = rest.idle_b.none_owed; enough = enough; still = λ on. cc })
       (λ on. cc) sane.pairs
 
-  fires_one_b : (most m : ℕ) (c : Carriage (Host P) (Host Q)) (h : List Circumstance) → 1 + most ≤ m → (upper B).armed c.b.upper ≡ true → IsAtRest (upper A) (upper B) c → Ready c → Sane most c → PairsOf whole m A asks_a B asks_b to_a E allows_a to_b G allows_b c.a (told V h TimerFired c.b)
+  fires_one_b : (most m : ℕ) (c : Carriage (Host P) (Host Q)) (h : List Circumstance) → 1 + most ≤ m → (upper B).armed c.b.upper ≡ true → IsAtRest (upper A) (upper B) c → Ready c → Sane most c → PairsOf whole m A asks_a B asks_b to_a E allows_a to_b G allows_b H J c.a (told V h TimerFired c.b)
   fires_one_b most m c h enough armed rest ready sane =
-      fires_b whole most m A asks_a B asks_b to_a E allows_a to_b G allows_b false c.a c.b (to_b TimerFired h) (allows_b.given TimerFired h) (calm_b most c rest.idle_b ready sane armed)
+      fires_b whole most m A asks_a B asks_b to_a E allows_a to_b G allows_b H J false c.a c.b (to_b TimerFired h) (allows_b.given TimerFired h) (calm_b most c rest.idle_b ready sane armed)
       (record { waits = waits_none B asks_b L S keeps_b away_b c.link c.b (fine_b most c sane) rest.idle_b; coming = rest.idle_b.none_comes; owed = rest.idle_b.none_owed; far_coming = rest.idle_a.none_comes; far_owed = rest.idle_a.none_owed; enough = enough; still = λ on. cc })
       (λ on. cc) sane.pairs
 
   -- what the first that fires leaves
   record Left (most : ℕ) (e : carriages.End (Host P)) (f : carriages.End (Host Q)) : Type 0 where
-    pairs : PairsOf whole most A asks_a B asks_b to_a E allows_a to_b G allows_b e f
+    pairs : PairsOf whole most A asks_a B asks_b to_a E allows_a to_b G allows_b H J e f
     coming : e.coming ≡ []
     owed : e.owed ≡ []
     way : e.queue ++ e.waiting ≡ []
@@ -447,7 +466,7 @@ module _ {P Q : Type 0} (whole : Bool) (A : Profile P) (asks_a : Asks A) (B : Pr
 
   -- both, one behind the other, where nothing is in the air
   fires_two : (most : ℕ) (c : Carriage (Host P) (Host Q)) (g h : List Circumstance) (one other : Bool) → (upper A).armed c.a.upper ≡ one → (upper B).armed c.b.upper ≡ other → IsAtRest (upper A) (upper B) c → Ready c → c.a.queue ≡ [] → c.b.queue ≡ [] → Sane most c
-      → PairsOf whole most A asks_a B asks_b to_a E allows_a to_b G allows_b (if one then told U g TimerFired c.a else c.a) (if other then told V h TimerFired c.b else c.b)
+      → PairsOf whole most A asks_a B asks_b to_a E allows_a to_b G allows_b H J (if one then told U g TimerFired c.a else c.a) (if other then told V h TimerFired c.b else c.b)
   fires_two most c g h one other armed_a armed_b rest ready none_a none_b sane = second other armed_b (first one armed_a)
     where
       waits_a : c.a.waiting ≡ []
@@ -457,10 +476,10 @@ module _ {P Q : Type 0} (whole : Bool) (A : Profile P) (asks_a : Asks A) (B : Pr
       waits_b = waits_none B asks_b L S keeps_b away_b c.link c.b (fine_b most c sane) rest.idle_b
 
       silent_a : answers_of c.a.upper.channels.queue ≡ []
-      silent_a = held-silent A asks_a (Wants A) E allows_a.silent c.a sane.pairs.a (quiet_resting A asks_a K R keeps_a away_a c.link c.a (fine_a most c sane) rest.idle_a (λ on. (ready.0 on).0))
+      silent_a = held-silent A asks_a (Wants A) E allows_a.silent H c.a sane.pairs.a (quiet_resting A asks_a K R keeps_a away_a c.link c.a (fine_a most c sane) rest.idle_a (λ on. (ready.0.0 on).0))
 
       silent_b : answers_of c.b.upper.channels.queue ≡ []
-      silent_b = held-silent B asks_b Always G allows_b.silent c.b sane.pairs.b (quiet_resting B asks_b L S keeps_b away_b c.link c.b (fine_b most c sane) rest.idle_b (λ on. (ready.1 on).0))
+      silent_b = held-silent B asks_b Always G allows_b.silent J c.b sane.pairs.b (quiet_resting B asks_b L S keeps_b away_b c.link c.b (fine_b most c sane) rest.idle_b (λ on. (ready.0.1 on).0))
 
       way_a : c.a.queue ++ c.a.waiting ≡ []
       way_a = ap (λ (l : List (List ℕ)). l ++ c.a.waiting) none_a ∙ waits_a
@@ -470,33 +489,33 @@ module _ {P Q : Type 0} (whole : Bool) (A : Profile P) (asks_a : Asks A) (B : Pr
       first true armed =
           let calm = calm_a most c rest.idle_a ready sane armed in
           record {
-            pairs = fires_a whole most most A asks_a B asks_b to_a E allows_a to_b G allows_b true c.a c.b (to_a TimerFired g) (allows_a.given TimerFired g) calm
+            pairs = fires_a whole most most A asks_a B asks_b to_a E allows_a to_b G allows_b H J true c.a c.b (to_a TimerFired g) (allows_a.given TimerFired g) calm
                 (record { waits = waits_a; coming = rest.idle_a.none_comes; owed = rest.idle_a.none_owed; far_coming = rest.idle_b.none_comes; far_owed = rest.idle_b.none_owed; enough = omega arith; still = λ on. (none_a, ap (λ (l : List (List ℕ)). l ++ c.b.waiting) none_b ∙ waits_b) })
                 (λ on. silent_b) sane.pairs;
             coming = rest.idle_a.none_comes;
             owed = rest.idle_a.none_owed;
             way = way_a;
-            silent = fired-silent A asks_a (Wants A) E allows_a.silent (to_a TimerFired g) c.a.upper calm silent_a;
+            silent = fired-silent A asks_a (Wants A) E allows_a.silent H (to_a TimerFired g) c.a.upper calm silent_a;
           }
 
-      second : {e : carriages.End (Host P)} (fires : Bool) → (upper B).armed c.b.upper ≡ fires → Left most e c.b → PairsOf whole most A asks_a B asks_b to_a E allows_a to_b G allows_b e (if fires then told V h TimerFired c.b else c.b)
+      second : {e : carriages.End (Host P)} (fires : Bool) → (upper B).armed c.b.upper ≡ fires → Left most e c.b → PairsOf whole most A asks_a B asks_b to_a E allows_a to_b G allows_b H J e (if fires then told V h TimerFired c.b else c.b)
       second {e} false armed left = left.pairs
       second {e} true armed left =
-          fires_b whole most most A asks_a B asks_b to_a E allows_a to_b G allows_b true e c.b (to_b TimerFired h) (allows_b.given TimerFired h) (calm_b most c rest.idle_b ready sane armed)
+          fires_b whole most most A asks_a B asks_b to_a E allows_a to_b G allows_b H J true e c.b (to_b TimerFired h) (allows_b.given TimerFired h) (calm_b most c rest.idle_b ready sane armed)
           (record { waits = waits_b; coming = rest.idle_b.none_comes; owed = rest.idle_b.none_owed; far_coming = left.coming; far_owed = left.owed; enough = omega arith; still = λ on. (none_b, left.way) })
           (λ on. left.silent) left.pairs
 
   -- ---- deeds
 
-  enriched : (most m : ℕ) (e : carriages.End (Host P)) (f : carriages.End (Host Q)) → 0 + most ≤ m → PairsOf whole most A asks_a B asks_b to_a E allows_a to_b G allows_b e f → PairsOf whole m A asks_a B asks_b to_a E allows_a to_b G allows_b e f
-  enriched most m e f enough both = richer_pairs whole most m A asks_a B asks_b to_a E allows_a to_b G allows_b e f (omega (arith, enough)) both
+  enriched : (most m : ℕ) (e : carriages.End (Host P)) (f : carriages.End (Host Q)) → 0 + most ≤ m → PairsOf whole most A asks_a B asks_b to_a E allows_a to_b G allows_b H J e f → PairsOf whole m A asks_a B asks_b to_a E allows_a to_b G allows_b H J e f
+  enriched most m e f enough both = richer_pairs whole most m A asks_a B asks_b to_a E allows_a to_b G allows_b H J e f (omega (arith, enough)) both
 
   deed_pairs : (most m : ℕ) (deed : Deed) (old new : Carriage (Host P) (Host Q)) → deed_cost deed + most ≤ m → IsAtRest (upper A) (upper B) old → Ready old → IsRightDeed whole deed old.a.queue old.b.queue → ActsOn U V deed old new → Sane most old → PairsIn m new
   deed_pairs most m Nothing old new enough rest ready right acts sane = absurd acts
   deed_pairs most m (Meets Ab fate) old new enough rest ready right (e, f, meeting, same) sane =
-      subst (PairsIn m) (sym same) (met_ab whole most m A asks_a B asks_b to_a E allows_a to_b G allows_b old.size fate old.a old.b e f meeting right enough rest.idle_a.none_owed rest.idle_b.none_owed rest.idle_b.none_comes ((host-tames B L keeps_b).unchecked old.b.upper sane.tame.b.upper) sane.pairs)
+      subst (PairsIn m) (sym same) (met_ab whole most m A asks_a B asks_b to_a E allows_a to_b G allows_b H J old.size fate old.a old.b e f meeting right enough rest.idle_a.none_owed rest.idle_b.none_owed rest.idle_b.none_comes ((host-tames B L keeps_b).unchecked old.b.upper sane.tame.b.upper) sane.pairs (λ on. so_b old.b sane.pairs.b on (ready.1.1 on)))
   deed_pairs most m (Meets Ba fate) old new enough rest ready right (e, f, meeting, same) sane =
-      subst (PairsIn m) (sym same) (met_ba whole most m A asks_a B asks_b to_a E allows_a to_b G allows_b old.size fate old.b old.a f e meeting right enough rest.idle_a.none_owed rest.idle_b.none_owed rest.idle_a.none_comes ((host-tames A K keeps_a).unchecked old.a.upper sane.tame.a.upper) sane.pairs)
+      subst (PairsIn m) (sym same) (met_ba whole most m A asks_a B asks_b to_a E allows_a to_b G allows_b H J old.size fate old.b old.a f e meeting right enough rest.idle_a.none_owed rest.idle_b.none_owed rest.idle_a.none_comes ((host-tames A K keeps_a).unchecked old.a.upper sane.tame.a.upper) sane.pairs (λ on. so_a old.a sane.pairs.a on (ready.1.0 on)))
   deed_pairs most m (Fires sides.A) old new enough rest ready right (armed, g, same) sane = subst (PairsIn m) (sym same) (fires_one_a most m old g enough armed rest ready sane)
   deed_pairs most m (Fires sides.B) old new enough rest ready right (armed, h, same) sane = subst (PairsIn m) (sym same) (fires_one_b most m old h enough armed rest ready sane)
   deed_pairs most m FiresBoth old new enough rest ready right (armed, g, h, same) sane =
@@ -504,7 +523,7 @@ module _ {P Q : Type 0} (whole : Bool) (A : Profile P) (asks_a : Asks A) (B : Pr
       let f' = if (upper B).armed old.b.upper then told V h TimerFired old.b else old.b in
       subst (PairsIn m) (sym same) (enriched most m e' f' enough (fires_two most old g h ((upper A).armed old.a.upper) ((upper B).armed old.b.upper) refl refl rest ready right.0 right.1 sane))
   deed_pairs most m Breaks old new enough rest ready right same sane =
-      subst (PairsIn m) (sym same) (enriched most m (owing (Down 0x08) old.a) (owing (Down 0x08) old.b) enough (owes_down whole most A asks_a B asks_b to_a E allows_a to_b G allows_b 0x08 0x08 old.a old.b sane.pairs))
+      subst (PairsIn m) (sym same) (enriched most m (owing (Down 0x08) old.a) (owing (Down 0x08) old.b) enough (owes_down whole most A asks_a B asks_b to_a E allows_a to_b G allows_b H J 0x08 0x08 old.a old.b sane.pairs))
   deed_pairs most m Cancels old new enough rest ready right (may, g, same) sane =
       subst (PairsIn m) (sym same) (enriched most m (told U g Cancelled old.a) old.b enough (word_a most old g Cancelled tt (λ on. tt) tt rest.idle_a sane))
 
@@ -513,28 +532,28 @@ module _ {P Q : Type 0} (whole : Bool) (A : Profile P) (asks_a : Asks A) (B : Pr
   done_pairs most m (Moved sides.A motion) old new enough script gentle (e, does, same) ready sane =
       subst (PairsIn m) (sym same)
       (enriched most m e old.b enough
-      (on_a whole most A asks_a B asks_b to_a E allows_a to_b G allows_b old.a e old.b (λ number there j held. motion_held A asks_a K R keeps_a away_a to_a E allows_a (Wants A) (NearBy whole most) B.policy number old.link motion old.a e there j old.b does (fine_a most old sane)
+      (on_a whole most A asks_a B asks_b to_a E allows_a to_b G allows_b H J old.a e old.b (λ number there j held. motion_held A asks_a K R keeps_a away_a to_a E allows_a H (Wants A) (NearBy whole most) B.policy number old.link motion old.a e there j old.b does (fine_a most old sane)
       (λ gifts more first. same_wish gifts old.a.upper.profile ∙ sane.abreast.wants more first) held) sane.pairs))
   done_pairs most m (Moved sides.B motion) old new enough script gentle (f, does, same) ready sane =
       subst (PairsIn m) (sym same)
       (enriched most m old.a f enough
-      (on_b whole most A asks_a B asks_b to_a E allows_a to_b G allows_b old.a old.b f (λ number there j held. motion_held B asks_b L S keeps_b away_b to_b G allows_b Always (FarBy whole most) A.policy number old.link motion old.b f there j old.a does (fine_b most old sane) (λ gifts more first. tt) held) sane.pairs))
+      (on_b whole most A asks_a B asks_b to_a E allows_a to_b G allows_b H J old.a old.b f (λ number there j held. motion_held B asks_b L S keeps_b away_b to_b G allows_b J Always (FarBy whole most) A.policy number old.link motion old.b f there j old.a does (fine_b most old sane) (λ gifts more first. tt) held) sane.pairs))
   done_pairs most m (Deeds word) old new enough script gentle (rest, acts) ready sane =
       let cost = word-cost word old.served old.a.queue old.b.queue old.link in
       deed_pairs most m (finds word old) old new (omega (arith, cost, enough)) (rests-so (upper A) (upper B) to_a to_b old rest) ready (word-right whole word old.served old.a.queue old.b.queue old.link script (λ on. (gentle on).0)) acts sane
   done_pairs most m (Misses word) old new enough script gentle (rest, nothing, same) ready sane =
-      subst (PairsIn m) (sym same) (richer_pairs whole most m A asks_a B asks_b to_a E allows_a to_b G allows_b old.a old.b (omega (arith, enough)) sane.pairs)
+      subst (PairsIn m) (sym same) (richer_pairs whole most m A asks_a B asks_b to_a E allows_a to_b G allows_b H J old.a old.b (omega (arith, enough)) sane.pairs)
   done_pairs most m Rises old new enough script gentle (down, idle, going, wants, same) ready sane =
-      subst (PairsIn m) (sym same) (enriched most m (owing Up old.a) (owing Up old.b) enough (owes_up whole most A asks_a B asks_b to_a E allows_a to_b G allows_b old.a old.b sane.pairs))
+      subst (PairsIn m) (sym same) (enriched most m (owing Up old.a) (owing Up old.b) enough (owes_up whole most A asks_a B asks_b to_a E allows_a to_b G allows_b H J old.a old.b sane.pairs))
   done_pairs most m (Falls sides.A) old new enough script gentle (up, idle, leaves, same) ready sane =
-      subst (PairsIn m) (sym same) (enriched most m (owing (Down 0x16) old.a) (owing (Down 0x13) old.b) enough (owes_down whole most A asks_a B asks_b to_a E allows_a to_b G allows_b 0x16 0x13 old.a old.b sane.pairs))
+      subst (PairsIn m) (sym same) (enriched most m (owing (Down 0x16) old.a) (owing (Down 0x13) old.b) enough (owes_down whole most A asks_a B asks_b to_a E allows_a to_b G allows_b H J 0x16 0x13 old.a old.b sane.pairs))
   done_pairs most m (Falls sides.B) old new enough script gentle (up, idle, leaves, same) ready sane =
-      subst (PairsIn m) (sym same) (enriched most m (owing (Down 0x13) old.a) (owing (Down 0x16) old.b) enough (owes_down whole most A asks_a B asks_b to_a E allows_a to_b G allows_b 0x13 0x16 old.a old.b sane.pairs))
+      subst (PairsIn m) (sym same) (enriched most m (owing (Down 0x13) old.a) (owing (Down 0x16) old.b) enough (owes_down whole most A asks_a B asks_b to_a E allows_a to_b G allows_b H J 0x13 0x16 old.a old.b sane.pairs))
   done_pairs most m (Opens name) old new enough script gentle (down, idle, pushes, next, g, same) ready sane =
       let quiet = idle_so (upper A) to_a old.a idle in
       subst (PairsIn m) (sym same) (enriched most m (told U g (Opening name) old.a) old.b enough (word_a most old g (Opening name) tt (λ on. off_on old.a.linked on (idle_linked (upper A) old.link old.a quiet sane.both.a ∙ down)) tt quiet sane))
   done_pairs most m (Closes outcome) old new enough script gentle (down, idle_a, idle_b, going, pushes, is, same) ready sane =
-      subst (PairsIn m) (sym same) (enriched most m (record old.a { talk = old.a.talk ++ Done outcome ∷ [] }) old.b enough (is_done whole most A asks_a B asks_b to_a E allows_a to_b G allows_b outcome old.a old.b sane.pairs))
+      subst (PairsIn m) (sym same) (enriched most m (record old.a { talk = old.a.talk ++ Done outcome ∷ [] }) old.b enough (is_done whole most A asks_a B asks_b to_a E allows_a to_b G allows_b H J outcome old.a old.b sane.pairs))
 
   adverse_both : (xs ys : List Word) → adverse_in (xs ++ ys) ≡ adverse_in xs + adverse_in ys
   adverse_both [] ys = omega arith
@@ -549,7 +568,7 @@ module _ {P Q : Type 0} (whole : Bool) (A : Profile P) (asks_a : Asks A) (B : Pr
       let whole_cost = adverse_both (words_at doing) (all_words doings) in
       carries_pairs doings now m mid new (omega (arith, enough, whole_cost)) script.1 gentle.1 runs (record {
         both = (advances (upper A) (upper B) doing old nothing_more nothing_more mid does sane.both).both;
-        acted = done_both (upper A) (upper B) (free_where A) (free_where B) doing old mid does ready sane.both sane.acted;
+        acted = done_both (upper A) (upper B) (free_where A) (free_where B) doing old mid does (first_rests (AreReady (upper A) (upper B) (free_where A) (free_where B)) (StayOn Z Y) doing old ready) sane.both sane.acted;
         tame = done-tame (upper A) (upper B) (FitHost (IsProper A.policy) K) (FitHost (IsProper B.policy) L) (host-tames A K keeps_a) (host-tames B L keeps_b) doing old mid script.0 does sane.tame;
         pairs = done_pairs most now doing old mid (omega arith) script.0 gentle.0 does' ready sane;
         abreast = done-abreast (upper A) (upper B) HasToldAll F doing old mid does awaits sane.pairs.b.so.lives.all_told sane.both sane.abreast;
@@ -559,8 +578,8 @@ module _ {P Q : Type 0} (whole : Bool) (A : Profile P) (asks_a : Asks A) (B : Pr
   unfolding first_calmly first_lives
   first_pairs size names = record {
     number = 0;
-    a = record { marks = []; so = first_calmly A asks_a; marks_are = refl; asked = first-asked A asks_a (Wants A); given = first-served A asks_a E; up_is = refl };
-    b = record { marks = []; so = first_calmly B asks_b; marks_are = refl; asked = first-asked B asks_b Always; given = first-served B asks_b G; up_is = refl };
+    a = record { marks = []; so = first_calmly A asks_a; marks_are = refl; asked = first-asked A asks_a (Wants A); given = first-served A asks_a E; up_is = refl; heard = (tt, tt); comes = inl refl };
+    b = record { marks = []; so = first_calmly B asks_b; marks_are = refl; asked = first-asked B asks_b Always; given = first-served B asks_b G; up_is = refl; heard = (tt, tt); comes = inl refl };
     level_a = refl;
     level_b = refl;
     links = first_links whole 0 (upper A) (upper B) A.policy B.policy;

@@ -1,15 +1,17 @@
 -- A host of a run, with what happened to its channels on each of its links, and what it does as turns of the pair that it is in.
-use Rattle.std.proofs.Common.{◌≡◌, ℕ, ◌≤◌, Bool, true, false, not, suc, ◌+◌, List, [], ◌∷◌, ◌++◌, map, length, Some, refl, sym, ap, ap₂, subst, ◌∙◌, append-nil, append_assoc, arith, length-append}
+use Rattle.std.proofs.Common.{◌≡◌, ◌⊎◌, inl, inr, ℕ, ◌≤◌, Bool, true, false, not, suc, ◌+◌, List, [], ◌∷◌, ◌++◌, map, length, Some, refl, sym, ap, ap₂, subst, ◌∙◌, append-nil, append_assoc, arith, length-append}
 use Rattle.std.specs.List.{AllByRecursion, flat_map, filter_map, list_any}
 use Rattle.std.proofs.lemmas.List.{map-append}
 use Rattle.std.proofs.lemmas.List.Concat.{flat_map-append}
 use Rattle.acl_fragments.specs.Pieces.{channel_of}
+use Rattle.capture.specs.Histories.{EachAfter}
+use Rattle.capture.proofs.HistoryLaws.{each_after-both}
 use Rattle.channel_model.specs.Carrying.{Up as Handed, Nothing, Received}
 use Rattle.channel_model.specs.Changing.{is_answer, has_room}
 use Rattle.channel_model.specs.Hearing as channels
 use Rattle.channel_model.specs.Policies.{Policy}
 use Rattle.channel_model.specs.Value.{Channels, no_channels}
-use Rattle.channel_laws.specs.Runs.{Occurrence, Comes, Gives, Fires, new_link, run_of}
+use Rattle.channel_laws.specs.Runs.{Occurrence, Comes, Connects, AsksFeatures, Disconnects, Sends, Gives, Fires, Tells, new_link, run_of}
 use Rattle.channel_laws.specs.Tries.{one_if}
 use Rattle.channel_laws.proofs.Lasting.{answers_of}
 use Rattle.world_model.specs.Machines.{LinkEvent, News, Linked, Failed, Heard, TimerFired, Cancelled, Opening}
@@ -25,7 +27,7 @@ use Rattle.host_laws.specs.Asked.{IsOfLink, BeginsNone, IsWantedAt, up_behind}
 use Rattle.host_laws.specs.Calls.{Asks, values_after, outer}
 use Rattle.host_laws.specs.Calm.{IsCalmNews, IsReadFrom}
 use Rattle.host_laws.specs.Feeds.{Feed, Gifts, Learns, all_fed, asked_from, tidings_of, brought_by}
-use Rattle.host_laws.specs.Lives.{Mark, Occurred, Turned}
+use Rattle.host_laws.specs.Lives.{Mark, Occurred, Turned, Span}
 use Rattle.host_laws.specs.OverLinks.{talk_marks}
 use Rattle.host_laws.specs.Seen.{IsQuiet, IsCalmAt, IsCalm}
 use Rattle.host_laws.specs.Fed.{feeds_up}
@@ -36,6 +38,7 @@ use Rattle.host_laws.proofs.Links.{value_run, drives_told, act_told}
 use Rattle.host_laws.proofs.Living.{goes-on, turns-on}
 use Rattle.host_laws.proofs.OverLinks.{Calmly, goes_calmly, turns_calmly, IsAsked, goes-asked, turns-asked, up_turned}
 use Rattle.host_laws.proofs.Steps.{Grows}
+use Rattle.pair_laws.specs.Heard.{IsHeardSo, HearsSo}
 use Rattle.pair_laws.proofs.Given.{IsSilent, IsGift, IsServedSo, all_both, goes-served, turns-served, grown_served}
 use Rattle.pair_laws.proofs.Facing.{View, most_of, with_most, PairFrom, each_split, comes-in, fires-it}
 use Rattle.pair_laws.proofs.Walking.{AreMeant, calm-meant, ComesNot, gives_in, outer-gives, outer-comes_not, all_on}
@@ -55,25 +58,60 @@ marks_more talk more = flat_map-append talk_marks talk more
 
 -- ---- a host
 
+-- what happened on each of its links before something came in is so
+abbrev pub AllHearSo : (List Occurrence → Type 0) → List Span → List Occurrence → Type 0
+AllHearSo H spans now = AllByRecursion (λ (span : Span). HearsSo H span.list) spans × HearsSo H now
+
 -- it lived calmly through what it was told and said, also of what waits; no push began on its links, each came up where its profile was
--- so, and all that it had of its ports is so
-pub record HostAt {P : Type 0} (A : Profile P) (asks : Asks A) (W : P → Type 0) (G : Feed → Type 0) (e : carriages.End (Host P)) : Type 0 where
+-- so, and all that it had of its ports is so; and so is what happened before something came in, or is coming in now
+pub record HostAt {P : Type 0} (A : Profile P) (asks : Asks A) (W : P → Type 0) (G : Feed → Type 0) (H : List Occurrence → Type 0) (e : carriages.End (Host P)) : Type 0 where
   pub marks : List Mark
   pub so : Calmly A asks marks e.upper
   pub marks_are : marks ≡ marks_of (talk_of e)
   pub asked : IsAsked A asks W marks e.upper so
   pub given : IsServedSo A asks G marks e.upper so
   pub up_is : up_behind false so.lives.spans ≡ e.linked
+  pub heard : AllHearSo H so.lives.spans so.lives.now
+  pub comes : (e.coming ≡ []) ⊎ (e.linked ≡ true → H so.lives.now)
 
 -- and is one end of a pair on each link; the other is on its link of number j
-pub record Held {P T : Type 0} (side : View) (A : Profile P) (asks : Asks A) (W : P → Type 0) (G : Feed → Type 0) (theirs : Policy) (number : ℕ) (e : carriages.End (Host P)) (other : ℕ → List Occurrence) (j : ℕ) (f : carriages.End T) : Type 0 where
-  pub host : HostAt A asks W G e
+pub record Held {P T : Type 0} (side : View) (A : Profile P) (asks : Asks A) (W : P → Type 0) (G : Feed → Type 0) (H : List Occurrence → Type 0) (theirs : Policy) (number : ℕ) (e : carriages.End (Host P)) (other : ℕ → List Occurrence) (j : ℕ) (f : carriages.End T) : Type 0 where
+  pub host : HostAt A asks W G H e
   pub level : length host.so.lives.spans + length e.owed ≡ number
   pub links : Links side A.policy theirs host.so.lives.spans host.so.lives.now e other j f
 
+-- ---- what comes in
+
+abbrev HearsNot : Occurrence → Type 0
+HearsNot (Comes pdu) = ⊥
+HearsNot (Connects psm) = Unit {0}
+HearsNot AsksFeatures = Unit {0}
+HearsNot (Disconnects own) = Unit {0}
+HearsNot (Sends own sdu) = Unit {0}
+HearsNot (Gives pdu) = Unit {0}
+HearsNot Fires = Unit {0}
+HearsNot Tells = Unit {0}
+
+-- where nothing does, nothing is asked
+still_heard : (H : List Occurrence → Type 0) (past list : List Occurrence) → AllByRecursion HearsNot (filter_map outer list) → EachAfter (IsHeardSo H) past list
+still_heard H past [] not = tt
+still_heard H past (Comes pdu ∷ list) not = absurd not.0
+still_heard H past (Connects psm ∷ list) not = (tt, still_heard H (past ++ Connects psm ∷ []) list not)
+still_heard H past (AsksFeatures ∷ list) not = (tt, still_heard H (past ++ AsksFeatures ∷ []) list not)
+still_heard H past (Disconnects own ∷ list) not = (tt, still_heard H (past ++ Disconnects own ∷ []) list not)
+still_heard H past (Sends own sdu ∷ list) not = (tt, still_heard H (past ++ Sends own sdu ∷ []) list not)
+still_heard H past (Gives pdu ∷ list) not = (tt, still_heard H (past ++ Gives pdu ∷ []) list not.1)
+still_heard H past (Fires ∷ list) not = (tt, still_heard H (past ++ Fires ∷ []) list not.1)
+still_heard H past (Tells ∷ list) not = (tt, still_heard H (past ++ Tells ∷ []) list not)
+
+-- a link ends
+heard_turned : (H : List Occurrence → Type 0) (spans : List Span) (now later : List Occurrence) (event : LinkEvent) → AllHearSo H spans now → HearsSo H later → AllHearSo H (spans ++ ended now event ∷ []) later
+heard_turned H [] now later event (before, here) behind = ((here, tt), behind)
+heard_turned H (span ∷ spans) now later event (before, here) behind = let rest = heard_turned H spans now later event (before.1, here) behind in ((before.0, rest.0), rest.1)
+
 -- ---- what a host does
 
-module _ {P : Type 0} (A : Profile P) (asks : Asks A) (W : P → Type 0) (G : Feed → Type 0) (silent : (feed : Feed) → IsSilent feed → G feed) where
+module _ {P : Type 0} (A : Profile P) (asks : Asks A) (W : P → Type 0) (G : Feed → Type 0) (silent : (feed : Feed) → IsSilent feed → G feed) (H : List Occurrence → Type 0) where
   abbrev Calm : Type 0
   Calm = Unit {0}
 
@@ -202,12 +240,16 @@ module _ {P : Type 0} (A : Profile P) (asks : Asks A) (W : P → Type 0) (G : Fe
       all_both G one.grows.feeds (Learns gifts (Opening name) ∷ two.grows.feeds) (gives_only [] (gifts ∷ []) host mid one.grows one.begins one.gifts_are (given, tt))
       (learnt, gives_only [] [] opened (driven A opened) two.grows two.begins two.gifts_are tt)
 
+  -- what happened where something comes in is what was asked
+  grows_still : (now acted : List Occurrence) (old new : Host P) (grows : Grows A asks Calm acted old new) → AllByRecursion HearsNot acted → EachAfter (IsHeardSo H) now grows.list
+  grows_still now acted old new grows not = still_heard H now grows.list (subst (AllByRecursion HearsNot) (sym grows.acted_is) not)
+
   -- something happened on its link
-  grows_to : {T : Type 0} (side after : View) (theirs : Policy) (number : ℕ) (e e' : carriages.End (Host P)) (other : ℕ → List Occurrence) (j : ℕ) (f : carriages.End T) (acted : List Occurrence) (held : Held side A asks W G theirs number e other j f) (grows : Grows A asks Calm acted e.upper e'.upper)
+  grows_to : {T : Type 0} (side after : View) (theirs : Policy) (number : ℕ) (e e' : carriages.End (Host P)) (other : ℕ → List Occurrence) (j : ℕ) (f : carriages.End T) (acted : List Occurrence) (held : Held side A asks W G H theirs number e other j f) (grows : Grows A asks Calm acted e.upper e'.upper)
       → e'.upper.channels.events ≡ [] → (e.linked ≡ true → AllByRecursion BeginsNone grows.weave) → AllByRecursion G grows.feeds → e'.linked ≡ e.linked → e'.owed ≡ e.owed → held.host.marks ++ map Occurred acted ≡ marks_of (talk_of e')
-      → Links after A.policy theirs held.host.so.lives.spans (held.host.so.lives.now ++ grows.list) e' other j f → Held after A asks W G theirs number e' other j f
+      → EachAfter (IsHeardSo H) held.host.so.lives.now grows.list → e'.coming ≡ [] → Links after A.policy theirs held.host.so.lives.spans (held.host.so.lives.now ++ grows.list) e' other j f → Held after A asks W G H theirs number e' other j f
   unfolding goes_calmly goes-on
-  grows_to side after theirs number e e' other j f acted held grows told begins gives linked owed marks links =
+  grows_to side after theirs number e e' other j f acted held grows told begins gives linked owed marks hears none links =
       let so = held.host.so in
       record {
         host = record {
@@ -217,18 +259,20 @@ module _ {P : Type 0} (A : Profile P) (asks : Asks A) (W : P → Type 0) (G : Fe
           asked = goes-asked A asks W held.host.marks acted e.upper e'.upper so grows told (λ up. begins (sym held.host.up_is ∙ up)) held.host.asked;
           given = goes-served A asks G held.host.marks acted e.upper e'.upper so grows told gives held.host.given;
           up_is = held.host.up_is ∙ sym linked;
+          heard = (held.host.heard.0, each_after-both (IsHeardSo H) [] so.lives.now grows.list held.host.heard.1 hears);
+          comes = inl none;
         };
         level = ap (λ (l : List LinkEvent). length so.lives.spans + length l) owed ∙ held.level;
         links = links;
       }
 
   -- something happens on its link
-  grows_held : {T : Type 0} (side : View) (theirs : Policy) (number : ℕ) (e e' : carriages.End (Host P)) (other : ℕ → List Occurrence) (j : ℕ) (f : carriages.End T) (acted : List Occurrence) (held : Held side A asks W G theirs number e other j f) (grows : Grows A asks Calm acted e.upper e'.upper)
+  grows_held : {T : Type 0} (side : View) (theirs : Policy) (number : ℕ) (e e' : carriages.End (Host P)) (other : ℕ → List Occurrence) (j : ℕ) (f : carriages.End T) (acted : List Occurrence) (held : Held side A asks W G H theirs number e other j f) (grows : Grows A asks Calm acted e.upper e'.upper)
       → e'.upper.channels.events ≡ [] → (e.linked ≡ true → AllByRecursion BeginsNone grows.weave) → AllByRecursion G grows.feeds → e'.linked ≡ e.linked → e'.owed ≡ e.owed → held.host.marks ++ map Occurred acted ≡ marks_of (talk_of e')
-      → DoesMore side A.policy theirs (other (length held.host.so.lives.spans)) held.host.so.lives.now (held.host.so.lives.now ++ grows.list) e e' → Held side A asks W G theirs number e' other j f
-  grows_held side theirs number e e' other j f acted held grows told begins gives linked owed marks does =
+      → EachAfter (IsHeardSo H) held.host.so.lives.now grows.list → e'.coming ≡ [] → DoesMore side A.policy theirs (other (length held.host.so.lives.spans)) held.host.so.lives.now (held.host.so.lives.now ++ grows.list) e e' → Held side A asks W G H theirs number e' other j f
+  grows_held side theirs number e e' other j f acted held grows told begins gives linked owed marks hears none does =
       let so = held.host.so in
-      grows_to side side theirs number e e' other j f acted held grows told begins gives linked owed marks (does-more side A.policy theirs so.lives.spans so.lives.now other j f (so.lives.now ++ grows.list) e e' does held.links)
+      grows_to side side theirs number e e' other j f acted held grows told begins gives linked owed marks hears none (does-more side A.policy theirs so.lives.spans so.lives.now other j f (so.lives.now ++ grows.list) e e' does held.links)
 
   -- ---- it says a PDU, which waits; the first that waits moves
 
@@ -238,7 +282,7 @@ module _ {P : Type 0} (A : Profile P) (asks : Asks A) (W : P → Type 0) (G : Fe
       ∙ (ap marks_of (append_assoc talk (map Unsent waiting) (Unsent pdu ∷ [])) ∙ ap (λ (l : List Talk). marks_of (talk ++ l)) (sym (map-append Unsent waiting (pdu ∷ []))))
 
   pub says-held : {T : Type 0} (side : View) (theirs : Policy) (number : ℕ) (e : carriages.End (Host P)) (other : ℕ → List Occurrence) (j : ℕ) (f : carriages.End T) (pdu : List ℕ) (after : Host P) → (upper A).next e.upper ≡ Some (pdu, after) → IsReadFrom pdu e.upper → e.coming ≡ []
-      → Held side A asks W G theirs number e other j f → Held side A asks W G theirs number (record e { upper = after; waiting = e.waiting ++ pdu ∷ [] }) other j f
+      → Held side A asks W G H theirs number e other j f → Held side A asks W G H theirs number (record e { upper = after; waiting = e.waiting ++ pdu ∷ [] }) other j f
   says-held side theirs number e other j f pdu after next calm none held =
       let e' : carriages.End (Host P) = record e { upper = after; waiting = e.waiting ++ pdu ∷ [] } in
       let act : Act Circumstance = Says pdu in
@@ -247,6 +291,7 @@ module _ {P : Type 0} (A : Profile P) (asks : Asks A) (W : P → Type 0) (G : Fe
       let grows = plain.grows in
       grows_held side theirs number e e' other j f (Gives pdu ∷ []) held grows (act_told A act e.upper after next so.lives.all_told) (λ on. plain.begins) (gives_only (Gives pdu ∷ []) [] e.upper after grows plain.begins plain.gifts_are tt) refl refl
       (ap (λ (m : List Mark). m ++ Occurred (Gives pdu) ∷ []) held.host.marks_are ∙ said_marks e.talk e.waiting pdu)
+      (grows_still so.lives.now (Gives pdu ∷ []) e.upper after grows (tt, tt)) none
       (walks side theirs (other (length so.lives.spans)) held.host.marks (Gives pdu ∷ []) e e' so grows (tt, tt) none none
       (λ far_rest was owed. ap (λ (l : List (List ℕ)). l ++ pdu ∷ []) (was owed) ∙ append_assoc e.queue e.waiting (pdu ∷ [])))
 
@@ -254,12 +299,12 @@ module _ {P : Type 0} (A : Profile P) (asks : Asks A) (W : P → Type 0) (G : Fe
   moved_marks talk pdu left = marks_more talk (Unsent pdu ∷ map Unsent left) ∙ (sym (marks_more talk (Said pdu ∷ map Unsent left)) ∙ ap marks_of (sym (append_assoc talk (Said pdu ∷ []) (map Unsent left))))
 
   pub moves-held : {T : Type 0} (side : View) (theirs : Policy) (number : ℕ) (e : carriages.End (Host P)) (other : ℕ → List Occurrence) (j : ℕ) (f : carriages.End T) (pdu : List ℕ) (left : List (List ℕ)) → e.waiting ≡ pdu ∷ left
-      → Held side A asks W G theirs number e other j f → Held side A asks W G theirs number (record e { waiting = left; queue = landed e.owed e.queue pdu; talk = e.talk ++ Said pdu ∷ [] }) other j f
+      → Held side A asks W G H theirs number e other j f → Held side A asks W G H theirs number (record e { waiting = left; queue = landed e.owed e.queue pdu; talk = e.talk ++ Said pdu ∷ [] }) other j f
   moves-held side theirs number e other j f pdu left first held =
       let e' : carriages.End (Host P) = record e { waiting = left; queue = landed e.owed e.queue pdu; talk = e.talk ++ Said pdu ∷ [] } in
       let so = held.host.so in
       record {
-        host = record { marks = held.host.marks; so = so; marks_are = held.host.marks_are ∙ (ap (λ (w : List (List ℕ)). marks_of (e.talk ++ map Unsent w)) first ∙ moved_marks e.talk pdu left); asked = held.host.asked; given = held.host.given; up_is = held.host.up_is };
+        host = record { marks = held.host.marks; so = so; marks_are = held.host.marks_are ∙ (ap (λ (w : List (List ℕ)). marks_of (e.talk ++ map Unsent w)) first ∙ moved_marks e.talk pdu left); asked = held.host.asked; given = held.host.given; up_is = held.host.up_is; heard = held.host.heard; comes = held.host.comes };
         level = held.level;
         links = does-more side A.policy theirs so.lives.spans so.lives.now other j f so.lives.now e e' (λ rest far_coming far_rest p. record {
           after = far_rest;
@@ -278,13 +323,14 @@ module _ {P : Type 0} (A : Profile P) (asks : Asks A) (W : P → Type 0) (G : Fe
       ∙ (sym (marks_more talk (one ∷ [])) ∙ (ap marks_of (sym (append-nil (talk ++ one ∷ []))) ∙ ap (λ (w : List (List ℕ)). marks_of ((talk ++ one ∷ []) ++ map Unsent w)) (sym none))))
 
   news_held : {T : Type 0} (side : View) (theirs : Policy) (number : ℕ) (e : carriages.End (Host P)) (other : ℕ → List Occurrence) (j : ℕ) (f : carriages.End T) (gifts : List Circumstance) (news : News) (acted : List Occurrence) (grows : Grows A asks Calm acted e.upper (hear A gifts news e.upper)) → (e.linked ≡ true → AllByRecursion BeginsNone grows.weave) → AllByRecursion G grows.feeds
-      → AllByRecursion ComesNot acted → gives_in acted ≡ [] → talk_marks (Told news) ≡ map Occurred acted → e.waiting ≡ [] → e.coming ≡ [] → Held side A asks W G theirs number e other j f → Held side A asks W G theirs number (told (upper A) gifts news e) other j f
-  news_held side theirs number e other j f gifts news acted grows begins gives not none is waits coming held =
+      → AllByRecursion ComesNot acted → AllByRecursion HearsNot acted → gives_in acted ≡ [] → talk_marks (Told news) ≡ map Occurred acted → e.waiting ≡ [] → e.coming ≡ [] → Held side A asks W G H theirs number e other j f → Held side A asks W G H theirs number (told (upper A) gifts news e) other j f
+  news_held side theirs number e other j f gifts news acted grows begins gives not deaf none is waits coming held =
       let e' = told (upper A) gifts news e in
       let so = held.host.so in
       let act : Act Circumstance = Hears gifts news in
       grows_held side theirs number e e' other j f acted held grows (act_told A act e.upper e'.upper refl so.lives.all_told) begins gives refl refl
       (still_marks held.host.marks e.talk e.waiting (Told news) (map Occurred acted) waits is held.host.marks_are)
+      (grows_still so.lives.now acted e.upper e'.upper grows deaf) coming
       (walks side theirs (other (length so.lives.spans)) held.host.marks acted e e' so grows not coming coming
       (λ far_rest was owed. ap (λ (l : List (List ℕ)). far_rest ++ l) none ∙ (append-nil far_rest ∙ was owed)))
 
@@ -295,12 +341,12 @@ module _ {P : Type 0} (A : Profile P) (asks : Asks A) (W : P → Type 0) (G : Fe
   IsWord news = ⊥
 
   pub told-held : {T : Type 0} (side : View) (theirs : Policy) (number : ℕ) (e : carriages.End (Host P)) (other : ℕ → List Occurrence) (j : ℕ) (f : carriages.End T) (gifts : List Circumstance) (news : News) → IsWord news → (e.linked ≡ true → IsOfLink news) → IsCalmNews A.policy news e.upper.channels → G (Gifts gifts) → G (Learns gifts news) → e.waiting ≡ [] → e.coming ≡ []
-      → Held side A asks W G theirs number e other j f → Held side A asks W G theirs number (told (upper A) gifts news e) other j f
+      → Held side A asks W G H theirs number e other j f → Held side A asks W G H theirs number (told (upper A) gifts news e) other j f
   told-held side theirs number e other j f gifts Cancelled word of calm given learnt waits coming held =
       let plain = act_plain A asks Calm (Hears gifts Cancelled) e.upper (hear A gifts Cancelled e.upper) tt (λ c. calm) refl in
-      news_held side theirs number e other j f gifts Cancelled [] plain.grows (λ on. plain.begins) (gives_only [] (gifts ∷ []) e.upper (hear A gifts Cancelled e.upper) plain.grows plain.begins plain.gifts_are (given, tt)) tt refl refl waits coming held
+      news_held side theirs number e other j f gifts Cancelled [] plain.grows (λ on. plain.begins) (gives_only [] (gifts ∷ []) e.upper (hear A gifts Cancelled e.upper) plain.grows plain.begins plain.gifts_are (given, tt)) tt tt refl refl waits coming held
   told-held side theirs number e other j f gifts (Opening name) word of calm given learnt waits coming held =
-      news_held side theirs number e other j f gifts (Opening name) [] (all_begun gifts name e.upper) (λ on. absurd (of on)) (begun_so gifts name e.upper given learnt) tt refl refl waits coming held
+      news_held side theirs number e other j f gifts (Opening name) [] (all_begun gifts name e.upper) (λ on. absurd (of on)) (begun_so gifts name e.upper given learnt) tt tt refl refl waits coming held
   told-held side theirs number e other j f gifts (Linked event) word of calm given learnt waits coming held = absurd word
   told-held side theirs number e other j f gifts (Failed status) word of calm given learnt waits coming held = absurd word
   told-held side theirs number e other j f gifts (Heard pdu) word of calm given learnt waits coming held = absurd word
@@ -309,7 +355,7 @@ module _ {P : Type 0} (A : Profile P) (asks : Asks A) (W : P → Type 0) (G : Fe
   -- ---- its timer fires
 
   -- no answer waits, where it has nothing to give
-  pub held-silent : (e : carriages.End (Host P)) → HostAt A asks W G e → IsQuiet e.upper.channels → answers_of e.upper.channels.queue ≡ []
+  pub held-silent : (e : carriages.End (Host P)) → HostAt A asks W G H e → IsQuiet e.upper.channels → answers_of e.upper.channels.queue ≡ []
   held-silent e host quiet =
       let lives = host.so.lives in
       ap (λ (v : Channels). answers_of v.queue) lives.channels_run
@@ -330,8 +376,8 @@ module _ {P : Type 0} (A : Profile P) (asks : Asks A) (W : P → Type 0) (G : Fe
       (all_on side A.policy theirs there rest [] now more put (outer-comes_not more (subst (AllByRecursion ComesNot) (sym none) tt)) meant p)
 
   pub fires-held : {T : Type 0} (side : View) (m : ℕ) (theirs : Policy) (number : ℕ) (e : carriages.End (Host P)) (other : ℕ → List Occurrence) (j : ℕ) (f : carriages.End T) (gifts : List Circumstance) (free : Bool) → IsCalmNews A.policy TimerFired e.upper.channels → G (Gifts gifts) → e.waiting ≡ [] → e.coming ≡ [] → e.owed ≡ [] → f.owed ≡ [] → f.coming ≡ []
-      → one_if (not free) + most_of side ≤ m → (held : Held side A asks W G theirs number e other j f) → length held.host.so.lives.spans ≡ j
-      → (free ≡ true → (e.queue ≡ []) × (f.queue ++ f.waiting ≡ []) × (list_any is_answer (run_of theirs (other (length held.host.so.lives.spans))).value.queue ≡ false)) → Held (with_most m side) A asks W G theirs number (told (upper A) gifts TimerFired e) other j f
+      → one_if (not free) + most_of side ≤ m → (held : Held side A asks W G H theirs number e other j f) → length held.host.so.lives.spans ≡ j
+      → (free ≡ true → (e.queue ≡ []) × (f.queue ++ f.waiting ≡ []) × (list_any is_answer (run_of theirs (other (length held.host.so.lives.spans))).value.queue ≡ false)) → Held (with_most m side) A asks W G H theirs number (told (upper A) gifts TimerFired e) other j f
   fires-held side m theirs number e other j f gifts free calm allowed waits coming owed far_owed far_coming more held level still =
       let e' = told (upper A) gifts TimerFired e in
       let so = held.host.so in
@@ -357,13 +403,14 @@ module _ {P : Type 0} (A : Profile P) (asks : Asks A) (W : P → Type 0) (G : Fe
       let enough : most_of side ≤ m = omega (arith, more) in
       grows_to side (with_most m side) theirs number e e' other j f (Fires ∷ []) held grows (act_told A act e.upper e'.upper refl so.lives.all_told) (λ on. plain.begins) (gives_only (Fires ∷ []) (gifts ∷ []) e.upper e'.upper grows plain.begins plain.gifts_are (allowed, tt)) refl refl
       (still_marks held.host.marks e.talk e.waiting (Told TimerFired) (Occurred Fires ∷ []) waits refl held.host.marks_are)
+      (grows_still now (Fires ∷ []) e.upper e'.upper grows (tt, tt)) coming
       (fires-over side m A.policy theirs so.lives.spans now (now ++ grows.list) other j e e' f level owed far_owed coming coming far_coming enough refl all_fires held.links)
 
   -- ---- a PDU comes in
 
-  pub hears-held : {T : Type 0} (side : View) (theirs : Policy) (number : ℕ) (e : carriages.End (Host P)) (other : ℕ → List Occurrence) (j : ℕ) (f : carriages.End T) (gifts : List Circumstance) (pdu : List ℕ) → IsCalmNews A.policy (Heard pdu) e.upper.channels → G (Gifts gifts) → e.waiting ≡ [] → e.coming ≡ pdu ∷ []
-      → Held side A asks W G theirs number e other j f → Held side A asks W G theirs number (record e { upper = (upper A).hear gifts (Heard pdu) e.upper; coming = []; talk = e.talk ++ Told (Heard pdu) ∷ [] }) other j f
-  hears-held side theirs number e other j f gifts pdu calm allowed waits coming held =
+  pub hears-held : {T : Type 0} (side : View) (theirs : Policy) (number : ℕ) (e : carriages.End (Host P)) (other : ℕ → List Occurrence) (j : ℕ) (f : carriages.End T) (gifts : List Circumstance) (pdu : List ℕ) → IsCalmNews A.policy (Heard pdu) e.upper.channels → G (Gifts gifts) → e.linked ≡ true → e.waiting ≡ [] → e.coming ≡ pdu ∷ []
+      → Held side A asks W G H theirs number e other j f → Held side A asks W G H theirs number (record e { upper = (upper A).hear gifts (Heard pdu) e.upper; coming = []; talk = e.talk ++ Told (Heard pdu) ∷ [] }) other j f
+  hears-held side theirs number e other j f gifts pdu calm allowed linked waits coming held =
       let e' : carriages.End (Host P) = record e { upper = (upper A).hear gifts (Heard pdu) e.upper; coming = []; talk = e.talk ++ Told (Heard pdu) ∷ [] } in
       let so = held.host.so in
       let now = so.lives.now in
@@ -376,6 +423,7 @@ module _ {P : Type 0} (A : Profile P) (asks : Asks A) (W : P → Type 0) (G : Fe
       let none : gives_in then'.list ≡ [] = sym (outer-gives then'.list) ∙ ap gives_in then'.acted_is in
       grows_held side theirs number e e' other j f (Comes pdu ∷ []) held grows (act_told A act e.upper e'.upper refl so.lives.all_told) (λ on. heard_begins gifts pdu e.upper calm) (gives_only (Comes pdu ∷ []) (gifts ∷ []) e.upper e'.upper grows (heard_begins gifts pdu e.upper calm) (heard_gifts gifts pdu e.upper calm) (allowed, tt)) refl refl
       (still_marks held.host.marks e.talk e.waiting (Told (Heard pdu)) (Occurred (Comes pdu) ∷ []) waits refl held.host.marks_are)
+      (subst (EachAfter (IsHeardSo H) now) (sym list_is) (so_far held.host.comes, still_heard H (now ++ Comes pdu ∷ []) then'.list (subst (AllByRecursion HearsNot) (sym then'.acted_is) tt))) refl
       (λ rest far_coming far_rest p.
       let room : has_room (run_of A.policy now).value ≡ true = silent-room (run_of A.policy now).value (ap (λ (v : Channels). answers_of v.queue) (sym so.lives.channels_run) ∙ held-silent e held.host calm.0) in
       let heard = comes-in side A.policy theirs now there far_coming far_rest pdu rest room (subst (λ (c : List (List ℕ)). PairFrom side A.policy theirs now there c rest far_coming far_rest) coming p) in
@@ -385,6 +433,10 @@ module _ {P : Type 0} (A : Profile P) (asks : Asks A) (W : P → Type 0) (G : Fe
         pair = subst (λ (l : List Occurrence). PairFrom side A.policy theirs l there [] rest far_coming (far_rest ++ gives_in then'.list)) (append_assoc now (Comes pdu ∷ []) then'.list ∙ ap (λ (l : List Occurrence). now ++ l) (sym list_is)) all;
         put = λ was owed. ap (λ (l : List (List ℕ)). far_rest ++ l) none ∙ (append-nil far_rest ∙ was owed);
       })
+    where
+      so_far : (e.coming ≡ []) ⊎ (e.linked ≡ true → H held.host.so.lives.now) → H held.host.so.lives.now
+      so_far (inl silent) = let never : pdu ∷ [] ≡ [] = sym coming ∙ silent in cc
+      so_far (inr is) = is linked
 
   -- ---- it is told of its link
 
@@ -396,7 +448,7 @@ module _ {P : Type 0} (A : Profile P) (asks : Asks A) (W : P → Type 0) (G : Fe
       ∙ (ap marks_of (append_assoc talk (map Unsent waiting) (Told (Linked event) ∷ [])) ∙ ap marks_of (sym (append-nil (talk ++ (map Unsent waiting ++ Told (Linked event) ∷ [])))))))
 
   pub turns-held : {T : Type 0} (side : View) (theirs : Policy) (number : ℕ) (e : carriages.End (Host P)) (other : ℕ → List Occurrence) (j : ℕ) (f : carriages.End T) (gifts : List Circumstance) (event : LinkEvent) (more : List LinkEvent) → e.owed ≡ event ∷ more → IsWantedAt W event (A.given gifts e.upper.profile) → G (Gifts gifts) → e.coming ≡ [] → e.queue ≡ []
-      → Held side A asks W G theirs number e other j f → Held side A asks W G theirs number (is_told (upper A) gifts event more e) other j f
+      → Held side A asks W G H theirs number e other j f → Held side A asks W G H theirs number (is_told (upper A) gifts event more e) other j f
   unfolding goes_calmly goes-on turns_calmly turns-on
   turns-held {T} side theirs number e other j f gifts event more owed wanted allowed coming queue held =
       let marks = held.host.marks in
@@ -436,6 +488,10 @@ module _ {P : Type 0} (A : Profile P) (asks : Asks A) (W : P → Type 0) (G : Fe
           given = goes-served A asks G ((marks ++ []) ++ Turned event ∷ []) [] after (driven A after) turned two (drives_told A most_steps after turned.lives.all_told) (gives_only [] [] after (driven A after) two two_plain.begins two_plain.gifts_are tt)
               (turns-served A asks G silent (marks ++ []) event gifts mid readied (goes-served A asks G marks [] e.upper mid so one so.lives.all_told (gives_only [] (gifts ∷ []) e.upper mid one one_plain.begins one_plain.gifts_are (allowed, tt)) held.host.given));
           up_is = up_turned false spans (ended now event);
+          heard =
+              let ahead : AllHearSo H spans now = (held.host.heard.0, each_after-both (IsHeardSo H) [] so.lives.now one.list held.host.heard.1 (grows_still so.lives.now [] e.upper mid one tt)) in
+              heard_turned H spans now two.list event ahead (grows_still [] [] after (driven A after) two tt);
+          comes = inl coming;
         };
         level = omega arith;
         links = last_links;
@@ -443,5 +499,5 @@ module _ {P : Type 0} (A : Profile P) (asks : Asks A) (W : P → Type 0) (G : Fe
 
   -- ---- nothing that it does
 
-  abbrev pub besides : (e : carriages.End (Host P)) (talk : List Talk) (queue coming : List (List ℕ)) (owed : List LinkEvent) → marks_of (talk_of e) ≡ marks_of (talk ++ map Unsent e.waiting) → HostAt A asks W G e → HostAt A asks W G (record e { talk = talk; queue = queue; coming = coming; owed = owed })
-  besides e talk queue coming owed same host = record { marks = host.marks; so = host.so; marks_are = host.marks_are ∙ same; asked = host.asked; given = host.given; up_is = host.up_is }
+  abbrev pub besides : (e : carriages.End (Host P)) (talk : List Talk) (queue coming : List (List ℕ)) (owed : List LinkEvent) → marks_of (talk_of e) ≡ marks_of (talk ++ map Unsent e.waiting) → (host : HostAt A asks W G H e) → (coming ≡ []) ⊎ (e.linked ≡ true → H host.so.lives.now) → HostAt A asks W G H (record e { talk = talk; queue = queue; coming = coming; owed = owed })
+  besides e talk queue coming owed same host comes = record { marks = host.marks; so = host.so; marks_are = host.marks_are ∙ same; asked = host.asked; given = host.given; up_is = host.up_is; heard = host.heard; comes = comes }

@@ -18,4 +18,6 @@ pub mod Fronts
 pub mod PlainPipes
 pub mod Paying
 pub mod Given
+pub mod Staying
+pub mod Forgone
 pub mod Windows

@@ -1,7 +1,7 @@
 -- The channels of both hosts on each link of a run are the two ends of a pair.
 use Rattle.std.proofs.Common.{◌≡◌, ◌≤◌, ◌+◌, arith, ℕ, Bool, true, false, Option, Some, None, Ok, Err, List, [], ◌∷◌, ◌++◌, map, length, refl, sym, ap, subst, ◌∙◌, append-nil}
 use Rattle.std.specs.Prelude.{IfSome}
-use Rattle.std.specs.List.{AllByRecursion}
+use Rattle.std.specs.List.{AllByRecursion, flat_map}
 use Rattle.std.proofs.lemmas.Bool.{cases_eq}
 use Rattle.bt_base.specs.Objects.{Object, Contents}
 use Rattle.bt_base.specs.declared.ports.PortFault.TheVariants as faults
@@ -13,7 +13,7 @@ use Rattle.capture.specs.Entries.{Entry}
 use Rattle.capture.specs.Histories.{EachAfter}
 use Rattle.capture.specs.Links.{linking}
 use Rattle.capture.specs.Moves.{moves}
-use Rattle.channel_model.specs.Policies.{Policy}
+use Rattle.channel_model.specs.Policies.{Policy, policy}
 use Rattle.channel_model.specs.Value.{no_channels}
 use Rattle.channel_laws.specs.Adverse.{disturbances, AreRoomy}
 use Rattle.channel_laws.specs.Belonging.{AreRead}
@@ -23,7 +23,7 @@ use Rattle.channel_laws.specs.Ordered.{same_side, AtEnd, KeepsWay, IsBroken, IsO
 use Rattle.channel_laws.specs.Pairs as Pairs
 use Rattle.channel_laws.specs.Pairs.{End, Happening, Acts, Puts, Takes, Repeats, Loses, Damages, Near, Far, Turn, pair_of}
 use Rattle.channel_laws.specs.Pipes.{IsTakeable, IsCarried, AreCarried}
-use Rattle.channel_laws.specs.Runs.{Occurrence, run_of}
+use Rattle.channel_laws.specs.Runs.{Occurrence, Comes, Connects, AsksFeatures, Disconnects, Sends, Gives, Fires, Tells, run_of}
 use Rattle.world_model.specs.Carriages as carriages
 use Rattle.world_model.specs.PerLink.{linkage, captured}
 use Rattle.world_model.specs.Worlds.{Happening as Done, Runs, IsAtRest, all_entries, all_words}
@@ -37,7 +37,9 @@ use Rattle.host_model.specs.Machines.{upper}
 use Rattle.host_laws.specs.Calls.{Asks, HostsAsk}
 use Rattle.host_laws.specs.Feeds.{Feed, Gifts, Learns, Receives, Happens, Sent, Steps}
 use Rattle.host_laws.specs.Gifts.{gifts_in, gifts_of}
-use Rattle.host_laws.specs.Lives.{Span}
+use Rattle.host_laws.specs.Keeping.{GivesNothingUp, SendsAsItLends}
+use Rattle.host_laws.specs.Lives.{Span, on_links}
+use Rattle.host_laws.specs.OverLinks.{talk_marks}
 use Rattle.host_laws.specs.Seen.{IsCalm}
 use Rattle.host_laws.proofs.Fitting.{AnyServer, IsLowClient}
 use Rattle.host_laws.proofs.OverLinks.{all_spans, calmly_fed}
@@ -59,6 +61,7 @@ use Rattle.world_model.specs.Machines.{LinkEvent, News, Linked, Failed, Heard, T
 use Rattle.shelf_model.specs.Held.{in_octets, length_of, held_by}
 use Rattle.shelf_model.proofs.Sizes.{shelves-give_octets, sizes-are_of_objects}
 use Rattle.pair_laws.specs.Granted.{answered_by, granted, GrantedTakeTurns}
+use Rattle.pair_laws.specs.Heard.{IsHeardSo, HearsSo, HostsHearFirst}
 use Rattle.pair_laws.specs.InTurn.{PairsInTurn, HostsTakeTurns}
 use Rattle.pair_laws.specs.Enough.{with_memory, remembered, EnoughKeepOrder}
 use Rattle.pair_laws.specs.GrantedOrder.{GrantedKeepOrder}
@@ -73,12 +76,13 @@ use Rattle.pair_laws.specs.Seen.{IsAddressedAt, AreAddressed}
 use Rattle.pair_laws.proofs.Abreast.{IsShort}
 use Rattle.pair_laws.proofs.Answered.{runs-so, rest-so, rest-back, fits-so, rests-so as carriage_rest}
 use Rattle.pair_laws.proofs.Awaiting.{HasNew, servers-await}
-use Rattle.pair_laws.proofs.Carrying.{Wants, Always, as_it_is, any_allowed, PairsOf, same_number, waits_none, all-sane}
+use Rattle.pair_laws.proofs.Carrying.{Wants, Always, StayOn, as_it_is, any_allowed, PairsOf, same_number, waits_none, all-sane}
 use Rattle.pair_laws.proofs.Given.{IsSilentNews, IsSilent, Allows, all_both}
 use Rattle.pair_laws.proofs.Facing.{IsKept, AllKept, Goes, AllGo, AllTake, IsComing, PairAt}
 use Rattle.pair_laws.proofs.Hosting.{marks_of, talk_of, HostAt}
 use Rattle.pair_laws.proofs.Meeting.{gentle_doings}
 use Rattle.pair_laws.proofs.Numbered.{part_at, part-get, coming_none}
+use Rattle.pair_laws.proofs.Staying.{ClientStays, ServerStays, rests-stay, client-gives_nothing_up, server-gives_nothing_up, heard-on_links}
 use Rattle.pair_laws.proofs.Wording.{carried_worded}
 
 -- ---- what is so of each turn
@@ -99,22 +103,22 @@ is_carried Repeats end' takes addressed seen = tt
 is_carried Loses end' takes addressed seen = tt
 is_carried (Damages pdu) end' takes addressed seen = seen
 
-all_fair : (near far : Policy) (turns : List Turn) → AllGo near far turns → AreFair near far turns
+pub all_fair : (near far : Policy) (turns : List Turn) → AllGo near far turns → AreFair near far turns
 all_fair near far turns all = each_map _ _ [] turns (λ past turn (goes : Goes turn.happening (end_at turn.side (pair_of near far past))). goes.fair) all
 
-all_read : (near far : Policy) (turns : List Turn) → AllGo near far turns → AreRead near far turns
+pub all_read : (near far : Policy) (turns : List Turn) → AllGo near far turns → AreRead near far turns
 all_read near far turns all = each_map _ _ [] turns (λ past turn (goes : Goes turn.happening (end_at turn.side (pair_of near far past))). goes.read) all
 
-all_changed : (near far : Policy) (turns : List Turn) → AllGo near far turns → AreChanged near far turns
+pub all_changed : (near far : Policy) (turns : List Turn) → AllGo near far turns → AreChanged near far turns
 all_changed near far turns all = each_map _ _ [] turns (λ past turn (goes : Goes turn.happening (end_at turn.side (pair_of near far past))). goes.changed) all
 
-all_roomy : (near far : Policy) (turns : List Turn) → AllGo near far turns → AreRoomy near far turns
+pub all_roomy : (near far : Policy) (turns : List Turn) → AllGo near far turns → AreRoomy near far turns
 all_roomy near far turns all = each_map _ _ [] turns (λ past turn (goes : Goes turn.happening (end_at turn.side (pair_of near far past))). goes.roomy) all
 
-all_addressed : (near far : Policy) (turns : List Turn) → AllGo near far turns → AreAddressed near far turns
+pub all_addressed : (near far : Policy) (turns : List Turn) → AllGo near far turns → AreAddressed near far turns
 all_addressed near far turns all = each_map _ _ [] turns (λ past turn (goes : Goes turn.happening (end_at turn.side (pair_of near far past))). goes.addressed) all
 
-all_carried : (near far : Policy) (turns : List Turn) → AllGo near far turns → AllTake near far turns → DamageIsSeen near far turns → AreCarried near far turns
+pub all_carried : (near far : Policy) (turns : List Turn) → AllGo near far turns → AllTake near far turns → DamageIsSeen near far turns → AreCarried near far turns
 all_carried near far turns all takes seen =
     let there = λ (past : List Turn) (turn : Turn). end_at turn.side (pair_of near far past) in
     each_zip (λ past turn. DoesSo IsTakeable turn.happening (there past turn)) (λ past turn. Goes turn.happening (there past turn) × IsSeenThere turn.happening (there past turn)) (λ past turn. IsCarried turn.happening (there past turn)) [] turns
@@ -122,7 +126,7 @@ all_carried near far turns all takes seen =
     (each_zip (λ past turn. Goes turn.happening (there past turn)) (λ past turn. IsSeenThere turn.happening (there past turn)) (λ past turn. Goes turn.happening (there past turn) × IsSeenThere turn.happening (there past turn)) [] turns (λ past turn goes sees. (goes, sees)) all seen)
 
 -- of lists that are these
-abbrev pair_of_two : (whole : Bool) (most : ℕ) (near far : Policy) (one other one' other' : List Occurrence) (c r c' r' : List (List ℕ)) → one ≡ one' → other ≡ other' → PairAt whole most near far one other c r c' r' → PairOnLink near far one' other'
+abbrev pub pair_of_two : (whole : Bool) (most : ℕ) (near far : Policy) (one other one' other' : List Occurrence) (c r c' r' : List (List ℕ)) → one ≡ one' → other ≡ other' → PairAt whole most near far one other c r c' r' → PairOnLink near far one' other'
 pair_of_two whole most near far one other one' other' c r c' r' same far_same p = record {
   turns = p.turns;
   near_is = p.near_is ∙ ap (run_of near) same;
@@ -138,11 +142,11 @@ pair_of_two whole most near far one other one' other' c r c' r' same far_same p 
 
 -- ---- a host
 
-all_utter : (policy : Policy) (lists : List (List Occurrence)) → AllByRecursion (IsCalm policy no_channels) lists → AllByRecursion (AreUttered policy) lists
+pub all_utter : (policy : Policy) (lists : List (List Occurrence)) → AllByRecursion (IsCalm policy no_channels) lists → AllByRecursion (AreUttered policy) lists
 all_utter policy [] calm = tt
 all_utter policy (list ∷ lists) calm = (calm-utters policy list calm.0, all_utter policy lists calm.1)
 
-unfoldable lived : {P : Type 0} (A : Profile P) (asks : Asks A) (W : P → Type 0) (G : Feed → Type 0) (side : Side) (capture : List Entry) (e : carriages.End (Host P)) (host : HostAt A asks W G e) (came : CameOver A side capture e.upper) → came.talk ≡ talk_of e → LivedOver A asks side capture e.upper
+unfoldable pub lived : {P : Type 0} {H : List Occurrence → Type 0} (A : Profile P) (asks : Asks A) (W : P → Type 0) (G : Feed → Type 0) (side : Side) (capture : List Entry) (e : carriages.End (Host P)) (host : HostAt A asks W G H e) (came : CameOver A side capture e.upper) → came.talk ≡ talk_of e → LivedOver A asks side capture e.upper
 unfolding calmly_fed
 lived A asks W G side capture e host came talk_is = record {
   came = came;
@@ -150,17 +154,17 @@ lived A asks W G side capture e host came talk_is = record {
   uttered = all_utter A.policy (map (λ (span : Span). span.list) host.so.lives.spans ++ host.so.lives.now ∷ []) (all_spans A.policy host.so.lives.spans host.so.lives.now host.so.spans_calm host.so.now_calm);
 }
 
-lived_at : {P : Type 0} (A : Profile P) (asks : Asks A) (W : P → Type 0) (G : Feed → Type 0) (side : Side) (capture : List Entry) (e : carriages.End (Host P)) (host : HostAt A asks W G e) (came : CameOver A side capture e.upper) (talk_is : came.talk ≡ talk_of e) (number : ℕ)
+pub lived_at : {P : Type 0} {H : List Occurrence → Type 0} (A : Profile P) (asks : Asks A) (W : P → Type 0) (G : Feed → Type 0) (side : Side) (capture : List Entry) (e : carriages.End (Host P)) (host : HostAt A asks W G H e) (came : CameOver A side capture e.upper) (talk_is : came.talk ≡ talk_of e) (number : ℕ)
     → part_at number host.so.lives.spans host.so.lives.now ≡ happened_on A asks side capture e.upper (lived A asks W G side capture e host came talk_is) number
 unfolding lived calmly_fed
 lived_at A asks W G side capture e host came talk_is number = part-get number host.so.lives.spans host.so.lives.now
 
 -- by what it was told and said
-unfoldable came_by : {P : Type 0} (A : Profile P) (side : Side) (past capture : List Entry) (e : carriages.End (Host P)) → ActedSo (upper A) (free_where A) e.linked e.upper e.waiting e.talk → linkage e.talk ≡ captured side past → linking (moves side capture) ≡ linking (moves side past) → CameOver A side capture e.upper
+unfoldable pub came_by : {P : Type 0} (A : Profile P) (side : Side) (past capture : List Entry) (e : carriages.End (Host P)) → ActedSo (upper A) (free_where A) e.linked e.upper e.waiting e.talk → linkage e.talk ≡ captured side past → linking (moves side capture) ≡ linking (moves side past) → CameOver A side capture e.upper
 unfolding came_over
 came_by A side past capture e acted known same = (came_over A (free_where A) side past capture e.linked e.upper e.waiting e.talk acted known same).came
 
-came_talk : {P : Type 0} (A : Profile P) (side : Side) (past capture : List Entry) (e : carriages.End (Host P)) (acted : ActedSo (upper A) (free_where A) e.linked e.upper e.waiting e.talk) (known : linkage e.talk ≡ captured side past) (same : linking (moves side capture) ≡ linking (moves side past))
+pub came_talk : {P : Type 0} (A : Profile P) (side : Side) (past capture : List Entry) (e : carriages.End (Host P)) (acted : ActedSo (upper A) (free_where A) e.linked e.upper e.waiting e.talk) (known : linkage e.talk ≡ captured side past) (same : linking (moves side capture) ≡ linking (moves side past))
     → (came_by A side past capture e acted known same).talk ≡ talk_of e
 unfolding came_by came_over
 came_talk A side past capture e acted known same = refl
@@ -168,26 +172,26 @@ came_talk A side past capture e acted known same = refl
 -- ---- both
 
 -- where nothing is owed to them and nothing is handed over, all that is under way is in the air
-in_air : {P Q : Type 0} (whole : Bool) (most : ℕ) (A : Profile P) (asks_a : Asks A) (B : Profile Q) (asks_b : Asks B) (to_a : News → List Circumstance → List Circumstance) (E : Feed → Type 0) (allows_a : Allows to_a E) (to_b : News → List Circumstance → List Circumstance) (G : Feed → Type 0) (allows_b : Allows to_b G) (e : carriages.End (Host P)) (f : carriages.End (Host Q)) (both : PairsOf whole most A asks_a B asks_b to_a E allows_a to_b G allows_b e f) → e.owed ≡ [] → f.owed ≡ [] → e.coming ≡ [] → f.coming ≡ [] → e.waiting ≡ [] → f.waiting ≡ []
+pub in_air : {P Q : Type 0} {H J : List Occurrence → Type 0} (whole : Bool) (most : ℕ) (A : Profile P) (asks_a : Asks A) (B : Profile Q) (asks_b : Asks B) (to_a : News → List Circumstance → List Circumstance) (E : Feed → Type 0) (allows_a : Allows to_a E) (to_b : News → List Circumstance → List Circumstance) (G : Feed → Type 0) (allows_b : Allows to_b G) (e : carriages.End (Host P)) (f : carriages.End (Host Q)) (both : PairsOf whole most A asks_a B asks_b to_a E allows_a to_b G allows_b H J e f) → e.owed ≡ [] → f.owed ≡ [] → e.coming ≡ [] → f.coming ≡ [] → e.waiting ≡ [] → f.waiting ≡ []
     → IsInAir A.policy B.policy (both.links (length both.a.so.lives.spans)).pair.turns f.queue e.queue
-in_air whole most A asks_a B asks_b to_a E allows_a to_b G allows_b e f both none_a none_b idle_a idle_b quiet_a quiet_b =
+in_air {H = H} {J = J} whole most A asks_a B asks_b to_a E allows_a to_b G allows_b e f both none_a none_b idle_a idle_b quiet_a quiet_b =
     let i = length both.a.so.lives.spans in
     let j = length both.b.so.lives.spans in
     let link = both.links i in
     let pair = pair_of A.policy B.policy link.pair.turns in
     record {
       near_is = subst (λ (c : List (List ℕ)). IsComing whole link.pair.near_due pair.near c link.rest) (coming_none i i e.coming (cases_eq i i) idle_a) link.pair.near_comes
-          ∙ (link.now_far (same_number whole most A asks_a B asks_b to_a E allows_a to_b G allows_b e f both none_a none_b) none_b ∙ (ap (λ (w : List (List ℕ)). f.queue ++ w) quiet_b ∙ append-nil f.queue));
+          ∙ (link.now_far (same_number whole most A asks_a B asks_b to_a E allows_a to_b G allows_b H J e f both none_a none_b) none_b ∙ (ap (λ (w : List (List ℕ)). f.queue ++ w) quiet_b ∙ append-nil f.queue));
       far_is = subst (λ (c : List (List ℕ)). IsComing whole link.pair.far_due pair.far c link.far_rest) (coming_none i j f.coming (cases_eq i j) idle_b) link.pair.far_comes
           ∙ (link.now_put refl none_a ∙ (ap (λ (w : List (List ℕ)). e.queue ++ w) quiet_a ∙ append-nil e.queue));
     }
 
-short_length : (owed : List LinkEvent) → IsShort owed → length owed ≤ 1
+pub short_length : (owed : List LinkEvent) → IsShort owed → length owed ≤ 1
 short_length [] short = omega arith
 short_length (event ∷ []) short = omega arith
 short_length (event ∷ other ∷ more) short = absurd short
 
-not_ahead : (near far owed other number : ℕ) → near + owed ≡ number → far + other ≡ number → owed ≤ 1 → far ≤ near + 1
+pub not_ahead : (near far owed other number : ℕ) → near + owed ≡ number → far + other ≡ number → owed ≤ 1 → far ≤ near + 1
 not_ahead near far owed other number one two short = omega (arith, one, two, short)
 
 -- Both hosts of a run are pairs in turn, where their ports answer so; and all that they had of them is so. Where the words of the run lose,
@@ -212,7 +216,14 @@ module _ (whole : Bool) (asks : HostsAsk) (scenario : Scenario) (content : Optio
   V = answered_by to_b (server_of scenario content)
 
   abbrev Ready : carriages.Carriage (Host ClientProfile) (Host ServerProfile) → Type 0
-  Ready = AreReady (client_of scenario) (server_of scenario content) (free_where A) (free_where B)
+  Ready c = AreReady (client_of scenario) (server_of scenario content) (free_where A) (free_where B) c × StayOn ClientStays ServerStays c
+
+  -- what is so of what happened on a link where something comes in: for the server, if it asks for nothing but that its responses be sent
+  abbrev GaveNothing_a : List Occurrence → Type 0
+  GaveNothing_a list = GivesNothingUp (policy scenario.settings false) list
+
+  abbrev GaveNothing_b : List Occurrence → Type 0
+  GaveNothing_b list = SendsAsItLends scenario.settings content asks_b → GivesNothingUp (policy scenario.settings true) list
 
   record TurnsSo (capture : List Entry) (ran : Ran scenario content capture) : Type 0 where
     turns : PairsInTurn asks scenario content capture ran
@@ -221,10 +232,14 @@ module _ (whole : Bool) (asks : HostsAsk) (scenario : Scenario) (content : Optio
     kept : (number : ℕ) → AllKept whole (turns.pairs.pairs number).turns
     cost : (number : ℕ) → disturbances (Pairs.new_pair A.policy B.policy) (turns.pairs.pairs number).turns ≤ adverse_in (all_words ran.happenings)
     room : (number : ℕ) → AreRoomy A.policy B.policy (turns.pairs.pairs number).turns
+    heard_a : AllByRecursion (HearsSo GaveNothing_a) (on_links A asks_a (flat_map talk_marks turns.pairs.a.came.talk) ran.world.a.upper turns.pairs.a.fed.so.lives)
+    heard_b : AllByRecursion (HearsSo GaveNothing_b) (on_links B asks_b (flat_map talk_marks turns.pairs.b.came.talk) ran.world.b.upper turns.pairs.b.fed.so.lives)
 
   rests_so : (happenings : List Done) → HoldsAtRests U V Ready happenings (beginning scenario content)
   rests_so happenings front mid talk_a talk_b is there rest =
-      rests_hold scenario content happenings (runs_are_free scenario content happenings) front mid talk_a talk_b is (runs-so (client_of scenario) (server_of scenario content) to_a to_b front (beginning scenario content) mid there) (rest-so (client_of scenario) (server_of scenario content) to_a to_b mid rest)
+      let came = runs-so (client_of scenario) (server_of scenario content) to_a to_b front (beginning scenario content) mid there in
+      let rests = rest-so (client_of scenario) (server_of scenario content) to_a to_b mid rest in
+      (rests_hold scenario content happenings (runs_are_free scenario content happenings) front mid talk_a talk_b is came rests, rests-stay scenario content happenings front mid talk_a talk_b is came rests)
 
   takes_turns : (capture : List Entry) (ran : Ran scenario content capture) → Runs U V ran.happenings (beginning scenario content) ran.world → (whole ≡ true → LosesNothing (all_words ran.happenings)) → TurnsSo capture ran
   unfolding lived calmly_fed
@@ -236,7 +251,9 @@ module _ (whole : Bool) (asks : HostsAsk) (scenario : Scenario) (content : Optio
       let most = adverse_in (carriages.all_words all.doings) in
       let most_is : most ≡ adverse_in (all_words ran.happenings) = ap adverse_in worded.words_are in
       let sane = all-sane whole A asks_a B asks_b IsLowClient HasNoLink AnyServer KnowsNone (client-keeps scenario.settings) (server-keeps scenario.settings content) (clients_keep scenario.settings) (servers_keep scenario.settings content)
-      HasNew (servers-await scenario.settings content (client_of scenario)) (λ gifts p. refl) to_a E allows_a to_b G allows_b scenario.acl_length scenario.names all.doings c all.of_script (gentle_doings whole all.doings (λ on. subst LosesNothing (sym worded.words_are) (gentle on))) all.so in
+      HasNew (servers-await scenario.settings content (client_of scenario)) (λ gifts p. refl) to_a E allows_a to_b G allows_b GaveNothing_a GaveNothing_b ClientStays ServerStays
+      (λ e host on stays. client-gives_nothing_up scenario.settings asks_a (Wants A) E GaveNothing_a e host stays)
+      (λ f host on stays sends. server-gives_nothing_up scenario.settings content asks_b Always G GaveNothing_b f host sends stays) scenario.acl_length scenario.names all.doings c all.of_script (gentle_doings whole all.doings (λ on. subst LosesNothing (sym worded.words_are) (gentle on))) all.so in
       let same : (side : Side) → linking (moves side capture) ≡ linking (moves side past) = λ side. ap (λ (es : List Entry). linking (moves side es)) ran.capture_is ∙ ended_all side ran.world.pushes past ran.ends ran.last in
       let came_a = came_by A sides.A past capture c.a sane.acted.a.acted all.links_a (same sides.A) in
       let came_b = came_by B sides.B past capture c.b sane.acted.b.acted all.links_b (same sides.B) in
@@ -253,7 +270,7 @@ module _ (whole : Bool) (asks : HostsAsk) (scenario : Scenario) (content : Optio
                 let b = sane.pairs.b.so.lives in
                 pair_of_two whole most A.policy B.policy (part_at number a.spans a.now) (part_at number b.spans b.now) _ _ _ _ _ _ (lived_at A asks_a (Wants A) E sides.A capture c.a sane.pairs.a came_a talk_a number) (lived_at B asks_b Always G sides.B capture c.b sane.pairs.b came_b talk_b number)
                 (sane.pairs.links number).pair;
-            level = λ rests. let rest = resting rests in sym (same_number whole most A asks_a B asks_b to_a E allows_a to_b G allows_b c.a c.b sane.pairs rest.idle_a.none_owed rest.idle_b.none_owed);
+            level = λ rests. let rest = resting rests in sym (same_number whole most A asks_a B asks_b to_a E allows_a to_b G allows_b GaveNothing_a GaveNothing_b c.a c.b sane.pairs rest.idle_a.none_owed rest.idle_b.none_owed);
             air = λ rests.
                 let rest = resting rests in
                 in_air whole most A asks_a B asks_b to_a E allows_a to_b G allows_b c.a c.b sane.pairs rest.idle_a.none_owed rest.idle_b.none_owed rest.idle_a.none_comes rest.idle_b.none_comes
@@ -268,6 +285,8 @@ module _ (whole : Bool) (asks : HostsAsk) (scenario : Scenario) (content : Optio
         kept = λ number. (sane.pairs.links number).pair.kept;
         cost = λ number. let spent = (sane.pairs.links number).pair.spent in omega (arith, spent, most_is);
         room = λ number. let pair = (sane.pairs.links number).pair in all_roomy A.policy B.policy pair.turns pair.goes;
+        heard_a = let lives = sane.pairs.a.so.lives in heard-on_links GaveNothing_a lives.spans lives.now sane.pairs.a.heard;
+        heard_b = let lives = sane.pairs.b.so.lives in heard-on_links GaveNothing_b lives.spans lives.now sane.pairs.b.heard;
       }
 
 pub hosts-take_turns : HostsTakeTurns
@@ -365,7 +384,7 @@ silent_answers shelf (Happens event v) silent = tt
 silent_answers shelf (Sent v) silent = tt
 silent_answers shelf (Steps v) silent = tt
 
-answers_allowed : (shelf : Option (List Object)) → Allows (held_by shelf) (AnswersOf shelf)
+pub answers_allowed : (shelf : Option (List Object)) → Allows (held_by shelf) (AnswersOf shelf)
 answers_allowed shelf = record { silent = silent_answers shelf; given = shelves-give_octets.parts shelf; told = tells_of shelf }
 
 pub held-take_turns : HeldTakeTurns
@@ -386,6 +405,31 @@ disturbances-cost_words asks scenario content capture ran =
 pub hosts-are_pairs : HostsArePairs
 hosts-are_pairs asks scenario content capture ran = (hosts-take_turns asks scenario content capture ran).pairs
 
+-- ---- behind what it gave up a host hears nothing
+
+each_hears : (H J : List Occurrence → Type 0) → ((list : List Occurrence) → H list → J list) → (past list : List Occurrence) → EachAfter (IsHeardSo H) past list → EachAfter (IsHeardSo J) past list
+each_hears H J to past list hears = each_map (IsHeardSo H) (IsHeardSo J) past list (λ front one. by front one) hears
+  where
+    by : (front : List Occurrence) (one : Occurrence) → IsHeardSo H front one → IsHeardSo J front one
+    by front (Comes pdu) is = to front is
+    by front (Connects psm) is = tt
+    by front AsksFeatures is = tt
+    by front (Disconnects own) is = tt
+    by front (Sends own sdu) is = tt
+    by front (Gives pdu) is = tt
+    by front Fires is = tt
+    by front Tells is = tt
+
+all_hear : (H J : List Occurrence → Type 0) → ((list : List Occurrence) → H list → J list) → (lists : List (List Occurrence)) → AllByRecursion (HearsSo H) lists → AllByRecursion (HearsSo J) lists
+all_hear H J to [] all = tt
+all_hear H J to (list ∷ lists) all = (each_hears H J to [] list all.0, all_hear H J to lists all.1)
+
+pub hosts-hear_first : HostsHearFirst
+hosts-hear_first asks scenario content capture ran sends =
+    let so = takes_turns false asks scenario content as_it_is Always any_allowed as_it_is Always any_allowed capture ran ran.happened (λ on. cc) in
+    let nothing = GivesNothingUp (policy scenario.settings true) in
+    record { pairs = so.turns.pairs; a = so.heard_a; b = all_hear (λ list. SendsAsItLends scenario.settings content (asks.servers scenario.settings content) → nothing list) nothing (λ list so_far. so_far sends) _ so.heard_b }
+
 -- ---- each way keeps its order
 
 way_kept : (happening : Happening) (whole broken : Type 0) → IsKept true happening → whole → KeepsWay happening whole broken
@@ -396,7 +440,7 @@ way_kept Repeats whole broken kept goes = cc
 way_kept Loses whole broken kept goes = cc
 way_kept (Damages pdu) whole broken kept goes = cc
 
-ordered : (side : Pairs.Side) (turns : List Turn) → AllKept true turns → IsOrdered side turns
+pub ordered : (side : Pairs.Side) (turns : List Turn) → AllKept true turns → IsOrdered side turns
 ordered side [] kept = tt
 ordered side (turn ∷ turns) kept = by (same_side turn.side side) (ordered side turns kept.1)
   where

@@ -1,8 +1,8 @@
 -- Both hosts of a run hold their windows, over its capture.
-use Rattle.std.proofs.Common.{◌≡◌, ℕ, ◌+◌, ◌-◌, ◌%◌, ◌≤◌, true, false, cond, ◌&&◌, List, [], ◌∷◌, ◌++◌, length, map, Option, Some, None, inl, inr, refl, sym, ap, subst, ◌∙◌, arith, append_assoc, append-nil}
+use Rattle.std.proofs.Common.{◌≡◌, ℕ, ◌+◌, ◌-◌, ◌%◌, ◌≤◌, Bool, true, false, cond, ◌&&◌, List, [], ◌∷◌, ◌++◌, length, take, drop, map, Option, Some, None, inl, inr, refl, sym, ap, subst, ◌∙◌, arith, append_assoc, append-nil}
 use Rattle.std.specs.Prelude.{is_some}
 use Rattle.std.specs.List.{AllByRecursion, AllZip, filter_map, flat_map}
-use Rattle.std.proofs.lemmas.List.{take_all, take-append-le}
+use Rattle.std.proofs.lemmas.List.{take_all, take-append-le, take-append-drop}
 use Rattle.std.proofs.lemmas.List.Concat.{flat_map-append}
 use Rattle.std.proofs.lemmas.List.Elements.{filter_map-append}
 use Rattle.std.proofs.lemmas.Bool.{cases_lt}
@@ -13,10 +13,9 @@ use Rattle.push_terms.specs.declared.word.Side.{Side}
 use Rattle.push_terms.specs.declared.word.Side.TheVariants as sides
 use Rattle.capture.specs.Entries.{Entry}
 use Rattle.capture.specs.Histories.{each_after, AtEach}
-use Rattle.capture.specs.Links.{Link, Linking, linking, links, link_up}
-use Rattle.capture.specs.Moves.{moves}
+use Rattle.capture.specs.Links.{Link, links, link_up}
 use Rattle.capture.specs.Pdus.{Pdu, pdus}
-use Rattle.capture.proofs.HistoryLaws.{each_after-append, at_each-whole}
+use Rattle.capture.proofs.HistoryLaws.{each_after-append, at_each-whole, at_each-none}
 use Rattle.ertm_frames.specs.Picking.{Passage, outs, ins, picked, last_req}
 use Rattle.l2cap_config.specs.declared.wish.Mode.{Mode}
 use Rattle.l2cap_config.specs.declared.wish.Mode.TheVariants.{Basic, Enhanced}
@@ -31,44 +30,37 @@ use Rattle.link_talk.specs.Sayings.{Saying, said_by, talk}
 use Rattle.link_talk.specs.Setups.{Setup, is_set, is_enhanced, agreed_mode}
 use Rattle.link_talk.proofs.Growing.{mode-stands}
 use Rattle.channel_model.specs.Policies.{Policy, policy}
-use Rattle.channel_model.specs.Value.{Channels}
 use Rattle.channel_laws.specs.Endpoints.{IsOf}
+use Rattle.channel_laws.specs.Frames.{AreUttered}
 use Rattle.channel_laws.specs.Pairs.{pair_of}
 use Rattle.channel_laws.specs.Runs.{Occurrence, Run, run_of}
+use Rattle.channel_laws.specs.Sdus.{StatesFrame}
 use Rattle.channel_laws.specs.Views.{read_at}
 use Rattle.channel_laws.specs.Windows.{HoldsWindow, HoldsWindows, WindowsHold}
 use Rattle.channel_laws.proofs.Conversing.{reading-on}
 use Rattle.channel_laws.proofs.Naming.{said-of}
 use Rattle.channel_laws.proofs.Entries.{read-own}
 use Rattle.world_model.specs.Talks.{Talk}
-use Rattle.turn_laws.specs.Laws.{IsFront}
-use Rattle.world_model.specs.Worlds.{IsAtRest, all_entries}
 use Rattle.host_model.specs.Clients.{client_profile}
-use Rattle.host_model.specs.Profiles.{Profile}
 use Rattle.host_model.specs.Servers.{server_profile}
-use Rattle.host_laws.specs.Calls.{Asks, HostsAsk}
+use Rattle.host_laws.specs.Calls.{HostsAsk}
 use Rattle.host_laws.specs.Calm.{pdus_in}
-use Rattle.host_laws.specs.Fed.{AreFed, WovenFed}
-use Rattle.host_laws.specs.Feeds.{Feed}
-use Rattle.host_laws.specs.Keeping.{GivesNothingUp}
-use Rattle.host_laws.specs.Leaving.{is_off}
 use Rattle.host_laws.specs.Lives.{Span, on_links}
 use Rattle.host_laws.specs.OverLinks.{IsTalkOf, talk_marks, parts}
+use Rattle.host_laws.specs.Seen.{spoken_of}
 use Rattle.host_laws.proofs.Asking.{hosts_ask, clients_ask}
-use Rattle.host_laws.proofs.Keeping.{servers_keep_on, servers_lend}
-use Rattle.host_laws.proofs.KeepingClients.{clients_keep_on}
-use Rattle.scenario_laws.specs.Captures.{client_of, server_of, Ran}
+use Rattle.host_laws.proofs.Keeping.{servers_lend}
+use Rattle.scenario_laws.specs.Captures.{Ran}
 use Rattle.scenario_laws.specs.Coming.{out_of, FallTo, LastIsUp}
 use Rattle.scenario_laws.specs.Parties.{party_of}
-use Rattle.scenario_laws.proofs.Coming.{ended_all}
-use Rattle.scenario_laws.proofs.Freeing.{runs_are_free}
-use Rattle.scenario_laws.proofs.Keeping.{server_stays}
-use Rattle.scenario_laws.proofs.Onward.{pushes_go_onward}
+use Rattle.scenario_laws.proofs.Fronts.{fronts_ran}
 use Rattle.scenario_laws.proofs.Wishes.{states_frame, wishes_window}
+use Rattle.pair_laws.specs.Heard.{HearsFirst, HearFirst}
 use Rattle.pair_laws.specs.OnLinks.{happened_on, ArePairs}
-use Rattle.pair_laws.specs.Windows.{HoldsOn, TalksHold, RunsHoldWindows, LinksHoldWindows}
+use Rattle.pair_laws.specs.Windows.{HoldsOn, TalksHold, HoldsOnLinks, RunsHoldWindows}
 use Rattle.pair_laws.specs.Within.{BothSendWithin}
-use Rattle.pair_laws.proofs.Pairing.{hosts-are_pairs}
+use Rattle.pair_laws.proofs.Forgone.{KeepsAt, Stays, Ended, Moves, run-moves, unopened-passes}
+use Rattle.pair_laws.proofs.Pairing.{hosts-hear_first}
 use Rattle.pair_laws.proofs.Taking.{clients_within, servers_within, pairs-are_carried}
 use Rattle.pair_laws.proofs.Whole.{both_can, all_places}
 
@@ -142,24 +134,55 @@ used_holds settings side said own entry holds found = by (mode_of entry.channel 
 pub talks_hold : TalksHold
 talks_hold = record { fronts = front_holds; used = used_holds }
 
--- ---- what moved is a front of the own talk
+-- ---- what moved of a talk
 
-moves_hold : (settings : Settings) (side : Side) (policy : Policy) (list : List Occurrence) (part : List Talk) (moved : List Pdu) (unsent : List (List ℕ)) → IsTalkOf policy list part → flat_map pdus_in part ≡ moved ++ map out_of unsent → GivesNothingUp policy list
-    → HoldsOn settings side (run_of policy list).said → HoldsOn settings side (flat_map said_by moved)
-moves_hold settings side policy list part moved unsent talk is keeps holds =
-    let all : (run_of policy list).said ≡ flat_map said_by moved ++ (flat_map said_by (map out_of unsent) ++ talk.waits) =
-    sym keeps ∙ (talk.talk_is ∙ (ap (λ (ps : List Pdu). flat_map said_by ps ++ talk.waits) is ∙ (ap (λ (l : List Saying). l ++ talk.waits) (flat_map-append said_by moved (map out_of unsent)) ∙ append_assoc (flat_map said_by moved) (flat_map said_by (map out_of unsent)) talk.waits))) in
+no_frames : (window : ℕ) (frames : List Passage) → frames ≡ [] → AtEach (HoldsWindow window) frames
+no_frames window frames none = subst (AtEach (HoldsWindow window)) (sym none) (at_each-none (HoldsWindow window) (record { acknowledged = 0; is = refl; given = omega arith; within = omega arith }))
+
+-- what a host gave up takes no frame of it
+moved_holds : (settings : Settings) (side : Side) (said moved : List Saying) → Moves (party_of settings side) said moved → HoldsOn settings side said → HoldsOn settings side moved
+moved_holds settings side said moved moves holds channel has mode =
+    subst (AtEach (HoldsWindow settings.window)) (sym (moves.frames channel))
+    (by (read_at channel.own (reading said).entries) (read_at channel.own (reading moved).entries) refl (moves.at channel.own) has mode)
+  where
+    party : Party
+    party = party_of settings side
+
+    on : (x : Known) → read_at channel.own (reading said).entries ≡ Some x → x.channel ≡ channel → agreed_mode x.setup ≡ Enhanced → AtEach (HoldsWindow settings.window) (frames_passed party channel said)
+    on x found is enhanced = holds channel (subst (IsOf channel) (sym found) is) (ap entry_mode found ∙ enhanced)
+
+    ended : (x y : Known) → read_at channel.own (reading said).entries ≡ Some x → x.channel ≡ y.channel → (is_set x.setup ≡ true → x.setup ≡ y.setup) → (set : Bool) → is_set x.setup ≡ set → y.channel ≡ channel → agreed_mode y.setup ≡ Enhanced
+        → AtEach (HoldsWindow settings.window) (frames_passed party channel said)
+    ended x y found same setup true set is enhanced = on x found (same ∙ is) (ap agreed_mode (setup set) ∙ enhanced)
+    ended x y found same setup false unset is enhanced = no_frames settings.window (frames_passed party channel said) (unopened-passes party channel said (ap has_opened found ∙ unset))
+
+    by : (one other : Option Known) → read_at channel.own (reading said).entries ≡ one → KeepsAt one other → IsOf channel other → entry_mode other ≡ Enhanced → AtEach (HoldsWindow settings.window) (frames_passed party channel said)
+    by one None found keeps is enhanced = absurd is
+    by None (Some y) found keeps is enhanced = absurd keeps
+    by (Some x) (Some y) found (Stays same) is enhanced = on x found (ap (λ (e : Known). e.channel) same ∙ is) (ap (λ (e : Known). agreed_mode e.setup) same ∙ enhanced)
+    by (Some x) (Some y) found (Ended same over setup) is enhanced = ended x y found same setup (is_set x.setup) refl is enhanced
+
+-- what moved on a link is a front of what moved of the own talk
+moves_hold : (settings : Settings) (side : Side) (wanted : Policy) (list : List Occurrence) (part : List Talk) (moved : List Pdu) (unsent : List (List ℕ)) → IsTalkOf wanted list part → flat_map pdus_in part ≡ moved ++ map out_of unsent
+    → HoldsOn settings side (spoken_of (run_of wanted list).said) → HoldsOn settings side (flat_map said_by moved)
+moves_hold settings side wanted list part moved unsent talk is holds =
+    let all : spoken_of (run_of wanted list).said ≡ flat_map said_by moved ++ (flat_map said_by (map out_of unsent) ++ talk.waits) =
+    talk.talk_is ∙ (ap (λ (ps : List Pdu). flat_map said_by ps ++ talk.waits) is ∙ (ap (λ (l : List Saying). l ++ talk.waits) (flat_map-append said_by moved (map out_of unsent)) ∙ append_assoc (flat_map said_by moved) (flat_map said_by (map out_of unsent)) talk.waits)) in
     front_holds settings side (flat_map said_by moved) (flat_map said_by (map out_of unsent) ++ talk.waits) (subst (HoldsOn settings side) all holds)
 
-fall_holds : (settings : Settings) (side : Side) (policy : Policy) (lists : List (List Occurrence)) (parts : List (List Talk)) (links : List (List Pdu)) → AllZip (IsTalkOf policy) lists parts → FallTo parts links → AllByRecursion (GivesNothingUp policy) lists
-    → AllByRecursion (λ (list : List Occurrence). HoldsOn settings side (run_of policy list).said) lists → AllByRecursion (λ (moved : List Pdu). HoldsOn settings side (flat_map said_by moved)) links
-fall_holds settings side policy [] [] links zip falls keeps holds = subst (AllByRecursion (λ (moved : List Pdu). HoldsOn settings side (flat_map said_by moved))) (sym falls) tt
-fall_holds settings side policy [] (part ∷ parts) links zip falls keeps holds = absurd zip
-fall_holds settings side policy (list ∷ lists) [] links zip falls keeps holds = absurd zip
-fall_holds settings side policy (list ∷ lists) (part ∷ parts) links zip (inl falls) keeps holds = fall_holds settings side policy lists parts links zip.1 falls.1 keeps.1 holds.1
-fall_holds settings side policy (list ∷ lists) (part ∷ parts) links zip (inr (link, rest, unsent, links_are, moved, falls)) keeps holds =
+-- by what moved of what happened
+abbrev Seen : Settings → Side → Policy → List Occurrence → Type 0
+Seen settings side wanted list = HoldsOn settings side (spoken_of (run_of wanted list).said)
+
+fall_holds : (settings : Settings) (side : Side) (wanted : Policy) (lists : List (List Occurrence)) (parts : List (List Talk)) (links : List (List Pdu)) → AllZip (IsTalkOf wanted) lists parts → FallTo parts links
+    → AllByRecursion (Seen settings side wanted) lists → AllByRecursion (λ (moved : List Pdu). HoldsOn settings side (flat_map said_by moved)) links
+fall_holds settings side wanted [] [] links zip falls holds = subst (AllByRecursion (λ (moved : List Pdu). HoldsOn settings side (flat_map said_by moved))) (sym falls) tt
+fall_holds settings side wanted [] (part ∷ parts) links zip falls holds = absurd zip
+fall_holds settings side wanted (list ∷ lists) [] links zip falls holds = absurd zip
+fall_holds settings side wanted (list ∷ lists) (part ∷ parts) links zip (inl falls) holds = fall_holds settings side wanted lists parts links zip.1 falls.1 holds.1
+fall_holds settings side wanted (list ∷ lists) (part ∷ parts) links zip (inr (link, rest, unsent, links_are, moved, falls)) holds =
     subst (AllByRecursion (λ (moved : List Pdu). HoldsOn settings side (flat_map said_by moved))) (sym links_are)
-    (moves_hold settings side policy list part link unsent zip.0 moved keeps.0 holds.0, fall_holds settings side policy lists parts rest zip.1 falls keeps.1 holds.1)
+    (moves_hold settings side wanted list part link unsent zip.0 moved holds.0, fall_holds settings side wanted lists parts rest zip.1 falls holds.1)
 
 each_link : (P : List Pdu → Type 0) (ones : List Link) → AllByRecursion P (map pdus ones) → AllByRecursion (λ (link : Link). P (pdus link)) ones
 each_link P [] all = tt
@@ -178,12 +201,11 @@ of_last : {X : Type 0} (P : X → Type 0) (xs : List X) (x : X) → AllByRecursi
 of_last P [] x all = all.0
 of_last P (a ∷ xs) x all = of_last P xs x all.1
 
-last_moves : (settings : Settings) (side : Side) (policy : Policy) (lists : List (List Occurrence)) (now : List Occurrence) (ps : List (List Talk)) (up : Option Link) → AllZip (IsTalkOf policy) (lists ++ now ∷ []) ps → LastIsUp ps up
-    → ((link : Link) → up ≡ Some link → GivesNothingUp policy now) → AllByRecursion (λ (list : List Occurrence). HoldsOn settings side (run_of policy list).said) (lists ++ now ∷ []) → HoldsOn settings side (talk_on up)
-last_moves settings side policy lists now ps None zip last keeps holds = λ channel has. elim has [ ]
-last_moves settings side policy lists now ps (Some link) zip (before, part, unsent, parts_are, moved) keeps holds =
-    moves_hold settings side policy now part (pdus link) unsent (zip_last (IsTalkOf policy) lists before now part (subst (AllZip (IsTalkOf policy) (lists ++ now ∷ [])) parts_are zip)) moved (keeps link refl)
-    (of_last (λ (list : List Occurrence). HoldsOn settings side (run_of policy list).said) lists now holds)
+last_moves : (settings : Settings) (side : Side) (wanted : Policy) (lists : List (List Occurrence)) (now : List Occurrence) (ps : List (List Talk)) (up : Option Link) → AllZip (IsTalkOf wanted) (lists ++ now ∷ []) ps → LastIsUp ps up
+    → AllByRecursion (Seen settings side wanted) (lists ++ now ∷ []) → HoldsOn settings side (talk_on up)
+last_moves settings side wanted lists now ps None zip last holds = λ channel has. elim has [ ]
+last_moves settings side wanted lists now ps (Some link) zip (before, part, unsent, parts_are, moved) holds =
+    moves_hold settings side wanted now part (pdus link) unsent (zip_last (IsTalkOf wanted) lists before now part (subst (AllZip (IsTalkOf wanted) (lists ++ now ∷ [])) parts_are zip)) moved (of_last (Seen settings side wanted) lists now holds)
 
 -- ---- the own talk
 
@@ -217,29 +239,16 @@ module _ (windows : WindowsHold) (asks : HostsAsk) (scenario : Scenario) (conten
       own_holds scenario.settings sides.B far near (happened_on (server_profile scenario.settings content) (asks.servers scenario.settings content) sides.B capture ran.world.b.upper pairs.b number) (pair_of near far pair.turns).far.run pair.far_is
       (states_frame scenario.settings true sides.B) (wishes_window scenario.settings) (hold number).1)
 
--- ---- on each link
+-- ---- both hosts of a run
 
-pub links_hold : WindowsHold → LinksHoldWindows
-links_hold windows asks scenario content capture ran pairs within keeps = (
-  each_link (λ (moved : List Pdu). HoldsOn scenario.settings sides.A (flat_map said_by moved)) (links sides.A capture)
-      (fall_holds scenario.settings sides.A (policy scenario.settings false) (on_links (client_profile scenario.settings) (asks.clients scenario.settings) (flat_map talk_marks pairs.a.came.talk) ran.world.a.upper pairs.a.fed.so.lives) (parts pairs.a.came.talk)
-      (map pdus (links sides.A capture)) pairs.a.fed.so.talks_are pairs.a.came.fall keeps.a (all_a windows asks scenario content capture ran pairs within)),
-  each_link (λ (moved : List Pdu). HoldsOn scenario.settings sides.B (flat_map said_by moved)) (links sides.B capture)
-      (fall_holds scenario.settings sides.B (policy scenario.settings true) (on_links (server_profile scenario.settings content) (asks.servers scenario.settings content) (flat_map talk_marks pairs.b.came.talk) ran.world.b.upper pairs.b.fed.so.lives) (parts pairs.b.came.talk)
-      (map pdus (links sides.B capture)) pairs.b.fed.so.talks_are pairs.b.came.fall keeps.b (all_b windows asks scenario content capture ran pairs within)),
+-- on each link: it hears nothing behind what it gave up, so what moved of its talk holds its window as its talk does
+seen_holds : (settings : Settings) (side : Side) (wanted : Policy) (channel : Channel) (lists : List (List Occurrence)) → StatesFrame wanted (party_of settings side) → AllByRecursion (AreUttered wanted) lists → AllByRecursion (HearsFirst wanted) lists
+    → AllByRecursion (λ (list : List Occurrence). HoldsOn settings side (run_of wanted list).said) lists → AllByRecursion (Seen settings side wanted) lists
+seen_holds settings side wanted channel [] states uttered hears holds = tt
+seen_holds settings side wanted channel (list ∷ lists) states uttered hears holds = (
+  moved_holds settings side (run_of wanted list).said (spoken_of (run_of wanted list).said) (run-moves wanted (party_of settings side) channel states list uttered.0 hears.0) holds.0,
+  seen_holds settings side wanted channel lists states uttered.1 hears.1 holds.1,
 )
-
--- ---- at each moment
-
--- what its profile went through on the last link
-record LastWoven {P : Type 0} (A : Profile P) (asks : Asks A) (now : List Occurrence) (last : P) : Type 0 where
-  feeds : List Feed
-  first : P
-  fed : WovenFed A asks now feeds first last
-
-last_woven : {P : Type 0} (A : Profile P) (asks : Asks A) (spans : List Span) (now : List Occurrence) (feeds : List Feed) (first last : P) → AreFed A asks spans now feeds first last → LastWoven A asks now last
-last_woven A asks [] now feeds first last fed = record { feeds = feeds; first = first; fed = fed }
-last_woven A asks (span ∷ spans) now feeds first last (here, later, is, rest) = last_woven A asks spans now later _ last rest
 
 abbrev both_ask : HostsAsk
 both_ask = record { clients = clients_ask; servers = hosts_ask.servers }
@@ -247,40 +256,56 @@ both_ask = record { clients = clients_ask; servers = hosts_ask.servers }
 within_both : BothSendWithin both_ask
 within_both = record { clients = clients_within; servers = servers_within }
 
-module _ (windows : WindowsHold) (scenario : Scenario) (content : Option Contents) (capture : List Entry) (ran : Ran scenario content capture) (pairs : ArePairs both_ask scenario content capture ran) where
-  client_holds : ((link : Link) → link_up sides.A capture ≡ Some link → is_off ran.world.a.upper.profile.client.stage ≡ false) → HoldsOn scenario.settings sides.A (talk_now sides.A capture)
-  client_holds goes =
-      let lives = pairs.a.fed.so.lives in
-      let woven = last_woven (client_profile scenario.settings) (clients_ask scenario.settings) lives.spans lives.now lives.feeds (client_profile scenario.settings).first ran.world.a.upper.profile pairs.a.fed.fed in
-      let told = ap (λ (v : Channels). v.events) (sym lives.channels_run) ∙ lives.all_told in
-      last_moves scenario.settings sides.A (policy scenario.settings false) (map (λ (span : Span). span.list) lives.spans) lives.now (parts pairs.a.came.talk) (link_up sides.A capture) pairs.a.fed.so.talks_are pairs.a.came.last
-      (λ link up. clients_keep_on scenario.settings (clients_ask scenario.settings) lives.now woven.first ran.world.a.upper.profile woven.fed.woven told (goes link up))
-      (all_a windows both_ask scenario content capture ran pairs within_both)
+-- any channel
+abbrev signalling : Channel
+signalling = record { psm = 0; own = 0; peer = 0 }
 
-  server_holds : ((link : Link) → link_up sides.B capture ≡ Some link → ran.world.b.upper.profile.breaks ≡ false) → HoldsOn scenario.settings sides.B (talk_now sides.B capture)
-  server_holds stays =
-      let lives = pairs.b.fed.so.lives in
-      last_moves scenario.settings sides.B (policy scenario.settings true) (map (λ (span : Span). span.list) lives.spans) lives.now (parts pairs.b.came.talk) (link_up sides.B capture) pairs.b.fed.so.talks_are pairs.b.came.last
-      (λ link up. servers_keep_on scenario.settings content (hosts_ask.servers scenario.settings content) (flat_map talk_marks pairs.b.came.talk) ran.world.b.upper lives (servers_lend scenario.settings content) (stays link up))
-      (all_b windows both_ask scenario content capture ran pairs within_both)
+module _ (windows : WindowsHold) (scenario : Scenario) (content : Option Contents) (capture : List Entry) (ran : Ran scenario content capture) where
+  abbrev hearing : HearFirst both_ask scenario content capture ran
+  hearing = hosts-hear_first both_ask scenario content capture ran (servers_lend scenario.settings content)
 
-  past_up : (side : Side) (link : Link) → link_up side capture ≡ Some link → link_up side (all_entries ran.happenings) ≡ Some link
-  past_up side link up =
-      ap (λ (l : Linking). l.up) (sym (ap (λ (entries : List Entry). linking (moves side entries)) ran.capture_is ∙ ended_all side ran.world.pushes (all_entries ran.happenings) ran.ends ran.last)) ∙ up
+  abbrev lists_a : List (List Occurrence)
+  lists_a = on_links (client_profile scenario.settings) (clients_ask scenario.settings) (flat_map talk_marks hearing.pairs.a.came.talk) ran.world.a.upper hearing.pairs.a.fed.so.lives
 
-  rest_holds : IsAtRest (client_of scenario) (server_of scenario content) ran.world → HoldsOn scenario.settings sides.A (talk_now sides.A capture) × HoldsOn scenario.settings sides.B (talk_now sides.B capture)
-  rest_holds rest =
-      let whole : IsFront ran.happenings ran.happenings = ([], sym (append-nil ran.happenings)) in
-      let free = (runs_are_free scenario content ran.happenings).b ran.happenings ran.world whole ran.happened rest in (
-        client_holds (λ link up. pushes_go_onward scenario content ran.happenings ran.happenings ran.world link whole ran.happened rest (past_up sides.A link up)),
-        server_holds (λ link up. server_stays scenario content ran.happenings ran.world ran.happened rest free link (past_up sides.B link up)),
-      )
+  abbrev lists_b : List (List Occurrence)
+  lists_b = on_links (server_profile scenario.settings content) (hosts_ask.servers scenario.settings content) (flat_map talk_marks hearing.pairs.b.came.talk) ran.world.b.upper hearing.pairs.b.fed.so.lives
 
+  seen_a : AllByRecursion (Seen scenario.settings sides.A (policy scenario.settings false)) lists_a
+  seen_a =
+      seen_holds scenario.settings sides.A (policy scenario.settings false) signalling lists_a (states_frame scenario.settings false sides.A) hearing.pairs.a.uttered hearing.a
+      (all_a windows both_ask scenario content capture ran hearing.pairs within_both)
+
+  seen_b : AllByRecursion (Seen scenario.settings sides.B (policy scenario.settings true)) lists_b
+  seen_b =
+      seen_holds scenario.settings sides.B (policy scenario.settings true) signalling lists_b (states_frame scenario.settings true sides.B) hearing.pairs.b.uttered hearing.b
+      (all_b windows both_ask scenario content capture ran hearing.pairs within_both)
+
+  now_holds : (side : Side) → HoldsOn scenario.settings side (talk_now side capture)
+  now_holds sides.A =
+      let host = hearing.pairs.a in
+      let lives = host.fed.so.lives in
+      last_moves scenario.settings sides.A (policy scenario.settings false) (map (λ (span : Span). span.list) lives.spans) lives.now (parts host.came.talk) (link_up sides.A capture) host.fed.so.talks_are host.came.last seen_a
+  now_holds sides.B =
+      let host = hearing.pairs.b in
+      let lives = host.fed.so.lives in
+      last_moves scenario.settings sides.B (policy scenario.settings true) (map (λ (span : Span). span.list) lives.spans) lives.now (parts host.came.talk) (link_up sides.B capture) host.fed.so.talks_are host.came.last seen_b
+
+  links_hold : (side : Side) → HoldsOnLinks scenario.settings side capture
+  links_hold sides.A =
+      let host = hearing.pairs.a in
+      each_link (λ (moved : List Pdu). HoldsOn scenario.settings sides.A (flat_map said_by moved)) (links sides.A capture)
+      (fall_holds scenario.settings sides.A (policy scenario.settings false) lists_a (parts host.came.talk) (map pdus (links sides.A capture)) host.fed.so.talks_are host.came.fall seen_a)
+  links_hold sides.B =
+      let host = hearing.pairs.b in
+      each_link (λ (moved : List Pdu). HoldsOn scenario.settings sides.B (flat_map said_by moved)) (links sides.B capture)
+      (fall_holds scenario.settings sides.B (policy scenario.settings true) lists_b (parts host.came.talk) (map pdus (links sides.B capture)) host.fed.so.talks_are host.came.fall seen_b)
+
+-- each front of a capture is that of a run
 pub runs_hold : WindowsHold → RunsHoldWindows
-runs_hold windows scenario content capture ran =
-    let pairs = hosts-are_pairs both_ask scenario content capture ran in
-    record {
-      a = λ goes. client_holds windows scenario content capture ran pairs (λ link up. goes);
-      b = λ stays. server_holds windows scenario content capture ran pairs (λ link up. stays);
-      rests = rest_holds windows scenario content capture ran pairs;
-    }
+runs_hold windows = record {
+  throughout = λ scenario content capture side ran n.
+      let front = take n capture in
+      let run = fronts_ran scenario content capture front ran (drop n capture, sym (take-append-drop n capture)) in
+      now_holds windows scenario content front run side;
+  on_links = λ scenario content capture side ran. links_hold windows scenario content capture ran side;
+}

@@ -15,4 +15,5 @@ pub mod Costs
 pub mod Served
 pub mod ServedOrder
 pub mod Enough
+pub mod Heard
 pub mod Windows

@@ -1,11 +1,10 @@
 -- The windows of both hosts of a run over its capture, at each moment (Core 5.1, Volume 3 Part A, 5.4, 8.3 and 8.6).
-use Rattle.std.specs.Prelude.{ℕ, ◌≡◌, ◌≤◌, false, List, ◌++◌, Option, Some}
-use Rattle.std.specs.List.{AllByRecursion, flat_map}
+use Rattle.std.specs.Prelude.{ℕ, ◌≡◌, ◌≤◌, List, ◌++◌, Option, Some}
+use Rattle.std.specs.List.{AllByRecursion}
 use Rattle.bt_base.specs.declared.settings.Settings.{Settings}
 use Rattle.bt_base.specs.Objects.{Contents}
 use Rattle.push_script.specs.declared.scenario.Scenario.{Scenario}
 use Rattle.push_terms.specs.declared.word.Side.{Side}
-use Rattle.push_terms.specs.declared.word.Side.TheVariants as sides
 use Rattle.capture.specs.Entries.{Entry}
 use Rattle.capture.specs.Histories.{AtEach}
 use Rattle.capture.specs.Links.{Link, links}
@@ -19,18 +18,8 @@ use Rattle.link_talk.specs.Sayings.{Saying, talk}
 use Rattle.channel_laws.specs.Endpoints.{IsOf}
 use Rattle.channel_laws.specs.Views.{read_at}
 use Rattle.channel_laws.specs.Windows.{HoldsWindow}
-use Rattle.world_model.specs.Worlds.{IsAtRest}
-use Rattle.host_model.specs.Clients.{client_profile}
-use Rattle.host_model.specs.Servers.{server_profile}
-use Rattle.host_laws.specs.Calls.{HostsAsk}
-use Rattle.host_laws.specs.Keeping.{GivesNothingUp}
-use Rattle.host_laws.specs.Leaving.{is_off}
-use Rattle.host_laws.specs.Lives.{on_links}
-use Rattle.host_laws.specs.OverLinks.{talk_marks}
-use Rattle.scenario_laws.specs.Captures.{client_of, server_of, Ran}
+use Rattle.scenario_laws.specs.Captures.{Ran}
 use Rattle.scenario_laws.specs.Parties.{party_of}
-use Rattle.pair_laws.specs.OnLinks.{ArePairs}
-use Rattle.pair_laws.specs.Within.{BothSendWithin}
 
 -- ---- a talk
 
@@ -44,32 +33,17 @@ pub record TalksHold : Type 0 where
   pub fronts : (settings : Settings) (side : Side) (front behind : List Saying) → HoldsOn settings side (front ++ behind) → HoldsOn settings side front
   pub used : (settings : Settings) (side : Side) (said : List Saying) (own : ℕ) (entry : Known) → HoldsOn settings side said → read_at own (reading said).entries ≡ Some entry → window_used (party_of settings side) said entry.channel ≤ settings.window
 
--- ---- at each moment of a run
+-- ---- a capture
 
--- Host a holds its window on the link that is up where a push of it goes on over its link, and host b where it does not end its link; and both do where all
--- is at rest.
-pub record HoldWindows (scenario : Scenario) (content : Option Contents) (capture : List Entry) (ran : Ran scenario content capture) : Type 0 where
-  pub a : is_off ran.world.a.upper.profile.client.stage ≡ false → HoldsOn scenario.settings sides.A (talk_now sides.A capture)
-  pub b : ran.world.b.upper.profile.breaks ≡ false → HoldsOn scenario.settings sides.B (talk_now sides.B capture)
-  pub rests : IsAtRest (client_of scenario) (server_of scenario content) ran.world → HoldsOn scenario.settings sides.A (talk_now sides.A capture) × HoldsOn scenario.settings sides.B (talk_now sides.B capture)
+-- at each moment, on the link that is up then
+abbrev pub HoldsThroughout : Settings → Side → List Entry → Type 0
+HoldsThroughout settings side capture = AtEach (λ past. HoldsOn settings side (talk_now side past)) capture
 
--- So it is in each run, wherever it broke off and whatever its ports answered: and so at each front of its capture.
-abbrev pub RunsHoldWindows : Type 0
-RunsHoldWindows = (scenario : Scenario) (content : Option Contents) (capture : List Entry) (ran : Ran scenario content capture) → HoldWindows scenario content capture ran
-
--- ---- on each link of a capture
-
--- neither host gave up a request on any of its links
-pub record GiveNothingUp (asks : HostsAsk) (scenario : Scenario) (content : Option Contents) (capture : List Entry) (ran : Ran scenario content capture) (pairs : ArePairs asks scenario content capture ran) : Type 0 where
-  pub a : AllByRecursion (GivesNothingUp (client_profile scenario.settings).policy)
-      (on_links (client_profile scenario.settings) (asks.clients scenario.settings) (flat_map talk_marks pairs.a.came.talk) ran.world.a.upper pairs.a.fed.so.lives)
-  pub b : AllByRecursion (GivesNothingUp (server_profile scenario.settings content).policy)
-      (on_links (server_profile scenario.settings content) (asks.servers scenario.settings content) (flat_map talk_marks pairs.b.came.talk) ran.world.b.upper pairs.b.fed.so.lives)
-
+-- on each of its links, to its end
 abbrev pub HoldsOnLinks : Settings → Side → List Entry → Type 0
 HoldsOnLinks settings side capture = AllByRecursion (λ (link : Link). HoldsOn settings side (talk link)) (links side capture)
 
--- Then both hosts held their windows on each link that the capture has, to its end.
-abbrev pub LinksHoldWindows : Type 0
-LinksHoldWindows = (asks : HostsAsk) (scenario : Scenario) (content : Option Contents) (capture : List Entry) (ran : Ran scenario content capture) (pairs : ArePairs asks scenario content capture ran) → BothSendWithin asks
-    → GiveNothingUp asks scenario content capture ran pairs → HoldsOnLinks scenario.settings sides.A capture × HoldsOnLinks scenario.settings sides.B capture
+-- So both hosts hold their windows in each run, wherever it broke off and whatever its ports answered: also where they gave requests up and end their link.
+pub record RunsHoldWindows : Type 0 where
+  pub throughout : (scenario : Scenario) (content : Option Contents) (capture : List Entry) (side : Side) → Ran scenario content capture → HoldsThroughout scenario.settings side capture
+  pub on_links : (scenario : Scenario) (content : Option Contents) (capture : List Entry) (side : Side) → Ran scenario content capture → HoldsOnLinks scenario.settings side capture

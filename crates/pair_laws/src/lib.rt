@@ -6,6 +6,7 @@ ghost use Rattle.pair_laws.specs.Fronts.{FrontsAreRun};
 ghost use Rattle.pair_laws.specs.Enough.{EnoughKeepOrder};
 ghost use Rattle.pair_laws.specs.Granted.{GrantedTakeTurns};
 ghost use Rattle.pair_laws.specs.GrantedOrder.{GrantedKeepOrder};
+ghost use Rattle.pair_laws.specs.Heard.{ForgoneTakesNoFrame, HostsHearFirst};
 ghost use Rattle.pair_laws.specs.InTurn.{HostsTakeTurns};
 ghost use Rattle.pair_laws.specs.Keeping.{RunsKeepOrder};
 ghost use Rattle.pair_laws.specs.OnLinks.{HostsArePairs};
@@ -14,7 +15,7 @@ ghost use Rattle.pair_laws.specs.Served.{HeldTakeTurns, ServedTakeTurns};
 ghost use Rattle.pair_laws.specs.ServedOrder.{HeldKeepOrder, ServedKeepOrder};
 ghost use Rattle.pair_laws.specs.Seen.{AllDamageIsSeen};
 ghost use Rattle.pair_laws.specs.Whole.{PairsAreWhole};
-ghost use Rattle.pair_laws.specs.Windows.{LinksHoldWindows, RunsHoldWindows, TalksHold};
+ghost use Rattle.pair_laws.specs.Windows.{RunsHoldWindows, TalksHold};
 ghost use Rattle.pair_laws.specs.Within.{HostsSendWithin, PairsAreCarried};
 
 pub mod laws;
@@ -116,18 +117,22 @@ pub fn talks_hold()
     ensures { TalksHold }
 {}
 
-/// At each moment of each run, whatever its ports answered and wherever it broke off, host a holds its window on the link that is up where a push goes on
-/// over its link, and host b where it does not end its link; and both do wherever all is at rest: no more I-frames are unacknowledged than the window that
-/// both state, and none is acknowledged that did not go out, also on channels that were closed.
+/// What a host gave up takes no I-frame: where it hears nothing behind that, the frames that passed on each channel by what moved of its talk are those
+/// by its own talk.
+pub fn forgone_takes_no_frame()
+    ensures { ForgoneTakesNoFrame }
+{}
+
+/// On each of its links each host of a run hears nothing behind a request that it gave up: it ends its link.
+pub fn hosts_hear_first()
+    ensures { HostsHearFirst }
+{}
+
+/// At each moment of each run, whatever its ports answered and wherever it broke off, and on each link to its end, both hosts hold their windows: no more
+/// I-frames are unacknowledged than the window that both state, and none is acknowledged that did not go out. So it is also on channels that were closed,
+/// and where requests were given up.
 pub fn runs_hold_windows()
     ensures { RunsHoldWindows }
-{
-    channel_laws::laws::pipes::windows_hold();
-}
-
-/// So it is on each link that the capture has, to its end, where neither host gave up a request.
-pub fn links_hold_windows()
-    ensures { LinksHoldWindows }
 {
     channel_laws::laws::pipes::windows_hold();
 }

@@ -85,3 +85,6 @@ pub mod Bounding
 pub mod Pushed
 pub mod Cancelling
 pub mod Apart
+pub mod SpeltOnce
+pub mod Spelt
+pub mod SpeltDirect

@@ -54,7 +54,7 @@ module _ (most : ℕ) where
   bare_joined : (packets more : List (List ℕ)) → spelled_within most (packets ++ more) ≡ stored_by most (without_fault packets ++ without_fault more)
   bare_joined packets more = bare_is most (packets ++ more) ∙ ap (stored_by most) (map-append (λ (p : List ℕ). (let h : Heard = (p, false) in h)) packets more)
 
-  spelled_more : (packets more : List (List ℕ)) → spelled_within most packets ++ beyond (spelled_within most packets) (spelled_within most (packets ++ more)) ≡ spelled_within most (packets ++ more)
+  pub spelled_more : (packets more : List (List ℕ)) → spelled_within most packets ++ beyond (spelled_within most packets) (spelled_within most (packets ++ more)) ≡ spelled_within most (packets ++ more)
   spelled_more packets more =
       ap₂ (λ (a b : List Object). a ++ beyond a b) (bare_is most packets) (bare_joined packets more) ∙ stored_more (without_fault packets) (without_fault more) ∙ sym (bare_joined packets more)
 

@@ -75,15 +75,15 @@ module _ (settings : Settings) where
   -- ---- what is heard there
 
   -- what came on it, while it is there
-  record Hears (past : List Occurrence) (pipes : Pipes) : Type 0 where
-    opens : pipes.closed ≡ false → packets_over L2cap past ≡ pipes.requests_come
-    shuts : pipes.closed ≡ true → packets_over L2cap past ≡ []
+  pub record Hears (past : List Occurrence) (pipes : Pipes) : Type 0 where
+    pub opens : pipes.closed ≡ false → packets_over L2cap past ≡ pipes.requests_come
+    pub shuts : pipes.closed ≡ true → packets_over L2cap past ≡ []
 
-  packets_more : (past : List Occurrence) (one : Occurrence) (closing : Bool) → closes object_psm one ≡ closing → packets_over L2cap (past ++ one ∷ []) ≡ cond closing [] (packets_over L2cap past ++ come_by one)
+  pub packets_more : (past : List Occurrence) (one : Occurrence) (closing : Bool) → closes object_psm one ≡ closing → packets_over L2cap (past ++ one ∷ []) ≡ cond closing [] (packets_over L2cap past ++ come_by one)
   packets_more past one true is = read_closed (came_on object_psm) object_psm past one is
   packets_more past one false is = read_more (came_on object_psm) object_psm past one is ∙ ap (λ (ps : List (List ℕ)). packets_over L2cap past ++ ps) (came_same one)
 
-  hears_more : (past : List Occurrence) (one : Occurrence) (client : Client) (pipes : Pipes) → ComesOpen (OfServer one) pipes → Hears past pipes → Hears (past ++ one ∷ []) (pipes_after (OfServer one) client pipes)
+  pub hears_more : (past : List Occurrence) (one : Occurrence) (client : Client) (pipes : Pipes) → ComesOpen (OfServer one) pipes → Hears past pipes → Hears (past ++ one ∷ []) (pipes_after (OfServer one) client pipes)
   hears_more past one client pipes comes h = record { opens = by_open pipes.closed (closes object_psm one) refl refl; shuts = by_shut pipes.closed (closes object_psm one) refl refl }
     where
       by_open : (closed closing : Bool) → pipes.closed ≡ closed → closes object_psm one ≡ closing → (closed || closing) ≡ false → packets_over L2cap (past ++ one ∷ []) ≡ pipes.requests_come ++ come_by one

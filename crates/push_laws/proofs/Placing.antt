@@ -1,5 +1,5 @@
 -- Where a push over RFCOMM is, and what its client sent: octets that are its packets, one behind the other.
-use Rattle.std.proofs.Common.{true, false, ◌≡◌, ◌≤◌, ◌<◌, ◌^◌, ℕ, List, [], ◌++◌, Some, None, refl, sym, ap, subst, ◌∙◌, append-nil, append_assoc}
+use Rattle.std.proofs.Common.{true, false, ◌≡◌, ◌≤◌, ◌<◌, ◌^◌, ℕ, List, [], ◌++◌, Some, None, refl, sym, ap, subst, ◌∙◌, append-nil, append_assoc, Bool}
 use Rattle.std.specs.List.{AllByRecursion, filter_map}
 use Rattle.std.proofs.lemmas.Bool.{cond-false}
 use Rattle.std.proofs.lemmas.Grind.{flat_map-append}
@@ -130,6 +130,17 @@ opening settings past client at session calm here u none = record {
   bounded = λ met free. unmet (sym u.2.1 ∙ met);
 }
 
+-- whether no more comes
+abbrev pub is_over : {settings : Settings} {mux : Mux} {session : Asking} {sent : List (List ℕ)} {past : List Occurrence} {client : Client} {c : Carriage} {at : Server} → Place settings mux session sent past client c at → Bool
+is_over (Ahead early untouched none frames come gone calm) = false
+is_over (Beyond anchor muxed there closed calm) = true
+is_over (Within anchor muxed there sums l d asked) = false
+
+pub over_none : {settings : Settings} {mux : Mux} {session : Asking} {sent : List (List ℕ)} {past : List Occurrence} {client : Client} {c : Carriage} {at : Server} (place : Place settings mux session sent past client c at) → is_over place ≡ true → packets_over Rfcomm past ≡ []
+over_none (Ahead early untouched none frames come gone calm) is = absurd (let never : false ≡ true = is in cc)
+over_none {past = past} (Beyond anchor muxed there closed calm) is = silent_stream past calm.quiet
+over_none (Within anchor muxed there sums l d asked) is = absurd (let never : false ≡ true = is in cc)
+
 module _ (settings : Settings) (n : Numbers) (mux : Mux) (session : Asking) (role : mux.role ≡ Initiator) (fits : mux.largest < 2 ^ 16) (some : 1 ≤ mux.account.cap) (few : mux.account.cap ≤ 40) (w : Task) (seven : 7 ≤ most_of settings) (small : most_of settings < 2 ^ 16) where
   joined_behind : (sent packets : List (List ℕ)) → joined (sent ++ packets) ≡ joined sent ++ joined packets
   joined_behind sent packets = flat_map-append (λ (p : List ℕ). p) sent packets
@@ -141,13 +152,15 @@ module _ (settings : Settings) (n : Numbers) (mux : Mux) (session : Asking) (rol
   none_by Cancels client early = refl
 
   pub deed_place : (sent : List (List ℕ)) (past : List Occurrence) (client : Client) (c : Carriage) (at : Server) (deed : Deed) → AreCarried (carriage_after (OfClient deed) client c) → IsThere (deeds.done deed client) → K n.largest n.cap at.mux → AnswersTo w.content deed client → Fit w sent client
-      → Place settings mux session sent past client c at → Place settings mux session (sent ++ packets_by deed client) past (deeds.done deed client) (carriage_after (OfClient deed) client c) at
+      → (place : Place settings mux session sent past client c at) → (after : Place settings mux session (sent ++ packets_by deed client) past (deeds.done deed client) (carriage_after (OfClient deed) client c) at) × (is_over after ≡ is_over place)
   deed_place sent past client c at deed are there k answers f (Within anchor muxed psm sums l d asked) =
-      let follows = client_more anchor muxed psm at client c sums l deed are in
-      Within anchor muxed psm (record sums { asked = follows.asked; told = follows.told }) follows.linked
-      (speaks (most_of settings) w.content anchor muxed past at client c sums l d (ready_of (most_of settings) w sent client seven small d.bounded f.stands f.fair) (early_awaits w sent client f.stands) deed (carriage_after (OfClient deed) client c) follows answers)
-      (follows.asked_is d.quiet ∙ ap (λ (xs : List ℕ). xs ++ joined (packets_by deed client)) asked ∙ sym (joined_behind sent (packets_by deed client)))
-  deed_place sent past client c at deed are there k answers f (Beyond anchor muxed psm closed calm) = Beyond anchor muxed psm closed calm
+      let follows = client_more anchor muxed psm at client c sums l deed are in (
+        Within anchor muxed psm (record sums { asked = follows.asked; told = follows.told }) follows.linked
+            (speaks (most_of settings) w.content anchor muxed past at client c sums l d (ready_of (most_of settings) w sent client seven small d.bounded f.stands f.fair) (early_awaits w sent client f.stands) deed (carriage_after (OfClient deed) client c) follows answers)
+            (follows.asked_is d.quiet ∙ ap (λ (xs : List ℕ). xs ++ joined (packets_by deed client)) asked ∙ sym (joined_behind sent (packets_by deed client))),
+        refl,
+      )
+  deed_place sent past client c at deed are there k answers f (Beyond anchor muxed psm closed calm) = (Beyond anchor muxed psm closed calm, refl)
   deed_place sent past client c at deed are there k answers f (Ahead early untouched none frames come gone calm) = by (early_deed mux deed client early)
     where
       frames' : c.sent ++ frames_by deed client ≡ []
@@ -159,17 +172,25 @@ module _ (settings : Settings) (n : Numbers) (mux : Mux) (session : Asking) (rol
       after : IsUntouched session (deeds.done deed client)
       after = deed_same session deed client early.0 untouched
 
-      by : Begun mux (deeds.done deed client) → Place settings mux session (sent ++ packets_by deed client) past (deeds.done deed client) (carriage_after (OfClient deed) client c) at
-      by (Early later) = Ahead later after none' frames' come gone calm
+      by : Begun mux (deeds.done deed client) → (place : Place settings mux session (sent ++ packets_by deed client) past (deeds.done deed client) (carriage_after (OfClient deed) client c) at) × (is_over place ≡ false)
+      by (Early later) = (Ahead later after none' frames' come gone calm, refl)
       by (Opened o) =
           let client' = deeds.done deed client in
           let told : c.told ++ heard_by deed ≡ [] = none_before (c.told ++ heard_by deed) are.back.0 (sym are.back.1 ∙ gone) in
-          let rest : client'.rest ≡ [] = after.4 (ap is_opening o.here) in
-          Within (anchor_of client') o.same (there (ap is_object o.here)).0 (record no_sums { asked = client'.rest; replied = at.listener.service.answer })
-          (opened_linked n mux role fits some few past client' (carriage_after (OfClient deed) client c) at o there k calm frames' come gone told)
-          (opening settings past client' at session calm (ap is_object o.here) after rest) (rest ∙ sym (ap joined none'))
+          let rest : client'.rest ≡ [] = after.4 (ap is_opening o.here) in (
+            Within (anchor_of client') o.same (there (ap is_object o.here)).0 (record no_sums { asked = client'.rest; replied = at.listener.service.answer })
+                (opened_linked n mux role fits some few past client' (carriage_after (OfClient deed) client c) at o there k calm frames' come gone told)
+                (opening settings past client' at session calm (ap is_object o.here) after rest) (rest ∙ sym (ap joined none')),
+            refl,
+          )
 
 -- ---- what its server heard
+
+-- more octets have the same packets first
+pub packets_grow : (got more : List ℕ) → (new : List (List ℕ)) × (obex_packets (got ++ more) ≡ obex_packets got ++ new)
+packets_grow got more =
+    let right = obex_packets-right got in
+    (obex_packets (right.rest ++ more), before (got ++ more) (right.rest ++ more) (obex_packets got) (ap (λ (xs : List ℕ). xs ++ more) right.whole ∙ append_assoc (joined (obex_packets got)) right.rest more) right.each)
 
 -- octets that came of packets are a front of these
 packets_front : (sent : List (List ℕ)) (got rest : List ℕ) → AllByRecursion IsPacket sent → joined sent ≡ got ++ rest → IsFrontOf (obex_packets got) sent
@@ -181,8 +202,16 @@ packets_front sent got rest sound whole =
     (obex_packets (right.rest ++ rest), sym (append-nil sent) ∙ ap (λ (ps : List (List ℕ)). sent ++ ps) (sym no_packets) ∙ sym all ∙ front)
 
 module _ (settings : Settings) (mux : Mux) (session : Asking) (w : Task) (sent : List (List ℕ)) (past : List Occurrence) (client : Client) (c : Carriage) (at : Server) (f : Fit w sent client) where
-  none_heard : IsCalm past at → HasOneName (most_of settings) (packets_over Rfcomm past)
-  none_heard calm = subst (HasOneName (most_of settings)) (sym (silent_stream past calm.quiet)) tt
+  -- what came is a front of what was sent
+  silent_front : IsCalm past at → IsFrontOf (packets_over Rfcomm past) sent
+  silent_front calm = (sent, ap (λ (ps : List (List ℕ)). ps ++ sent) (sym (silent_stream past calm.quiet)))
+
+  pub front_at : Place settings mux session sent past client c at → IsFrontOf (packets_over Rfcomm past) sent
+  front_at (Ahead early untouched none frames come gone calm) = silent_front calm
+  front_at (Beyond anchor muxed there closed calm) = silent_front calm
+  front_at (Within anchor muxed there sums l d asked) =
+      let front = (fronts client.mux c.sent c.come l.unheard at.mux at.frame l.rest at.listener.service.answer (record sums { breaks = at.listener.breaks }) l.coupled).0 in
+      subst (λ (xs : List ℕ). IsFrontOf (obex_packets xs) sent) (sym d.got_is) (packets_front sent sums.got front.0 f.sound (sym asked ∙ front.1))
 
   sent_once : HasOneName (most_of settings) sent
   sent_once =
@@ -191,9 +220,4 @@ module _ (settings : Settings) (mux : Mux) (session : Asking) (w : Task) (sent :
 
   -- one packet of these at most has a Name
   pub once_at : Place settings mux session sent past client c at → HasOneName (most_of settings) (packets_over Rfcomm past)
-  once_at (Ahead early untouched none frames come gone calm) = none_heard calm
-  once_at (Beyond anchor muxed there closed calm) = none_heard calm
-  once_at (Within anchor muxed there sums l d asked) =
-      let front = (fronts client.mux c.sent c.come l.unheard at.mux at.frame l.rest at.listener.service.answer (record sums { breaks = at.listener.breaks }) l.coupled).0 in
-      let heard = packets_front sent sums.got front.0 f.sound (sym asked ∙ front.1) in
-      subst (λ (xs : List ℕ). HasOneName (most_of settings) (obex_packets xs)) (sym d.got_is) (one_name_front (most_of settings) (obex_packets sums.got) heard.0 (subst (HasOneName (most_of settings)) heard.1 sent_once))
+  once_at place = let front = front_at place in one_name_front (most_of settings) (packets_over Rfcomm past) front.0 (subst (HasOneName (most_of settings)) front.1 sent_once)

@@ -1,5 +1,5 @@
 -- Push after push over RFCOMM, of clients that find the server's channel in its own answers.
-use Rattle.std.proofs.Common.{inl, inr, ◌⊎◌, ◌&&◌, ◌≡◌, ◌≤◌, ◌<◌, ◌^◌, ℕ, List, [], ◌∷◌, Some, None, refl, sym, ap, subst, ◌∙◌, arith}
+use Rattle.std.proofs.Common.{inl, inr, ◌⊎◌, ◌&&◌, ◌≡◌, ◌≤◌, ◌<◌, ◌^◌, ℕ, List, [], ◌∷◌, Some, None, refl, sym, ap, subst, ◌∙◌, arith, ◌++◌}
 use Rattle.std.specs.List.{AllByRecursion}
 use Rattle.bt_base.specs.Objects.{Object as Stored}
 use Rattle.bt_base.specs.declared.settings.Serves.{Serves}
@@ -20,16 +20,21 @@ use Rattle.push_laws.specs.Laws.{new_over}
 use Rattle.push_laws.specs.Occurrences.{Occurrence, done}
 use Rattle.push_laws.specs.OneName.{AllNamedOnce, PushedGainLess}
 use Rattle.push_laws.specs.Opening.{targets_heard}
-use Rattle.push_laws.specs.Parties.{Push, begun_of, client_side, over_pushes}
+use Rattle.push_laws.specs.Parties.{Push, begun_of, client_side, over_pushes, Move, OfServer, OfClient, of_client, IsFrontOf}
 use Rattle.push_laws.specs.Searches.{IsAsked, AllAreOwn, FindsWhatIsServed, IsMuxedClient, MayBePushed, NewClientsAreMuxed, MuxedClientsStay, IsPushedOver, ServesSo, AllServe, PushedAreHeard, PushedAreTaken}
 use Rattle.push_laws.specs.Sending.{MayPush}
 use Rattle.push_laws.specs.Premises.{AllGranted, NoneShort, AllMayFail}
+use Rattle.push_laws.specs.Spelled.{IsOnce, AreOnce, IsOfShelf, IsOfShelfOrStill, PushedSpellOnce}
+use Rattle.link_talk.specs.ObjectsHeard.{spelled_within}
+use Rattle.push_laws.proofs.Calm.{silent_stream}
+use Rattle.push_laws.proofs.Spelt.{all_spelt}
+use Rattle.push_laws.proofs.SpeltOnce.{stands_once, unsent_once}
 use Rattle.push_laws.proofs.Apart.{IsApart, pushes_none, serves_carried}
-use Rattle.push_laws.proofs.Carried.{pushes_are_heard, pushes_are_taken}
+use Rattle.push_laws.proofs.Carried.{pushes_are_heard, pushes_are_taken, pushes_taken}
 use Rattle.push_laws.proofs.Finding.{targets-are_served}
 use Rattle.push_laws.proofs.Losses.{named-once_gain_less}
 use Rattle.push_laws.proofs.Naming.{NamesNoOther, NameNoOther, stays_there}
-use Rattle.push_laws.proofs.Placing.{Pushes}
+use Rattle.push_laws.proofs.Placing.{Pushes, Fit, task_of}
 use Rattle.push_laws.proofs.Pushing.{Task, Fixed, Fresh}
 use Rattle.push_laws.proofs.Sending.{all_stand}
 use Rattle.push_laws.proofs.Staying.{multiplexers-stay}
@@ -112,7 +117,7 @@ taken : (settings : Settings) (before : List Stored) (pushes : List Push) (last 
     → AllMayFail settings [] (new_over settings before) (over_pushes pushes last) × AllNamedOnce settings Rfcomm [] (over_pushes pushes last)
 taken settings before pushes last all over serve =
     let f = found settings before pushes last all over (all_own NoneShort (new_over settings before) (over_pushes pushes last) serve) in
-    pushes_are_taken settings before pushes last (all_pushes settings pushes all f.0) (pushes_of settings last over f.1) (carried_of NoneShort settings before pushes last all over serve)
+    pushes_taken settings before pushes last (all_pushes settings pushes all f.0) (pushes_of settings last over f.1) (carried_of NoneShort settings before pushes last all over serve)
 
 pub pushed-are_taken : PushedAreTaken
 pushed-are_taken settings before pushes last all over serve = (taken settings before pushes last all over serve).0
@@ -121,6 +126,40 @@ pub pushed-gain_less : PushedGainLess
 pushed-gain_less settings before pushes last all over serve =
     let both = taken settings before pushes last all over serve in
     named-once_gain_less settings before Rfcomm (over_pushes pushes last) both.0 both.1
+
+-- ---- what is spelled of them
+
+module _ (settings : Settings) (shelf : List Stored) where
+  -- a push is of an object of the shelf, or nothing is left to its client, which sent nothing
+  abbrev Left : Push → List Move → List (List ℕ) → Type 0
+  Left push moves sent = ((client_side moves ≡ []) × (sent ≡ [])) ⊎ IsOfShelf shelf push.name push.size push.content
+
+  left_fewer : (push : Push) (move : Move) (moves : List Move) (sent : List (List ℕ)) → Left push (move ∷ moves) sent → (more : List (List ℕ)) → (of_client move ≡ [] → more ≡ []) → Left push moves (sent ++ more)
+  left_fewer push (OfServer one) moves sent (inl (still, unsent)) more none = inl (still, ap (λ (ps : List (List ℕ)). ps ++ more) unsent ∙ none refl)
+  left_fewer push (OfClient deed) moves sent (inl (still, unsent)) more none = absurd (let never : deed ∷ client_side moves ≡ [] = still in cc)
+  left_fewer push move moves sent (inr held) more none = inr held
+
+  left_once : (push : Push) (moves : List Move) (sent front : List (List ℕ)) (client : Client) → Fit (task_of push) sent client → Left push moves sent → IsFrontOf front sent → IsOnce shelf push.name (spelled_within (own_maximum Rfcomm settings) front)
+  left_once push moves sent front client fit (inl (still, unsent)) is = unsent_once (own_maximum Rfcomm settings) shelf push.name sent front unsent is
+  left_once push moves sent front client fit (inr held) is = stands_once (own_maximum Rfcomm settings) shelf (task_of push) sent front client (let high = settings.obex_high in omega (arith, high)) held fit.stands is
+
+  start_of : (push : Push) → IsOfShelfOrStill shelf push → Left push push.moves []
+  start_of push (inl still) = inl (still, refl)
+  start_of push (inr held) = inr held
+
+  starts_of : (pushes : List Push) (last : Push) → AllByRecursion (IsOfShelfOrStill shelf) (pushes ++ last ∷ []) → AllByRecursion (λ (push : Push). Left push push.moves []) pushes × Left last last.moves []
+  starts_of [] last held = (tt, start_of last held.0)
+  starts_of (push ∷ pushes) last held = let rest = starts_of pushes last held.1 in ((start_of push held.0, rest.0), rest.1)
+
+pub pushed-spell_once : PushedSpellOnce
+pushed-spell_once settings before shelf pushes last all over held serve =
+    let f = found settings before pushes last all over (all_own NoneShort (new_over settings before) (over_pushes pushes last) serve) in
+    let starts = starts_of settings shelf pushes last held in
+    let taken =
+    pushes_are_taken settings before (λ (push : Push). IsOnce shelf push.name) (Left settings shelf) (left_fewer settings shelf) (left_once settings shelf) pushes last (all_pushes settings pushes all f.0) (pushes_of settings last over f.1) starts.0 starts.1
+    (carried_of NoneShort settings before pushes last all over serve) in
+    let spelt = all_spelt settings Rfcomm shelf pushes last [] (silent_stream [] refl) refl taken.1 in
+    subst (AreOnce shelf (pushes ++ last ∷ [])) (sym spelt.spelled) spelt.once
 
 -- ---- such clients
 

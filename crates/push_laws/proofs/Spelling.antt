@@ -57,7 +57,7 @@ nothing_spelled n name size objects fits = fronts_are_pushed.part n [] [] [] nam
 all_taken : (xs : List (List ℕ)) → take (length xs) xs ≡ xs
 all_taken xs = ap (take (length xs)) (sym (append-nil xs)) ∙ take-append_seam xs []
 
-spells : (connect : List ℕ) (wanted : Bool) (name : List ℕ) (size : ℕ) (objects : List Object) (object : List ℕ) (cause : Option Outcome) (sent : List (List ℕ)) → IsNoPut connect → Fits name size → octets_of name objects ≡ Some object → length object ≡ size
+pub spells : (connect : List ℕ) (wanted : Bool) (name : List ℕ) (size : ℕ) (objects : List Object) (object : List ℕ) (cause : Option Outcome) (sent : List (List ℕ)) → IsNoPut connect → Fits name size → octets_of name objects ≡ Some object → length object ≡ size
     → IsSent connect wanted name size (Some objects) cause sent → SpellsOneObject name object cause sent
 spells connect wanted name size objects object cause sent first fits there len (inl none) = record {
   front = λ n. inl (ap (λ (xs : List (List ℕ)). spelled (take n xs)) none.0 ∙ nothing_spelled n name size objects fits);

@@ -20,3 +20,4 @@ pub mod Searches
 pub mod Cancelling
 pub mod Losing
 pub mod OneName
+pub mod Spelled

@@ -9,6 +9,7 @@ ghost use Rattle.push_laws.specs.Parties.{RequestsAreHeard, RequestsAreTaken, Re
 ghost use Rattle.push_laws.specs.Searches.{MuxedClientsStay, NewClientsAreMuxed, PushedAreHeard, PushedAreTaken, TargetsAreServed};
 ghost use Rattle.push_laws.specs.Losing.{PushesGainLess, PushesGainAll, NothingIsLeftOut};
 ghost use Rattle.push_laws.specs.OneName.{NamedOnceGainLess, NamedOnceTellEach, PushedGainLess, PushesTellEach};
+ghost use Rattle.push_laws.specs.Spelled.{PushesSpellOnce, PushedSpellOnce};
 ghost use Rattle.push_laws.specs.Turns.{NoRequestIsIgnored};
 
 /// From a new server on the inbox gains exactly the objects that the heard packets spell, over both transports and through
@@ -184,4 +185,11 @@ pub fn pushes_tell_each()
 /// So it is push after push over RFCOMM, whatever becomes of the pushes, under the premises under which it gains all where it grants all calls.
 pub fn pushed_gain_less()
     ensures { PushedGainLess }
+{}
+
+/// Of each push from a shelf that tells what it holds there is spelled to its server the object that the shelf holds under its name, whole and once, or
+/// nothing, push after push, whatever becomes of the pushes: over L2CAP whatever the inbox answers, and over RFCOMM where it does not lack memory.
+pub fn pushes_spell_once()
+    ensures direct { PushesSpellOnce }
+    ensures carried { PushedSpellOnce }
 {}

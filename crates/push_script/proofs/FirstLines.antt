@@ -5,7 +5,6 @@ use Rattle.std.specs.Str.{IsUtf8, is_utf8}
 use Rattle.std.specs.Str.Lossy.{utf8_valid_len}
 use Rattle.std.proofs.lemmas.Bool.{le-ltb}
 use Rattle.std.proofs.lemmas.Str.{is_utf8-from_IsUtf8, IsUtf8-from_is_utf8}
-use Rattle.push_script.specs.declared.feature.Feature.{Feature}
 use Rattle.push_script.specs.declared.scenario.Scenario.{Scenario}
 use Rattle.push_script.specs.declared.refusal.ScriptFault.{ScriptFault}
 use Rattle.push_script.specs.declared.refusal.ScriptFault.TheVariants as ends
@@ -57,18 +56,18 @@ pub rest_shorter : (s rest : List ℕ) → rest ≡ after_first is_feed s → po
 rest_shorter s rest er h = rw er (after_shorter s h)
 
 -- a text that is short enough and UTF-8 is read line by line
-pub reads_lines : (missing : List Feature) (text same : List ℕ) (r : Result Scenario ScriptFault) → length text ≤ 1048576 → same ≡ text → IsUtf8 text → Reads r (lines_read missing 1 (Ok no_draft) (lines same)) → Reads r (reading missing text)
+pub reads_lines : (text same : List ℕ) (r : Result Scenario ScriptFault) → length text ≤ 1048576 → same ≡ text → IsUtf8 text → Reads r (lines_read 1 (Ok no_draft) (lines same)) → Reads r (reading text)
 unfolding reading
-reads_lines missing text same r short e utf8 reads =
+reads_lines text same r short e utf8 reads =
     let fits : ltb 1048576 (length text) ≡ false = le-ltb _ _ short in
     let is : is_utf8 text ≡ true = is_utf8-from_IsUtf8 text utf8 in
-    let there : Reads r (lines_read missing 1 (Ok no_draft) (lines text)) = subst (λ (t : List ℕ). Reads r (lines_read missing 1 (Ok no_draft) (lines t))) e reads in
+    let there : Reads r (lines_read 1 (Ok no_draft) (lines text)) = subst (λ (t : List ℕ). Reads r (lines_read 1 (Ok no_draft) (lines t))) e reads in
     rw (fits, is) there
 
 -- a text that is no UTF-8 is refused at the line of its first bad octet
-pub reads_bad : (missing : List Feature) (text front : List ℕ) (n line : ℕ) → length text ≤ 1048576 → (IsUtf8 text → ⊥) → n ≡ utf8_valid_len text → front ≡ take n text → line ≡ count_by is_feed front + 1 → Reads (Err (ends.Refused line NotUtf8)) (reading missing text)
+pub reads_bad : (text front : List ℕ) (n line : ℕ) → length text ≤ 1048576 → (IsUtf8 text → ⊥) → n ≡ utf8_valid_len text → front ≡ take n text → line ≡ count_by is_feed front + 1 → Reads (Err (ends.Refused line NotUtf8)) (reading text)
 unfolding reading
-reads_bad missing text front n line short bad en ef el =
+reads_bad text front n line short bad en ef el =
     let fits : ltb 1048576 (length text) ≡ false = le-ltb _ _ short in
     let is : is_utf8 text ≡ false = elim (either (is_utf8 text)) [ inl t ↦ absurd (bad (IsUtf8-from_is_utf8 text t)) | inr f ↦ f ] in
     rw (fits, is, el, ef, en) refl

@@ -1,5 +1,5 @@
 -- The lines that state keys are read again as they were written.
-use Rattle.std.proofs.Common.{◌≡◌, ℕ, ◌^◌, ◌<◌, ◌≤◌, Bool, true, false, not, List, [], ◌∷◌, ◌++◌, length, Some, Ok, refl, ap, ◌∙◌, arith}
+use Rattle.std.proofs.Common.{◌≡◌, ℕ, ◌^◌, ◌<◌, ◌≤◌, Bool, true, false, List, [], ◌∷◌, ◌++◌, length, Some, Ok, refl, ap, ◌∙◌, arith}
 use Rattle.std.specs.Prelude.{codes, nat_lt, ◌==◌, decimal}
 use Rattle.std.specs.List.{list_all, list_any}
 use Rattle.std.specs.Str.{bytes_eq}
@@ -8,39 +8,37 @@ use Rattle.bt_base.specs.declared.settings.Transport.{Transport}
 use Rattle.bt_base.specs.declared.settings.Transport.TheVariants as transports
 use Rattle.bt_base.specs.declared.settings.Serves.{Serves}
 use Rattle.bt_base.specs.declared.settings.Serves.TheVariants as services
-use Rattle.push_script.specs.declared.feature.Feature.{Feature}
 use Rattle.push_script.specs.declared.stated.Key.{Key}
 use Rattle.push_script.specs.declared.stated.Key.TheVariants as keyed
 use Rattle.push_script.specs.Names.{IsName, ends_name, utf16_length}
 use Rattle.push_script.specs.Stated.{Stated, Known}
 use Rattle.push_script.specs.Scenarios.{transport_text, serves_text, switch_text}
 use Rattle.push_script.specs.Parts.{first_word, rest_of, number_of, pair_of}
-use Rattle.push_script.specs.Features.{built, asked}
-use Rattle.push_script.specs.Keys.{key_of, lowest, highest, default_number, is_l2cap, is_both, number_stated, acl_stated, transport_stated, serves_stated, switch_stated}
+use Rattle.push_script.specs.Keys.{key_of, lowest, highest, number_stated, acl_stated, transport_stated, serves_stated, switch_stated}
 use Rattle.push_script.specs.Reading.{name_stated, with_value, key_line_read, is_ignored, line_read}
 use Rattle.push_script.proofs.Numbers.{numbers_again, graphic_number}
 use Rattle.push_script.proofs.Splitting.{is_graphic, without_blank, word_again, rest_again}
 use Rattle.push_script.proofs.WordsAgain.{within_again}
 
-pub number_again : (missing : List Feature) (key : Key) (n : ℕ) → lowest key ≤ n → n ≤ highest key → n < 10 ^ 10 → built missing (asked key (n == default_number key)) ≡ Ok tt → number_stated missing key false (decimal n) ≡ Ok n
+pub number_again : (key : Key) (n : ℕ) → lowest key ≤ n → n ≤ highest key → n < 10 ^ 10 → number_stated key false (decimal n) ≡ Ok n
 unfolding number_stated
-number_again missing key n low high small there = rw (numbers_again n small, within_again (lowest key) (highest key) n low high, there) refl
+number_again key n low high small = rw (numbers_again n small, within_again (lowest key) (highest key) n low high) refl
 
-pub transport_again : (missing : List Feature) (t : Transport) → built missing (asked keyed.Transport (is_l2cap t)) ≡ Ok tt → transport_stated missing false (transport_text t) ≡ Ok t
+pub transport_again : (t : Transport) → transport_stated false (transport_text t) ≡ Ok t
 unfolding transport_stated
-transport_again missing transports.L2cap there = refl
-transport_again missing transports.Rfcomm there = rw there refl
+transport_again transports.L2cap = refl
+transport_again transports.Rfcomm = refl
 
-pub serves_again : (missing : List Feature) (s : Serves) → built missing (asked keyed.Serves (is_both s)) ≡ Ok tt → serves_stated missing false (serves_text s) ≡ Ok s
+pub serves_again : (s : Serves) → serves_stated false (serves_text s) ≡ Ok s
 unfolding serves_stated
-serves_again missing services.Both there = refl
-serves_again missing services.L2cap there = rw there refl
-serves_again missing services.Rfcomm there = rw there refl
+serves_again services.Both = refl
+serves_again services.L2cap = refl
+serves_again services.Rfcomm = refl
 
-pub switch_again : (missing : List Feature) (on : Bool) → built missing (asked keyed.Srm (not on)) ≡ Ok tt → switch_stated missing false (switch_text on) ≡ Ok on
+pub switch_again : (on : Bool) → switch_stated false (switch_text on) ≡ Ok on
 unfolding switch_stated
-switch_again missing true there = rw there refl
-switch_again missing false there = refl
+switch_again true = refl
+switch_again false = refl
 
 pair_from : (text rest : List ℕ) (a b : ℕ) → number_of (first_word text) ≡ Some a → rest_of text ≡ Some rest → number_of rest ≡ Some b → pair_of text ≡ Some (a, b)
 pair_from text rest a b e1 e2 e3 = rw (e1, e2, e3) refl
@@ -64,29 +62,29 @@ acl_again a b a1 a2 b1 b2 = acl_from _ a b (pair_again a b (omega arith) (omega 
 abbrev pub named : Stated → List (List ℕ) → Known
 named keys names = record { keys = keys; names = names; radio = false; runs = [] }
 
-key_from : (missing : List Feature) (keys : Stated) (names : List (List ℕ)) (draft : Known) (line value : List ℕ) (key : Key) → is_ignored line ≡ false → bytes_eq line (codes "radio") ≡ false → key_of (first_word line) ≡ Some key → rest_of line ≡ Some value → with_value missing (named keys names) key value ≡ Ok draft
-    → line_read missing (named keys names) line ≡ Ok draft
+key_from : (keys : Stated) (names : List (List ℕ)) (draft : Known) (line value : List ℕ) (key : Key) → is_ignored line ≡ false → bytes_eq line (codes "radio") ≡ false → key_of (first_word line) ≡ Some key → rest_of line ≡ Some value → with_value (named keys names) key value ≡ Ok draft
+    → line_read (named keys names) line ≡ Ok draft
 unfolding line_read key_line_read
-key_from missing keys names draft line value key e1 e2 e3 e4 e5 = rw (e1, e2, e3, e4, e5) refl
+key_from keys names draft line value key e1 e2 e3 e4 e5 = rw (e1, e2, e3, e4, e5) refl
 
 -- a line of a key and its value, which is neither ignored nor the line `radio`
-pub key_line_again : (missing : List Feature) (keys : Stated) (names : List (List ℕ)) (draft : Known) (word value : List ℕ) (key : Key) → list_all is_graphic word ≡ true → key_of word ≡ Some key → is_ignored (word ++ 32 ∷ value) ≡ false → bytes_eq (word ++ 32 ∷ value) (codes "radio") ≡ false → with_value missing (named keys names) key value ≡ Ok draft
-    → line_read missing (named keys names) (word ++ 32 ∷ value) ≡ Ok draft
-key_line_again missing keys names draft word value key seen is other radio valued =
+pub key_line_again : (keys : Stated) (names : List (List ℕ)) (draft : Known) (word value : List ℕ) (key : Key) → list_all is_graphic word ≡ true → key_of word ≡ Some key → is_ignored (word ++ 32 ∷ value) ≡ false → bytes_eq (word ++ 32 ∷ value) (codes "radio") ≡ false → with_value (named keys names) key value ≡ Ok draft
+    → line_read (named keys names) (word ++ 32 ∷ value) ≡ Ok draft
+key_line_again keys names draft word value key seen is other radio valued =
     let plain = without_blank word seen in
-    key_from missing keys names draft (word ++ 32 ∷ value) value key other radio (ap key_of (word_again word value plain) ∙ is) (rest_again word value plain) valued
+    key_from keys names draft (word ++ 32 ∷ value) value key other radio (ap key_of (word_again word value plain) ∙ is) (rest_again word value plain) valued
 
-name_from : (missing : List Feature) (count : ℕ) (name : List ℕ) → IsName name → count < 64 → built missing (asked keyed.Object (count == 0)) ≡ Ok tt → name_stated missing count name ≡ Ok tt
+name_from : (count : ℕ) (name : List ℕ) → IsName name → count < 64 → name_stated count name ≡ Ok tt
 unfolding name_stated
-name_from missing count name is few there =
+name_from count name is few =
     let line : list_any ends_name name ≡ false = is.line in
     let more : nat_lt 63 count ≡ false = le-ltb 63 count (omega arith) in
     let some : (utf16_length name == 0) ≡ false = ne_eqb _ 0 (λ e. omega (arith, is.some)) in
     let short : nat_lt 100 (utf16_length name) ≡ false = le-ltb 100 _ is.few in
-    rw (line, more, some, short) there
+    rw (line, more, some, short) refl
 
 -- the line of an object
-pub name_again : (missing : List Feature) (keys : Stated) (past : List (List ℕ)) (name : List ℕ) → IsName name → length past < 64 → built missing (asked keyed.Object (length past == 0)) ≡ Ok tt → line_read missing (named keys past) (codes "object" ++ 32 ∷ name) ≡ Ok (named keys (past ++ name ∷ []))
-name_again missing keys past name is few there =
-    let judged : name_stated missing (length past) name ≡ Ok tt = name_from missing (length past) name is few there in
-    key_line_again missing keys past (named keys (past ++ name ∷ [])) (codes "object") name keyed.Object refl refl refl refl (rw judged refl)
+pub name_again : (keys : Stated) (past : List (List ℕ)) (name : List ℕ) → IsName name → length past < 64 → line_read (named keys past) (codes "object" ++ 32 ∷ name) ≡ Ok (named keys (past ++ name ∷ []))
+name_again keys past name is few =
+    let judged : name_stated (length past) name ≡ Ok tt = name_from (length past) name is few in
+    key_line_again keys past (named keys (past ++ name ∷ [])) (codes "object") name keyed.Object refl refl refl refl (rw judged refl)

@@ -11,7 +11,5 @@ pub mod Lengths
 pub mod KeysAgain
 pub mod TextLines
 pub mod Again
+pub mod FewWords
 pub mod Making
-pub mod Defaults
-pub mod OneName
-pub mod PlainWords

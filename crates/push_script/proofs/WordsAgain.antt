@@ -5,7 +5,6 @@ use Rattle.std.specs.List.{list_all}
 use Rattle.std.proofs.lemmas.Bool.{le-ltb, lt-ltb, le-leb, lt-leb, ne_eqb, cases_lt}
 use Rattle.bt_base.specs.declared.settings.Transport.{Transport}
 use Rattle.bt_base.specs.declared.settings.Transport.TheVariants as transports
-use Rattle.push_script.specs.declared.feature.Feature.{Feature}
 use Rattle.push_terms.specs.declared.word.Way.{Way}
 use Rattle.push_terms.specs.declared.word.Way.TheVariants.{Ab, Ba}
 use Rattle.push_terms.specs.declared.word.Side.TheVariants as sides
@@ -16,7 +15,6 @@ use Rattle.push_script.specs.declared.radio.Said.TheVariants as said
 use Rattle.push_terms.specs.Words.{hex_digit, hex_word, way_text, word_text}
 use Rattle.push_script.specs.Runs.{IsWord, IsRun, IsBorne}
 use Rattle.push_script.specs.Parts.{first_word, rest_of, number_of, way_of, mask_of, hex_value}
-use Rattle.push_script.specs.Features.{built, word_feature}
 use Rattle.push_script.specs.Keys.{within}
 use Rattle.push_script.specs.Radio.{damage_said, cut_said, long_said, said_of, word_within, count_within, lossless, run_of}
 use Rattle.push_script.proofs.Numbers.{numbers_again, graphic_number}
@@ -155,24 +153,23 @@ lossless_again (Some transports.Rfcomm) count word h = rw h refl
 lossless_again (Some transports.L2cap) count word h = refl
 lossless_again None count word h = refl
 
-run_from : (missing : List Feature) (transport : Option Transport) (line text : List ℕ) (n : ℕ) (s : Said) (count : ℕ) (word : Word) → rest_of line ≡ Some text → number_of (first_word line) ≡ Some n → said_of text ≡ Some s → count_within n ≡ Ok count → word_within s ≡ Ok word → lossless transport word ≡ Ok tt → built missing (word_feature word) ≡ Ok tt
-    → run_of missing transport line ≡ Ok (count, word)
+run_from : (transport : Option Transport) (line text : List ℕ) (n : ℕ) (s : Said) (count : ℕ) (word : Word) → rest_of line ≡ Some text → number_of (first_word line) ≡ Some n → said_of text ≡ Some s → count_within n ≡ Ok count → word_within s ≡ Ok word → lossless transport word ≡ Ok tt
+    → run_of transport line ≡ Ok (count, word)
 unfolding run_of
-run_from missing transport line text n s count word e1 e2 e3 e4 e5 e6 e7 = rw (e1, e2, e3, e4, e5, e6, e7) refl
+run_from transport line text n s count word e1 e2 e3 e4 e5 e6 = rw (e1, e2, e3, e4, e5, e6) refl
 
 -- a run of a word is read again
-pub run_again : (missing : List Feature) (transport : Option Transport) (count : ℕ) (word : Word) → IsRun (count, word) → IsBorne transport (count, word) → built missing (word_feature word) ≡ Ok tt → run_of missing transport (decimal count ++ 32 ∷ word_text word) ≡ Ok (count, word)
-run_again missing transport count word is borne there =
+pub run_again : (transport : Option Transport) (count : ℕ) (word : Word) → IsRun (count, word) → IsBorne transport (count, word) → run_of transport (decimal count ++ 32 ∷ word_text word) ≡ Ok (count, word)
+run_again transport count word is borne =
     let small : count < 4294967296 = is.1 in
     let digits : list_all is_graphic (decimal count) ≡ true = graphic_number count (omega arith) in
-    run_from missing transport _ (word_text word) count (said_by word) count word
+    run_from transport _ (word_text word) count (said_by word) count word
     (rest_again (decimal count) (word_text word) (without_blank (decimal count) digits))
     (first_is (decimal count) _ number_of (Some count) digits (numbers_again count (omega arith)))
     (said_again word is.2)
     (count_again count is.0 small)
     (word_again_within word is.2)
     (lossless_again transport count word borne)
-    there
 
 way_printable : (way : Way) → list_all is_printable (way_text way) ≡ true
 way_printable way = seen (way_text way) (way_graphic way)

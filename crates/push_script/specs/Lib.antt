@@ -4,7 +4,6 @@ pub mod Scenarios
 pub mod Reports
 pub mod Parts
 pub mod Stated
-pub mod Features
 pub mod Keys
 pub mod Radio
 pub mod Said

@@ -5,14 +5,12 @@ use Rattle.bt_base.specs.declared.settings.Transport.{Transport}
 use Rattle.bt_base.specs.declared.settings.Transport.TheVariants as transports
 use Rattle.push_script.specs.declared.refusal.ScriptRefusal.{ScriptRefusal}
 use Rattle.push_script.specs.declared.refusal.ScriptRefusal.TheVariants.{BadLine, OutOfRange, LossyRfcomm}
-use Rattle.push_script.specs.declared.feature.Feature.{Feature}
 use Rattle.push_terms.specs.declared.word.Word.{Word}
 use Rattle.push_terms.specs.declared.word.Word.TheVariants as words
 use Rattle.push_script.specs.declared.radio.Said.{Said}
 use Rattle.push_script.specs.declared.radio.Said.TheVariants.{Pass, Lose, Repeat, Damage, Cut, Timer, Drop, Cancel}
 use Rattle.push_script.specs.Parts.{and_then, first_word, rest_of, number_of, way_of, side_of, mask_of}
 use Rattle.push_script.specs.Runs.{is_lossy}
-use Rattle.push_script.specs.Features.{word_feature, built}
 use Rattle.push_script.specs.Keys.{◌>>=◌, or_refusal, within}
 
 -- a direction, a number and a mask behind `damage`
@@ -77,15 +75,13 @@ abbrev pub lossless : Option Transport → Word → Result (Unit {0}) ScriptRefu
 lossless (Some transports.Rfcomm) word = cond (is_lossy word) (Err LossyRfcomm) (Ok tt)
 lossless _ word = Ok tt
 
--- The run that a line says: its shape is judged first, then the ranges, then whether the transport bears the word,
--- and last whether the stack has what the word asks for.
-unfoldable pub run_of : List Feature → Option Transport → List ℕ → Result (ℕ × Word) ScriptRefusal
-run_of missing transport line = do
+-- The run that a line says: its shape is judged first, then the ranges, and last whether the transport bears the word.
+unfoldable pub run_of : Option Transport → List ℕ → Result (ℕ × Word) ScriptRefusal
+run_of transport line = do
   text ← or_refusal BadLine (rest_of line)
   count ← or_refusal BadLine (number_of (first_word line))
   said ← or_refusal BadLine (said_of text)
   count ← count_within count
   word ← word_within said
   whole ← lossless transport word
-  there ← built missing (word_feature word)
   Ok (count, word)

@@ -15,13 +15,11 @@ use Rattle.push_script.specs.declared.refusal.ScriptFault.{ScriptFault}
 use Rattle.push_script.specs.declared.refusal.ScriptFault.TheVariants as ends
 use Rattle.push_script.specs.declared.stated.Key.{Key}
 use Rattle.push_script.specs.declared.stated.Key.TheVariants as keyed
-use Rattle.push_script.specs.declared.feature.Feature.{Feature}
 use Rattle.push_script.specs.declared.scenario.Scenario.{Scenario}
 use Rattle.push_terms.specs.declared.word.Word.{Word}
 use Rattle.push_script.specs.Names.{ends_name, utf16_length}
 use Rattle.push_script.specs.Stated.{Stated, Known}
 use Rattle.push_script.specs.Parts.{first_word, rest_of}
-use Rattle.push_script.specs.Features.{asked, built}
 use Rattle.push_script.specs.Keys.{◌>>=◌, or_refusal, default_number, key_of, with_key}
 use Rattle.push_script.specs.Radio.{run_of}
 
@@ -70,26 +68,24 @@ abbrev pub lines : List ℕ → List (List ℕ)
 lines [] = []
 lines (octet ∷ more) = cond (is_feed octet) ([] ∷ lines more) (in_front octet (lines more))
 
--- The line of an object: its name is judged, in this order, for a NUL, for one object too many, for its length, and
--- for whether the stack has a second object.
-unfoldable pub name_stated : List Feature → ℕ → List ℕ → Result (Unit {0}) ScriptRefusal
-name_stated missing count name =
+-- The line of an object: its name is judged, in this order, for a NUL, for one object too many, and for its length.
+unfoldable pub name_stated : ℕ → List ℕ → Result (Unit {0}) ScriptRefusal
+name_stated count name =
     cond (list_any ends_name name) (Err BadLine) (
     cond (nat_lt 63 count) (Err TooManyObjects) (
     cond (utf16_length name == 0) (Err OutOfRange) (
-    cond (nat_lt 100 (utf16_length name)) (Err OutOfRange) (
-    built missing (asked keyed.Object (count == 0))))))
+    cond (nat_lt 100 (utf16_length name)) (Err OutOfRange) (Ok tt))))
 
-abbrev pub with_value : List Feature → Known → Key → List ℕ → Result Known ScriptRefusal
-with_value missing draft keyed.Object value = name_stated missing (length draft.names) value >>= λ fits. Ok (record draft { names = draft.names ++ value ∷ [] })
-with_value missing draft key value = with_key missing draft.keys key value >>= λ keys. Ok (record draft { keys = keys })
+abbrev pub with_value : Known → Key → List ℕ → Result Known ScriptRefusal
+with_value draft keyed.Object value = name_stated (length draft.names) value >>= λ fits. Ok (record draft { names = draft.names ++ value ∷ [] })
+with_value draft key value = with_key draft.keys key value >>= λ keys. Ok (record draft { keys = keys })
 
 -- a line that states a key
-unfoldable pub key_line_read : List Feature → Known → List ℕ → Result Known ScriptRefusal
-key_line_read missing draft line = do
+unfoldable pub key_line_read : Known → List ℕ → Result Known ScriptRefusal
+key_line_read draft line = do
   key ← or_refusal UnknownKey (key_of (first_word line))
   value ← or_refusal BadLine (rest_of line)
-  with_value missing draft key value
+  with_value draft key value
 
 -- the keys are whole: there is a transport, and an object
 abbrev pub whole : Known → Result Transport ScriptRefusal
@@ -100,8 +96,8 @@ unfoldable pub radio_begun : Known → Result Known ScriptRefusal
 radio_begun draft = whole draft >>= λ transport. Ok (record draft { radio = true })
 
 -- a line of the radio script
-unfoldable pub run_read : List Feature → Known → List ℕ → Result Known ScriptRefusal
-run_read missing draft line = run_of missing draft.keys.transport line >>= λ run. Ok (record draft { runs = draft.runs ++ run ∷ [] })
+unfoldable pub run_read : Known → List ℕ → Result Known ScriptRefusal
+run_read draft line = run_of draft.keys.transport line >>= λ run. Ok (record draft { runs = draft.runs ++ run ∷ [] })
 
 -- the line is empty, or a comment
 abbrev pub is_ignored : List ℕ → Bool
@@ -109,12 +105,12 @@ is_ignored [] = true
 is_ignored (first ∷ more) = first == 35
 
 -- a line of a scenario
-unfoldable pub line_read : List Feature → Known → List ℕ → Result Known ScriptRefusal
-line_read missing draft line =
+unfoldable pub line_read : Known → List ℕ → Result Known ScriptRefusal
+line_read draft line =
     cond (is_ignored line) (Ok draft) (
-    cond draft.radio (run_read missing draft line) (
+    cond draft.radio (run_read draft line) (
     cond (bytes_eq line (codes "radio")) (radio_begun draft) (
-    key_line_read missing draft line)))
+    key_line_read draft line)))
 
 -- a refusal with its line
 abbrev pub at_line : {A : Type 0} → ℕ → Result A ScriptRefusal → Result A (ℕ × ScriptRefusal)
@@ -160,10 +156,10 @@ unfoldable pub finished : Known → Result Script ScriptRefusal
 finished draft = whole draft >>= λ transport. Ok (with_defaults transport draft)
 
 -- The lines from that number on, read one after the other, and then the end, which stands behind the last line.
-abbrev pub lines_read : List Feature → ℕ → Result Known (ℕ × ScriptRefusal) → List (List ℕ) → Result Script (ℕ × ScriptRefusal)
-lines_read missing number (Err refused) lines = Err refused
-lines_read missing number (Ok draft) [] = at_line number (finished draft)
-lines_read missing number (Ok draft) (line ∷ more) = lines_read missing (number + 1) (at_line number (line_read missing draft line)) more
+abbrev pub lines_read : ℕ → Result Known (ℕ × ScriptRefusal) → List (List ℕ) → Result Script (ℕ × ScriptRefusal)
+lines_read number (Err refused) lines = Err refused
+lines_read number (Ok draft) [] = at_line number (finished draft)
+lines_read number (Ok draft) (line ∷ more) = lines_read (number + 1) (at_line number (line_read draft line)) more
 
 -- nothing was read yet
 abbrev pub no_draft : Known
@@ -178,12 +174,12 @@ no_draft = record {
 abbrev pub text_limit : ℕ
 text_limit = 1048576
 
--- What a text is read as by a stack that lacks these features: it is judged for its length first, then as UTF-8, and
--- then line by line. A text that is not UTF-8 is refused at the line of the first octet that is none.
-unfoldable pub reading : List Feature → List ℕ → Result Script (ℕ × ScriptRefusal)
-reading missing text =
+-- What a text is read as: it is judged for its length first, then as UTF-8, and then line by line. A text that is not
+-- UTF-8 is refused at the line of the first octet that is none.
+unfoldable pub reading : List ℕ → Result Script (ℕ × ScriptRefusal)
+reading text =
     cond (nat_lt text_limit (length text)) (Err (0, TooLong)) (
-    cond (is_utf8 text) (lines_read missing 1 (Ok no_draft) (lines text))
+    cond (is_utf8 text) (lines_read 1 (Ok no_draft) (lines text))
     (Err (count_by is_feed (take (utf8_valid_len text) text) + 1, NotUtf8)))
 
 -- what a function answered, unless memory ran out

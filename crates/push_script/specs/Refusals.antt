@@ -2,7 +2,7 @@
 use Rattle.std.specs.Prelude.{ℕ, ◌+◌, ◌==◌, Bool, List, ◌++◌, codes, decimal}
 use Rattle.std.specs.List.{position_or_len, starts_with}
 use Rattle.push_script.specs.declared.refusal.ScriptRefusal.{ScriptRefusal}
-use Rattle.push_script.specs.declared.refusal.ScriptRefusal.TheVariants.{BadLine, UnknownKey, Repeated, OutOfRange, NoTransport, NoObject, TooManyObjects, LossyRfcomm, NotUtf8, TooLong, NotBuilt}
+use Rattle.push_script.specs.declared.refusal.ScriptRefusal.TheVariants.{BadLine, UnknownKey, Repeated, OutOfRange, NoTransport, NoObject, TooManyObjects, LossyRfcomm, NotUtf8, TooLong}
 use Rattle.push_script.specs.Reading.{lines}
 
 -- the name of a refusal
@@ -17,7 +17,6 @@ refusal_name TooManyObjects = codes "TooManyObjects"
 refusal_name LossyRfcomm = codes "LossyRfcomm"
 refusal_name NotUtf8 = codes "NotUtf8"
 refusal_name TooLong = codes "TooLong"
-refusal_name NotBuilt = codes "NotBuilt"
 
 -- the number of the refused line and the name of its refusal
 abbrev pub refusal_line : ℕ → ScriptRefusal → List ℕ

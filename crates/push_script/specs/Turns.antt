@@ -1,9 +1,7 @@
 -- How many words a clean script is given (this project's own).
-use Rattle.std.specs.Prelude.{ℕ, ◌≡◌, ◌+◌, ◌*◌, List, [], ◌∷◌, length, Option, Some, None}
-use Rattle.std.specs.List.{AllByRecursion}
+use Rattle.std.specs.Prelude.{ℕ, ◌+◌, ◌*◌, List, [], ◌∷◌, length, Option, Some, None}
 use Rattle.bt_base.specs.Objects.{Object, octets_of}
 use Rattle.push_terms.specs.declared.word.Word.{Word}
-use Rattle.push_terms.specs.declared.word.Word.TheVariants.{Pass}
 
 -- the length of an object; one that the shelf lacks counts as empty
 abbrev pub length_of : Option (List ℕ) → ℕ
@@ -18,10 +16,6 @@ object_turns shelf (name ∷ names) = (200 + 8 * length_of (octets_of name shelf
 -- the number of words `pass` that a clean script is given for objects of these names on this shelf
 abbrev pub turns : List Object → List (List ℕ) → ℕ
 turns shelf names = 1000 + object_turns shelf names
-
--- a script is clean where all its words are `pass`
-abbrev pub IsClean : List (ℕ × Word) → Type 0
-IsClean runs = AllByRecursion (λ (run : ℕ × Word). run.1 ≡ Pass) runs
 
 -- how many words a script has
 abbrev pub word_count : List (ℕ × Word) → ℕ

@@ -2,10 +2,9 @@
 
 ghost use Rattle.std.specs.Prelude.{◌≡◌, ◌≤◌, ◌<◌, Option, Bool, None, IfOk, IfSome, is_some};
 ghost use Rattle.std.specs.Option.{option_map};
-ghost use Rattle.push_script.specs.Keys.{key_of, late_key_of, lowest, highest, default_number, is_l2cap, is_both, unless_stated, within, number_stated, acl_stated, transport_stated, serves_stated, switch_stated, with_key};
+ghost use Rattle.push_script.specs.Keys.{key_of, late_key_of, lowest, highest, unless_stated, within, number_stated, acl_stated, transport_stated, serves_stated, switch_stated, with_key};
 ghost use Rattle.push_script.specs.Stated.{IsBetween};
 
-use crate::feature::{Feature, asked, built};
 use crate::parts::{number_of, pair_of, serves_of, switch_of, transport_of};
 use crate::refusal::ScriptRefusal;
 use crate::stated::{Key, Keys};
@@ -78,31 +77,6 @@ fn highest(key: Key) -> u16
     }
 }
 
-/// The number of a key that no line states.
-fn default_number(key: Key) -> u16
-    ensures { result ≡ default_number key }
-{
-    match key {
-        Key::Mps => 1010,
-        Key::Window => 10,
-        Key::Tries => 4,
-        Key::Credits => 7,
-        _ => 1024,
-    }
-}
-
-fn is_l2cap(transport: Transport) -> bool
-    ensures { result ≡ is_l2cap transport }
-{
-    matches!(transport, Transport::L2cap)
-}
-
-fn is_both(serves: Serves) -> bool
-    ensures { result ≡ is_both serves }
-{
-    matches!(serves, Serves::Both)
-}
-
 /// `Repeated` where a key was stated before.
 fn unless_stated(stated: bool) -> Result<(), ScriptRefusal>
     ensures { result ≡ unless_stated stated }
@@ -127,13 +101,8 @@ pub(crate) fn within(low: u16, high: u16, number: u64) -> Result<u16, ScriptRefu
 
 /// What a line states a number to be.
 #[tactic(auto, unfolding(crate::specs::Keys::number_stated))]
-fn number_stated(
-    missing: &[Feature],
-    key: Key,
-    stated: bool,
-    value: &str,
-) -> Result<u16, ScriptRefusal>
-    ensures value { result ≡ number_stated missing.now key stated value.now }
+fn number_stated(key: Key, stated: bool, value: &str) -> Result<u16, ScriptRefusal>
+    ensures value { result ≡ number_stated key stated value.now }
     ensures range { IfOk result (λ n. IsBetween (lowest key) (highest key) n) }
 {
     let Some(number) = number_of(value) else {
@@ -141,7 +110,6 @@ fn number_stated(
     };
     unless_stated(stated)?;
     let number = within(lowest(key), highest(key), number)?;
-    built(missing, asked(key, number == default_number(key)))?;
     Ok(number)
 }
 
@@ -162,84 +130,58 @@ fn acl_stated(stated: bool, value: &str) -> Result<(u16, u16), ScriptRefusal>
 
 /// What a line states the transport to be.
 #[tactic(auto, unfolding(crate::specs::Keys::transport_stated))]
-fn transport_stated(
-    missing: &[Feature],
-    stated: bool,
-    value: &str,
-) -> Result<Transport, ScriptRefusal>
-    ensures { result ≡ transport_stated missing.now stated value.now }
+fn transport_stated(stated: bool, value: &str) -> Result<Transport, ScriptRefusal>
+    ensures { result ≡ transport_stated stated value.now }
 {
     let Some(transport) = transport_of(value) else {
         return Err(ScriptRefusal::BadLine);
     };
     unless_stated(stated)?;
-    built(missing, asked(Key::Transport, is_l2cap(transport)))?;
     Ok(transport)
 }
 
 /// What a line states the offered transports to be.
 #[tactic(auto, unfolding(crate::specs::Keys::serves_stated))]
-fn serves_stated(missing: &[Feature], stated: bool, value: &str) -> Result<Serves, ScriptRefusal>
-    ensures { result ≡ serves_stated missing.now stated value.now }
+fn serves_stated(stated: bool, value: &str) -> Result<Serves, ScriptRefusal>
+    ensures { result ≡ serves_stated stated value.now }
 {
     let Some(serves) = serves_of(value) else {
         return Err(ScriptRefusal::BadLine);
     };
     unless_stated(stated)?;
-    built(missing, asked(Key::Serves, is_both(serves)))?;
     Ok(serves)
 }
 
 /// What a line states single response mode to be.
 #[tactic(auto, unfolding(crate::specs::Keys::switch_stated))]
-fn switch_stated(missing: &[Feature], stated: bool, value: &str) -> Result<bool, ScriptRefusal>
-    ensures { result ≡ switch_stated missing.now stated value.now }
+fn switch_stated(stated: bool, value: &str) -> Result<bool, ScriptRefusal>
+    ensures { result ≡ switch_stated stated value.now }
 {
     let Some(on) = switch_of(value) else {
         return Err(ScriptRefusal::BadLine);
     };
     unless_stated(stated)?;
-    built(missing, asked(Key::Srm, !on))?;
     Ok(on)
 }
 
 /// The keys with one that is stated by a line; `object` is none of them.
 #[tactic(auto, unfolding(crate::specs::Keys::with_key))]
-pub(crate) fn with_key(
-    missing: &[Feature],
-    keys: Keys,
-    key: Key,
-    value: &str,
-) -> Result<Keys, ScriptRefusal>
-    ensures { result ≡ with_key missing.now keys key value.now }
+pub(crate) fn with_key(keys: Keys, key: Key, value: &str) -> Result<Keys, ScriptRefusal>
+    ensures { result ≡ with_key keys key value.now }
 {
     let mut keys = keys;
     match key {
-        Key::Transport => keys.transport = Some(transport_stated(
-            missing,
-            keys.transport.is_some(),
-            value,
-        )?),
-        Key::Serves => keys.serves = Some(serves_stated(missing, keys.serves.is_some(), value)?),
+        Key::Transport => keys.transport = Some(transport_stated(keys.transport.is_some(), value)?),
+        Key::Serves => keys.serves = Some(serves_stated(keys.serves.is_some(), value)?),
         Key::Acl => keys.acl = Some(acl_stated(keys.acl.is_some(), value)?),
-        Key::Chunk => keys.chunk = Some(number_stated(missing, key, keys.chunk.is_some(), value)?),
-        Key::Mtu => keys.mtu = Some(number_stated(missing, key, keys.mtu.is_some(), value)?),
-        Key::Mps => keys.mps = Some(number_stated(missing, key, keys.mps.is_some(), value)?),
-        Key::Window => keys.window = Some(number_stated(
-            missing,
-            key,
-            keys.window.is_some(),
-            value,
-        )?),
-        Key::Tries => keys.tries = Some(number_stated(missing, key, keys.tries.is_some(), value)?),
-        Key::Credits => keys.credits = Some(number_stated(
-            missing,
-            key,
-            keys.credits.is_some(),
-            value,
-        )?),
-        Key::Obex => keys.obex = Some(number_stated(missing, key, keys.obex.is_some(), value)?),
-        Key::Srm => keys.srm = Some(switch_stated(missing, keys.srm.is_some(), value)?),
+        Key::Chunk => keys.chunk = Some(number_stated(key, keys.chunk.is_some(), value)?),
+        Key::Mtu => keys.mtu = Some(number_stated(key, keys.mtu.is_some(), value)?),
+        Key::Mps => keys.mps = Some(number_stated(key, keys.mps.is_some(), value)?),
+        Key::Window => keys.window = Some(number_stated(key, keys.window.is_some(), value)?),
+        Key::Tries => keys.tries = Some(number_stated(key, keys.tries.is_some(), value)?),
+        Key::Credits => keys.credits = Some(number_stated(key, keys.credits.is_some(), value)?),
+        Key::Obex => keys.obex = Some(number_stated(key, keys.obex.is_some(), value)?),
+        Key::Srm => keys.srm = Some(switch_stated(keys.srm.is_some(), value)?),
         Key::Object => {}
     }
     Ok(keys)

@@ -3,7 +3,6 @@
 #![tactic(auto)]
 
 mod draft;
-mod feature;
 mod finding;
 mod keys;
 pub mod laws;
@@ -21,12 +20,11 @@ mod scenario;
 mod stated;
 mod writing;
 
-pub use feature::Feature;
 pub use finding::object_line;
 pub use made::make_scenario;
 pub use names::Names;
 pub use push_terms::{Outcome, Peaks, Side, Way, Word, put_outcome, put_word};
-pub use reading::{scenario_of, scenario_without};
+pub use reading::scenario_of;
 pub use refusal::{ScriptFault, ScriptRefusal};
 pub use report::{put_refusal, put_report};
 pub use runs::Runs;

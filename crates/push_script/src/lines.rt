@@ -7,7 +7,6 @@ ghost use Rattle.push_script.specs.Names.{IsName, ends_name};
 ghost use Rattle.push_script.specs.Reading.{is_feed, lines, name_stated, with_value, key_line_read, whole, radio_begun, run_read, is_ignored, line_read, Gives};
 
 use crate::draft::Draft;
-use crate::feature::{Feature, asked, built};
 use crate::keys::{key_of, with_key};
 use crate::names::utf16_length;
 use crate::parts::split_word;
@@ -51,8 +50,8 @@ fn ends_name(octet: u8) -> bool
 
 /// Judges the name of an object that stands behind so many others.
 #[tactic(auto, unfolding(crate::specs::Reading::name_stated))]
-fn name_stated(missing: &[Feature], count: usize, name: &str) -> Result<(), ScriptRefusal>
-    ensures value { result ≡ name_stated missing.now count name.now }
+fn name_stated(count: usize, name: &str) -> Result<(), ScriptRefusal>
+    ensures value { result ≡ name_stated count name.now }
     ensures name { OnOk result (IsName name.now × (count < 64)) }
 {
     if has_break(name.as_bytes()) {
@@ -68,21 +67,15 @@ fn name_stated(missing: &[Feature], count: usize, name: &str) -> Result<(), Scri
     if units > 100 {
         return Err(ScriptRefusal::OutOfRange);
     }
-    built(missing, asked(Key::Object, count == 0))?;
     Ok(())
 }
 
 /// Takes the name of an object.
-fn take_name(
-    alloc: Global,
-    missing: &[Feature],
-    draft: Draft,
-    name: &str,
-) -> Result<Draft, LineFault>
-    ensures { Gives result (with_value missing.now draft keyed.Object name.now) }
+fn take_name(alloc: Global, draft: Draft, name: &str) -> Result<Draft, LineFault>
+    ensures { Gives result (with_value draft keyed.Object name.now) }
 {
     let mut draft = draft;
-    if let Err(refusal) = name_stated(missing, draft.names.len(), name) {
+    if let Err(refusal) = name_stated(draft.names.len(), name) {
         return Err(LineFault::Refused(refusal));
     }
     if draft.names.push(alloc, name).is_err() {
@@ -93,14 +86,9 @@ fn take_name(
 
 /// Takes a line that states a key.
 #[tactic(auto, unfolding(crate::specs::Reading::key_line_read))]
-fn take_key(
-    alloc: Global,
-    missing: &[Feature],
-    draft: Draft,
-    line: &str,
-) -> Result<Draft, LineFault>
+fn take_key(alloc: Global, draft: Draft, line: &str) -> Result<Draft, LineFault>
     requires { draft.radio ≡ false }
-    ensures { Gives result (key_line_read missing.now draft line.now) }
+    ensures { Gives result (key_line_read draft line.now) }
 {
     let (word, value) = split_word(line);
     let Some(key) = key_of(word) else {
@@ -110,21 +98,16 @@ fn take_key(
         return Err(LineFault::Refused(ScriptRefusal::BadLine));
     };
     match key {
-        Key::Object => take_name(alloc, missing, draft, value),
-        key => take_setting(missing, draft, key, value),
+        Key::Object => take_name(alloc, draft, value),
+        key => take_setting(draft, key, value),
     }
 }
 
 /// Takes what a line states a key but `object` to be.
-fn take_setting(
-    missing: &[Feature],
-    draft: Draft,
-    key: Key,
-    value: &str,
-) -> Result<Draft, LineFault>
+fn take_setting(draft: Draft, key: Key, value: &str) -> Result<Draft, LineFault>
     requires key { key ≢ keyed.Object }
     requires early { draft.radio ≡ false }
-    ensures { Gives result (with_value missing.now draft key value.now) }
+    ensures { Gives result (with_value draft key value.now) }
 {
     let Draft {
         keys,
@@ -132,7 +115,7 @@ fn take_setting(
         radio,
         runs,
     } = draft;
-    match with_key(missing, keys, key, value) {
+    match with_key(keys, key, value) {
         Ok(keys) => Ok(Draft {
             keys,
             names,
@@ -174,12 +157,12 @@ fn begin_radio(draft: Draft) -> Result<Draft, LineFault>
 
 /// Takes a line of the radio script.
 #[tactic(auto, unfolding(crate::specs::Reading::run_read))]
-fn take_run(missing: &[Feature], draft: Draft, line: &str) -> Result<Draft, LineFault>
+fn take_run(draft: Draft, line: &str) -> Result<Draft, LineFault>
     requires { draft.radio ≡ true }
-    ensures { Gives result (run_read missing.now draft line.now) }
+    ensures { Gives result (run_read draft line.now) }
 {
     let mut draft = draft;
-    match run_of(missing, draft.keys.transport, line) {
+    match run_of(draft.keys.transport, line) {
         Ok((count, word)) => {
             if draft.runs.push(count, word).is_err() {
                 return Err(LineFault::NoMemory);
@@ -201,22 +184,17 @@ fn is_ignored(line: &[u8]) -> bool
 
 /// Takes a line of a scenario.
 #[tactic(auto, unfolding(crate::specs::Reading::line_read))]
-pub(crate) fn take_line(
-    alloc: Global,
-    missing: &[Feature],
-    draft: Draft,
-    line: &str,
-) -> Result<Draft, LineFault>
-    ensures { Gives result (line_read missing.now draft line.now) }
+pub(crate) fn take_line(alloc: Global, draft: Draft, line: &str) -> Result<Draft, LineFault>
+    ensures { Gives result (line_read draft line.now) }
 {
     if is_ignored(line.as_bytes()) {
         return Ok(draft);
     }
     if draft.radio {
-        return take_run(missing, draft, line);
+        return take_run(draft, line);
     }
     if line == "radio" {
         return begin_radio(draft);
     }
-    take_key(alloc, missing, draft, line)
+    take_key(alloc, draft, line)
 }

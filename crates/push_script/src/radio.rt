@@ -5,7 +5,6 @@ ghost use Rattle.std.specs.Option.{option_map};
 ghost use Rattle.push_script.specs.Radio.{said_of, cut_said, long_said, short_said, count_within, damage_said, word_within, run_of, lossless};
 ghost use Rattle.push_script.specs.Runs.{IsRun, IsWord, IsBorne, is_lossy};
 
-use crate::feature::{Feature, built, word_feature};
 use crate::keys::within;
 use crate::parts::{mask_of, number_of, side_of, split_word, way_of};
 use crate::refusal::ScriptRefusal;
@@ -160,12 +159,8 @@ fn count_within(count: u64) -> Result<u32, ScriptRefusal>
 
 /// The run that a line says.
 #[tactic(auto, unfolding(crate::specs::Radio::run_of))]
-pub(crate) fn run_of(
-    missing: &[Feature],
-    transport: Option<Transport>,
-    line: &str,
-) -> Result<(u32, Word), ScriptRefusal>
-    ensures run { result ≡ run_of missing.now transport line.now }
+pub(crate) fn run_of(transport: Option<Transport>, line: &str) -> Result<(u32, Word), ScriptRefusal>
+    ensures run { result ≡ run_of transport line.now }
     ensures range { IfOk result IsRun }
     ensures borne { IfOk result (IsBorne transport) }
 {
@@ -182,6 +177,5 @@ pub(crate) fn run_of(
     let count = count_within(count)?;
     let word = word_within(said)?;
     lossless(transport, word)?;
-    built(missing, word_feature(word))?;
     Ok((count, word))
 }

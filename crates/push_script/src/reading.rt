@@ -1,12 +1,10 @@
 //! How the text of a scenario is read.
 
 ghost use Rattle.std.specs.Prelude.{◌≡◌, ◌+◌, ◌<◌, ◌≤◌, Option, Some, length, count_by, IfSome, Ok};
-ghost use Rattle.push_script.specs.Features.{missing_features};
 ghost use Rattle.push_script.specs.Reading.{no_draft, is_feed, IsSettings, stated_or, script_of, with_defaults, finished, Finishes, lines, lines_read, text_limit, reading, Reads};
 ghost use Rattle.push_script.specs.Stated.{IsBetween};
 
 use crate::draft::Draft;
-use crate::feature::Feature;
 use crate::lines::{first_line, take_line, whole};
 use crate::names::Names;
 use crate::refusal::{LineFault, ScriptFault, ScriptRefusal};
@@ -133,16 +131,16 @@ fn finish(draft: Draft) -> Result<Scenario, ScriptRefusal>
 }
 
 /// Reads the lines of a text.
-fn read_lines(alloc: Global, missing: &[Feature], text: &str) -> Result<Scenario, ScriptFault>
+fn read_lines(alloc: Global, text: &str) -> Result<Scenario, ScriptFault>
     requires { length text.now ≤ 1048576 }
-    ensures { Reads result (lines_read missing.now 1 (Ok no_draft) (lines text.now)) }
+    ensures { Reads result (lines_read 1 (Ok no_draft) (lines text.now)) }
 {
     let mut draft = no_draft(alloc);
     let mut number = 1u32;
     let mut rest = text;
     while !rest.is_empty() {
         let (line, more) = first_line(rest);
-        draft = match take_line(alloc, missing, draft, line) {
+        draft = match take_line(alloc, draft, line) {
             Ok(draft) => draft,
             Err(LineFault::Refused(refusal)) => return Err(ScriptFault::Refused(number, refusal)),
             Err(LineFault::NoMemory) => return Err(ScriptFault::NoMemory),
@@ -164,38 +162,24 @@ fn count_feeds(text: &[u8]) -> usize
     text.iter().filter(|octet| **octet == b'\n').count()
 }
 
-/// Reads the text of a scenario for a stack that lacks the features of `missing`.
+/// Reads the text of a scenario.
 ///
 /// It answers `Refused` with the line, counted from 1, and the first refusal there: `TooLong` (at
 /// line 0) where the text has more than 1,048,576 octets, `NotUtf8` where it is no UTF-8, and else
-/// what the first line that is refused is refused for; `NotBuilt` is the last thing that a line is
-/// refused for, where it asks for one of `missing`. It answers `NoMemory` where there was no room for
-/// the names and the runs.
+/// what the first line that is refused is refused for. It answers `NoMemory` where there was no room
+/// for the names and the runs.
 #[tactic(auto, unfolding(crate::specs::Reading::reading))]
-pub fn scenario_without(
-    alloc: Global,
-    missing: &[Feature],
-    text: &[u8],
-) -> Result<Scenario, ScriptFault>
-    ensures { Reads result (reading missing.now text.now) }
+pub fn scenario_of(alloc: Global, text: &[u8]) -> Result<Scenario, ScriptFault>
+    ensures { Reads result (reading text.now) }
 {
     if text.len() > TEXT_LIMIT {
         return Err(ScriptFault::Refused(0, ScriptRefusal::TooLong));
     }
     match str::from_utf8(text) {
-        Ok(text) => read_lines(alloc, missing, text),
+        Ok(text) => read_lines(alloc, text),
         Err(error) => {
             let line = count_feeds(&text[..error.valid_up_to()]) + 1;
             Err(ScriptFault::Refused(line as u32, ScriptRefusal::NotUtf8))
         }
     }
-}
-
-/// Reads the text of a scenario for this stack, which lacks `Feature::missing()`.
-///
-/// It answers what `scenario_without` answers.
-pub fn scenario_of(alloc: Global, text: &[u8]) -> Result<Scenario, ScriptFault>
-    ensures { Reads result (reading missing_features text.now) }
-{
-    scenario_without(alloc, Feature::missing(), text)
 }

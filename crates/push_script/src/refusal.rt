@@ -29,8 +29,6 @@ pub enum ScriptRefusal {
     NotUtf8,
     /// The text is longer than 1,048,576 octets.
     TooLong,
-    /// The line asks for something that this stack does not do yet.
-    NotBuilt,
 }
 
 impl ScriptRefusal {
@@ -49,7 +47,6 @@ impl ScriptRefusal {
             ScriptRefusal::LossyRfcomm => "LossyRfcomm",
             ScriptRefusal::NotUtf8 => "NotUtf8",
             ScriptRefusal::TooLong => "TooLong",
-            ScriptRefusal::NotBuilt => "NotBuilt",
         }
     }
 }

@@ -107,9 +107,8 @@ fn push_runs(text: &mut Text, runs: &Runs) -> Result<(), NoMemory>
 /// The text of a scenario in which nothing is left out: all keys in order with their values, the
 /// objects, the line `radio` and the runs.
 ///
-/// `scenario_of` and `scenario_without` read it as that scenario, where it has at most 1,048,576
-/// octets and no line of it asks for a feature that is missing. It answers `NoMemory` where there was
-/// no room for the text.
+/// `scenario_of` reads it as that scenario, where it has at most 1,048,576 octets. It answers
+/// `NoMemory` where there was no room for the text.
 pub fn put_scenario(alloc: Global, scenario: &Scenario) -> Result<Vec<u8>, NoMemory>
     ensures text { IfOk result (λ text. text.items ≡ scenario_text scenario.now) }
     ensures again { IfOk result (λ text. IsReadAs scenario.now text.items) }

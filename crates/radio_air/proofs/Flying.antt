@@ -1,25 +1,21 @@
 -- What is heard on one direction of a link, and what the pieces of a frame give.
-use Rattle.std.proofs.Common.{◌≡◌, ◌≢◌, ℕ, zero, suc, ◌+◌, ◌*◌, ◌≤◌, ◌<◌, List, [], ◌∷◌, ◌++◌, length, take, drop, map, Bool, true, false, cond, ltb, eqb, Option, Some, None, refl, sym, ap, ap₂, subst, ◌∙◌, inl, inr, arith, append_assoc, length-append, length-take, length-drop}
-use Rattle.std.specs.Prelude.{slice_get, slice_set, slice_index, bit_xor, ◌/◌, ◌%◌}
-use Rattle.std.proofs.lemmas.Bool.{cases_lt, lt-ltb, le-ltb, eq-eqb, ne_eqb}
-use Rattle.std.proofs.lemmas.List.{append-nil, take-append-drop, take_all, take-take, length-set, get_or-set_other}
+use Rattle.std.proofs.Common.{◌≡◌, ℕ, zero, suc, ◌+◌, ◌≤◌, ◌<◌, List, [], ◌∷◌, ◌++◌, length, take, drop, map, ltb, eqb, refl, sym, ap, ap₂, ◌∙◌, inl, inr, arith, append_assoc, length-append, length-take}
+use Rattle.std.specs.Prelude.{slice_get}
+use Rattle.std.proofs.lemmas.Bool.{cases_lt, le-ltb, eq-eqb, ne_eqb}
+use Rattle.std.proofs.lemmas.List.{append-nil, take-append-drop}
 use Rattle.byteorder.specs.Numbers.{little_from-append}
-use Rattle.byteorder.specs.Endian.{little_number}
 use Rattle.hci_packets.specs.declared.acl.Boundary.{Boundary}
 use Rattle.hci_packets.specs.declared.acl.Boundary.TheVariants.{Continuing, FirstFromController}
-use Rattle.acl_fragments.specs.Pieces.{Piece, starts, pdu_length, channel_of}
+use Rattle.acl_fragments.specs.Pieces.{Piece, pdu_length, channel_of}
 use Rattle.acl_fragments.specs.Cuts.{cut, first_pieces}
-use Rattle.acl_fragments.specs.Answers.{Answer, Pdu, More, Dropped, start_answer, next_answer, answer, held_after, kept}
+use Rattle.acl_fragments.specs.Answers.{Answer, Pdu, More, start_answer, next_answer, kept}
 use Rattle.capture.specs.Histories.{each_after, EachAfter}
 use Rattle.capture.proofs.HistoryLaws.{given_by-more}
 use Rattle.capture.specs.Pdus.{whole_of}
 use Rattle.capture.specs.declared.flow.Flow.TheVariants.{Into}
-use Rattle.radio_air.specs.declared.fate.Fate.{Fate}
-use Rattle.radio_air.specs.declared.fate.Fate.TheVariants.{Delivered, Lost, Repeated, CutOff, Changed}
-use Rattle.radio_air.specs.Fates.{changed, meets, comes_of}
-use Rattle.radio_air.specs.Flights.{Met, position, step, of_frame, heard, handed, FindsFrames}
-use Rattle.radio_air.specs.Laws.{OneFateMore, OneFrameMore, given_from, IsFrame, IsBehindHeader, PiecesGive}
-use Rattle.radio_air.proofs.Meeting.{length-changed}
+use Rattle.radio_air.specs.Fates.{meets, comes_of}
+use Rattle.radio_air.specs.Flights.{Met, position, step, of_frame, heard}
+use Rattle.radio_air.specs.Laws.{OneFateMore, OneFrameMore, given_from, IsFrame}
 
 -- ---- a fate more
 
@@ -189,33 +185,3 @@ some_given limit size (suc count) held (x ∷ xs) big is below =
     let goes : start_answer limit piece ≡ More = start_more limit piece header (omega (arith, says)) (omega (arith, says, is.within)) in
     ap (λ gives. after_piece limit piece (record { boundary = FirstFromController; octets = piece }) gives (take count (first_pieces (length xs) size Continuing left))) goes
     ∙ some_behind (length xs) limit size count piece left (omega arith) (omega arith) (omega (arith, says)) (omega arith) (omega arith)
-
-kept_at : (at mask : ℕ) (frame : List ℕ) (i : ℕ) → 4 ≤ at → i < 2 → slice_index (changed at mask frame) i ≡ slice_index frame i
-kept_at at mask frame i behind first =
-    let once : List ℕ = slice_set frame at (bit_xor (slice_index frame at) (mask / 256)) in
-    get_or-set_other once (at + 1) i (bit_xor (slice_index frame (at + 1)) (mask % 256)) 0 (λ same. omega (arith, same))
-    ∙ get_or-set_other frame at i (bit_xor (slice_index frame at) (mask / 256)) 0 (λ same. omega (arith, same))
-
--- a change behind the header leaves a whole PDU
-pub frame_changed : (limit at mask : ℕ) (frame : List ℕ) → 4 ≤ at → IsFrame limit frame → IsFrame limit (changed at mask frame)
-frame_changed limit at mask frame behind is =
-    let long = length-changed at mask frame in
-    record {
-      header = omega (arith, long, is.header);
-      whole = ap₂ (λ (m n : ℕ). 4 + (m + 256 * (n + 0))) (kept_at at mask frame 0 behind (omega arith)) (kept_at at mask frame 1 behind (omega arith)) ∙ is.whole ∙ sym long;
-      within = omega (arith, long, is.within);
-    }
-
-pub pieces_give : PiecesGive
-pieces_give limit size held Delivered checked frame big is behind = all_given limit size held frame big is
-pieces_give limit size held Lost checked frame big is behind = refl
-pieces_give limit size held Repeated checked frame big is behind = all_given limit size held frame big is
-pieces_give limit size held (CutOff count) checked frame big is behind =
-    elim (cases_lt count (length (cut size FirstFromController frame))) [
-      | inl below ↦ some_given limit size count held frame big is below ∙ sym (ap (λ b. cond b [] (frame ∷ [])) (lt-ltb count (length (cut size FirstFromController frame)) below))
-      | inr all ↦
-          ap (λ pieces. given_from limit held pieces) (take_all count (cut size FirstFromController frame) all) ∙ all_given limit size held frame big is
-          ∙ sym (ap (λ b. cond b [] (frame ∷ [])) (le-ltb count (length (cut size FirstFromController frame)) all))
-    ]
-pieces_give limit size held (Changed at mask) true frame big is behind = all_given limit size held (changed at mask frame) big (frame_changed limit at mask frame behind is)
-pieces_give limit size held (Changed at mask) false frame big is behind = refl

@@ -1,9 +1,8 @@
 -- Pushes in turn, over the finished capture (this project's own).
 use Rattle.std.specs.Prelude.{ℕ, ◌+◌, ◌≡◌, List, [], ◌∷◌, length, Option, Some, None}
 use Rattle.std.specs.List.{flat_map}
-use Rattle.capture.specs.Histories.{EachAfter}
 use Rattle.capture.specs.Entries.{Entry, Begun, Ended}
-use Rattle.capture.specs.Channels.{last_of}
+use Rattle.capture.specs.Histories.{EachAfter, last_of}
 use Rattle.capture.specs.Pushes.{under_way, NoLinkOutside, LinksWithin, NoLinkAtEnd}
 
 -- the number of a push that begins

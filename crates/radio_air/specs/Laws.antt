@@ -1,12 +1,10 @@
 -- Laws of the air, for every frame and every fate (this project's own).
-use Rattle.std.specs.Prelude.{ℕ, ◌+◌, ◌≡◌, ◌≤◌, ◌<◌, Bool, List, [], ◌∷◌, ◌++◌, length, slice_get, map}
+use Rattle.std.specs.Prelude.{ℕ, ◌+◌, ◌≡◌, ◌≤◌, List, [], ◌∷◌, ◌++◌, length, slice_get, map}
 use Rattle.capture.specs.declared.flow.Flow.TheVariants.{Into}
 use Rattle.capture.specs.Pdus.{whole_of}
 use Rattle.acl_fragments.specs.Pieces.{Piece, starts, pdu_length}
 use Rattle.acl_fragments.specs.Answers.{answer, held_after}
-use Rattle.radio_air.specs.declared.fate.Fate.{Fate}
-use Rattle.radio_air.specs.declared.fate.Fate.TheVariants.{Delivered, Lost, Repeated, CutOff, Changed}
-use Rattle.radio_air.specs.Fates.{Meeting, meets, comes_of}
+use Rattle.radio_air.specs.Fates.{meets, comes_of}
 use Rattle.radio_air.specs.Flights.{Met, position, step, of_frame, heard, handed, FindsFrames}
 
 -- ---- one direction of a link, over its whole life
@@ -39,13 +37,3 @@ pub record IsFrame (limit : ℕ) (frame : List ℕ) : Type 0 where
   pub header : 4 ≤ length frame
   pub whole : pdu_length frame ≡ length frame
   pub within : length frame ≤ limit
-
--- a change stands behind the header
-abbrev pub IsBehindHeader : Fate → Type 0
-IsBehindHeader (Changed at mask) = 4 ≤ at
-IsBehindHeader fate = Unit {0}
-
--- what comes of a frame is what its pieces give, whatever was held before
-abbrev pub PiecesGive : Type 0
-PiecesGive = (limit size : ℕ) (held : List ℕ) (fate : Fate) (checked : Bool) (frame : List ℕ) → 27 ≤ size → IsFrame limit frame → IsBehindHeader fate
-    → given_from limit held (meets size fate checked frame).pieces ≡ comes_of size fate checked frame

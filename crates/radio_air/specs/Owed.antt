@@ -1,7 +1,6 @@
 -- What the types of a controller stand for.
 use Rattle.std.specs.Prelude.{ℕ, ◌≡◌, ◌<◌, ◌+◌, ◌==◌, ◌||◌, nat_le, Bool, false, List, [], ◌∷◌, ◌++◌, length, Option, Some, None, if◌then◌else◌}
 use Rattle.bt_base.specs.Octets.{le16}
-use Rattle.h4_framing.specs.Packets.{Packet}
 use Rattle.acl_fragments.specs.Pieces.{Piece}
 use Rattle.hci_packets.specs.declared.acl.Boundary.{Boundary}
 use Rattle.push_terms.specs.declared.word.Side.{Side}
@@ -10,13 +9,13 @@ use Rattle.radio_air.specs.declared.answer.Answer.{Answer as Told}
 use Rattle.radio_air.specs.declared.answer.Answer.TheVariants as told
 use Rattle.radio_air.specs.declared.phase.Phase.{Phase as Stage}
 use Rattle.radio_air.specs.declared.phase.Phase.TheVariants as stages
-use Rattle.radio_air.specs.Controllers.{Controller, Answer, Returned, Stated, Called, LinkMade, LinkGone, GivenBack, address, answer_packet, after_telling}
+use Rattle.radio_air.specs.Controllers.{Controller, Answer, Returned, Stated, Called, LinkMade, LinkGone, GivenBack, address, after_telling}
 use Rattle.hci_packets.specs.Commands.{PlainCommand, CreateConnection, Disconnect, AcceptConnection, Reset, WriteScanEnable, ReadBufferSize, ReadBdAddr, Other}
 use Rattle.radio_air.specs.Radio.{Radio, Phase, Apart, Paging, Requested, Together, is_apart, is_together, owes, frames, scanning, after_paging, after_reaching, after_accepting, after_disconnecting}
 use Rattle.radio_air.specs.Queues.{Queue, HasPlaces, taking, is_crowded}
 use Rattle.radio_air.specs.Rings.{first_or_nothing}
 use Rattle.radio_air.specs.declared.deed.Deed.{Deed}
-use Rattle.radio_air.specs.declared.deed.Deed.TheVariants.{Nothing, Meets, Fires, FiresBoth, Breaks, Cancels}
+use Rattle.radio_air.specs.declared.deed.Deed.TheVariants.{Meets}
 
 -- what the code keeps of an answer; all commands return status 0 first (Core 5.1, Volume 2 Part E, 7.3.2, 7.3.18, 7.4.5
 -- and 7.4.6)
@@ -43,11 +42,6 @@ HasHandle stage number = is_apart (plain_phase stage) ≡ false → is_together 
 -- a controller, with the direction from its host and the one to it
 abbrev pub with_queues : Queue → Queue → Controller → Controller
 with_queues own other controller = record controller { begun = own.begun; waiting = own.waiting; coming = other.coming }
-
--- the answer that comes next
-abbrev pub answer_first : Side → List Answer → Option Packet
-answer_first side [] = None
-answer_first side (answer ∷ owed) = Some (answer_packet side answer)
 
 -- for so many answers memory is reserved
 abbrev pub answers_reserved : ℕ

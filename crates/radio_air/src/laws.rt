@@ -1,7 +1,7 @@
 //! Laws of the air, for every frame and every fate. They speak of the definitions alone, which the
 //! contracts of the radio cite.
 
-ghost use Rattle.radio_air.specs.Laws.{OneFateMore, OneFrameMore, PiecesGive};
+ghost use Rattle.radio_air.specs.Laws.{OneFateMore, OneFrameMore};
 
 /// What is heard on one direction of a link grows by what comes of the frame at the position that
 /// the fates before led to.
@@ -12,10 +12,4 @@ pub fn one_fate_more()
 /// Frames that are said later change nothing of what was heard.
 pub fn one_frame_more()
     ensures { OneFrameMore }
-{}
-
-/// The pieces of a frame that met its fate give what comes of it, whatever was held before.
-#[tactic(auto, using(crate::proofs::Flying::pieces_give))]
-pub fn pieces_give_what_comes()
-    ensures { PiecesGive }
 {}

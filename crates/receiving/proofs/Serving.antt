@@ -88,14 +88,14 @@ server_stays content old new used same =
 module _ {E S P : Type 0} (A : Profile S) (faults shortages : P → ℕ) (pushing : E → P → List Circumstance → S) where
   hears_stay : (packets : List Packet) (old new : Moment E P) → HearsAll A (Asks faults shortages) pushing packets old new → shortages old.port ≤ shortages new.port
   hears_stay [] old new is = subst (λ (m : Moment E P). shortages old.port ≤ shortages m.port) (sym is) (omega arith)
-  hears_stay (p ∷ packets) old new (mid, one, more) = let first = one.reacts.answered.shortages_stay in let then = hears_stay packets mid new more in omega (arith, first, then)
+  hears_stay (p ∷ packets) old new (mid, one, more) = let first = one.reacts.answered.counted.shortages_stay in let then = hears_stay packets mid new more in omega (arith, first, then)
 
   pub feed_stays : (piece : List ℕ) (framing framing' : Framing) (old new : Moment E P) (result : Result (Unit {0}) FeedRefusal) → FeedsOn A (Asks faults shortages) (Lacks shortages) pushing piece framing framing' old new result → shortages old.port ≤ shortages new.port
-  feed_stays piece framing framing' old new (Ok done) (mid, goes, takes) = let first = goes.answered.shortages_stay in let then = hears_stay takes.packets mid new takes.hears in omega (arith, first, then)
+  feed_stays piece framing framing' old new (Ok done) (mid, goes, takes) = let first = goes.answered.counted.shortages_stay in let then = hears_stay takes.packets mid new takes.hears in omega (arith, first, then)
   feed_stays piece framing framing' old new (Err NoMemory) lacked = lacked.1
-  feed_stays piece framing framing' old new (Err (Transport why place)) (mid, goes, stops) = let first = goes.answered.shortages_stay in let then = hears_stay stops.packets mid new stops.hears in omega (arith, first, then)
-  feed_stays piece framing framing' old new (Err (CommandFailed opcode status place)) (mid, goes, stops) = let first = goes.answered.shortages_stay in let then = hears_stay stops.packets mid new stops.hears in omega (arith, first, then)
-  feed_stays piece framing framing' old new (Err (BadBuffers size count place)) (mid, goes, stops) = let first = goes.answered.shortages_stay in let then = hears_stay stops.packets mid new stops.hears in omega (arith, first, then)
+  feed_stays piece framing framing' old new (Err (Transport why place)) (mid, goes, stops) = let first = goes.answered.counted.shortages_stay in let then = hears_stay stops.packets mid new stops.hears in omega (arith, first, then)
+  feed_stays piece framing framing' old new (Err (CommandFailed opcode status place)) (mid, goes, stops) = let first = goes.answered.counted.shortages_stay in let then = hears_stay stops.packets mid new stops.hears in omega (arith, first, then)
+  feed_stays piece framing framing' old new (Err (BadBuffers size count place)) (mid, goes, stops) = let first = goes.answered.counted.shortages_stay in let then = hears_stay stops.packets mid new stops.hears in omega (arith, first, then)
 
   pub feed_lacks : (piece : List ℕ) (framing framing' : Framing) (old new : Moment E P) (result : Result (Unit {0}) FeedRefusal) → FeedsOn A (Asks faults shortages) (Lacks shortages) pushing piece framing framing' old new result → IsErrOf result NoMemory
       → HasRisen (shortages old.port) (shortages new.port)

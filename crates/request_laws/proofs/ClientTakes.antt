@@ -228,7 +228,7 @@ module _ (carrier : ℕ) (settings : Settings) where
   step_takes front later here (Ended outcome) v after at all sure = refl
   step_takes front later here NoMemory v after at all sure = refl
 
-  strand_takes : (front later : List Occurrence) (here : ℕ) (strand : Strand) (v : Channels) (p : ClientProfile) → v ≡ (run_of own front).value → Asked front p → Sure (front ++ later) here → taken_at carrier strand v p ≡ takes_from own here v (list_of strand v p)
+  pub strand_takes : (front later : List Occurrence) (here : ℕ) (strand : Strand) (v : Channels) (p : ClientProfile) → v ≡ (run_of own front).value → Asked front p → Sure (front ++ later) here → taken_at carrier strand v p ≡ takes_from own here v (list_of strand v p)
   strand_takes front later here (Hearing pdu) v p at all sure = refl
   strand_takes front later here (Giving pdu) v p at all sure = refl
   strand_takes front later here Firing v p at all sure = refl

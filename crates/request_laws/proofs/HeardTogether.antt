@@ -118,7 +118,7 @@ feed_hears (Happens event v) p fits = feed_so HearsOctets octets_hold p (Happens
 feed_hears (Sent v) p fits = feed_so HearsOctets octets_hold p (Sent v) tt
 feed_hears (Steps v) p fits = feed_so HearsOctets octets_hold p (Steps v) tt
 
-affairs_hear : (settings : Settings) (feeds : List Feed) (p : ClientProfile) → AllByRecursion ReceivesOctets feeds → AllByRecursion HearsOctets (pushed_from settings p feeds)
+pub affairs_hear : (settings : Settings) (feeds : List Feed) (p : ClientProfile) → AllByRecursion ReceivesOctets feeds → AllByRecursion HearsOctets (pushed_from settings p feeds)
 affairs_hear settings [] p all = tt
 affairs_hear settings (feed ∷ feeds) p all =
     let q = fed (client_profile settings) p feed in all_both HearsOctets (pushed_with p feed) (pushed_from settings q feeds) (feed_hears feed p all.0) (affairs_hear settings feeds q all.1)
@@ -130,7 +130,7 @@ of_octets Finishes hears gives = tt
 of_octets Cancels hears gives = tt
 
 -- so each frame that it sends is read so
-all_framed : (affairs : List Affair) (client : Client) → SpellsAll client → AllByRecursion HearsOctets affairs → AllByRecursion IsGivenOctets affairs → AllAsked IsFramed affairs client
+pub all_framed : (affairs : List Affair) (client : Client) → SpellsAll client → AllByRecursion HearsOctets affairs → AllByRecursion IsGivenOctets affairs → AllAsked IsFramed affairs client
 all_framed [] client s hears gives = tt
 all_framed (Begins size name ∷ rest) client s hears gives = (tt, all_framed rest (client_after (Begins size name) client) (client_frames_are_read.beginning size name client s) hears.1 gives.1)
 all_framed (Does deed ∷ rest) client s hears gives =

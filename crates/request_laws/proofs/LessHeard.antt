@@ -40,7 +40,7 @@ module _ (scenario : Scenario) (before : List Object) (capture : List Entry) (ra
       subst (LosesByFaults settings before) (sym all.is)
       (pushed-gain_less settings before all.pushes all.last all.pushed all.last_pushed (subst (AllServe NoneShort (new_over settings before)) all.is (serves_over scenario before capture ran muxed order NoneShort answer.enough)))
 
-  loses_few : FailingAnswer both_ask scenario before capture ran order → LosesHeard both_ask scenario before capture ran order.turns.pairs
+  pub loses_few : FailingAnswer both_ask scenario before capture ran order → LosesHeard both_ask scenario before capture ran order.turns.pairs
   loses_few answer =
       let settings = scenario.settings in
       let b = order.turns.pairs.b in

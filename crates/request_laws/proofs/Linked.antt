@@ -28,15 +28,15 @@ use Rattle.request_laws.proofs.Unheard.{pair_deaf, link_quiet}
 -- ---- on one link
 
 -- once the link is up
-up_opens : (event : LinkEvent) (weave : List Strand) → event ≡ Up → BeginsNoneIf (linked_by event) weave → AllByRecursion OpensNone weave
+pub up_opens : (event : LinkEvent) (weave : List Strand) → event ≡ Up → BeginsNoneIf (linked_by event) weave → AllByRecursion OpensNone weave
 up_opens Up weave is none = none
 up_opens (Down reason) weave is none = cc
 
-wanted_up : (W : ClientProfile → Type 0) (event : LinkEvent) (p : ClientProfile) → event ≡ Up → IsWantedAt W event p → W p
+pub wanted_up : (W : ClientProfile → Type 0) (event : LinkEvent) (p : ClientProfile) → event ≡ Up → IsWantedAt W event p → W p
 wanted_up W Up p is wanted = wanted
 wanted_up W (Down reason) p is wanted = cc
 
-down_off : (event : LinkEvent) → IsDown event → linked_by event ≡ false
+pub down_off : (event : LinkEvent) → IsDown event → linked_by event ≡ false
 down_off Up down = absurd down
 down_off (Down reason) down = refl
 

@@ -59,7 +59,7 @@ module _ (policy : Policy) (own : ℕ) where
   exchanged_from v [] = []
   exchanged_from v (one ∷ list) = exchanged_in own one v ++ exchanged_from (value_after policy one v) list
 
-  exchanged_both : (xs ys : List Occurrence) (v : Channels) → exchanged_from v (xs ++ ys) ≡ exchanged_from v xs ++ exchanged_from (values_after policy v xs) ys
+  pub exchanged_both : (xs ys : List Occurrence) (v : Channels) → exchanged_from v (xs ++ ys) ≡ exchanged_from v xs ++ exchanged_from (values_after policy v xs) ys
   exchanged_both [] ys v = refl
   exchanged_both (x ∷ xs) ys v =
       let w = value_after policy x v in
@@ -71,7 +71,7 @@ module _ (policy : Policy) (own : ℕ) where
       let v = (run_of policy past).value in
       ap (λ (l : List Spoken). exchanged_in own one v ++ l) (exchanged_on (past ++ one ∷ []) list ∙ ap (λ (r : Run). exchanged_from r.value list) (run_more policy past one))
 
-  exchanged_all : (list : List Occurrence) → exchanged_of policy own list ≡ exchanged_from no_channels list
+  pub exchanged_all : (list : List Occurrence) → exchanged_of policy own list ≡ exchanged_from no_channels list
   exchanged_all list = exchanged_on [] list
 
   -- ---- a channel that is not there
@@ -150,7 +150,7 @@ module _ (carrier : ℕ) where
   quiet_moves occurrences none gone = out_moves occurrences none ∙ ap outs gone
 
   -- a call hands nothing up
-  call_exchanges : (policy : Policy) (own : ℕ) (call : Option Call) (v : Channels) → outs (takes_from policy own v (from_call call)) ≡ exchanged_from policy own v (from_call call)
+  pub call_exchanges : (policy : Policy) (own : ℕ) (call : Option Call) (v : Channels) → outs (takes_from policy own v (from_call call)) ≡ exchanged_from policy own v (from_call call)
   call_exchanges policy own None v = refl
   call_exchanges policy own (Some (Connect psm)) v = refl
   call_exchanges policy own (Some AskFeatures) v = refl

@@ -164,11 +164,11 @@ abbrev pub IsNone : (Client → Type 0) → (Push → Type 0) → Type 0
 IsNone G IsP = (client : Client) (occurrences : List Occurrence) → G client → AllByRecursion ComesNone occurrences → OnePush IsP occurrences
 
 module _ (set : Set) (Is : Affair → Client → Type 0) (G : Client → Type 0) (IsP : Push → Type 0) (T : List Strand → List Strand → ClientProfile → ServerProfile → Type 0) (goes : (one : Affair) (client : Client) → Is one client → G client → G (client_after one client)) (one_push : IsOne set Is G IsP T) (no_push : IsNone G IsP) where
-  good_all : (affairs : List Affair) (client : Client) → AllAsked Is affairs client → G client → G (client_behind affairs client)
+  pub good_all : (affairs : List Affair) (client : Client) → AllAsked Is affairs client → G client → G (client_behind affairs client)
   good_all [] client asked good = good
   good_all (one ∷ rest) client asked good = good_all rest (client_after one client) asked.1 (goes one client asked.0 good)
 
-  begun_at : (affairs : List Affair) (client : Client) (b : BeginsPush affairs client) → client_behind affairs client ≡ all_done b.deeds (with_object b.name b.size (client_behind b.earlier client))
+  pub begun_at : (affairs : List Affair) (client : Client) (b : BeginsPush affairs client) → client_behind affairs client ≡ all_done b.deeds (with_object b.name b.size (client_behind b.earlier client))
   begun_at affairs client b =
       let old = client_behind b.earlier client in
       ap (λ (l : List Affair). client_behind l client) b.affairs_are
@@ -229,12 +229,12 @@ module _ (set : Set) (Is : Affair → Client → Type 0) (G : Client → Type 0)
   }
 
   -- what the shelf answered falls to the links
-  record Splits (near : Span) (client : ClientProfile) (a : FedSpan (client_profile set.settings) (set.asks.clients set.settings) near client) (later : List Feed) : Type 0 where
-    here : AllAsked Is (pushed_from set.settings client a.here) client.client
-    good : G (behind_span (client_profile set.settings) (set.asks.clients set.settings) near client a).client
-    rest : (let up = behind_span (client_profile set.settings) (set.asks.clients set.settings) near client a in AllAsked Is (pushed_from set.settings up later) up.client)
+  pub record Splits (near : Span) (client : ClientProfile) (a : FedSpan (client_profile set.settings) (set.asks.clients set.settings) near client) (later : List Feed) : Type 0 where
+    pub here : AllAsked Is (pushed_from set.settings client a.here) client.client
+    pub good : G (behind_span (client_profile set.settings) (set.asks.clients set.settings) near client a).client
+    pub rest : (let up = behind_span (client_profile set.settings) (set.asks.clients set.settings) near client a in AllAsked Is (pushed_from set.settings up later) up.client)
 
-  splits : (near : Span) (client : ClientProfile) (a : FedSpan (client_profile set.settings) (set.asks.clients set.settings) near client) (later feeds : List Feed) → feeds ≡ span_feeds (client_profile set.settings) (set.asks.clients set.settings) near client a ++ later
+  pub splits : (near : Span) (client : ClientProfile) (a : FedSpan (client_profile set.settings) (set.asks.clients set.settings) near client) (later feeds : List Feed) → feeds ≡ span_feeds (client_profile set.settings) (set.asks.clients set.settings) near client a ++ later
       → G client.client → AllAsked Is (pushed_from set.settings client feeds) client.client → Splits near client a later
   splits near client a later feeds is good answered =
       let A = client_profile set.settings in

@@ -1,6 +1,9 @@
 -- What a world in code did from hosts whose ports have still to answer, both hosts of the scenario do.
-use Rattle.std.proofs.Common.{◌≡◌, ◌⊎◌, List, ◌++◌, map, Option, inl, inr, refl, sym, ap, ap₂, subst, ◌∙◌}
+use Rattle.std.proofs.Common.{◌≡◌, ◌⊎◌, List, [], ◌∷◌, ◌++◌, map, Option, Ok, inl, inr, refl, sym, ap, ap₂, subst, ◌∙◌}
+use Rattle.std.proofs.Math.Path.{fun_ext}
 use Rattle.bt_base.specs.Objects.{Object, Contents}
+use Rattle.capture.specs.Entries.{Entry}
+use Rattle.obex_session.specs.InboxCalls.{Answer}
 use Rattle.push_script.specs.declared.scenario.Scenario.{Scenario}
 use Rattle.push_terms.specs.declared.outcome.Outcome.{Outcome}
 use Rattle.capture.specs.Air.{words_of}
@@ -11,10 +14,11 @@ use Rattle.air_laws.specs.AirLaws.{IsLastEnd}
 use Rattle.run_laws.specs.Embedding.{Embeds, world_as}
 use Rattle.run_laws.proofs.Embedding.{runs_are_of_less, rest_is_of_less}
 use Rattle.alike_laws.specs.Twins.{AreTwins, IsOther, WorldsAlike}
-use Rattle.alike_laws.proofs.Twins.{runs_are_of_twins, rest_is_of_twins}
+use Rattle.alike_laws.proofs.Alike.{runs_on}
+use Rattle.alike_laws.proofs.Twins.{alike as twins_alike, runs_are_of_twins, rest_is_of_twins}
 use Rattle.radio_world.specs.Scenes.{world_at}
 use Rattle.radio_world.specs.Standing.{starting, first_moment, last_ended, last_entries, all_outcomes}
-use Rattle.host_model.specs.Circumstances.{Circumstance}
+use Rattle.host_model.specs.Circumstances.{Circumstance, Size, Part, Stored}
 use Rattle.shelf_model.specs.Held.{held_by}
 use Rattle.host_model.specs.Hosts.{Host}
 use Rattle.host_model.specs.Clients.{ClientProfile}
@@ -24,9 +28,11 @@ use Rattle.scenario_laws.specs.Outcomes.{outcomes_of}
 use Rattle.scenario_laws.specs.Played.{AreHostsOf}
 use Rattle.scenario_laws.proofs.Outcomes.{outcomes_stated}
 use Rattle.scenario_laws.proofs.Played.{last_is}
-use Rattle.pair_laws.specs.Granted.{granted, granting}
+use Rattle.pair_laws.specs.Enough.{remembered, remembering, HappenedEnough}
+use Rattle.pair_laws.specs.Granted.{answered_by, granted, granting}
 use Rattle.pair_laws.specs.Served.{holding_on, HappenedHeld, HappenedServed}
-use Rattle.pair_laws.proofs.Answered.{runs-so}
+use Rattle.pair_laws.proofs.Answered.{IsSame, same_alike, runs-so}
+use Rattle.tape_laws.specs.OwnPairs.{own_of, own_beginning, RanOwn}
 
 -- what is told of both of two is told of each of them
 told_same : {S X : Type 0} (tell : S → X) (first other s t : S) → tell other ≡ tell first → IsOther first other s t → tell t ≡ tell s
@@ -105,79 +111,119 @@ module _ {S T : Type 0} (U : Upper S Circumstance) (V : Upper T Circumstance) (s
           outcomes_are = subst (λ (p : Pushes). all_outcomes (last_ended came p) ≡ outcomes_of scenario (all_entries happenings ++ last_entries came p)) pushes_are ((outcomes_stated scenario content (all_entries happenings ++ ends) ran).all came);
         }
 
--- ---- where the shelf tells what it holds, and the inbox grants all
+-- ---- where the shelf tells what it holds, and the inbox lacks no memory or grants all
 
--- a run like that one, in which the shelf told what it holds, and the inbox granted all calls where that is so
+-- a run like that one, in which the shelf told what it holds and the inbox lacked no memory; and granted all calls where that is so
 pub record IsLikeServed {S T : Type 0} (scenario : Scenario) (shelf : Option (List Object)) (content : Option Contents) (as_a : Host ClientProfile → S) (as_b : Host ServerProfile → T) (s : S) (t : T) (happenings : List Happening) (at : World S T) (Never : Type 0) : Type 0 where
   pub like : IsLike scenario content as_a as_b s t happenings at
-  pub held : HappenedHeld scenario shelf content happenings like.world
+  pub enough : HappenedEnough scenario shelf content happenings like.world
   pub granted : Never → HappenedServed scenario shelf content happenings like.world
 
+abbrev grants : News → List Circumstance → List Circumstance
+grants news answers = map granted answers
+
+abbrev remembers : News → List Circumstance → List Circumstance
+remembers news answers = map remembered answers
+
+abbrev as_told : News → List Circumstance → List Circumstance
+as_told news answers = answers
+
+-- grants are answers of an inbox that lacks no memory
+grants_stay : (answers : List Circumstance) → map granted answers ≡ map remembered (map granted answers)
+grants_stay [] = refl
+grants_stay (Size answer ∷ answers) = ap (λ (l : List Circumstance). Size answer ∷ l) (grants_stay answers)
+grants_stay (Part answer ∷ answers) = ap (λ (l : List Circumstance). Part answer ∷ l) (grants_stay answers)
+grants_stay (Stored answer ∷ answers) = ap (λ (l : List Circumstance). Stored (Ok tt) ∷ l) (grants_stay answers)
+
+granted_enough : {S T : Type 0} (U : Upper S Circumstance) (V : Upper T Circumstance) (happenings : List Happening) (old new : World S T) → Runs U (granting V) happenings old new → Runs U (remembering V) happenings old new
+granted_enough {T = T} U V happenings old new runs =
+    let same : granting V ≡ answered_by grants (remembering V) = ap (λ (f : List Circumstance → List Circumstance). answered_by (λ news answers. f answers) V) (fun_ext grants_stay) in
+    runs-so U (remembering V) as_told grants happenings old new (subst (λ (W : Upper T Circumstance). Runs U W happenings old new) same runs)
+
+-- of a run whose inbox lacked no memory, what its shelf told
+pub enough_held : (scenario : Scenario) (shelf : Option (List Object)) (content : Option Contents) (happenings : List Happening) (world : BothHosts) → HappenedEnough scenario shelf content happenings world → HappenedHeld scenario shelf content happenings world
+enough_held scenario shelf content happenings world happened = runs-so (holding_on shelf (client_of scenario)) (server_of scenario content) as_told remembers happenings (beginning scenario content) world happened
+
+-- a host is one of a machine whose ports give other answers as well
+answering_host : {S T : Type 0} (embed : S → T) (U : Upper S Circumstance) (V : Upper T Circumstance) (to : News → List Circumstance → List Circumstance) → Embeds embed U V → Embeds embed (answered_by to U) (answered_by to V)
+answering_host embed U V to e = record {
+  hear = λ answers news host. e.hear (to news answers) news host;
+  next = e.next;
+  wants_link = e.wants_link;
+  leaves_link = e.leaves_link;
+  is_idle = e.is_idle;
+  outcome = e.outcome;
+  armed = e.armed;
+  may_cancel = e.may_cancel;
+  has_check = e.has_check;
+}
+
 module _ {S T : Type 0} (U : Upper S Circumstance) (V : Upper T Circumstance) (scenario : Scenario) (shelf : Option (List Object)) (content : Option Contents) (as_a : Host ClientProfile → S) (as_b : Host ServerProfile → T) (hosts : AreHostsOf scenario content U V as_a as_b)
-    (s : S) (t : T) (holding_a : AreTwins (holding_on shelf U) s (as_a (client_of scenario).first)) (twins_b : AreTwins V t (as_b (server_of scenario content).first)) (granting_b : AreTwins (granting V) t (as_b (server_of scenario content).first)) where
-  holding_host : Embeds as_a (holding_on shelf (client_of scenario)) (holding_on shelf U)
-  holding_host = record {
-    hear = λ answers news host. hosts.a.hear (held_by shelf news answers) news host;
-    next = hosts.a.next;
-    wants_link = hosts.a.wants_link;
-    leaves_link = hosts.a.leaves_link;
-    is_idle = hosts.a.is_idle;
-    outcome = hosts.a.outcome;
-    armed = hosts.a.armed;
-    may_cancel = hosts.a.may_cancel;
-    has_check = hosts.a.has_check;
-  }
-
-  granting_host : Embeds as_b (granting (server_of scenario content)) (granting V)
-  granting_host = record {
-    hear = λ answers news host. hosts.b.hear (map granted answers) news host;
-    next = hosts.b.next;
-    wants_link = hosts.b.wants_link;
-    leaves_link = hosts.b.leaves_link;
-    is_idle = hosts.b.is_idle;
-    outcome = hosts.b.outcome;
-    armed = hosts.b.armed;
-    may_cancel = hosts.b.may_cancel;
-    has_check = hosts.b.has_check;
-  }
-
-  abbrev as_told : News → List Circumstance → List Circumstance
-  as_told news answers = answers
-
-  abbrev grants : News → List Circumstance → List Circumstance
-  grants news answers = map granted answers
-
+    (s : S) (t : T) (holding_a : AreTwins (holding_on shelf U) s (as_a (client_of scenario).first)) (answering_b : (to : News → List Circumstance → List Circumstance) → AreTwins (answered_by to V) t (as_b (server_of scenario content).first)) where
   abbrev From : World S T
   From = world_at (first_moment (starting s U) (starting t V) scenario.acl_length scenario.acl_count scenario.names)
 
+  -- a run like that one, in which the inbox gave these answers
+  record IsLikeAnswered (to : News → List Circumstance → List Circumstance) (happenings : List Happening) (at : World S T) : Type 0 where
+    like : IsLike scenario content as_a as_b s t happenings at
+    happened : Runs (holding_on shelf (client_of scenario)) (answered_by to (server_of scenario content)) happenings (beginning scenario content) like.world
+
+  like_answered : (to : News → List Circumstance → List Circumstance) (happenings : List Happening) (at : World S T) → Runs (holding_on shelf U) (answered_by to V) happenings From at → IsLikeAnswered to happenings at
+  like_answered to happenings at run =
+      let other_a = as_a (client_of scenario).first in
+      let other_b = as_b (server_of scenario content).first in
+      let client = client_of scenario in
+      let server = server_of scenario content in
+      let (new, alike, ran) = runs_are_of_twins (holding_on shelf U) (answered_by to V) s other_a t other_b holding_a (answering_b to) happenings From at refl refl run in
+      let (world, same, happened) = runs_are_of_less as_a as_b (holding_on shelf client) (holding_on shelf U) (answered_by to server) (answered_by to V) (answering_host as_a client U (held_by shelf) hosts.a) (answering_host as_b server V to hosts.b) happenings (beginning scenario content) new ran in
+      record {
+        like = record {
+          world = world;
+          happened = runs-so client server (held_by shelf) to happenings (beginning scenario content) world happened;
+          alike = subst (λ (w : World S T). WorldsAlike (IsOther s other_a) (IsOther t other_b) at w) same alike;
+        };
+        happened = happened;
+      }
+
   -- it is where the inbox failed never that the answers are grants
-  pub like_served : (happenings : List Happening) (at : World S T) (Never : Type 0) → Never ⊎ (Never → ⊥) → Runs (holding_on shelf U) V happenings From at → (Never → Runs (holding_on shelf U) (granting V) happenings From at)
+  pub like_served : (happenings : List Happening) (at : World S T) (Never : Type 0) → Never ⊎ (Never → ⊥) → Runs (holding_on shelf U) (remembering V) happenings From at → (Never → Runs (holding_on shelf U) (granting V) happenings From at)
       → IsLikeServed scenario shelf content as_a as_b s t happenings at Never
-  like_served happenings at Never (inr failed) run served =
-      let other_a = as_a (client_of scenario).first in
-      let other_b = as_b (server_of scenario content).first in
-      let (new, alike, ran) = runs_are_of_twins (holding_on shelf U) V s other_a t other_b holding_a twins_b happenings From at refl refl run in
-      let (world, same, happened) = runs_are_of_less as_a as_b (holding_on shelf (client_of scenario)) (holding_on shelf U) (server_of scenario content) V holding_host hosts.b happenings (beginning scenario content) new ran in
-      record {
-        like = record {
-          world = world;
-          happened = runs-so (client_of scenario) (server_of scenario content) (held_by shelf) as_told happenings (beginning scenario content) world happened;
-          alike = subst (λ (w : World S T). WorldsAlike (IsOther s other_a) (IsOther t other_b) at w) same alike;
-        };
-        held = happened;
-        granted = λ never. absurd (failed never);
-      }
+  like_served happenings at Never (inr failed) run served = let so = like_answered remembers happenings at run in record { like = so.like; enough = so.happened; granted = λ never. absurd (failed never) }
   like_served happenings at Never (inl never) run served =
+      let so = like_answered grants happenings at (served never) in
+      record { like = so.like; enough = granted_enough (holding_on shelf (client_of scenario)) (server_of scenario content) happenings (beginning scenario content) so.like.world so.happened; granted = λ given. so.happened }
+
+-- ---- where the server has all answers of its inbox from its first moment on
+
+-- a run like that one, in which the server is that of the world in code, and the shelf told what it holds
+pub record IsLikeOwn {S T : Type 0} (scenario : Scenario) (shelf : Option (List Object)) (content : Option Contents) (answers : List Answer) (as_b : Host ServerProfile → T) (happenings : List Happening) (at : World S T) : Type 0 where
+  pub world : BothHosts
+  pub happened : Runs (holding_on shelf (client_of scenario)) (own_of scenario content answers) happenings (own_beginning scenario content answers) world
+  pub server_is : as_b world.b.upper ≡ at.b.upper
+  pub pushes_are : world.pushes ≡ at.pushes
+
+module _ {S T : Type 0} (U : Upper S Circumstance) (V : Upper T Circumstance) (scenario : Scenario) (shelf : Option (List Object)) (content : Option Contents) (answers : List Answer) (as_a : Host ClientProfile → S) (as_b : Host ServerProfile → T)
+    (a : Embeds as_a (client_of scenario) U) (b : Embeds as_b (own_of scenario content answers) V) (s : S) (holding_a : AreTwins (holding_on shelf U) s (as_a (client_of scenario).first)) where
+  abbrev Own : World S T
+  Own = world_at (first_moment (starting s U) (starting (as_b (own_of scenario content answers).first) V) scenario.acl_length scenario.acl_count scenario.names)
+
+  abbrev LikeOwn : List Happening → World S T → Type 0
+  LikeOwn happenings at = IsLikeOwn scenario shelf content answers as_b happenings at
+
+  pub like_own : (happenings : List Happening) (at : World S T) → Runs (holding_on shelf U) V happenings Own at → LikeOwn happenings at
+  like_own happenings at run =
       let other_a = as_a (client_of scenario).first in
-      let other_b = as_b (server_of scenario content).first in
-      let (new, alike, ran) = runs_are_of_twins (holding_on shelf U) (granting V) s other_a t other_b holding_a granting_b happenings From at refl refl (served never) in
-      let (world, same, happened) = runs_are_of_less as_a as_b (holding_on shelf (client_of scenario)) (holding_on shelf U) (granting (server_of scenario content)) (granting V) holding_host granting_host happenings (beginning scenario content) new ran in
+      let first_b = as_b (own_of scenario content answers).first in
+      let (new, alike, ran) = runs_on (IsOther s other_a) IsSame (holding_on shelf U) (holding_on shelf U) V V (twins_alike (holding_on shelf U) s other_a holding_a) (same_alike (λ (news : News) (gifts : List Circumstance). gifts) V) happenings other_a first_b Own at (inr (refl, refl)) refl run in
+      let (world, same, happened) = runs_are_of_less as_a as_b (holding_on shelf (client_of scenario)) (holding_on shelf U) (own_of scenario content answers) V (answering_host as_a (client_of scenario) U (held_by shelf) a) b happenings (own_beginning scenario content answers) new ran in
       record {
-        like = record {
-          world = world;
-          happened = runs-so (client_of scenario) (server_of scenario content) (held_by shelf) grants happenings (beginning scenario content) world happened;
-          alike = subst (λ (w : World S T). WorldsAlike (IsOther s other_a) (IsOther t other_b) at w) same alike;
-        };
-        held = runs-so (holding_on shelf (client_of scenario)) (server_of scenario content) as_told grants happenings (beginning scenario content) world happened;
-        granted = λ given. happened;
+        world = world;
+        happened = happened;
+        server_is = sym (ap (λ (w : World S T). w.b.upper) same) ∙ alike.b;
+        pushes_are = sym (ap (λ (w : World S T). w.pushes) same) ∙ ap (λ (w : World S T). w.pushes) alike.same;
       }
+
+  -- with the end of the push that goes on behind it, it is the run of a capture
+  abbrev pub own_ran : (happenings : List Happening) (at : World S T) (like : LikeOwn happenings at) (ends capture : List Entry) → IsLastEnd at.pushes ends → capture ≡ all_entries happenings ++ ends → RanOwn scenario shelf content answers capture
+  own_ran happenings at like ends capture last is =
+      record { happenings = happenings; world = like.world; happened = like.happened; ends = ends; last = subst (λ (p : Pushes). IsLastEnd p ends) (sym like.pushes_are) last; capture_is = is }

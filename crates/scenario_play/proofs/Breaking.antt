@@ -6,6 +6,7 @@ use Rattle.bt_base.specs.Counts.{HasRisen}
 use Rattle.bt_base.specs.Objects.{Object, Contents}
 use Rattle.bt_base.specs.Streams.{gained, GainedFront}
 use Rattle.bt_base.proofs.PortLaws.{front_none, gained-nil}
+use Rattle.obex_session.specs.Counting.{Counts, counts_of}
 use Rattle.push_script.specs.declared.scenario.Scenario.{Scenario}
 use Rattle.push_terms.specs.declared.outcome.Outcome.{Outcome}
 use Rattle.push_terms.specs.declared.outcome.Outcome.TheVariants.{ScriptEnded}
@@ -18,6 +19,7 @@ use Rattle.world_model.specs.Machines.{Upper}
 use Rattle.world_model.specs.Pushes.{Pushes}
 use Rattle.world_model.specs.Worlds.{Happening, all_entries, all_words, entries_of, words_in}
 use Rattle.air_laws.specs.AirLaws.{IsLastEnd}
+use Rattle.radio_world.specs.Breaking.{IsLeft}
 use Rattle.radio_world.specs.Hosts.{Asking}
 use Rattle.radio_world.specs.Scenes.{Moment, world_at, Plays, Stage, stage, moment_of, Advances}
 use Rattle.radio_world.specs.Standing.{starting, first_moment, last_entries}
@@ -25,7 +27,6 @@ use Rattle.radio_world.specs.Shortages.{ShelfLacked, InboxLacked, AirCrowded, Wo
 use Rattle.radio_world.proofs.Advancing.{plays_then}
 use Rattle.radio_world.proofs.Spelled.{AreEntries, each_of_both}
 use Rattle.radio_world.proofs.Standing.{runs_of}
-use Rattle.push_laws.specs.Premises.{AllGranted}
 use Rattle.host_model.specs.Circumstances.{Circumstance, answers_in}
 use Rattle.host_model.specs.Servers.{ServerProfile}
 use Rattle.host_model.specs.Settings.{SetHost, set_to, client_machine, server_machine}
@@ -34,6 +35,7 @@ use Rattle.bt_host.specs.NotedHosts.{client_noting, server_noting, noted_client_
 use Rattle.bt_host.specs.Pushing.{Lacks as NoShelf}
 use Rattle.bt_host.specs.PushingLaws as pushing_laws
 use Rattle.bt_host.specs.PushingLaws.{Answers}
+use Rattle.bt_host.specs.ServingLaws.{lacks}
 use Rattle.bt_host.specs.Serving.{Served, Asks, Lacks as NoInbox}
 use Rattle.bt_host.specs.Shells.{Shelled}
 use Rattle.bt_host.specs.Shelving.{Shelved}
@@ -41,14 +43,17 @@ use Rattle.bt_host.specs.Playing.{playing}
 use Rattle.scenario_laws.specs.Captures.{beginning as first_world}
 use Rattle.scenario_laws.proofs.Played.{last_is}
 use Rattle.scenario_laws.proofs.SetHosts.{set_hosts_are_hosts}
-use Rattle.scenario_play.specs.Playing.{fresh_world, KeepsShelf}
+use Rattle.tape_laws.specs.OwnPairs.{own_beginning}
+use Rattle.scenario_play.specs.Playing.{fresh_world, KeepsShelf, LackedNever, RoseNever, RanAnswered}
 use Rattle.scenario_play.specs.Breaking as breaking
 use Rattle.scenario_play.specs.Breaking.{BreaksThrough, OnItsWay, AtItsEnd, MayWant, IsBroken, IsWanting, NothingYet, ShelfWants, InboxWants, ManyWords}
-use Rattle.scenario_play.proofs.Newness.{new_client, new_server, client_twins, holding_twins, server_twins, granting_twins, beginning, hosts_begin}
+use Rattle.scenario_play.proofs.Newness.{new_client, new_server, client_twins, holding_twins, server_twins, answering_twins, beginning, hosts_begin}
 use Rattle.scenario_play.specs.Noting.{plain_set}
 use Rattle.scenario_play.specs.Shelving.{plain_client}
-use Rattle.scenario_play.proofs.Plainness.{PlainWorld, plain_world, plain_runs, held_runs, served_runs}
+use Rattle.scenario_play.proofs.Plainness.{PlainWorld, plain_world, plain_runs, enough_runs, served_runs}
+use Rattle.scenario_play.proofs.Counting.{Says, rose_or_not, asked_once, left_says}
 use Rattle.scenario_play.proofs.Course.{Hosts, shelf_kept}
+use Rattle.scenario_play.proofs.OwnServers.{ran_answered}
 use Rattle.scenario_play.proofs.Alikeness.{IsLikeServed, like_served, IsLike, like_runs, told_b}
 
 -- one entry at most ends the last push
@@ -88,17 +93,17 @@ pub inbox_left :
     (faults shortages : Q → ℕ) (inbox inbox' : Q) → BreaksThrough U V RA (Asks faults shortages) LA (NoInbox shortages) station_b words old shelf inbox' trace → old.inbox ≡ inbox → shortages inbox ≤ shortages inbox'
 inbox_left {old = old} faults shortages inbox inbox' (OnItsWay broken) same =
     let first = ap shortages same in
-    let before = broken.advances.answered_b.shortages_stay in
+    let before = broken.advances.answered_b.counted.shortages_stay in
     elim broken.inbox_left [ inl stays ↦ (let last = ap shortages stays in omega arith) | inr lacked ↦ (let last = lacked.1 in omega arith) ]
 inbox_left {old = old} faults shortages inbox inbox' (AtItsEnd mid run own front each same_shelf same_inbox) same =
     let first = ap shortages same in
-    let before = run.answered_b.shortages_stay in
+    let before = run.answered_b.counted.shortages_stay in
     let last = ap shortages same_inbox in
     omega arith
 
 -- before anything happened
-pub untouched : (scenario : Scenario) (shelf : Option (List Object)) (content content' : Option Contents) (trace trace' : Option (List ℕ)) (Lacked Never : Type 0) → content' ≡ content → trace' ≡ trace → IsBroken scenario shelf content content' trace trace' Lacked Never
-untouched scenario shelf content content' trace trace' Lacked Never stored written = record {
+pub untouched : (scenario : Scenario) (shelf : Option (List Object)) (content content' : Option Contents) (trace trace' : Option (List ℕ)) (counts counts' : Counts) → counts.faults ≤ counts'.faults → content' ≡ content → trace' ≡ trace → IsBroken scenario shelf content content' trace trace' counts counts'
+untouched scenario shelf content content' trace trace' counts counts' stay stored written = record {
   happenings = [];
   world = first_world scenario content;
   happened = refl;
@@ -111,12 +116,23 @@ untouched scenario shelf content content' trace trace' Lacked Never stored writt
   words_are = refl;
   written = front_is trace trace' written;
   entries_are = tt;
-  held = (refl, refl);
+  enough = (refl, refl);
   granted = λ never. (refl, refl);
+  answered = λ none. record {
+    answers = [];
+    enough = tt;
+    counted = inl (omega (arith, stay));
+    own = record { happenings = []; world = own_beginning scenario content []; happened = refl; ends = []; last = tt; capture_is = refl };
+    happenings_are = refl;
+    stored = stored;
+  };
   stored = inl stored;
 }
 
-module _ {P Q : Type 0} (holds : P → Option (List Object)) (content : Q → Option Contents) (AnswersA : P → List Circumstance → P → Type 0) (AnswersB : Q → List Circumstance → Q → Type 0) (LackedA : P → P → Type 0) (LackedB : Q → Q → Type 0) (scenario : Scenario) where
+module _ {P Q : Type 0} (holds : P → Option (List Object)) (content : Q → Option Contents) (AnswersA : P → List Circumstance → P → Type 0) (LackedA : P → P → Type 0) (faults shortages : Q → ℕ) (scenario : Scenario) where
+  abbrev Gave : Q → List Circumstance → Q → Type 0
+  Gave first used last = Asks faults shortages first used last
+
   abbrev At : Type 0
   At = Moment (SetHost (Noted Shelved)) (SetHost (Noted ServerProfile))
 
@@ -131,7 +147,7 @@ module _ {P Q : Type 0} (holds : P → Option (List Object)) (content : Q → Op
 
   -- ---- what happened, from two new hosts on whose ports were to answer so
 
-  record IsCourse (words : List Word) (shelf : P) (inbox : Q) (trace trace' : Option (List ℕ)) (at : At) : Type 0 where
+  record IsCourse (words : List Word) (shelf : P) (inbox : Q) (trace trace' : Option (List ℕ)) (at : At) (inbox' : Q) : Type 0 where
     for_a : List Circumstance
     for_b : List Circumstance
     happenings : List Happening
@@ -140,9 +156,10 @@ module _ {P Q : Type 0} (holds : P → Option (List Object)) (content : Q → Op
         (first_moment (starting (new_client holds shelf scenario.settings for_a) noted_client_machine) (starting (new_server content inbox scenario.settings for_b) noted_server_machine) scenario.acl_length scenario.acl_count scenario.names) at
     written : trace' ≡ gained trace (capture_octets (all_entries happenings))
     each : AreEntries (all_entries happenings)
+    asked : Gave inbox for_b inbox'
 
-  unfoldable course : (words : List Word) (first : Hosts) (shelf : P) (inbox : Q) (trace : Option (List ℕ)) (at : Standing) → first ≡ fresh_world scenario → Advances noted_client_machine noted_server_machine AnswersA AnswersB words (staged first shelf inbox trace) at
-      → IsCourse words shelf inbox trace at.trace (moment_of at [] [])
+  unfoldable course : (words : List Word) (first : Hosts) (shelf : P) (inbox : Q) (trace : Option (List ℕ)) (at : Standing) → first ≡ fresh_world scenario → Advances noted_client_machine noted_server_machine AnswersA Gave words (staged first shelf inbox trace) at
+      → IsCourse words shelf inbox trace at.trace (moment_of at [] []) at.inbox
   course words first shelf inbox trace at fresh run =
       let for_a = run.used_a ++ [] in
       let for_b = run.used_b ++ [] in
@@ -157,6 +174,7 @@ module _ {P Q : Type 0} (holds : P → Option (List Object)) (content : Q → Op
         plays = plays_then noted_client_machine noted_server_machine beginning run.happenings new (moment_of (staged first shelf inbox trace) for_a for_b) (moment_of at [] []) begun (run.plays [] []);
         written = run.written;
         each = run.each;
+        asked = asked_once faults shortages inbox at.inbox run.used_b run.answered_b;
       }
 
   abbrev plain_at : At → PlainWorld
@@ -179,18 +197,18 @@ module _ {P Q : Type 0} (holds : P → Option (List Object)) (content : Q → Op
       (plain_runs happenings (world_at begun) (world_at at) (runs_of noted_client_machine noted_server_machine happenings begun at plays))
 
   -- and where the inbox failed never, it granted all calls of it
-  like_so : (shelf : P) (inbox : Q) (for_a for_b : List Circumstance) (happenings : List Happening) (at : At) (Never : Type 0) → Never ⊎ (Never → ⊥) → (Never → AllGranted (answers_in for_b))
+  like_so : (shelf : P) (inbox : Q) (for_a for_b : List Circumstance) (happenings : List Happening) (at : At) (counts counts' : Counts) → Says (answers_in for_b) counts counts'
       → Plays noted_client_machine noted_server_machine happenings (first_moment (starting (new_client holds shelf scenario.settings for_a) noted_client_machine) (starting (new_server content inbox scenario.settings for_b) noted_server_machine) scenario.acl_length scenario.acl_count scenario.names) at
-      → IsLikeServed scenario (holds shelf) (content inbox) (set_to scenario.settings) (set_to scenario.settings) (plain_client (new_client holds shelf scenario.settings for_a)) (plain_set (new_server content inbox scenario.settings for_b)) happenings (plain_at at) Never
-  like_so shelf inbox for_a for_b happenings at Never decided grants plays =
+      → IsLikeServed scenario (holds shelf) (content inbox) (set_to scenario.settings) (set_to scenario.settings) (plain_client (new_client holds shelf scenario.settings for_a)) (plain_set (new_server content inbox scenario.settings for_b)) happenings (plain_at at) (RoseNever counts counts')
+  like_so shelf inbox for_a for_b happenings at counts counts' says plays =
       let settings = scenario.settings in
       let new_a = new_client holds shelf settings for_a in
       let new_b = new_server content inbox settings for_b in
       let begun = first_moment (starting new_a noted_client_machine) (starting new_b noted_server_machine) scenario.acl_length scenario.acl_count scenario.names in
       let runs = runs_of noted_client_machine noted_server_machine happenings begun at plays in
       like_served client_machine server_machine scenario (holds shelf) (content inbox) (set_to settings) (set_to settings) (set_hosts_are_hosts scenario (content inbox)) (plain_client new_a) (plain_set new_b)
-      (holding_twins (holds shelf) holds shelf settings for_a) (server_twins content inbox settings for_b) (granting_twins content inbox settings for_b) happenings (plain_at at) Never decided
-      (held_runs (holds shelf) happenings (world_at begun) (world_at at) refl runs) (λ never. served_runs (holds shelf) happenings (world_at begun) (world_at at) refl (grants never) runs)
+      (holding_twins (holds shelf) holds shelf settings for_a) (answering_twins content inbox settings for_b) happenings (plain_at at) (RoseNever counts counts') (rose_or_not counts counts')
+      (enough_runs (holds shelf) happenings (world_at begun) (world_at at) refl says.enough runs) (λ never. served_runs (holds shelf) happenings (world_at begun) (world_at at) refl (says.granted never) runs)
 
   -- what the inbox holds in it
   held : (shelf : P) (inbox : Q) (for_a for_b : List Circumstance) (happenings : List Happening) (at : PlainWorld) (run : Like shelf inbox for_a for_b happenings at)
@@ -211,19 +229,34 @@ module _ {P Q : Type 0} (holds : P → Option (List Object)) (content : Q → Op
   own_holds : (own : Shelled (Noted Served)) (inbox : Q) (host : Asking (SetHost (Noted ServerProfile)) Circumstance) → host.upper ≡ (server_at own inbox).upper → (host.upper []).host.profile.end.inbox.content ≡ content inbox
   own_holds own inbox host is = ap (λ (u : List Circumstance → SetHost (Noted ServerProfile)). (u []).host.profile.end.inbox.content) is
 
+  -- it is as it was left, where it did not lack memory
+  stays : (mid last : Q) → IsLeft (NoInbox shortages) mid last → (NoInbox shortages mid last → ⊥) → content last ≡ content mid
+  stays mid last (inl same) none = ap content same
+  stays mid last (inr lacked) none = absurd (none lacked)
+
+  -- what the counts of the inbox say of it
+  answered_so_far : (shelf : P) (inbox inbox' : Q) (for_a for_b : List Circumstance) (happenings : List Happening) (at : At)
+      → Plays noted_client_machine noted_server_machine happenings (first_moment (starting (new_client holds shelf scenario.settings for_a) noted_client_machine) (starting (new_server content inbox scenario.settings for_b) noted_server_machine) scenario.acl_length scenario.acl_count scenario.names) at
+      → (counts counts' : Counts) → Says (answers_in for_b) counts counts' → LackedNever counts counts' → content inbox' ≡ at.b.upper.host.profile.end.inbox.content → RanAnswered scenario (holds shelf) (content inbox) (content inbox') counts counts' happenings (all_entries happenings)
+  answered_so_far shelf inbox inbox' for_a for_b happenings at plays counts counts' says none stored =
+      ran_answered holds content scenario shelf inbox for_a for_b happenings at plays [] (all_entries happenings) tt (sym (append-nil (all_entries happenings))) (content inbox') stored counts counts' says none
+
   pub broke :
-      (first : Hosts) (shelf shelf' : P) (inbox inbox' : Q) (trace trace' : Option (List ℕ)) (Lacked Never : Type 0) → Never ⊎ (Never → ⊥) → ((mid : Q) (used : List Circumstance) → AnswersB inbox used mid → ((inbox' ≡ mid) ⊎ LackedB mid inbox') → Never → AllGranted (answers_in (used ++ []))) → first ≡ fresh_world scenario → ((mid : Q) (used : List Circumstance) → AnswersB inbox used mid → LackedB mid inbox' → Lacked)
-      → BreaksThrough noted_client_machine noted_server_machine AnswersA AnswersB LackedA LackedB server_at (words_of scenario.script) (staged first shelf inbox trace) shelf' inbox' trace' → IsBroken scenario (holds shelf) (content inbox) (content inbox') trace trace' Lacked Never
+      (first : Hosts) (shelf shelf' : P) (inbox inbox' : Q) (trace trace' : Option (List ℕ)) → first ≡ fresh_world scenario
+      → BreaksThrough noted_client_machine noted_server_machine AnswersA Gave LackedA (NoInbox shortages) server_at (words_of scenario.script) (staged first shelf inbox trace) shelf' inbox' trace'
+      → IsBroken scenario (holds shelf) (content inbox) (content inbox') trace trace' (counts_of faults shortages inbox) (counts_of faults shortages inbox')
   unfolding course
-  broke first shelf shelf' inbox inbox' trace trace' Lacked Never decided spares fresh lacks (OnItsWay broken) =
+  broke first shelf shelf' inbox inbox' trace trace' fresh (OnItsWay broken) =
+      let counts = counts_of faults shortages inbox in
+      let counts' = counts_of faults shortages inbox' in
       let mid = broken.mid in
       let run = course broken.turned first shelf inbox trace mid fresh broken.advances in
-      let grants = spares mid.inbox broken.advances.used_b broken.advances.answered_b broken.inbox_left in
-      let past_so = like_so shelf inbox run.for_a run.for_b run.happenings (moment_of mid [] []) Never decided grants run.plays in
+      let says = left_says faults shortages inbox mid.inbox inbox' run.for_b run.asked broken.inbox_left in
+      let past_so = like_so shelf inbox run.for_a run.for_b run.happenings (moment_of mid [] []) counts counts' says run.plays in
       let past = past_so.like in
       let (new, plays) = broken.may [] [] in
       let all = run.happenings ++ broken.next in
-      let on_so = like_so shelf inbox run.for_a run.for_b all new Never decided grants (plays_then noted_client_machine noted_server_machine run.happenings broken.next _ (moment_of mid [] []) new run.plays plays) in
+      let on_so = like_so shelf inbox run.for_a run.for_b all new counts counts' says (plays_then noted_client_machine noted_server_machine run.happenings broken.next _ (moment_of mid [] []) new run.plays plays) in
       let on = on_so.like in
       record {
         happenings = run.happenings;
@@ -246,16 +279,20 @@ module _ {P Q : Type 0} (holds : P → Option (List Object)) (content : Q → Op
             ∙ ap (λ (ws : List Word). ws ++ broken.later) (sym (flat_map-append words_in run.happenings broken.next ∙ ap (λ (ws : List Word). ws ++ all_words broken.next) run.words_are));
         written = subst (λ (t : Option (List ℕ)). GainedFront t trace' (capture_octets (all_entries broken.next))) run.written broken.front;
         entries_are = each_of_both (all_entries run.happenings) (all_entries broken.next) run.each broken.each;
-        held = (past_so.held, on_so.held);
+        enough = (past_so.enough, on_so.enough);
         granted = λ never. (past_so.granted never, on_so.granted never);
+        answered = λ none. answered_so_far shelf inbox inbox' run.for_a run.for_b run.happenings (moment_of mid [] []) run.plays counts counts' says none (stays mid.inbox inbox' broken.inbox_left (λ lacked. none (lacks faults shortages inbox mid.inbox inbox' run.for_b run.asked lacked).0) ∙ sym (own_holds broken.own_b.0 mid.inbox mid.b broken.own_b.1));
         stored = elim broken.inbox_left [
           | inl same ↦ inl (ap content same ∙ sym (held shelf inbox run.for_a run.for_b run.happenings (plain_at (moment_of mid [] [])) past ∙ own_holds broken.own_b.0 mid.inbox mid.b broken.own_b.1))
-          | inr lacked ↦ inr (lacks mid.inbox broken.advances.used_b broken.advances.answered_b lacked)
+          | inr lacked ↦ inr (lacks faults shortages inbox mid.inbox inbox' run.for_b run.asked lacked).0
         ];
       }
-  broke first shelf shelf' inbox inbox' trace trace' Lacked Never decided spares fresh lacks (AtItsEnd mid advances own front each same_shelf same_inbox) =
+  broke first shelf shelf' inbox inbox' trace trace' fresh (AtItsEnd mid advances own front each same_shelf same_inbox) =
+      let counts = counts_of faults shortages inbox in
+      let counts' = counts_of faults shortages inbox' in
       let run = course (words_of scenario.script) first shelf inbox trace mid fresh advances in
-      let past_so = like_so shelf inbox run.for_a run.for_b run.happenings (moment_of mid [] []) Never decided (spares mid.inbox advances.used_b advances.answered_b (inl same_inbox)) run.plays in
+      let says = left_says faults shortages inbox mid.inbox inbox' run.for_b run.asked (inl same_inbox) in
+      let past_so = like_so shelf inbox run.for_a run.for_b run.happenings (moment_of mid [] []) counts counts' says run.plays in
       let past = past_so.like in
       let ends = last_entries (noted_client_machine.outcome (mid.a.upper [])) mid.scene.pushes in
       record {
@@ -278,8 +315,9 @@ module _ {P Q : Type 0} (holds : P → Option (List Object)) (content : Q → Op
         words_are = sym run.words_are ∙ sym (append-nil (all_words run.happenings));
         written = subst (λ (t : Option (List ℕ)). GainedFront t trace' (capture_octets ends)) run.written front;
         entries_are = each_of_both (all_entries run.happenings) ends run.each each;
-        held = (past_so.held, past_so.held);
+        enough = (past_so.enough, past_so.enough);
         granted = λ never. (past_so.granted never, past_so.granted never);
+        answered = λ none. answered_so_far shelf inbox inbox' run.for_a run.for_b run.happenings (moment_of mid [] []) run.plays counts counts' says none (ap content same_inbox ∙ sym (own_holds own.0 mid.inbox mid.b own.1));
         stored = inl (ap content same_inbox ∙ sym (held shelf inbox run.for_a run.for_b run.happenings (plain_at (moment_of mid [] [])) past ∙ own_holds own.0 mid.inbox mid.b own.1));
       }
 
@@ -289,13 +327,13 @@ module _ {P Q : Type 0} (holds : P → Option (List Object)) (content : Q → Op
   crowded_at one other same crowded = subst (λ (r : Radio). (is_crowded r.a.waiting || is_crowded r.b.waiting) ≡ true) (sym same) crowded
 
   pub wanting :
-      (first : Hosts) (shelf shelf' : P) (inbox inbox' : Q) (trace trace' : Option (List ℕ)) (NoShelf NoInbox : Type 0) → first ≡ fresh_world scenario → (LackedA shelf shelf' → NoShelf) → (LackedB inbox inbox' → NoInbox)
-      → MayWant noted_client_machine noted_server_machine AnswersA AnswersB LackedA LackedB (words_of scenario.script) (staged first shelf inbox trace) shelf' inbox' trace' → IsWanting scenario (content inbox) (content inbox') trace trace' NoShelf NoInbox
+      (first : Hosts) (shelf shelf' : P) (inbox inbox' : Q) (trace trace' : Option (List ℕ)) (ShelfLacks InboxLacks : Type 0) → first ≡ fresh_world scenario → (LackedA shelf shelf' → ShelfLacks) → (NoInbox shortages inbox inbox' → InboxLacks)
+      → MayWant noted_client_machine noted_server_machine AnswersA Gave LackedA (NoInbox shortages) (words_of scenario.script) (staged first shelf inbox trace) shelf' inbox' trace' → IsWanting scenario (content inbox) (content inbox') trace trace' ShelfLacks InboxLacks
   unfolding course
-  wanting first shelf shelf' inbox inbox' trace trace' NoShelf NoInbox fresh no_shelf no_inbox (inl none) = NothingYet (ap content none.inbox_is) none.trace_is
-  wanting first shelf shelf' inbox inbox' trace trace' NoShelf NoInbox fresh no_shelf no_inbox (inr (ShelfLacked lacked)) = ShelfWants (no_shelf lacked)
-  wanting first shelf shelf' inbox inbox' trace trace' NoShelf NoInbox fresh no_shelf no_inbox (inr (InboxLacked lacked)) = InboxWants (no_inbox lacked)
-  wanting first shelf shelf' inbox inbox' trace trace' NoShelf NoInbox fresh no_shelf no_inbox (inr (AirCrowded over)) =
+  wanting first shelf shelf' inbox inbox' trace trace' ShelfLacks InboxLacks fresh no_shelf no_inbox (inl none) = NothingYet (ap content none.inbox_is) none.trace_is
+  wanting first shelf shelf' inbox inbox' trace trace' ShelfLacks InboxLacks fresh no_shelf no_inbox (inr (ShelfLacked lacked)) = ShelfWants (no_shelf lacked)
+  wanting first shelf shelf' inbox inbox' trace trace' ShelfLacks InboxLacks fresh no_shelf no_inbox (inr (InboxLacked lacked)) = InboxWants (no_inbox lacked)
+  wanting first shelf shelf' inbox inbox' trace trace' ShelfLacks InboxLacks fresh no_shelf no_inbox (inr (AirCrowded over)) =
       let run = course over.turned first shelf inbox trace over.new fresh over.advances in
       let so = like shelf inbox run.for_a run.for_b run.happenings (moment_of over.new [] []) run.plays in
       breaking.AirCrowded (record {
@@ -306,6 +344,6 @@ module _ {P Q : Type 0} (holds : P → Option (List Object)) (content : Q → Op
         written = sym over.trace_is ∙ run.written;
         entries_are = run.each;
       })
-  wanting first shelf shelf' inbox inbox' trace trace' NoShelf NoInbox fresh no_shelf no_inbox (inr (WordsFull full)) =
+  wanting first shelf shelf' inbox inbox' trace trace' ShelfLacks InboxLacks fresh no_shelf no_inbox (inr (WordsFull full)) =
       let none = ap (λ (w : Hosts). w.scene.turned) fresh in
       ManyWords (omega arith)

@@ -3,6 +3,7 @@ use Rattle.std.proofs.Common.{◌≡◌, ◌⊎◌, ℕ, List, [], ◌++◌, Opt
 use Rattle.std.proofs.lemmas.Grind.{flat_map-append}
 use Rattle.bt_base.specs.Objects.{Object, Contents}
 use Rattle.bt_base.specs.Streams.{gained}
+use Rattle.obex_session.specs.Counting.{Counts, counts_of}
 use Rattle.push_script.specs.declared.scenario.Scenario.{Scenario}
 use Rattle.push_terms.specs.declared.outcome.Outcome.{Outcome}
 use Rattle.push_terms.specs.declared.peaks.Peaks.{Peaks}
@@ -19,7 +20,6 @@ use Rattle.radio_world.proofs.Advancing.{plays_then}
 use Rattle.radio_world.proofs.Spelled.{AreEntries, each_of_both, each_then}
 use Rattle.radio_world.proofs.Moving.{written_then}
 use Rattle.radio_world.proofs.Standing.{runs_of, at_rest}
-use Rattle.push_laws.specs.Premises.{AllGranted}
 use Rattle.host_model.specs.Circumstances.{Circumstance, answers_in}
 use Rattle.host_model.specs.Clients.{ClientProfile}
 use Rattle.host_model.specs.Servers.{ServerProfile}
@@ -27,21 +27,25 @@ use Rattle.host_model.specs.Settings.{SetHost, set_to, client_machine, server_ma
 use Rattle.bt_host.specs.Noting.{Noted}
 use Rattle.bt_host.specs.NotedHosts.{client_noting, server_noting, noted_client_machine, noted_server_machine}
 use Rattle.bt_host.specs.Pushing.{AreOf}
-use Rattle.bt_host.specs.Serving.{Served}
+use Rattle.bt_host.specs.Serving.{Served, Asks}
 use Rattle.bt_host.specs.Shells.{Shelled}
 use Rattle.bt_host.specs.Shelving.{Shelved}
 use Rattle.bt_host.specs.Playing.{playing}
 use Rattle.scenario_laws.specs.Captures.{BothHosts}
+use Rattle.scenario_laws.proofs.Played.{last_is}
 use Rattle.scenario_laws.proofs.SetHosts.{set_hosts_are_hosts}
-use Rattle.pair_laws.specs.Served.{HappenedHeld, HappenedServed}
-use Rattle.scenario_play.specs.Playing.{fresh_world, KeepsShelf, IsPlayed}
+use Rattle.pair_laws.specs.Enough.{HappenedEnough}
+use Rattle.pair_laws.specs.Served.{HappenedServed}
+use Rattle.scenario_play.specs.Playing.{fresh_world, KeepsShelf, RoseNever, RanAnswered, IsPlayed}
 use Rattle.scenario_play.specs.Noting.{plain_set}
 use Rattle.scenario_play.specs.Shelving.{plain_client}
 use Rattle.scenario_play.specs.Peaks.{NotedMoment, AreNoted, AreReached}
 use Rattle.scenario_play.specs.Running.{RunsThrough}
-use Rattle.scenario_play.proofs.Plainness.{PlainWorld, plain_world, orderly, held_runs, served_runs, plain_rest}
-use Rattle.scenario_play.proofs.Newness.{new_client, new_server, client_twins, holding_twins, server_twins, granting_twins, beginning, hosts_begin}
+use Rattle.scenario_play.proofs.Plainness.{PlainWorld, plain_world, orderly, enough_runs, served_runs, plain_rest}
+use Rattle.scenario_play.proofs.Newness.{new_client, new_server, client_twins, holding_twins, server_twins, answering_twins, beginning, hosts_begin}
 use Rattle.scenario_play.proofs.Alikeness.{IsLike, IsWhole, IsLikeServed, like_served, like_ends, told_b}
+use Rattle.scenario_play.proofs.Counting.{Says, rose_or_not, asked_twice, asked_says}
+use Rattle.scenario_play.proofs.OwnServers.{ran_answered}
 
 pub shelf_kept :
     (content content' content'' : Option (List Object)) (faults faults' faults'' shortages shortages' shortages'' : ℕ) (xs ys : List Circumstance) → AreOf content content' faults faults' shortages shortages' xs
@@ -52,7 +56,7 @@ shelf_kept content content' content'' faults faults' faults'' shortages shortage
 abbrev pub Hosts : Type 0
 Hosts = Both (Shelled (Noted ClientProfile)) (Shelled (Noted Served))
 
-module _ {P Q : Type 0} (holds : P → Option (List Object)) (content : Q → Option Contents) (AnswersA : P → List Circumstance → P → Type 0) (AnswersB : Q → List Circumstance → Q → Type 0) (scenario : Scenario) where
+module _ {P Q : Type 0} (holds : P → Option (List Object)) (content : Q → Option Contents) (AnswersA : P → List Circumstance → P → Type 0) (faults shortages : Q → ℕ) (scenario : Scenario) where
   abbrev client_at : Hosts → P → Asking (SetHost (Noted Shelved)) Circumstance
   client_at world shelf = playing (client_noting holds) shelf world.a.stack
 
@@ -67,12 +71,12 @@ module _ {P Q : Type 0} (holds : P → Option (List Object)) (content : Q → Op
 
   abbrev Through : Hosts → Hosts → P → P → Q → Q → Option (List ℕ) → Option (List ℕ) → Type 0
   Through first end shelf shelf' inbox inbox' trace trace' =
-      RunsThrough noted_client_machine noted_server_machine AnswersA AnswersB (words_of scenario.script) (staged first shelf inbox trace) (staged end shelf' inbox' trace')
+      RunsThrough noted_client_machine noted_server_machine AnswersA (Asks faults shortages) (words_of scenario.script) (staged first shelf inbox trace) (staged end shelf' inbox' trace')
 
   -- ---- from the first commands to where the last word was turned
 
   -- what happened, from two new hosts on whose ports were to answer so
-  record IsCourse (end : Hosts) (shelf shelf' : P) (inbox inbox' : Q) (trace : Option (List ℕ)) (last : Scene) (trace' : Option (List ℕ)) (Never : Type 0) : Type 0 where
+  record IsCourse (end : Hosts) (shelf shelf' : P) (inbox inbox' : Q) (trace : Option (List ℕ)) (last : Scene) (trace' : Option (List ℕ)) : Type 0 where
     for_a : List Circumstance
     for_b : List Circumstance
     happenings : List Happening
@@ -82,15 +86,10 @@ module _ {P Q : Type 0} (holds : P → Option (List Object)) (content : Q → Op
         (moment last (answering [] (client_at end shelf')) (answering [] (server_at end inbox')))
     written : trace' ≡ gained trace (capture_octets (all_entries happenings))
     each : AreEntries (all_entries happenings)
-    granted : Never → AllGranted (answers_in for_b)
+    asked : Asks faults shortages inbox for_b inbox'
 
-  -- where the inbox failed never its answers are grants
-  abbrev Spares : Q → Q → Type 0 → Type 0
-  Spares inbox inbox' Never = (mid : Q) (one two : List Circumstance) → AnswersB inbox one mid → AnswersB mid two inbox' → Never → AllGranted (answers_in (one ++ (two ++ [])))
-
-  course : (first end : Hosts) (shelf shelf' : P) (inbox inbox' : Q) (trace trace' : Option (List ℕ)) (Never : Type 0) → Spares inbox inbox' Never → first ≡ fresh_world scenario → (run : Through first end shelf shelf' inbox inbox' trace trace')
-      → IsCourse end shelf shelf' inbox inbox' trace run.last run.trace Never
-  course first end shelf shelf' inbox inbox' trace trace' Never spares fresh run =
+  course : (first end : Hosts) (shelf shelf' : P) (inbox inbox' : Q) (trace trace' : Option (List ℕ)) → first ≡ fresh_world scenario → (run : Through first end shelf shelf' inbox inbox' trace trace') → IsCourse end shelf shelf' inbox inbox' trace run.last run.trace
+  course first end shelf shelf' inbox inbox' trace trace' fresh run =
       let one = run.starts in
       let two = run.turns in
       let rest_a = two.used_a ++ [] in
@@ -112,7 +111,7 @@ module _ {P Q : Type 0} (holds : P → Option (List Object)) (content : Q → Op
         plays = plays_then noted_client_machine noted_server_machine beginning (one.happenings ++ two.happenings) new (at_moment first shelf inbox for_a for_b) settled begun both;
         written = entries ∙ ap (λ (es : List Entry). gained trace (capture_octets es)) (sym (flat_map-append entries_of one.happenings two.happenings));
         each = each_then (all_entries one.happenings) (all_entries two.happenings) _ (flat_map-append entries_of one.happenings two.happenings) one.each two.each;
-        granted = spares run.mid.inbox one.used_b two.used_b one.answered_b two.answered_b;
+        asked = asked_twice faults shortages inbox run.mid.inbox inbox' one.used_b two.used_b one.answered_b two.answered_b;
       }
 
   -- ---- and to its end
@@ -120,10 +119,13 @@ module _ {P Q : Type 0} (holds : P → Option (List Object)) (content : Q → Op
   abbrev came : Hosts → P → Option Outcome
   came end shelf' = noted_client_machine.outcome ((client_at end shelf').upper [])
 
-  pub played : (first end : Hosts) (shelf shelf' : P) (inbox inbox' : Q) (trace trace' : Option (List ℕ)) (outcomes : List Outcome) (peaks : Peaks) (Never : Type 0) → Never ⊎ (Never → ⊥) → Spares inbox inbox' Never → first ≡ fresh_world scenario → Through first end shelf shelf' inbox inbox' trace trace'
-      → outcomes ≡ end.scene.pushes.outcomes → AreNoted end.scene.medium (at_moment end shelf' inbox' [] []) peaks → IsPlayed scenario (holds shelf) (content inbox) (content inbox') trace trace' outcomes peaks Never
-  played first end shelf shelf' inbox inbox' trace trace' outcomes peaks Never decided spares fresh through same noted =
-      let run = course first end shelf shelf' inbox inbox' trace trace' Never spares fresh through in
+  pub played : (first end : Hosts) (shelf shelf' : P) (inbox inbox' : Q) (trace trace' : Option (List ℕ)) (outcomes : List Outcome) (peaks : Peaks) → first ≡ fresh_world scenario → Through first end shelf shelf' inbox inbox' trace trace'
+      → outcomes ≡ end.scene.pushes.outcomes → AreNoted end.scene.medium (at_moment end shelf' inbox' [] []) peaks → IsPlayed scenario (holds shelf) (content inbox) (content inbox') trace trace' outcomes peaks (counts_of faults shortages inbox) (counts_of faults shortages inbox')
+  played first end shelf shelf' inbox inbox' trace trace' outcomes peaks fresh through same noted =
+      let run = course first end shelf shelf' inbox inbox' trace trace' fresh through in
+      let counts = counts_of faults shortages inbox in
+      let counts' = counts_of faults shortages inbox' in
+      let says = asked_says faults shortages inbox inbox' run.for_b run.asked in
       let last = through.last in
       let settings = scenario.settings in
       let hosts = set_hosts_are_hosts scenario (content inbox) in
@@ -137,9 +139,9 @@ module _ {P Q : Type 0} (holds : P → Option (List Object)) (content : Q → Op
       let now : NotedMoment = moment last (answering [] (client_at end shelf')) (answering [] (server_at end inbox')) in
       let at : PlainWorld = plain_world (world_at now) in
       let runs = runs_of noted_client_machine noted_server_machine run.happenings begun now run.plays in
-      let so : IsLikeServed scenario (holds shelf) (content inbox) (set_to settings) (set_to settings) s t run.happenings at Never =
-      like_served client_machine server_machine scenario (holds shelf) (content inbox) (set_to settings) (set_to settings) hosts s t (holding_twins (holds shelf) holds shelf settings run.for_a) twins_b (granting_twins content inbox settings run.for_b) run.happenings at Never decided
-      (held_runs (holds shelf) run.happenings (world_at begun) (world_at now) refl runs) (λ never. served_runs (holds shelf) run.happenings (world_at begun) (world_at now) refl (run.granted never) runs) in
+      let so : IsLikeServed scenario (holds shelf) (content inbox) (set_to settings) (set_to settings) s t run.happenings at (RoseNever counts counts') =
+      like_served client_machine server_machine scenario (holds shelf) (content inbox) (set_to settings) (set_to settings) hosts s t (holding_twins (holds shelf) holds shelf settings run.for_a) (answering_twins content inbox settings run.for_b) run.happenings at (RoseNever counts counts') (rose_or_not counts counts')
+      (enough_runs (holds shelf) run.happenings (world_at begun) (world_at now) refl says.enough runs) (λ never. served_runs (holds shelf) run.happenings (world_at begun) (world_at now) refl (says.granted never) runs) in
       let like : IsLike scenario (content inbox) (set_to settings) (set_to settings) s t run.happenings at = so.like in
       let rests = at_rest noted_client_machine noted_server_machine last (client_at end shelf') (server_at end inbox') orderly through.stands [] [] in
       let whole : IsWhole scenario (content inbox) (set_to settings) (set_to settings) s t run.happenings at like (came end shelf') =
@@ -161,10 +163,13 @@ module _ {P Q : Type 0} (holds : P → Option (List Object)) (content : Q → Op
           rests = rests;
           noted = subst (λ (m : Medium). AreNoted m now peaks) through.medium_stays (record { buffers = noted.buffers; windows = noted.windows; credits = noted.credits });
         });
-        held = subst (λ (hs : List Happening). HappenedHeld scenario (holds shelf) (content inbox) hs whole.finished.ran.world) (sym whole.happenings_are)
-            (subst (λ (w : BothHosts). HappenedHeld scenario (holds shelf) (content inbox) run.happenings w) (sym whole.world_is) so.held);
+        enough = subst (λ (hs : List Happening). HappenedEnough scenario (holds shelf) (content inbox) hs whole.finished.ran.world) (sym whole.happenings_are)
+            (subst (λ (w : BothHosts). HappenedEnough scenario (holds shelf) (content inbox) run.happenings w) (sym whole.world_is) so.enough);
         granted = λ never. subst (λ (hs : List Happening). HappenedServed scenario (holds shelf) (content inbox) hs whole.finished.ran.world) (sym whole.happenings_are)
             (subst (λ (w : BothHosts). HappenedServed scenario (holds shelf) (content inbox) run.happenings w) (sym whole.world_is) (so.granted never));
+        answered = λ none. subst (λ (hs : List Happening). RanAnswered scenario (holds shelf) (content inbox) (content inbox') counts counts' hs (all_entries run.happenings ++ last_entries (came end shelf') last.pushes)) (sym whole.happenings_are)
+            (ran_answered holds content scenario shelf inbox run.for_a run.for_b run.happenings now run.plays (last_entries (came end shelf') last.pushes) (all_entries run.happenings ++ last_entries (came end shelf') last.pushes)
+            (last_is (came end shelf') last.pushes) refl (content inbox') refl counts counts' says none);
         stored = sym (ap (λ (w : BothHosts). w.b.upper.profile.inbox.content) whole.world_is ∙ held);
         written = written_then trace through.trace trace' (all_entries run.happenings) (last_entries (came end shelf') last.pushes) (all_entries run.happenings ++ last_entries (came end shelf') last.pushes) refl run.written through.written;
         entries_are = each_of_both (all_entries run.happenings) (last_entries (came end shelf') last.pushes) run.each through.each;

@@ -15,7 +15,7 @@ unless (inl x) none = x
 unless (inr y) none = absurd (none y)
 
 pub plays_break_off : PlaysBreakOff
-plays_break_off asks scenario shelf before after trace trace' faults faults' shortages shortages' broken none transport serves =
+plays_break_off asks scenario shelf before after trace trace' counts counts' broken none transport serves =
     let past = all_entries broken.happenings in
     let same = unless broken.stored none in
     subst (λ (c : Option Contents). BrokeOff scenario before (stored_in c) past (past ++ broken.next)) (sym same)

@@ -1,18 +1,21 @@
 -- What a scenario comes to that was played: over either transport, and over L2CAP.
-use Rattle.std.proofs.Common.{◌≡◌, ℕ, List, [], ◌++◌, Option, Some, None, refl, sym, ap, ◌∙◌, subst, inl, inr, ◌⊎◌}
+use Rattle.std.proofs.Common.{◌≡◌, ℕ, List, [], ◌++◌, take, Option, Some, None, refl, sym, ap, ◌∙◌, subst, inl, inr, ◌⊎◌}
 use Rattle.std.proofs.lemmas.List.{append-nil}
-use Rattle.bt_base.specs.Counts.{HasRisen}
 use Rattle.bt_base.specs.Objects.{Object, Contents}
 use Rattle.bt_base.specs.declared.settings.Transport.TheVariants.{L2cap}
+use Rattle.obex_session.specs.Counting.{Counts}
 use Rattle.push_script.specs.declared.scenario.Scenario.{Scenario}
 use Rattle.push_terms.specs.declared.outcome.Outcome.{Outcome}
 use Rattle.push_terms.specs.declared.peaks.Peaks.{Peaks}
+use Rattle.push_terms.specs.declared.word.Side.{Side}
 use Rattle.push_terms.specs.declared.word.Side.TheVariants.{A, B}
 use Rattle.push_terms.specs.declared.word.Word.{Word}
 use Rattle.capture.specs.Entries.{Entry}
-use Rattle.capture.specs.Histories.{EachAfter}
+use Rattle.capture.specs.Histories.{EachAfter, AtEach}
+use Rattle.capture.proofs.HistoryLaws.{at_each-whole}
 use Rattle.radio_air.specs.Air.{KeepsTo}
-use Rattle.link_talk.specs.Captures.{objects_heard}
+use Rattle.link_talk.specs.Captures.{objects_heard, talk_now}
+use Rattle.channel_laws.proofs.Windowing.{windows-hold}
 use Rattle.world_model.specs.Machines.{News, Linked, Failed, Heard, TimerFired, Cancelled, Opening}
 use Rattle.world_model.specs.Worlds.{Happening, all_entries}
 use Rattle.push_laws.specs.Laws.{stored_in}
@@ -21,6 +24,7 @@ use Rattle.shelf_model.specs.Held.{held_by}
 use Rattle.host_laws.specs.Answered.{TellsAtMost}
 use Rattle.host_laws.proofs.InOrder.{asks-nothing}
 use Rattle.request_laws.specs.BothFed.{most_octets}
+use Rattle.scenario_laws.specs.Accounts.{KeepsWindow}
 use Rattle.scenario_laws.specs.Air.{hosts_of}
 use Rattle.scenario_laws.specs.Captures.{client_of, server_of, beginning, BothHosts, Ran, Finished}
 use Rattle.scenario_laws.specs.Gains.{holding}
@@ -28,13 +32,13 @@ use Rattle.scenario_laws.specs.Parties.{party_of}
 use Rattle.scenario_laws.proofs.Accounts.{buffers_kept, controllers_honest, pushes_in_turn}
 use Rattle.scenario_laws.proofs.Airs.{air_kept, air_obeyed}
 use Rattle.scenario_laws.proofs.Early.{fronts_spell_fronts}
-use Rattle.scenario_laws.proofs.Framing.{windows_kept}
 use Rattle.scenario_laws.proofs.Gaining.{gains_exactly}
 use Rattle.pair_laws.specs.Granted.{granting, HappenedGranted}
 use Rattle.pair_laws.specs.Served.{HappenedServed, TellsOf}
 use Rattle.pair_laws.proofs.Answered.{runs-so}
 use Rattle.pair_laws.proofs.Pairing.{granted-take_turns, held-take_turns, served-take_turns}
 use Rattle.pair_laws.proofs.Taking.{clients_within, servers_within}
+use Rattle.pair_laws.proofs.Windows.{runs_hold, talks_hold}
 use Rattle.request_laws.specs.Together.{ServesAll}
 use Rattle.request_laws.proofs.AllSizes.{gains_so}
 use Rattle.request_laws.proofs.Linked.{runs_are_linked}
@@ -44,39 +48,40 @@ use Rattle.request_laws.proofs.ObjectPipes.{are_piped}
 use Rattle.request_laws.proofs.Paired.{paired_servers_serve}
 use Rattle.request_laws.proofs.Summing.{both_ask}
 use Rattle.scenario_play.specs.Breaking.{IsBroken}
-use Rattle.scenario_play.specs.Gaining.{HaveAnswered, HaveGranted, HaveOffered, HoldsAtMost, KeepsAccounts, ServesAndGains, RestsSo, KeepsPlayed, KeepsBroken, GainsPlayed, GainsBroken, PlaysKeep, PlaysGain}
-use Rattle.scenario_play.specs.Playing.{RoseNever, IsPlayed}
+use Rattle.scenario_play.specs.Gaining.{HaveAnswered, HaveGranted, HaveOffered, HoldsAtMost, KeepsAccounts, ServesAndGains, KeepsPlayed, KeepsBroken, GainsPlayed, GainsBroken, PlaysKeep, PlaysGain}
+use Rattle.scenario_play.specs.Playing.{IsPlayed}
+use Rattle.scenario_play.proofs.Alikeness.{enough_held}
 
 -- ---- a run
+
+-- no window is passed at any moment
+window_kept : (scenario : Scenario) (content : Option Contents) (capture : List Entry) (side : Side) → Ran scenario content capture → AtEach (KeepsWindow scenario.settings side) capture
+window_kept scenario content capture side ran n own channel known alive =
+    talks_hold.used scenario.settings side (talk_now side (take n capture)) own channel ((runs_hold windows-hold).throughout scenario content capture side ran n) known
 
 accounts_kept : (scenario : Scenario) (content : Option Contents) (capture : List Entry) → Ran scenario content capture → KeepsAccounts scenario capture
 accounts_kept scenario content capture ran = record {
   within_a = buffers_kept scenario content capture A ran;
   within_b = buffers_kept scenario content capture B ran;
+  window_a = window_kept scenario content capture A ran;
+  window_b = window_kept scenario content capture B ran;
   honest = controllers_honest scenario content capture ran;
   in_turn = pushes_in_turn scenario content capture ran;
 }
 
-rests_so : (scenario : Scenario) (content : Option Contents) (capture : List Entry) → Finished scenario content capture → RestsSo scenario capture
-rests_so scenario content capture finished = record {
-  window_a = windows_kept scenario content capture A finished.ran finished.rests;
-  window_b = windows_kept scenario content capture B finished.ran finished.rests;
-  obeys = air_obeyed scenario content capture finished;
-}
-
 -- ---- over either transport
 
-pub played_kept : (scenario : Scenario) (shelf : Option (List Object)) (before after : Option Contents) (trace trace' : Option (List ℕ)) (outcomes : List Outcome) (peaks : Peaks) (Never : Type 0) (played : IsPlayed scenario shelf before after trace trace' outcomes peaks Never)
+pub played_kept : (scenario : Scenario) (shelf : Option (List Object)) (before after : Option Contents) (trace trace' : Option (List ℕ)) (outcomes : List Outcome) (peaks : Peaks) (counts counts' : Counts) (played : IsPlayed scenario shelf before after trace trace' outcomes peaks counts counts')
     → KeepsPlayed scenario outcomes played.capture
-played_kept scenario shelf before after trace trace' outcomes peaks Never played = record {
+played_kept scenario shelf before after trace trace' outcomes peaks counts counts' played = record {
   accounts = accounts_kept scenario before played.capture played.finished.ran;
   outcomes_are = played.outcomes_are;
-  rests = rests_so scenario before played.capture played.finished;
+  obeys = air_obeyed scenario before played.capture played.finished;
 }
 
-pub broken_kept : (scenario : Scenario) (shelf : Option (List Object)) (before after : Option Contents) (trace trace' : Option (List ℕ)) (Lacked Never : Type 0) (broken : IsBroken scenario shelf before after trace trace' Lacked Never)
+pub broken_kept : (scenario : Scenario) (shelf : Option (List Object)) (before after : Option Contents) (trace trace' : Option (List ℕ)) (counts counts' : Counts) (broken : IsBroken scenario shelf before after trace trace' counts counts')
     → KeepsBroken scenario (all_entries broken.happenings ++ broken.next)
-broken_kept scenario shelf before after trace trace' Lacked Never broken =
+broken_kept scenario shelf before after trace trace' counts counts' broken =
     let capture : List Entry = all_entries broken.happenings ++ broken.next in
     record {
       accounts = accounts_kept scenario before capture broken.ran;
@@ -85,8 +90,8 @@ broken_kept scenario shelf before after trace trace' Lacked Never broken =
 
 pub plays_keep : PlaysKeep
 plays_keep = record {
-  plays = λ scenario shelf before after trace trace' outcomes peaks faults faults' shortages shortages' played. played_kept scenario shelf before after trace trace' outcomes peaks (RoseNever faults faults' shortages shortages') played;
-  breaks = λ scenario shelf before after trace trace' faults faults' shortages shortages' broken. broken_kept scenario shelf before after trace trace' (HasRisen shortages shortages') (RoseNever faults faults' shortages shortages') broken;
+  plays = λ scenario shelf before after trace trace' outcomes peaks counts counts' played. played_kept scenario shelf before after trace trace' outcomes peaks counts counts' played;
+  breaks = λ scenario shelf before after trace trace' counts counts' broken. broken_kept scenario shelf before after trace trace' counts counts' broken;
 }
 
 -- ---- over L2CAP
@@ -147,11 +152,11 @@ have_offered scenario shelf before capture ran happened =
 
 -- ---- to its end
 
-plays : (scenario : Scenario) (shelf : Option (List Object)) (before : List Object) (after : Option Contents) (trace trace' : Option (List ℕ)) (outcomes : List Outcome) (peaks : Peaks) (Never : Type 0) (played : IsPlayed scenario shelf (holding before) after trace trace' outcomes peaks Never)
-    → scenario.settings.transport ≡ L2cap → GainsPlayed both_ask scenario shelf before after outcomes played.capture played.finished Never
-plays scenario shelf before after trace trace' outcomes peaks Never played direct = record {
+plays : (scenario : Scenario) (shelf : Option (List Object)) (before : List Object) (after : Option Contents) (trace trace' : Option (List ℕ)) (outcomes : List Outcome) (peaks : Peaks) (counts counts' : Counts) (played : IsPlayed scenario shelf (holding before) after trace trace' outcomes peaks counts counts')
+    → scenario.settings.transport ≡ L2cap → GainsPlayed both_ask scenario shelf before after outcomes played.capture played.finished counts counts'
+plays scenario shelf before after trace trace' outcomes peaks counts counts' played direct = record {
   kept = kept;
-  told = held-take_turns both_ask scenario shelf (holding before) played.capture played.finished.ran played.held;
+  told = held-take_turns both_ask scenario shelf (holding before) played.capture played.finished.ran (enough_held scenario shelf (holding before) played.finished.ran.happenings played.finished.ran.world played.enough);
   granted = λ never. have_granted scenario shelf before played.capture played.finished.ran (played.granted never);
   offered = λ never. have_offered scenario shelf before played.capture played.finished.ran (played.granted never);
   answered = λ never short. have_answered scenario shelf before played.capture played.finished.ran (played.granted never) short;
@@ -163,17 +168,17 @@ plays scenario shelf before after trace trace' outcomes peaks Never played direc
         gained = all.gained;
         within_a = kept.accounts.within_a;
         within_b = kept.accounts.within_b;
-        window_a = kept.rests.window_a;
-        window_b = kept.rests.window_b;
+        window_a = at_each-whole (KeepsWindow scenario.settings A) played.capture kept.accounts.window_a;
+        window_b = at_each-whole (KeepsWindow scenario.settings B) played.capture kept.accounts.window_b;
         honest = kept.accounts.honest;
         in_turn = kept.accounts.in_turn;
         outcomes_are = played.outcomes_are;
-        obeys = kept.rests.obeys;
+        obeys = kept.obeys;
       };
 }
   where
     kept : KeepsPlayed scenario outcomes played.capture
-    kept = played_kept scenario shelf (holding before) after trace trace' outcomes peaks Never played
+    kept = played_kept scenario shelf (holding before) after trace trace' outcomes peaks counts counts' played
 
     serves : HaveAnswered both_ask scenario before played.capture played.finished.ran → ServesAndGains both_ask scenario before played.capture played.finished.ran.world (stored_in after)
     serves have =
@@ -187,17 +192,17 @@ unless (inl x) none = x
 unless (inr y) none = absurd (none y)
 
 -- all that happened is the capture of a run
-abbrev pub run_so_far : (scenario : Scenario) (shelf : Option (List Object)) (before after : Option Contents) (trace trace' : Option (List ℕ)) (Lacked Never : Type 0) (broken : IsBroken scenario shelf before after trace trace' Lacked Never) → Ran scenario before (all_entries broken.happenings)
-run_so_far scenario shelf before after trace trace' Lacked Never broken =
+abbrev pub run_so_far : (scenario : Scenario) (shelf : Option (List Object)) (before after : Option Contents) (trace trace' : Option (List ℕ)) (counts counts' : Counts) (broken : IsBroken scenario shelf before after trace trace' counts counts') → Ran scenario before (all_entries broken.happenings)
+run_so_far scenario shelf before after trace trace' counts counts' broken =
     record { happenings = broken.happenings; world = broken.world; happened = broken.happened; ends = []; last = tt; capture_is = sym (append-nil (all_entries broken.happenings)) }
 
-breaks : (scenario : Scenario) (shelf : Option (List Object)) (before : List Object) (after : Option Contents) (trace trace' : Option (List ℕ)) (shortages shortages' : ℕ) (Never : Type 0) (broken : IsBroken scenario shelf (holding before) after trace trace' (HasRisen shortages shortages') Never)
-    → scenario.settings.transport ≡ L2cap → GainsBroken both_ask scenario shelf before after trace trace' shortages shortages' Never broken
-breaks scenario shelf before after trace trace' shortages shortages' Never broken direct = record {
+breaks : (scenario : Scenario) (shelf : Option (List Object)) (before : List Object) (after : Option Contents) (trace trace' : Option (List ℕ)) (counts counts' : Counts) (broken : IsBroken scenario shelf (holding before) after trace trace' counts counts')
+    → scenario.settings.transport ≡ L2cap → GainsBroken both_ask scenario shelf before after trace trace' counts counts' broken
+breaks scenario shelf before after trace trace' counts counts' broken direct = record {
   past = so_far;
   world_is = refl;
   kept = kept;
-  told = held-take_turns both_ask scenario shelf (holding before) past so_far broken.held.0;
+  told = held-take_turns both_ask scenario shelf (holding before) past so_far (enough_held scenario shelf (holding before) broken.happenings broken.world broken.enough.0);
   granted = λ never. have_granted scenario shelf before past so_far (broken.granted never).0;
   offered = λ never. have_offered scenario shelf before past so_far (broken.granted never).0;
   answered = λ never short. have_answered scenario shelf before past so_far (broken.granted never).0 short;
@@ -223,18 +228,18 @@ breaks scenario shelf before after trace trace' shortages shortages' Never broke
     capture = past ++ broken.next
 
     so_far : Ran scenario (holding before) past
-    so_far = run_so_far scenario shelf (holding before) after trace trace' (HasRisen shortages shortages') Never broken
+    so_far = run_so_far scenario shelf (holding before) after trace trace' counts counts' broken
 
     kept : KeepsBroken scenario capture
-    kept = broken_kept scenario shelf (holding before) after trace trace' (HasRisen shortages shortages') Never broken
+    kept = broken_kept scenario shelf (holding before) after trace trace' counts counts' broken
 
 -- ---- the law
 
 pub plays_gain : PlaysGain
 plays_gain = record {
   asks = both_ask;
-  plays = λ scenario shelf before after trace trace' outcomes peaks faults faults' shortages shortages' played direct.
-      plays scenario shelf before after trace trace' outcomes peaks (RoseNever faults faults' shortages shortages') played direct;
-  breaks = λ scenario shelf before after trace trace' faults faults' shortages shortages' broken direct.
-      breaks scenario shelf before after trace trace' shortages shortages' (RoseNever faults faults' shortages shortages') broken direct;
+  plays = λ scenario shelf before after trace trace' outcomes peaks counts counts' played direct.
+      plays scenario shelf before after trace trace' outcomes peaks counts counts' played direct;
+  breaks = λ scenario shelf before after trace trace' counts counts' broken direct.
+      breaks scenario shelf before after trace trace' counts counts' broken direct;
 }

@@ -1,19 +1,22 @@
 mod Embedded
 mod Forgetting
-mod Sparing
+mod Counting
 mod Bare
 mod Plainness
 mod Newness
 mod Alikeness
+mod OwnServers
 mod Course
 mod Breaking
 mod Names
 mod Ended
 pub mod Gained
 pub mod Streamed
+pub mod Lost
 mod Unacknowledged
 mod Stepping
 mod NotedWindows
 mod Along
 pub mod PeakBounds
 pub mod BufferPeaks
+pub mod Solvent

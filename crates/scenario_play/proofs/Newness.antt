@@ -7,6 +7,7 @@ use Rattle.push_terms.specs.declared.word.Side.{Side}
 use Rattle.push_terms.specs.declared.word.Side.TheVariants.{A, B}
 use Rattle.host_link.specs.PuttingOut.{started}
 use Rattle.station_laws.specs.Seen.{role_of}
+use Rattle.world_model.specs.Machines.{News}
 use Rattle.world_model.specs.Stations.{Station, Commanding, first_station}
 use Rattle.world_model.specs.Worlds.{Happening, Tries}
 use Rattle.alike_laws.specs.Twins.{AreTwins}
@@ -27,7 +28,7 @@ use Rattle.bt_host.specs.Noting.{Noted}
 use Rattle.bt_host.specs.Shelving.{Shelved}
 use Rattle.bt_host.specs.NotedHosts.{noted_client, client_noting, noted_client_machine, noted_server, server_noting, noted_server_machine}
 use Rattle.bt_host.specs.Playing.{set_host, playing}
-use Rattle.pair_laws.specs.Granted.{granting}
+use Rattle.pair_laws.specs.Granted.{answered_by}
 use Rattle.pair_laws.specs.Served.{holding_on}
 use Rattle.scenario_play.specs.Noting.{plain_set}
 use Rattle.scenario_play.specs.Shelving.{plain_client}
@@ -82,10 +83,10 @@ server_twins content inbox settings rest = record {
   has_check = λ own. refl;
 }
 
--- a new server whose inbox grants all is no other one either
-pub granting_twins : {Q : Type 0} (content : Q → Option Contents) (inbox : Q) (settings : Settings) (rest : List Circumstance)
-    → AreTwins (granting server_machine) (plain_set (new_server content inbox settings rest)) (set_to settings (server_host settings (content inbox)).first)
-granting_twins content inbox settings rest = record {
+-- a new server whose inbox gives other answers is no other one either
+pub answering_twins : {Q : Type 0} (content : Q → Option Contents) (inbox : Q) (settings : Settings) (rest : List Circumstance) (to : News → List Circumstance → List Circumstance)
+    → AreTwins (answered_by to server_machine) (plain_set (new_server content inbox settings rest)) (set_to settings (server_host settings (content inbox)).first)
+answering_twins content inbox settings rest to = record {
   hear = λ answers news. refl;
   next = refl;
   wants_link = refl;

@@ -1,18 +1,23 @@
 -- What hosts do that note what they hold, those do that do not.
 use Rattle.std.proofs.Common.{◌≡◌, List, Option, refl, ap₂, subst, ◌∙◌}
+use Rattle.world_model.specs.Machines.{News}
 use Rattle.world_model.specs.Worlds.{World, Happening, Runs, IsAtRest}
 use Rattle.rest_laws.specs.Premises.{AreOrderly}
 use Rattle.run_laws.specs.Embedding.{Embeds}
 use Rattle.alike_laws.specs.Twins.{world_with}
 use Rattle.alike_laws.proofs.Alike.{runs_on, rest_on}
 use Rattle.bt_base.specs.Objects.{Object}
+use Rattle.host_model.specs.Circumstances.{Circumstance}
 use Rattle.host_model.specs.Clients.{ClientProfile}
 use Rattle.host_model.specs.Servers.{ServerProfile}
 use Rattle.host_model.specs.Settings.{SetHost, client_machine, server_machine}
-use Rattle.pair_laws.specs.Granted.{granting}
+use Rattle.answer_laws.specs.Memory.{HadMemory}
+use Rattle.pair_laws.specs.Enough.{remembered, remembering}
+use Rattle.pair_laws.specs.Granted.{granted, granting}
 use Rattle.pair_laws.specs.Served.{holding_on}
-use Rattle.inbox_laws.specs.Owned.{own_machine, IsGranting}
-use Rattle.inbox_laws.proofs.Owning.{own_alike, granted_alike}
+use Rattle.pair_laws.proofs.Answered.{same_alike}
+use Rattle.inbox_laws.specs.Owned.{own_machine, IsGranting, HasEnough}
+use Rattle.inbox_laws.proofs.Owning.{own_alike, answering_runs, IsGranted, grants_stay, memory_stays}
 use Rattle.bt_host.specs.Noting.{Noted}
 use Rattle.bt_host.specs.NotedHosts.{credits_of_shelved, credits_of_server, noted_client_machine, noted_server_machine}
 use Rattle.bt_host.specs.Serving.{profile_of}
@@ -56,6 +61,12 @@ IsBare s t = t ≡ bare_set s
 abbrev IsSame : {S : Type 0} → S → S → Type 0
 IsSame s t = t ≡ s
 
+abbrev as_told : News → List Circumstance → List Circumstance
+as_told news answers = answers
+
+abbrev IsHolding : Option (List Object) → SetHost Shelved → SetHost ClientProfile → Type 0
+IsHolding shelf s t = (t ≡ bare_set s) × HoldsShelf shelf s
+
 -- what happens to hosts that note what they hold happens to those that do not
 unnoted_runs : (happenings : List Happening) (old new : NotedWorld) → Runs noted_client_machine noted_server_machine happenings old new
     → Runs shelf_machine own_machine happenings (shelf_world old) (shelf_world new)
@@ -72,25 +83,26 @@ plain_runs happenings old new runs =
     let same : there ≡ plain_world new = alike.same ∙ ap₂ (λ (x : SetHost ClientProfile) (y : SetHost ServerProfile). world_with x y new) alike.a alike.b in
     subst (λ (w : PlainWorld). Runs client_machine server_machine happenings (plain_world old) w) same ran
 
--- a client whose shelf holds these objects goes as one with a shelf that tells them
-pub held_runs : (shelf : Option (List Object)) (happenings : List Happening) (old new : NotedWorld) → HoldsShelf shelf (plain_set old.a.upper) → Runs noted_client_machine noted_server_machine happenings old new
-    → Runs (holding_on shelf client_machine) server_machine happenings (plain_world old) (plain_world new)
-held_runs shelf happenings old new holds runs =
-    let R : SetHost Shelved → SetHost ClientProfile → Type 0 = λ s t. (t ≡ bare_set s) × HoldsShelf shelf s in
-    let (there, alike, ran) = runs_on R IsSame shelf_machine (holding_on shelf client_machine) own_machine server_machine (held_alike shelf) own_alike happenings (plain_client old.a.upper) (plain_set old.b.upper) (shelf_world old) (shelf_world new) (refl, holds) refl (unnoted_runs happenings old new runs) in
+-- a client whose shelf holds these objects goes as one with a shelf that tells them, beside a server that keeps the answers of its inbox
+pub own_runs : (shelf : Option (List Object)) (happenings : List Happening) (old new : NotedWorld) → HoldsShelf shelf (plain_set old.a.upper) → Runs noted_client_machine noted_server_machine happenings old new
+    → Runs (holding_on shelf client_machine) own_machine happenings (plain_world old) (plain_world new)
+own_runs shelf happenings old new holds runs =
+    let (there, alike, ran) = runs_on (IsHolding shelf) IsSame shelf_machine (holding_on shelf client_machine) own_machine own_machine (held_alike shelf) (same_alike as_told own_machine) happenings (plain_client old.a.upper) (plain_set old.b.upper) (shelf_world old) (shelf_world new) (refl, holds) refl
+    (unnoted_runs happenings old new runs) in
     let same : there ≡ plain_world new = alike.same ∙ ap₂ (λ (x : SetHost ClientProfile) (y : SetHost ServerProfile). world_with x y new) alike.a.0 alike.b in
-    subst (λ (w : PlainWorld). Runs (holding_on shelf client_machine) server_machine happenings (plain_world old) w) same ran
+    subst (λ (w : PlainWorld). Runs (holding_on shelf client_machine) own_machine happenings (plain_world old) w) same ran
 
--- and where the answers of the inbox are grants, with one of which the inbox grants all
+-- beside one whose inbox lacks no memory, where none of those answers is want of memory
+pub enough_runs : (shelf : Option (List Object)) (happenings : List Happening) (old new : NotedWorld) → HoldsShelf shelf (plain_set old.a.upper) → HasEnough (plain_set old.b.upper) → Runs noted_client_machine noted_server_machine happenings old new
+    → Runs (holding_on shelf client_machine) (remembering server_machine) happenings (plain_world old) (plain_world new)
+enough_runs shelf happenings old new holds enough runs =
+    answering_runs remembered HadMemory memory_stays (holding_on shelf client_machine) happenings (plain_world old) (plain_world new) enough (own_runs shelf happenings old new holds runs)
+
+-- and where they are grants, beside one whose inbox grants all
 pub served_runs : (shelf : Option (List Object)) (happenings : List Happening) (old new : NotedWorld) → HoldsShelf shelf (plain_set old.a.upper) → IsGranting (plain_set old.b.upper) → Runs noted_client_machine noted_server_machine happenings old new
     → Runs (holding_on shelf client_machine) (granting server_machine) happenings (plain_world old) (plain_world new)
 served_runs shelf happenings old new holds grants runs =
-    let R : SetHost Shelved → SetHost ClientProfile → Type 0 = λ s t. (t ≡ bare_set s) × HoldsShelf shelf s in
-    let Q : SetHost ServerProfile → SetHost ServerProfile → Type 0 = λ s t. (t ≡ s) × IsGranting s in
-    let (there, alike, ran) = runs_on R Q shelf_machine (holding_on shelf client_machine) own_machine (granting server_machine) (held_alike shelf) granted_alike happenings (plain_client old.a.upper) (plain_set old.b.upper) (shelf_world old) (shelf_world new) (refl, holds) (refl, grants)
-    (unnoted_runs happenings old new runs) in
-    let same : there ≡ plain_world new = alike.same ∙ ap₂ (λ (x : SetHost ClientProfile) (y : SetHost ServerProfile). world_with x y new) alike.a.0 alike.b.0 in
-    subst (λ (w : PlainWorld). Runs (holding_on shelf client_machine) (granting server_machine) happenings (plain_world old) w) same ran
+    answering_runs granted IsGranted grants_stay (holding_on shelf client_machine) happenings (plain_world old) (plain_world new) grants (own_runs shelf happenings old new holds runs)
 
 pub plain_rest : (w : NotedWorld) → IsAtRest noted_client_machine noted_server_machine w → IsAtRest client_machine server_machine (plain_world w)
 plain_rest w rest =

@@ -2,9 +2,9 @@
 use Rattle.std.proofs.Common.{◌≡◌, ℕ, List, [], ◌++◌, map, Option, refl, sym, ap, ◌∙◌}
 use Rattle.std.proofs.lemmas.Grind.{flat_map-append}
 use Rattle.std.proofs.lemmas.List.{append-nil, append_assoc}
-use Rattle.bt_base.specs.Counts.{HasRisen}
 use Rattle.bt_base.specs.Objects.{Object, Contents}
 use Rattle.bt_base.specs.declared.settings.Transport.TheVariants.{Rfcomm}
+use Rattle.obex_session.specs.Counting.{Counts}
 use Rattle.push_script.specs.declared.scenario.Scenario.{Scenario}
 use Rattle.push_terms.specs.declared.outcome.Outcome.{Outcome}
 use Rattle.push_terms.specs.declared.peaks.Peaks.{Peaks}
@@ -13,16 +13,11 @@ use Rattle.push_terms.specs.declared.word.Word.{Word}
 use Rattle.capture.specs.Entries.{Entry}
 use Rattle.push_laws.specs.Laws.{stored_in}
 use Rattle.world_model.specs.Worlds.{Happening, words_in, all_entries, all_words}
-use Rattle.shelf_model.specs.Held.{held_by}
 use Rattle.scenario_laws.specs.Captures.{Ran, Finished}
 use Rattle.scenario_laws.specs.Gains.{holding}
 use Rattle.pair_laws.specs.Keeping.{LosesNothing}
-use Rattle.pair_laws.specs.Granted.{granted}
 use Rattle.pair_laws.specs.Served.{HappenedServed}
 use Rattle.pair_laws.proofs.Pairing.{held-keep_order, served-keep_order}
-use Rattle.credit_laws.specs.Kept.{StaysSolvent}
-use Rattle.credit_laws.proofs.Fronts.{credits-are_kept}
-use Rattle.credit_laws.proofs.Runs.{heard_solvent}
 use Rattle.request_laws.proofs.GainsCarried.{gains-carried}
 use Rattle.request_laws.proofs.HeardTogether.{hears_all}
 use Rattle.request_laws.proofs.Scripts.{scripts_lose_nothing}
@@ -30,21 +25,22 @@ use Rattle.request_laws.proofs.Summing.{both_ask}
 use Rattle.request_laws.proofs.Together.{all_granted}
 use Rattle.request_laws.proofs.Told.{none_longer, gives_octets}
 use Rattle.scenario_play.specs.Breaking.{IsBroken}
-use Rattle.scenario_play.specs.Playing.{RoseNever, IsPlayed}
+use Rattle.scenario_play.specs.Playing.{IsPlayed}
 use Rattle.scenario_play.specs.Streaming.{HaveStreamed, StreamsPlayed, StreamsBroken, PlaysStream}
+use Rattle.scenario_play.proofs.Alikeness.{enough_held}
 use Rattle.scenario_play.proofs.Gained.{played_kept, broken_kept, unless, run_so_far}
 
 -- ---- the script
 
 -- its words are those of its script
-loses_nothing : (scenario : Scenario) (before : List Object) (capture : List Entry) → scenario.settings.transport ≡ Rfcomm → (finished : Finished scenario (holding before) capture) → LosesNothing (all_words finished.ran.happenings)
+pub loses_nothing : (scenario : Scenario) (before : List Object) (capture : List Entry) → scenario.settings.transport ≡ Rfcomm → (finished : Finished scenario (holding before) capture) → LosesNothing (all_words finished.ran.happenings)
 loses_nothing scenario before capture muxed finished =
     scripts_lose_nothing scenario (all_words finished.ran.happenings) [] muxed (sym finished.words_are ∙ sym (append-nil (all_words finished.ran.happenings)))
 
 -- or the first of them
-broke_gently : (scenario : Scenario) (shelf : Option (List Object)) (before after : Option Contents) (trace trace' : Option (List ℕ)) (Lacked Never : Type 0) (broken : IsBroken scenario shelf before after trace trace' Lacked Never) → scenario.settings.transport ≡ Rfcomm
+pub broke_gently : (scenario : Scenario) (shelf : Option (List Object)) (before after : Option Contents) (trace trace' : Option (List ℕ)) (counts counts' : Counts) (broken : IsBroken scenario shelf before after trace trace' counts counts') → scenario.settings.transport ≡ Rfcomm
     → LosesNothing (all_words broken.happenings)
-broke_gently scenario shelf before after trace trace' Lacked Never broken muxed =
+broke_gently scenario shelf before after trace trace' counts counts' broken muxed =
     let first = all_words broken.happenings in
     let more = all_words broken.more in
     let on : all_words broken.ran.happenings ≡ first ++ more = ap (λ (hs : List Happening). all_words hs) broken.goes_on ∙ flat_map-append words_in broken.happenings broken.more in
@@ -61,58 +57,45 @@ have_streamed scenario shelf before capture ran gentle happened =
     let feeds = pairs.a.fed.so.lives.feeds in
     record { order = so.order; answer = record { given = gives_octets shelf feeds so.told; small = none_longer shelf feeds so.told; granted = all_granted pairs.b.fed.so.lives.feeds so.given } }
 
--- so host b holds credits at each moment, as the capture has them
-stays_solvent : (scenario : Scenario) (shelf : Option (List Object)) (before : List Object) (capture : List Entry) (ran : Ran scenario (holding before) capture) → scenario.settings.transport ≡ Rfcomm → LosesNothing (all_words ran.happenings)
-    → HappenedServed scenario shelf (holding before) ran.happenings ran.world → StaysSolvent scenario.settings B capture
-stays_solvent scenario shelf before capture ran muxed gentle happened =
-    credits-are_kept scenario (held_by shelf) (λ news answers. map granted answers) (holding before) capture B ran happened gentle
-    (λ front run served softly.
-    let have = have_streamed scenario shelf before front run softly served in
-    heard_solvent scenario before front run have.order muxed (hears_all scenario before front run muxed have.order have.answer))
-
 -- ---- to its end
 
-plays : (scenario : Scenario) (shelf : Option (List Object)) (before : List Object) (after : Option Contents) (trace trace' : Option (List ℕ)) (outcomes : List Outcome) (peaks : Peaks) (Never : Type 0) (played : IsPlayed scenario shelf (holding before) after trace trace' outcomes peaks Never)
-    → scenario.settings.transport ≡ Rfcomm → StreamsPlayed both_ask scenario shelf before after outcomes played.capture played.finished.ran Never
-plays scenario shelf before after trace trace' outcomes peaks Never played muxed =
+plays : (scenario : Scenario) (shelf : Option (List Object)) (before : List Object) (after : Option Contents) (trace trace' : Option (List ℕ)) (outcomes : List Outcome) (peaks : Peaks) (counts counts' : Counts) (played : IsPlayed scenario shelf (holding before) after trace trace' outcomes peaks counts counts')
+    → scenario.settings.transport ≡ Rfcomm → StreamsPlayed both_ask scenario shelf before after outcomes played.capture played.finished.ran counts counts'
+plays scenario shelf before after trace trace' outcomes peaks counts counts' played muxed =
     let capture = played.capture in
     let ran = played.finished.ran in
     let gentle = loses_nothing scenario before capture muxed played.finished in
     record {
-      kept = played_kept scenario shelf (holding before) after trace trace' outcomes peaks Never played;
-      told = held-keep_order both_ask scenario shelf (holding before) capture ran played.held gentle;
+      kept = played_kept scenario shelf (holding before) after trace trace' outcomes peaks counts counts' played;
+      told = held-keep_order both_ask scenario shelf (holding before) capture ran (enough_held scenario shelf (holding before) ran.happenings ran.world played.enough) gentle;
       answered = λ never. have_streamed scenario shelf before capture ran gentle (played.granted never);
       heard = λ have. hears_all scenario before capture ran muxed have.order have.answer;
       gained = λ have. ap stored_in played.stored ∙ gains-carried scenario before capture ran muxed have.order (hears_all scenario before capture ran muxed have.order have.answer);
-      solvent = λ never. stays_solvent scenario shelf before capture ran muxed gentle (played.granted never);
     }
 
 -- ---- as far as it came
 
-breaks : (scenario : Scenario) (shelf : Option (List Object)) (before : List Object) (after : Option Contents) (trace trace' : Option (List ℕ)) (shortages shortages' : ℕ) (Never : Type 0) (broken : IsBroken scenario shelf (holding before) after trace trace' (HasRisen shortages shortages') Never)
-    → scenario.settings.transport ≡ Rfcomm → StreamsBroken both_ask scenario shelf before after trace trace' shortages shortages' Never broken
-breaks scenario shelf before after trace trace' shortages shortages' Never broken muxed =
-    let Lacked = HasRisen shortages shortages' in
+breaks : (scenario : Scenario) (shelf : Option (List Object)) (before : List Object) (after : Option Contents) (trace trace' : Option (List ℕ)) (counts counts' : Counts) (broken : IsBroken scenario shelf (holding before) after trace trace' counts counts')
+    → scenario.settings.transport ≡ Rfcomm → StreamsBroken both_ask scenario shelf before after trace trace' counts counts' broken
+breaks scenario shelf before after trace trace' counts counts' broken muxed =
     let past = all_entries broken.happenings in
-    let ran = run_so_far scenario shelf (holding before) after trace trace' Lacked Never broken in
-    let gentle = broke_gently scenario shelf (holding before) after trace trace' Lacked Never broken muxed in
+    let ran = run_so_far scenario shelf (holding before) after trace trace' counts counts' broken in
+    let gentle = broke_gently scenario shelf (holding before) after trace trace' counts counts' broken muxed in
     record {
       past = ran;
       world_is = refl;
-      kept = broken_kept scenario shelf (holding before) after trace trace' Lacked Never broken;
-      told = held-keep_order both_ask scenario shelf (holding before) past ran broken.held.0 gentle;
+      kept = broken_kept scenario shelf (holding before) after trace trace' counts counts' broken;
+      told = held-keep_order both_ask scenario shelf (holding before) past ran (enough_held scenario shelf (holding before) broken.happenings broken.world broken.enough.0) gentle;
       answered = λ never. have_streamed scenario shelf before past ran gentle (broken.granted never).0;
       heard = λ have. hears_all scenario before past ran muxed have.order have.answer;
       gained = λ have none. ap stored_in (unless broken.stored none) ∙ gains-carried scenario before past ran muxed have.order (hears_all scenario before past ran muxed have.order have.answer);
-      solvent = λ never.
-          stays_solvent scenario shelf before (past ++ broken.next) broken.ran muxed (scripts_lose_nothing scenario (all_words broken.ran.happenings) broken.later muxed broken.words_are) (broken.granted never).1;
     }
 
 pub plays_stream : PlaysStream
 plays_stream = record {
   asks = both_ask;
-  plays = λ scenario shelf before after trace trace' outcomes peaks faults faults' shortages shortages' played muxed.
-      plays scenario shelf before after trace trace' outcomes peaks (RoseNever faults faults' shortages shortages') played muxed;
-  breaks = λ scenario shelf before after trace trace' faults faults' shortages shortages' broken muxed.
-      breaks scenario shelf before after trace trace' shortages shortages' (RoseNever faults faults' shortages shortages') broken muxed;
+  plays = λ scenario shelf before after trace trace' outcomes peaks counts counts' played muxed.
+      plays scenario shelf before after trace trace' outcomes peaks counts counts' played muxed;
+  breaks = λ scenario shelf before after trace trace' counts counts' broken muxed.
+      breaks scenario shelf before after trace trace' counts counts' broken muxed;
 }

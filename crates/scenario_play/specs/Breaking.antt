@@ -1,8 +1,10 @@
 -- A scenario that broke off (this project's own).
 use Rattle.std.specs.Prelude.{ℕ, ◌≡◌, ◌≤◌, ◌⊎◌, ◌||◌, ◌^◌, true, List, [], ◌++◌, length, Option}
 use Rattle.std.specs.List.{AllByRecursion}
+use Rattle.bt_base.specs.Counts.{HasRisen}
 use Rattle.bt_base.specs.Objects.{Object, Contents}
 use Rattle.bt_base.specs.Streams.{gained, GainedFront}
+use Rattle.obex_session.specs.Counting.{Counts}
 use Rattle.push_script.specs.declared.scenario.Scenario.{Scenario}
 use Rattle.push_terms.specs.declared.word.Word.{Word}
 use Rattle.capture.specs.Air.{words_of}
@@ -16,7 +18,9 @@ use Rattle.radio_world.specs.Standing.{last_entries}
 use Rattle.radio_world.specs.Shortages.{Wants}
 use Rattle.radio_world.specs.Breaking.{IsOf, Broken}
 use Rattle.scenario_laws.specs.Captures.{BothHosts, Happened, Ran}
-use Rattle.pair_laws.specs.Served.{HappenedHeld, HappenedServed}
+use Rattle.pair_laws.specs.Enough.{HappenedEnough}
+use Rattle.pair_laws.specs.Served.{HappenedServed}
+use Rattle.scenario_play.specs.Playing.{LackedNever, RoseNever, RanAnswered}
 
 -- ---- a world of any two hosts
 
@@ -40,9 +44,9 @@ MayWant U V AnswersA AnswersB LackedA LackedB words old shelf inbox trace = IsUn
 
 -- So much happened, from an inbox that held `before`, and the trace gained its entries. Behind them it gained a front of the next entry, if
 -- one was begun; the capture with that entry is one of a run as well, which goes on from there and whose words are the first of the script. The inbox holds what host b
--- made of what happened, unless it lacked memory as that entry was heard. What the shelf told it holds, in both; and where the inbox failed
--- never, it granted all that it was asked.
-pub record IsBroken (scenario : Scenario) (shelf : Option (List Object)) (before after : Option Contents) (trace trace' : Option (List ℕ)) (InboxLacked InboxFailedNever : Type 0) : Type 0 where
+-- made of what happened, unless it lacked memory as that entry was heard. In both runs the shelf told what it holds, and the inbox lacked no memory:
+-- it did not by then, and what it answered as that entry was heard is left open. What it answered by then its counts say, as where a scenario is played to its end.
+pub record IsBroken (scenario : Scenario) (shelf : Option (List Object)) (before after : Option Contents) (trace trace' : Option (List ℕ)) (counts counts' : Counts) : Type 0 where
   pub happenings : List Happening
   pub world : BothHosts
   pub happened : Happened scenario before happenings world
@@ -55,9 +59,10 @@ pub record IsBroken (scenario : Scenario) (shelf : Option (List Object)) (before
   pub words_are : words_of scenario.script ≡ all_words ran.happenings ++ later
   pub written : GainedFront (gained trace (capture_octets (all_entries happenings))) trace' (capture_octets next)
   pub entries_are : AllByRecursion IsEntry (all_entries happenings ++ next)
-  pub held : HappenedHeld scenario shelf before happenings world × HappenedHeld scenario shelf before ran.happenings ran.world
-  pub granted : InboxFailedNever → HappenedServed scenario shelf before happenings world × HappenedServed scenario shelf before ran.happenings ran.world
-  pub stored : (after ≡ world.b.upper.profile.inbox.content) ⊎ InboxLacked
+  pub enough : HappenedEnough scenario shelf before happenings world × HappenedEnough scenario shelf before ran.happenings ran.world
+  pub granted : RoseNever counts counts' → HappenedServed scenario shelf before happenings world × HappenedServed scenario shelf before ran.happenings ran.world
+  pub answered : LackedNever counts counts' → RanAnswered scenario shelf before after counts counts' happenings (all_entries happenings)
+  pub stored : (after ≡ world.b.upper.profile.inbox.content) ⊎ HasRisen counts.shortages counts'.shortages
 
 -- a run led to where more frames wait in a direction of the air, or more octets of them, than memory is reserved for
 pub record IsCrowdedRun (scenario : Scenario) (before : Option Contents) (trace trace' : Option (List ℕ)) : Type 0 where

@@ -5,6 +5,7 @@ use Rattle.bt_base.specs.Counts.{HasRisen}
 use Rattle.bt_base.specs.Objects.{Object, Contents}
 use Rattle.bt_base.specs.declared.settings.Transport.TheVariants.{L2cap}
 use Rattle.push_script.specs.Runs.{IsRun}
+use Rattle.obex_session.specs.Counting.{Counts}
 use Rattle.push_script.specs.declared.scenario.Scenario.{Scenario}
 use Rattle.push_terms.specs.declared.outcome.Outcome.{Outcome}
 use Rattle.push_terms.specs.declared.peaks.Peaks.{Peaks}
@@ -20,21 +21,21 @@ use Rattle.scenario_laws.specs.Gains.{holding, OrderlyServer}
 use Rattle.scenario_laws.specs.Orderly.{ServesSo}
 use Rattle.request_laws.specs.Granted.{ServesGranted}
 use Rattle.scenario_play.specs.Breaking.{IsBroken, IsWanting}
-use Rattle.scenario_play.specs.Playing.{RoseNever, IsPlayed}
+use Rattle.scenario_play.specs.Playing.{LackedNever, RoseNever, IsPlayed}
 
 -- Over L2CAP, where host b serves: what the inbox gained, the accounts, the pushes and their outcomes, and that the air obeyed the
 -- script, over the capture alone.
 pub record PlaysEnd : Type 0 where
   pub asks : HostsAsk
-  pub ends : (scenario : Scenario) (shelf : Option (List Object)) (before : List Object) (after : Option Contents) (trace trace' : Option (List ℕ)) (outcomes : List Outcome) (peaks : Peaks) (faults faults' shortages shortages' : ℕ)
-      (played : IsPlayed scenario shelf (holding before) after trace trace' outcomes peaks (RoseNever faults faults' shortages shortages'))
+  pub ends : (scenario : Scenario) (shelf : Option (List Object)) (before : List Object) (after : Option Contents) (trace trace' : Option (List ℕ)) (outcomes : List Outcome) (peaks : Peaks) (counts counts' : Counts)
+      (played : IsPlayed scenario shelf (holding before) after trace trace' outcomes peaks counts counts')
       → scenario.settings.transport ≡ L2cap → ServesSo asks scenario.settings before played.capture played.finished.ran.world.b.upper → Ends scenario before (stored_in after) outcomes played.capture
 
 -- Where it broke off over L2CAP, and the count of shortages of the inbox did not rise: what the inbox gained by then, the buffers, honest controllers, the
 -- pushes, and that each entry keeps to the script, over the capture so far; where host b is orderly.
 abbrev pub PlaysBreakOff : Type 0
-PlaysBreakOff = (asks : HostsAsk) (scenario : Scenario) (shelf : Option (List Object)) (before : List Object) (after : Option Contents) (trace trace' : Option (List ℕ)) (faults faults' shortages shortages' : ℕ)
-    (broken : IsBroken scenario shelf (holding before) after trace trace' (HasRisen shortages shortages') (RoseNever faults faults' shortages shortages')) → (HasRisen shortages shortages' → ⊥)
+PlaysBreakOff = (asks : HostsAsk) (scenario : Scenario) (shelf : Option (List Object)) (before : List Object) (after : Option Contents) (trace trace' : Option (List ℕ)) (counts counts' : Counts)
+    (broken : IsBroken scenario shelf (holding before) after trace trace' counts counts') → LackedNever counts counts'
     → scenario.settings.transport ≡ L2cap → OrderlyServer asks scenario.settings before (all_entries broken.happenings) broken.world.b.upper
     → BrokeOff scenario before (stored_in after) (all_entries broken.happenings) (all_entries broken.happenings ++ broken.next)
 
@@ -42,12 +43,12 @@ PlaysBreakOff = (asks : HostsAsk) (scenario : Scenario) (shelf : Option (List Ob
 -- order, and its inbox gained exactly what the capture spells, where no object that is pushed has more than 16,777,215 octets.
 pub record PlaysServe : Type 0 where
   pub asks : HostsAsk
-  pub played : (scenario : Scenario) (shelf : Option (List Object)) (before : List Object) (after : Option Contents) (trace trace' : Option (List ℕ)) (outcomes : List Outcome) (peaks : Peaks) (faults faults' shortages shortages' : ℕ)
-      (played : IsPlayed scenario shelf (holding before) after trace trace' outcomes peaks (RoseNever faults faults' shortages shortages'))
-      → RoseNever faults faults' shortages shortages' → scenario.settings.transport ≡ L2cap → ServesGranted asks scenario before played.capture played.finished.ran
-  pub broken : (scenario : Scenario) (shelf : Option (List Object)) (before : List Object) (after : Option Contents) (trace trace' : Option (List ℕ)) (faults faults' shortages shortages' : ℕ)
-      (broken : IsBroken scenario shelf (holding before) after trace trace' (HasRisen shortages shortages') (RoseNever faults faults' shortages shortages'))
-      → RoseNever faults faults' shortages shortages' → scenario.settings.transport ≡ L2cap → ServesGranted asks scenario before (all_entries broken.happenings ++ broken.next) broken.ran
+  pub played : (scenario : Scenario) (shelf : Option (List Object)) (before : List Object) (after : Option Contents) (trace trace' : Option (List ℕ)) (outcomes : List Outcome) (peaks : Peaks) (counts counts' : Counts)
+      (played : IsPlayed scenario shelf (holding before) after trace trace' outcomes peaks counts counts')
+      → RoseNever counts counts' → scenario.settings.transport ≡ L2cap → ServesGranted asks scenario before played.capture played.finished.ran
+  pub broken : (scenario : Scenario) (shelf : Option (List Object)) (before : List Object) (after : Option Contents) (trace trace' : Option (List ℕ)) (counts counts' : Counts)
+      (broken : IsBroken scenario shelf (holding before) after trace trace' counts counts')
+      → RoseNever counts counts' → scenario.settings.transport ≡ L2cap → ServesGranted asks scenario before (all_entries broken.happenings ++ broken.next) broken.ran
 
 -- With a script of at most 2^32 lines and a trace that is told, a scenario wants memory only before anything happened, where a port lacked
 -- some, or where the capture so far is crowded.

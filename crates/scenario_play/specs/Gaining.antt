@@ -1,9 +1,9 @@
 -- What a scenario comes to that was played: over either transport, and over L2CAP with all that is still asked of its ports (this project's own).
 use Rattle.std.specs.Prelude.{ℕ, ◌≡◌, ◌≤◌, List, [], ◌++◌, Option, Some, None}
 use Rattle.std.specs.List.{AllByRecursion}
-use Rattle.bt_base.specs.Counts.{HasRisen}
 use Rattle.bt_base.specs.Objects.{Object, Contents}
 use Rattle.bt_base.specs.declared.settings.Transport.TheVariants.{L2cap}
+use Rattle.obex_session.specs.Counting.{Counts}
 use Rattle.push_script.specs.declared.scenario.Scenario.{Scenario}
 use Rattle.push_terms.specs.declared.outcome.Outcome.{Outcome}
 use Rattle.push_terms.specs.declared.peaks.Peaks.{Peaks}
@@ -11,7 +11,7 @@ use Rattle.push_terms.specs.declared.word.Side.TheVariants.{A, B}
 use Rattle.capture.specs.Air.{words_of}
 use Rattle.capture.specs.Buffers.{KeepsWithin}
 use Rattle.capture.specs.Entries.{Entry}
-use Rattle.capture.specs.Histories.{EachAfter}
+use Rattle.capture.specs.Histories.{EachAfter, AtEach}
 use Rattle.radio_air.specs.Air.{KeepsTo, Obeys}
 use Rattle.radio_air.specs.Course.{PushesInTurn}
 use Rattle.radio_air.specs.Honest.{AreHonest}
@@ -34,7 +34,7 @@ use Rattle.request_laws.specs.AllSizes.{InboxGrants}
 use Rattle.request_laws.specs.BothFed.{most_octets, GrantsAll}
 use Rattle.request_laws.specs.Together.{PortsAnswer}
 use Rattle.scenario_play.specs.Breaking.{IsBroken}
-use Rattle.scenario_play.specs.Playing.{RoseNever, IsPlayed}
+use Rattle.scenario_play.specs.Playing.{LackedNever, RoseNever, IsPlayed}
 
 -- ---- what is still asked
 
@@ -63,10 +63,12 @@ HoldsAtMost most (Some objects) = (name : List ℕ) (size : ℕ) → length_of n
 
 -- ---- what is so
 
--- Whatever ports answer: the buffers of both controllers at each moment, honest controllers, and pushes in turn.
+-- Whatever ports answer: the buffers of both controllers and the windows of both hosts at each moment, honest controllers, and pushes in turn.
 pub record KeepsAccounts (scenario : Scenario) (capture : List Entry) : Type 0 where
   pub within_a : KeepsWithin A scenario.acl_count capture
   pub within_b : KeepsWithin B scenario.acl_count capture
+  pub window_a : AtEach (KeepsWindow scenario.settings A) capture
+  pub window_b : AtEach (KeepsWindow scenario.settings B) capture
   pub honest : AreHonest capture
   pub in_turn : PushesInTurn capture
 
@@ -75,17 +77,11 @@ pub record ServesAndGains (asks : HostsAsk) (scenario : Scenario) (before : List
   pub orderly : OrderlyServer asks scenario.settings before capture world.b.upper
   pub gained : stored ≡ Some (before ++ objects_heard (party_of scenario.settings B) B capture)
 
--- No more frames were unacknowledged at its end than the window that both hosts state, and the air obeyed the script.
-pub record RestsSo (scenario : Scenario) (capture : List Entry) : Type 0 where
-  pub window_a : KeepsWindow scenario.settings A capture
-  pub window_b : KeepsWindow scenario.settings B capture
-  pub obeys : Obeys (hosts_of scenario.settings) scenario.acl_length (words_of scenario.script) capture
-
--- A scenario that was played to its end: its accounts and its outcomes, the windows and the air, whatever ports answer.
+-- A scenario that was played to its end: its accounts and its outcomes, and that the air obeyed the script, whatever ports answer.
 pub record KeepsPlayed (scenario : Scenario) (outcomes : List Outcome) (capture : List Entry) : Type 0 where
   pub accounts : KeepsAccounts scenario capture
   pub outcomes_are : outcomes ≡ outcomes_of scenario capture
-  pub rests : RestsSo scenario capture
+  pub obeys : Obeys (hosts_of scenario.settings) scenario.acl_length (words_of scenario.script) capture
 
 -- A scenario that broke off: its accounts, and each entry keeps to the script, whatever ports answer.
 pub record KeepsBroken (scenario : Scenario) (capture : List Entry) : Type 0 where
@@ -95,30 +91,30 @@ pub record KeepsBroken (scenario : Scenario) (capture : List Entry) : Type 0 whe
 -- A scenario that was played to its end over L2CAP: besides, that the shelf told the lengths of its objects, and that the inbox granted all calls where
 -- it failed never; what the inbox gained where it granted all, of objects of any size; and where ports answered, how host b serves and all that is
 -- said of the end of a scenario. Ports answered so where the inbox failed never and the shelf tells that no object of it is longer.
-pub record GainsPlayed (asks : HostsAsk) (scenario : Scenario) (shelf : Option (List Object)) (before : List Object) (after : Option Contents) (outcomes : List Outcome) (capture : List Entry) (finished : Finished scenario (holding before) capture) (Never : Type 0) : Type 0 where
+pub record GainsPlayed (asks : HostsAsk) (scenario : Scenario) (shelf : Option (List Object)) (before : List Object) (after : Option Contents) (outcomes : List Outcome) (capture : List Entry) (finished : Finished scenario (holding before) capture) (counts counts' : Counts) : Type 0 where
   pub kept : KeepsPlayed scenario outcomes capture
   pub told : HeldInTurn asks scenario shelf (holding before) capture finished.ran
-  pub granted : Never → HaveGranted asks scenario before capture finished.ran
-  pub offered : Never → HaveOffered asks scenario before capture finished.ran
-  pub answered : Never → HoldsAtMost most_octets shelf → HaveAnswered asks scenario before capture finished.ran
+  pub granted : RoseNever counts counts' → HaveGranted asks scenario before capture finished.ran
+  pub offered : RoseNever counts counts' → HaveOffered asks scenario before capture finished.ran
+  pub answered : RoseNever counts counts' → HoldsAtMost most_octets shelf → HaveAnswered asks scenario before capture finished.ran
   pub gained : HaveOffered asks scenario before capture finished.ran → stored_in after ≡ Some (before ++ objects_heard (party_of scenario.settings B) B capture)
   pub serves : HaveAnswered asks scenario before capture finished.ran → ServesAndGains asks scenario before capture finished.ran.world (stored_in after)
   pub ends : HaveAnswered asks scenario before capture finished.ran → Ends scenario before (stored_in after) outcomes capture
 
 -- A scenario that broke off over L2CAP: besides, all that happened is the capture of a run. Where the inbox granted all calls, and did not lack memory,
 -- it gained what that capture spells; where ports answered, host b serves in order.
-pub record GainsBroken (asks : HostsAsk) (scenario : Scenario) (shelf : Option (List Object)) (before : List Object) (after : Option Contents) (trace trace' : Option (List ℕ)) (shortages shortages' : ℕ) (Never : Type 0) (broken : IsBroken scenario shelf (holding before) after trace trace' (HasRisen shortages shortages') Never) : Type 0 where
+pub record GainsBroken (asks : HostsAsk) (scenario : Scenario) (shelf : Option (List Object)) (before : List Object) (after : Option Contents) (trace trace' : Option (List ℕ)) (counts counts' : Counts) (broken : IsBroken scenario shelf (holding before) after trace trace' counts counts') : Type 0 where
   pub past : Ran scenario (holding before) (all_entries broken.happenings)
   pub world_is : past.world ≡ broken.world
   pub kept : KeepsBroken scenario (all_entries broken.happenings ++ broken.next)
   pub told : HeldInTurn asks scenario shelf (holding before) (all_entries broken.happenings) past
-  pub granted : Never → HaveGranted asks scenario before (all_entries broken.happenings) past
-  pub offered : Never → HaveOffered asks scenario before (all_entries broken.happenings) past
-  pub answered : Never → HoldsAtMost most_octets shelf → HaveAnswered asks scenario before (all_entries broken.happenings) past
+  pub granted : RoseNever counts counts' → HaveGranted asks scenario before (all_entries broken.happenings) past
+  pub offered : RoseNever counts counts' → HaveOffered asks scenario before (all_entries broken.happenings) past
+  pub answered : RoseNever counts counts' → HoldsAtMost most_octets shelf → HaveAnswered asks scenario before (all_entries broken.happenings) past
   pub serves : HaveAnswered asks scenario before (all_entries broken.happenings) past → OrderlyServer asks scenario.settings before (all_entries broken.happenings) broken.world.b.upper
-  pub gained : HaveOffered asks scenario before (all_entries broken.happenings) past → (HasRisen shortages shortages' → ⊥)
+  pub gained : HaveOffered asks scenario before (all_entries broken.happenings) past → LackedNever counts counts'
       → stored_in after ≡ Some (before ++ objects_heard (party_of scenario.settings B) B (all_entries broken.happenings))
-  pub breaks_off : HaveAnswered asks scenario before (all_entries broken.happenings) past → (HasRisen shortages shortages' → ⊥)
+  pub breaks_off : HaveAnswered asks scenario before (all_entries broken.happenings) past → LackedNever counts counts'
       → BrokeOff scenario before (stored_in after) (all_entries broken.happenings) (all_entries broken.happenings ++ broken.next)
 
 -- ---- the laws
@@ -126,18 +122,18 @@ pub record GainsBroken (asks : HostsAsk) (scenario : Scenario) (shelf : Option (
 -- So it is of every scenario that was played, over either transport, whatever its script says and its ports answer: to its end, or as far as it
 -- came.
 pub record PlaysKeep : Type 0 where
-  pub plays : (scenario : Scenario) (shelf : Option (List Object)) (before after : Option Contents) (trace trace' : Option (List ℕ)) (outcomes : List Outcome) (peaks : Peaks) (faults faults' shortages shortages' : ℕ)
-      (played : IsPlayed scenario shelf before after trace trace' outcomes peaks (RoseNever faults faults' shortages shortages')) → KeepsPlayed scenario outcomes played.capture
-  pub breaks : (scenario : Scenario) (shelf : Option (List Object)) (before after : Option Contents) (trace trace' : Option (List ℕ)) (faults faults' shortages shortages' : ℕ)
-      (broken : IsBroken scenario shelf before after trace trace' (HasRisen shortages shortages') (RoseNever faults faults' shortages shortages')) → KeepsBroken scenario (all_entries broken.happenings ++ broken.next)
+  pub plays : (scenario : Scenario) (shelf : Option (List Object)) (before after : Option Contents) (trace trace' : Option (List ℕ)) (outcomes : List Outcome) (peaks : Peaks) (counts counts' : Counts)
+      (played : IsPlayed scenario shelf before after trace trace' outcomes peaks counts counts') → KeepsPlayed scenario outcomes played.capture
+  pub breaks : (scenario : Scenario) (shelf : Option (List Object)) (before after : Option Contents) (trace trace' : Option (List ℕ)) (counts counts' : Counts)
+      (broken : IsBroken scenario shelf before after trace trace' counts counts') → KeepsBroken scenario (all_entries broken.happenings ++ broken.next)
 
 -- So it is of every scenario that was played over L2CAP, whatever its script says: to its end, or as far as it came. Nothing is asked of both
 -- hosts.
 pub record PlaysGain : Type 0 where
   pub asks : HostsAsk
-  pub plays : (scenario : Scenario) (shelf : Option (List Object)) (before : List Object) (after : Option Contents) (trace trace' : Option (List ℕ)) (outcomes : List Outcome) (peaks : Peaks) (faults faults' shortages shortages' : ℕ)
-      (played : IsPlayed scenario shelf (holding before) after trace trace' outcomes peaks (RoseNever faults faults' shortages shortages'))
-      → scenario.settings.transport ≡ L2cap → GainsPlayed asks scenario shelf before after outcomes played.capture played.finished (RoseNever faults faults' shortages shortages')
-  pub breaks : (scenario : Scenario) (shelf : Option (List Object)) (before : List Object) (after : Option Contents) (trace trace' : Option (List ℕ)) (faults faults' shortages shortages' : ℕ)
-      (broken : IsBroken scenario shelf (holding before) after trace trace' (HasRisen shortages shortages') (RoseNever faults faults' shortages shortages'))
-      → scenario.settings.transport ≡ L2cap → GainsBroken asks scenario shelf before after trace trace' shortages shortages' (RoseNever faults faults' shortages shortages') broken
+  pub plays : (scenario : Scenario) (shelf : Option (List Object)) (before : List Object) (after : Option Contents) (trace trace' : Option (List ℕ)) (outcomes : List Outcome) (peaks : Peaks) (counts counts' : Counts)
+      (played : IsPlayed scenario shelf (holding before) after trace trace' outcomes peaks counts counts')
+      → scenario.settings.transport ≡ L2cap → GainsPlayed asks scenario shelf before after outcomes played.capture played.finished counts counts'
+  pub breaks : (scenario : Scenario) (shelf : Option (List Object)) (before : List Object) (after : Option Contents) (trace trace' : Option (List ℕ)) (counts counts' : Counts)
+      (broken : IsBroken scenario shelf (holding before) after trace trace' counts counts')
+      → scenario.settings.transport ≡ L2cap → GainsBroken asks scenario shelf before after trace trace' counts counts' broken

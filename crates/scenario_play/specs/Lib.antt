@@ -7,5 +7,7 @@ pub mod Running
 pub mod Breaking
 pub mod Gaining
 pub mod Streaming
+pub mod Losing
 pub mod PeakBounds
 pub mod BufferPeaks
+pub mod Solvent

@@ -3,7 +3,9 @@
 ghost use Rattle.scenario_play.specs.BufferPeaks.{BufferPeaksAreTold};
 ghost use Rattle.scenario_play.specs.Ending.{PlaysBreakOff, PlaysEnd, PlaysServe, WantsAreTold};
 ghost use Rattle.scenario_play.specs.Gaining.{PlaysGain, PlaysKeep};
+ghost use Rattle.scenario_play.specs.Losing.{PlaysGainLess};
 ghost use Rattle.scenario_play.specs.PeakBounds.{PeaksAreBounded};
+ghost use Rattle.scenario_play.specs.Solvent.{PlaysStaySolvent};
 ghost use Rattle.scenario_play.specs.Streaming.{PlaysStream};
 
 /// What is so of every scenario that was played over L2CAP, over its capture alone: what the inbox gained, the accounts of both hosts, the
@@ -49,6 +51,18 @@ pub fn plays_gain()
 /// of any size.
 pub fn plays_stream()
     ensures { PlaysStream }
+{}
+
+/// Where the inbox of a played scenario never lacked memory, it gained the objects that the capture spells, in their order, but for as many at most as its
+/// count of faults rose by: over L2CAP or over RFCOMM, to the end or as far as it came.
+pub fn plays_gain_less()
+    ensures { PlaysGainLess }
+{}
+
+/// At each moment of the capture of every scenario that was played, over L2CAP or over RFCOMM, to its end or as far as it came, and whatever ports answer:
+/// the credits that either host holds are a whole number that is not below nothing.
+pub fn plays_stay_solvent()
+    ensures { PlaysStaySolvent }
 {}
 
 /// The windows that a played scenario reports are at most what both hosts state. And no host had more frames

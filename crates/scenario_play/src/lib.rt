@@ -6,8 +6,8 @@ mod playing;
 mod running;
 
 pub use ending::{
-    buffer_peaks_are_told, peaks_are_bounded, plays_break_off, plays_end, plays_gain, plays_keep,
-    plays_serve, plays_stream, wants_are_told,
+    buffer_peaks_are_told, peaks_are_bounded, plays_break_off, plays_end, plays_gain,
+    plays_gain_less, plays_keep, plays_serve, plays_stay_solvent, plays_stream, wants_are_told,
 };
 pub use playing::{Played, play};
 

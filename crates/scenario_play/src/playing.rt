@@ -2,10 +2,11 @@
 
 ghost use Rattle.std.specs.Prelude.{◌≡◌, ◌≤◌, ◌⊎◌, false, length, IfOk, OnErr, OnOk};
 ghost use Rattle.bt_base.specs.Counts.{HasRisen};
+ghost use Rattle.obex_session.specs.Counting.{counts_of};
 ghost use Rattle.radio_world.specs.Causes.{Blames};
 ghost use Rattle.radio_world.specs.Shortages.{Lacks};
 ghost use Rattle.scenario_play.specs.Breaking.{IsBroken, IsWanting};
-ghost use Rattle.scenario_play.specs.Playing.{fresh_world, KeepsShelf, RoseNever, IsPlayed};
+ghost use Rattle.scenario_play.specs.Playing.{fresh_world, KeepsShelf, IsPlayed};
 
 use crate::running::{peaks_of, play_out};
 use bt_base::{Inbox, NoMemory, Shelf, Sink};
@@ -47,10 +48,10 @@ fn play_in<F: Shelf, I: Inbox, T: Sink>(
 ) -> Result<Played, WorldFault>
     requires fresh { world ≡ fresh_world scenario.now }
     requires none_pending { I.is_pending inbox.old ≡ false }
-    ensures plays { IfOk result (λ played. IsPlayed scenario.now (F.content shelf.old) (I.content inbox.old) (I.content inbox.new) (T.content trace.old) (T.content trace.new) played.outcomes.items played.peaks (RoseNever (I.faults inbox.old) (I.faults inbox.new) (I.shortages inbox.old) (I.shortages inbox.new))) }
+    ensures plays { IfOk result (λ played. IsPlayed scenario.now (F.content shelf.old) (I.content inbox.old) (I.content inbox.new) (T.content trace.old) (T.content trace.new) played.outcomes.items played.peaks (counts_of I.faults I.shortages inbox.old) (counts_of I.faults I.shortages inbox.new)) }
     ensures each { IfOk result (λ played. length played.outcomes.items ≡ length scenario.now.names) }
     ensures shelf { OnOk result (KeepsShelf (F.content shelf.old) (F.content shelf.new) (F.faults shelf.old) (F.faults shelf.new) (F.shortages shelf.old) (F.shortages shelf.new)) }
-    ensures breaks { OnErr result (IsBroken scenario.now (F.content shelf.old) (I.content inbox.old) (I.content inbox.new) (T.content trace.old) (T.content trace.new) (HasRisen (I.shortages inbox.old) (I.shortages inbox.new)) (RoseNever (I.faults inbox.old) (I.faults inbox.new) (I.shortages inbox.old) (I.shortages inbox.new))) }
+    ensures breaks { OnErr result (IsBroken scenario.now (F.content shelf.old) (I.content inbox.old) (I.content inbox.new) (T.content trace.old) (T.content trace.new) (counts_of I.faults I.shortages inbox.old) (counts_of I.faults I.shortages inbox.new)) }
     ensures left { OnErr result (KeepsShelf (F.content shelf.old) (F.content shelf.new) (F.faults shelf.old) (F.faults shelf.new) (F.shortages shelf.old) (F.shortages shelf.new) ⊎ HasRisen (F.shortages shelf.old) (F.shortages shelf.new)) }
     ensures inbox { I.shortages inbox.old ≤ I.shortages inbox.new }
     ensures blames { Blames (T.faults trace.old) (T.faults trace.new) result }
@@ -75,10 +76,10 @@ pub fn play<F: Shelf, I: Inbox, T: Sink>(
     trace: &mut T,
 ) -> Result<Played, WorldFault>
     requires none_pending { I.is_pending inbox.old ≡ false }
-    ensures plays { IfOk result (λ played. IsPlayed scenario.now (F.content shelf.old) (I.content inbox.old) (I.content inbox.new) (T.content trace.old) (T.content trace.new) played.outcomes.items played.peaks (RoseNever (I.faults inbox.old) (I.faults inbox.new) (I.shortages inbox.old) (I.shortages inbox.new))) }
+    ensures plays { IfOk result (λ played. IsPlayed scenario.now (F.content shelf.old) (I.content inbox.old) (I.content inbox.new) (T.content trace.old) (T.content trace.new) played.outcomes.items played.peaks (counts_of I.faults I.shortages inbox.old) (counts_of I.faults I.shortages inbox.new)) }
     ensures each { IfOk result (λ played. length played.outcomes.items ≡ length scenario.now.names) }
     ensures shelf { OnOk result (KeepsShelf (F.content shelf.old) (F.content shelf.new) (F.faults shelf.old) (F.faults shelf.new) (F.shortages shelf.old) (F.shortages shelf.new)) }
-    ensures breaks { OnErr result (IsBroken scenario.now (F.content shelf.old) (I.content inbox.old) (I.content inbox.new) (T.content trace.old) (T.content trace.new) (HasRisen (I.shortages inbox.old) (I.shortages inbox.new)) (RoseNever (I.faults inbox.old) (I.faults inbox.new) (I.shortages inbox.old) (I.shortages inbox.new))) }
+    ensures breaks { OnErr result (IsBroken scenario.now (F.content shelf.old) (I.content inbox.old) (I.content inbox.new) (T.content trace.old) (T.content trace.new) (counts_of I.faults I.shortages inbox.old) (counts_of I.faults I.shortages inbox.new)) }
     ensures left { OnErr result (KeepsShelf (F.content shelf.old) (F.content shelf.new) (F.faults shelf.old) (F.faults shelf.new) (F.shortages shelf.old) (F.shortages shelf.new) ⊎ HasRisen (F.shortages shelf.old) (F.shortages shelf.new)) }
     ensures inbox { I.shortages inbox.old ≤ I.shortages inbox.new }
     ensures blames { Blames (T.faults trace.old) (T.faults trace.new) result }

@@ -4,7 +4,7 @@ use super::*;
 use bt_base::{MemInbox, MemShelf, MemSink};
 use capture::{Entry, Flow, entries_of};
 use h4_framing::Unit;
-use push_script::{Scenario, scenario_without};
+use push_script::{Scenario, scenario_of};
 use push_terms::{Outcome, Peaks, Side};
 use radio_world::WorldFault;
 use std::alloc::Global;
@@ -119,8 +119,8 @@ const ROWS: &[Row] = &[
 ];
 
 /// The scenario of a text.
-fn scenario_of(alloc: Global, text: &str) -> Result<Scenario, Fail> {
-    match scenario_without(alloc, &[], text.as_bytes()) {
+fn read_scenario(alloc: Global, text: &str) -> Result<Scenario, Fail> {
+    match scenario_of(alloc, text.as_bytes()) {
         Ok(scenario) => Ok(scenario),
         Err(_) => Err(Fail::from("a scenario")),
     }
@@ -185,7 +185,7 @@ fn is_stated(alloc: Global, trace: &MemSink, row: &Row) -> Result<bool, Fail> {
 
 /// Whether a scenario comes to what its row says.
 fn comes_true(alloc: Global, row: &Row) -> Result<bool, Fail> {
-    let scenario = scenario_of(alloc, row.text)?;
+    let scenario = read_scenario(alloc, row.text)?;
     let mut shelf = shelf_of(alloc, row.length)?;
     let mut inbox = empty_inbox(alloc)?;
     let mut trace = MemSink::new(alloc, &[])?;
@@ -211,7 +211,7 @@ fn scenarios_come_to_what_they_should(rt: HostRuntime) -> Result<(), Fail> {
 
 /// What is answered where that call of the trace fails.
 fn fault_at(alloc: Global, call: u32) -> Result<Option<WorldFault>, Fail> {
-    let scenario = scenario_of(alloc, "transport l2cap\nobject a\nradio\n1216 pass\n")?;
+    let scenario = read_scenario(alloc, "transport l2cap\nobject a\nradio\n1216 pass\n")?;
     let mut shelf = shelf_of(alloc, 2)?;
     let mut inbox = empty_inbox(alloc)?;
     let mut trace = MemSink::new(alloc, &[call])?;
@@ -228,7 +228,7 @@ fn a_trace_that_fails_is_told(rt: HostRuntime) -> Result<(), Fail> {
 
 /// The peaks of a scenario with one small object; nothing where it is not played.
 fn peaks_of(alloc: Global, text: &str) -> Result<Option<Peaks>, Fail> {
-    let scenario = scenario_of(alloc, text)?;
+    let scenario = read_scenario(alloc, text)?;
     let mut shelf = shelf_of(alloc, 2)?;
     let mut inbox = empty_inbox(alloc)?;
     let mut trace = MemSink::new(alloc, &[])?;

@@ -6,8 +6,7 @@ use Rattle.std.specs.Option.{option_or}
 use Rattle.std.proofs.lemmas.List.{map-append}
 use Rattle.std.proofs.lemmas.List.Elements.{filter_map-append}
 use Rattle.std.proofs.lemmas.List.Sums.{fold-append}
-use Rattle.capture.specs.Channels.{last_of}
-use Rattle.capture.specs.Histories.{given_by}
+use Rattle.capture.specs.Histories.{last_of, given_by}
 use Rattle.l2cap_config.specs.declared.wish.Mode.{Mode}
 use Rattle.rfcomm_frames.specs.Multiplexing.{Passed, framed}
 use Rattle.rfcomm_frames.specs.FrameReading.{frame_answer}

@@ -2,8 +2,7 @@
 -- 4.5, 5.4 and 7.1).
 use Rattle.std.specs.Prelude.{ℕ, ◌≡◌, ◌&&◌, not, Bool, List, [], ◌∷◌, ◌++◌, Option, Some, None, option_map, option_to_list, unwrap_or, if◌then◌else◌}
 use Rattle.std.specs.List.{filter_map, flat_map}
-use Rattle.capture.specs.Channels.{last_of}
-use Rattle.capture.specs.Histories.{given_by}
+use Rattle.capture.specs.Histories.{last_of, given_by}
 use Rattle.l2cap_config.specs.declared.wish.Mode.{Mode}
 use Rattle.l2cap_config.specs.declared.wish.Mode.TheVariants.{Basic}
 use Rattle.link_talk.specs.declared.channel.Channel.{Channel}

@@ -5,7 +5,6 @@ pub mod Once
 pub mod Own
 pub mod Fitting
 pub mod Beginning
-pub mod Ends
 pub mod Pairs
 pub mod Order
 pub mod OwnPairs

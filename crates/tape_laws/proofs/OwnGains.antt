@@ -1,6 +1,6 @@
 -- The inbox of a server that keeps its answers gains less by one object at most for each fault among them.
 use Rattle.std.proofs.Common.{arith, ◌≡◌, ◌≤◌, ◌+◌, ◌-◌, ℕ, Bool, false, List, ◌++◌, Option, Some, inl, inr, refl, sym, ap, subst, ◌∙◌}
-use Rattle.std.specs.List.{flat_map, AllByRecursion}
+use Rattle.std.specs.List.{AllByRecursion}
 use Rattle.bt_base.specs.declared.settings.Transport.{Transport}
 use Rattle.bt_base.specs.declared.settings.Transport.TheVariants.{L2cap, Rfcomm}
 use Rattle.bt_base.specs.Objects.{Object}
@@ -9,33 +9,28 @@ use Rattle.push_script.specs.declared.scenario.Scenario.{Scenario}
 use Rattle.push_terms.specs.declared.word.Side.TheVariants as sides
 use Rattle.capture.specs.Entries.{Entry}
 use Rattle.link_talk.specs.Captures.{objects_heard}
-use Rattle.push_model.specs.Server.{Reacted}
 use Rattle.push_laws.specs.Faults.{faults_of, spent_from}
 use Rattle.push_laws.specs.Laws.{new_over, stored_in}
 use Rattle.push_laws.specs.Losing.{LeavesOut}
-use Rattle.push_laws.specs.OneName.{LosesByFaults}
+use Rattle.push_laws.specs.Occurrences.{Occurrence}
 use Rattle.push_laws.specs.Premises.{NoneShort}
-use Rattle.push_laws.specs.Searches.{AllServe}
 use Rattle.push_laws.proofs.Losing.{leaves_more}
-use Rattle.push_laws.proofs.Pushed.{pushed-gain_less}
 use Rattle.world_model.specs.Pushes.{Pushes}
 use Rattle.world_model.specs.Worlds.{all_words}
 use Rattle.air_laws.specs.AirLaws.{IsLastEnd}
 use Rattle.alike_laws.specs.Twins.{IsOther}
 use Rattle.host_model.specs.Hosts.{Host, first_host}
 use Rattle.host_model.specs.Servers.{ServerProfile, server_profile}
-use Rattle.host_laws.specs.OverLinks.{talk_marks}
-use Rattle.host_laws.proofs.Serving.{servers_are_served}
 use Rattle.scenario_laws.specs.Captures.{client_of, Ran}
-use Rattle.scenario_laws.specs.Gains.{holding, asked_by}
+use Rattle.scenario_laws.specs.Gains.{holding}
 use Rattle.scenario_laws.specs.Parties.{party_of}
 use Rattle.shelf_model.specs.Held.{held_by}
 use Rattle.pair_laws.specs.InTurn.{PairsInTurn}
 use Rattle.pair_laws.specs.Keeping.{LosesNothing, PairsKeepOrder}
 use Rattle.pair_laws.specs.Served.{holding_on, AnswersOf}
-use Rattle.request_laws.specs.Losing.{served_in}
-use Rattle.request_laws.proofs.GainsCarried.{carried-reads}
-use Rattle.request_laws.proofs.HeardTogether.{pushed_over, serves_over}
+use Rattle.pair_laws.proofs.Pairing.{answers_allowed}
+use Rattle.request_laws.specs.Losing.{LosesFew, served_in}
+use Rattle.request_laws.proofs.LessHeard.{loses_few}
 use Rattle.request_laws.proofs.Losing.{loses_so}
 use Rattle.request_laws.proofs.Summing.{both_ask}
 use Rattle.request_laws.proofs.Told.{none_longer, gives_octets, all_answer}
@@ -46,7 +41,7 @@ use Rattle.tape_laws.specs.OwnPairs.{own_beginning}
 use Rattle.tape_laws.specs.Pairs.{TapedHosts, HappenedTapedHeld}
 use Rattle.tape_laws.specs.Runs.{untaped_world}
 use Rattle.tape_laws.proofs.Once.{servers_spend_once}
-use Rattle.tape_laws.proofs.Order.{answers_allowed, taped_keep_order}
+use Rattle.tape_laws.proofs.Order.{taped_keep_order}
 use Rattle.tape_laws.proofs.Own.{own_servers_are_taped}
 use Rattle.tape_laws.proofs.OwnPairs.{there_so, bare_so}
 use Rattle.tape_laws.proofs.Pairs.{takes_turns}
@@ -64,37 +59,20 @@ module _ (scenario : Scenario) (shelf : Option (List Object)) (before : List Obj
     stored : stored_in ran.world.b.upper.profile.inbox.content ≡ Some (before ++ gain)
     leaves : LeavesOut gain Spelled (faults_of answers)
 
-  module _ (turns : PairsInTurn both_ask scenario (holding before) capture ran) (told : AllByRecursion (AnswersOf shelf) turns.pairs.a.fed.so.lives.feeds) (spends : SpendsOnce scenario.settings (holding before) answers turns.pairs.b.fed.so.lives.feeds) where
-    over_l2cap : scenario.settings.transport ≡ L2cap → GainsSo
-    over_l2cap direct =
-        let lost = loses_so scenario before capture ran direct turns (record { small = none_longer shelf turns.pairs.a.fed.so.lives.feeds told; enough = all_answer NoneShort turns.pairs.b.fed.so.lives.feeds (spends.enough enough) }) in
-        record {
-          gain = lost.gain;
-          stored = lost.stored_is;
-          leaves = fewer lost.gain Spelled (spent_from (new_over scenario.settings before) (served_in both_ask scenario before capture ran turns.pairs)) (faults_of answers) spends.few lost.leaves;
-        }
+  -- of a server that went through the run, and used up no more faults than there are among those answers
+  from_lost : (occurrences : List Occurrence) → spent_from (new_over scenario.settings before) occurrences ≤ faults_of answers → LosesFew scenario.settings before occurrences Spelled (stored_in ran.world.b.upper.profile.inbox.content) → GainsSo
+  from_lost occurrences few lost = record { gain = lost.gain; stored = lost.stored_is; leaves = fewer lost.gain Spelled (spent_from (new_over scenario.settings before) occurrences) (faults_of answers) few lost.leaves }
 
-  module _ (order : PairsKeepOrder both_ask scenario (holding before) capture ran) (told : AllByRecursion (AnswersOf shelf) order.turns.pairs.a.fed.so.lives.feeds) (spends : SpendsOnce scenario.settings (holding before) answers order.turns.pairs.b.fed.so.lives.feeds) where
-    loses : scenario.settings.transport ≡ Rfcomm → LosesByFaults scenario.settings before (served_in both_ask scenario before capture ran order.turns.pairs)
-    loses muxed =
-        let settings = scenario.settings in
-        let feeds = order.turns.pairs.a.fed.so.lives.feeds in
-        let all = pushed_over scenario before capture ran muxed order (gives_octets shelf feeds told) (none_longer shelf feeds told) in
-        let serves = serves_over scenario before capture ran muxed order NoneShort (all_answer NoneShort order.turns.pairs.b.fed.so.lives.feeds (spends.enough enough)) in
-        subst (LosesByFaults settings before) (sym all.is) (pushed-gain_less settings before all.pushes all.last all.pushed all.last_pushed (subst (AllServe NoneShort (new_over settings before)) all.is serves))
+  over_l2cap : (turns : PairsInTurn both_ask scenario (holding before) capture ran) → AllByRecursion (AnswersOf shelf) turns.pairs.a.fed.so.lives.feeds → SpendsOnce scenario.settings (holding before) answers turns.pairs.b.fed.so.lives.feeds → scenario.settings.transport ≡ L2cap → GainsSo
+  over_l2cap turns told spends direct =
+      from_lost (served_in both_ask scenario before capture ran turns.pairs) spends.few
+      (loses_so scenario before capture ran direct turns (record { small = none_longer shelf turns.pairs.a.fed.so.lives.feeds told; enough = all_answer NoneShort turns.pairs.b.fed.so.lives.feeds (spends.enough enough) }))
 
-    over_rfcomm : scenario.settings.transport ≡ Rfcomm → GainsSo
-    over_rfcomm muxed =
-        let settings = scenario.settings in
-        let b = order.turns.pairs.b in
-        let less = (loses muxed).less in
-        record {
-          gain = less.gain;
-          stored = ap (λ (at : Reacted). stored_in at.gift.content) (servers_are_served settings (holding before) (asked_by both_ask settings before) (flat_map talk_marks b.came.talk) ran.world.b.upper b.fed.so.lives) ∙ less.stored;
-          leaves =
-              let spent = spent_from (new_over settings before) (served_in both_ask scenario before capture ran order.turns.pairs) in
-              fewer less.gain Spelled spent (faults_of answers) spends.few (subst (λ (os : List Object). LeavesOut less.gain os spent) (carried-reads scenario before capture ran muxed order) less.leaves);
-        }
+  over_rfcomm : (order : PairsKeepOrder both_ask scenario (holding before) capture ran) → AllByRecursion (AnswersOf shelf) order.turns.pairs.a.fed.so.lives.feeds → SpendsOnce scenario.settings (holding before) answers order.turns.pairs.b.fed.so.lives.feeds → scenario.settings.transport ≡ Rfcomm → GainsSo
+  over_rfcomm order told spends muxed =
+      let feeds = order.turns.pairs.a.fed.so.lives.feeds in
+      from_lost (served_in both_ask scenario before capture ran order.turns.pairs) spends.few
+      (loses_few scenario before capture ran muxed order (record { given = gives_octets shelf feeds told; small = none_longer shelf feeds told; enough = all_answer NoneShort order.turns.pairs.b.fed.so.lives.feeds (spends.enough enough) })).loses
 
   -- over either transport
   over_either : (world : TapedHosts Bool) → HappenedTapedHeld scenario shelf (holding before) (once answers) ran.happenings world → ran.world ≡ untaped_world world

@@ -45,17 +45,17 @@ use Rattle.pair_laws.specs.Keeping.{LosesNothing}
 use Rattle.pair_laws.specs.OnLinks.{LivedOver, happened_on, last_number}
 use Rattle.pair_laws.proofs.Answered.{runs-so, rest-so, rest-back, fits-so, rests-so as carriage_rest}
 use Rattle.pair_laws.proofs.Awaiting.{HasNew, servers-await}
-use Rattle.pair_laws.proofs.Carrying.{Wants, Always, as_it_is, any_allowed, same_number, waits_none, all-sane}
+use Rattle.pair_laws.proofs.Carrying.{Wants, Always, StayOn, as_it_is, any_allowed, same_number, waits_none, all-sane}
 use Rattle.pair_laws.proofs.Facing.{AllKept}
 use Rattle.pair_laws.proofs.Given.{Allows}
 use Rattle.pair_laws.proofs.Meeting.{gentle_doings}
 use Rattle.pair_laws.proofs.Numbered.{part_at, coming_at}
+use Rattle.pair_laws.proofs.Pairing.{pair_of_two, lived, lived_at, came_by, came_talk, in_air, short_length, not_ahead}
 use Rattle.pair_laws.proofs.Wording.{carried_worded}
 use Rattle.tape_laws.specs.Pairs.{TapedHosts, taped_of, taped_beginning, AreOfTape, TapedTakeTurns}
 use Rattle.tape_laws.specs.Runs.{HearsNewsAlone, untaped_world}
 use Rattle.tape_laws.specs.Taped.{Tape, Taped, taped, taped_asks, untaped_host, untaped, IsUntaped}
 use Rattle.tape_laws.proofs.Beginning.{begins_given}
-use Rattle.tape_laws.proofs.Ends.{pair_of_two, lived, lived_at, came_by, came_talk, in_air, short_length, not_ahead}
 use Rattle.tape_laws.proofs.Fitting.{Within, Bare, taped_fits, taped_keeps, taped_frames, taped_awaits, bare_rest, taped_rest}
 use Rattle.tape_laws.proofs.Hearing.{next_so, untaped_said, taped_runs_are_runs}
 use Rattle.tape_laws.proofs.Once.{servers_hear_news_alone}
@@ -116,7 +116,7 @@ module _ {T : Type 0} (whole : Bool) (asks : HostsAsk) (scenario : Scenario) (co
   V = taped_of scenario content tape
 
   abbrev Ready : carriages.Carriage (Host ClientProfile) (Host (Taped ServerProfile T)) → Type 0
-  Ready = AreReady (client_of scenario) V (free_where A) (free_where B)
+  Ready c = AreReady (client_of scenario) V (free_where A) (free_where B) c × StayOn Always Always c
 
   alone : HearsNewsAlone S
   alone = servers_hear_news_alone scenario.settings content
@@ -133,7 +133,7 @@ module _ {T : Type 0} (whole : Bool) (asks : HostsAsk) (scenario : Scenario) (co
       let ran = taped_runs_are_runs (client_of scenario) S tape alone front begins mid (runs-so (client_of scenario) V to_a as_it_is front begins mid there) in
       let resting = bare_rest S tape (client_of scenario) alone mid (rest-so (client_of scenario) V to_a as_it_is mid rest) in
       let ready = rests_hold scenario content happenings (runs_are_free scenario content happenings) front (untaped_world mid) talk_a talk_b is ran resting in
-      (ready.0, λ on. (back_so mid.b.upper (ready.1 on).0, λ armed. let fires = (ready.1 on).1 armed in (back_so mid.b.upper fires.0, fires.1)))
+      ((ready.0, λ on. (back_so mid.b.upper (ready.1 on).0, λ armed. let fires = (ready.1 on).1 armed in (back_so mid.b.upper fires.0, fires.1))), (λ on. tt, λ on. tt))
 
   pub record TurnsSo (capture : List Entry) (ran : Ran scenario content capture) : Type 0 where
     pub turns : PairsInTurn asks scenario content capture ran
@@ -157,7 +157,7 @@ module _ {T : Type 0} (whole : Bool) (asks : HostsAsk) (scenario : Scenario) (co
         let keeps_b = taped_fits S tape IsSoberPdu (IsProper S.policy) AnyServer (server-keeps scenario.settings content) in
         let away_b = taped_keeps S tape KnowsNone (servers_keep scenario.settings content) in
         let sane = all-sane whole A asks_a B asks_b IsLowClient HasNoLink (Within S tape AnyServer) (Within S tape KnowsNone) (client-keeps scenario.settings) keeps_b (clients_keep scenario.settings) away_b
-        (Bare S tape HasNew) (taped_awaits S tape (client_of scenario) HasNew alone (servers-await scenario.settings content (client_of scenario))) (λ gifts p. refl) to_a E allows_a as_it_is Always any_allowed
+        (Bare S tape HasNew) (taped_awaits S tape (client_of scenario) HasNew alone (servers-await scenario.settings content (client_of scenario))) (λ gifts p. refl) to_a E allows_a as_it_is Always any_allowed Always Always Always Always (λ e host on stays. tt) (λ f host on stays. tt)
         scenario.acl_length scenario.names all.doings c all.of_script (gentle_doings whole all.doings (λ on. subst LosesNothing (sym worded.words_are) (gentle on))) all.so in
         let same : (side : Side) → linking (moves side capture) ≡ linking (moves side past) = λ side. ap (λ (es : List Entry). linking (moves side es)) capture_is ∙ ended_all side world.pushes past ends last in
         let came_a = came_by A sides.A past capture c.a sane.acted.a.acted all.links_a (same sides.A) in
@@ -182,7 +182,7 @@ module _ {T : Type 0} (whole : Bool) (asks : HostsAsk) (scenario : Scenario) (co
                   (coming_at number (length a.spans) c.a.coming) link.rest (coming_at number (length b.spans) c.b.coming) link.far_rest (lived_at A asks_a (Wants A) E sides.A capture c.a sane.pairs.a came_a talk_a number)
                   (lived_at B asks_b Always Always sides.B capture c.b sane.pairs.b came_b talk_b number ∙ bare_at S tape alone asks_s sides.B capture c.b.upper lived_b number)
                   link.pair;
-              level = λ rests. let rest = resting rests in sym number_b ∙ sym (same_number whole most A asks_a B asks_b to_a E allows_a as_it_is Always any_allowed c.a c.b sane.pairs rest.idle_a.none_owed rest.idle_b.none_owed);
+              level = λ rests. let rest = resting rests in sym number_b ∙ sym (same_number whole most A asks_a B asks_b to_a E allows_a as_it_is Always any_allowed Always Always c.a c.b sane.pairs rest.idle_a.none_owed rest.idle_b.none_owed);
               air = λ rests.
                   let rest = resting rests in
                   in_air whole most A asks_a B asks_b to_a E allows_a as_it_is Always any_allowed c.a c.b sane.pairs rest.idle_a.none_owed rest.idle_b.none_owed rest.idle_a.none_comes rest.idle_b.none_comes

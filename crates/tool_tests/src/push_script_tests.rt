@@ -4,15 +4,15 @@ use push_script::*;
 use std::alloc::Global;
 use std::test::*;
 
-fn refusal_of(alloc: Global, missing: &[Feature], text: &[u8]) -> Option<(u32, ScriptRefusal)> {
-    match scenario_without(alloc, missing, text) {
+fn refusal_of(alloc: Global, text: &[u8]) -> Option<(u32, ScriptRefusal)> {
+    match scenario_of(alloc, text) {
         Err(ScriptFault::Refused(line, refusal)) => Some((line, refusal)),
         _ => None,
     }
 }
 
 /// Texts, and the line and the reason of their refusal.
-const REFUSALS: [(&[u8], u32, ScriptRefusal); 12] = [
+const REFUSALS: [(&[u8], u32, ScriptRefusal); 13] = [
     (b"", 1, ScriptRefusal::NoTransport),
     (
         b"transport l2cap\ncolor red\n",
@@ -28,25 +28,34 @@ const REFUSALS: [(&[u8], u32, ScriptRefusal); 12] = [
     (b"# none\n\ntransport air", 3, ScriptRefusal::BadLine),
     (b"chunk 1\nchunk 2\n", 2, ScriptRefusal::Repeated),
     (b"object \n", 1, ScriptRefusal::OutOfRange),
-    (b"object a\nobject b\n", 2, ScriptRefusal::NotBuilt),
-    (b"transport rfcomm\n", 1, ScriptRefusal::NotBuilt),
     (
         b"transport l2cap\nobject a\nradio\n0 pass\n",
         4,
         ScriptRefusal::OutOfRange,
     ),
-    (
-        b"transport l2cap\nobject a\nradio\n1 lose ab\n",
-        4,
-        ScriptRefusal::NotBuilt,
-    ),
     (b"srm off\n\xFF\n", 2, ScriptRefusal::NotUtf8),
+    (
+        b"transport rfcomm\nobject a\nradio\n1 lose ab",
+        4,
+        ScriptRefusal::LossyRfcomm,
+    ),
+    (
+        b"srm on\ntransport rfcomm\nobject a\nobject b\nradio\n1 cancel\n1 cut ba 1",
+        7,
+        ScriptRefusal::LossyRfcomm,
+    ),
+    (
+        b"transport rfcomm\nobject a\nradio\n1 damage ab 3 0001",
+        4,
+        ScriptRefusal::OutOfRange,
+    ),
+    (b"window 32\nmps 47\n", 2, ScriptRefusal::OutOfRange),
 ];
 
 #[test]
 fn refusals_with_their_lines(rt: HostRuntime) {
     for (text, line, refusal) in rows(&REFUSALS) {
-        assert!(rt; refusal_of(rt.alloc(), Feature::missing(), *text) == Some((*line, *refusal)));
+        assert!(rt; refusal_of(rt.alloc(), *text) == Some((*line, *refusal)));
     }
 }
 
@@ -104,31 +113,32 @@ fn words_and_outcomes(rt: HostRuntime) {
     assert_eq!(rt; into[..n], b"timer b"[..]);
 }
 
-/// Texts that are refused though no feature is missing.
-const WHOLE_REFUSALS: [(&[u8], u32, ScriptRefusal); 4] = [
+/// Texts, and the whole texts of the scenarios that they are.
+const READ: [(&[u8], &[u8]); 3] = [
     (
-        b"transport rfcomm\nobject a\nradio\n1 lose ab",
-        4,
-        ScriptRefusal::LossyRfcomm,
+        b"transport rfcomm\nobject a",
+        b"transport rfcomm\nserves both\nacl 1021 8\nchunk 1024\nmtu 1024\nmps 1010\nwindow 10\ntries 4\ncredits 7\nobex 1024\nsrm off\nobject a\nradio\n",
     ),
     (
-        b"srm on\ntransport rfcomm\nobject a\nobject b\nradio\n1 cancel\n1 cut ba 1",
-        7,
-        ScriptRefusal::LossyRfcomm,
+        b"serves rfcomm\ncredits 1\nobject b\ntransport rfcomm\nobject a\nradio\n1 timer b\n2 cancel\n3 drop",
+        b"transport rfcomm\nserves rfcomm\nacl 1021 8\nchunk 1024\nmtu 1024\nmps 1010\nwindow 10\ntries 4\ncredits 1\nobex 1024\nsrm off\nobject b\nobject a\nradio\n1 timer b\n2 cancel\n3 drop\n",
     ),
     (
-        b"transport rfcomm\nobject a\nradio\n1 damage ab 3 0001",
-        4,
-        ScriptRefusal::OutOfRange,
+        b"transport l2cap\nserves l2cap\nmtu 255\nmps 48\nwindow 63\ntries 20\nobex 32767\nsrm on\nobject a\nradio\n1 lose ba\n1 repeat ab\n1 damage ab 4 0001\n1 cut ba 65535\n4294967295 timer a",
+        b"transport l2cap\nserves l2cap\nacl 1021 8\nchunk 1024\nmtu 255\nmps 48\nwindow 63\ntries 20\ncredits 7\nobex 32767\nsrm on\nobject a\nradio\n1 lose ba\n1 repeat ab\n1 damage ab 4 0001\n1 cut ba 65535\n4294967295 timer a\n",
     ),
-    (b"window 32\nmps 47\n", 2, ScriptRefusal::OutOfRange),
 ];
 
 #[test]
-fn refusals_where_nothing_is_missing(rt: HostRuntime) {
-    for (text, line, refusal) in rows(&WHOLE_REFUSALS) {
-        assert!(rt; refusal_of(rt.alloc(), &[], *text) == Some((*line, *refusal)));
+fn every_key_and_word_is_read(rt: HostRuntime) -> Result<(), Fail> {
+    for (text, whole) in rows(&READ) {
+        let scenario = scenario_of(rt.alloc(), *text).ok().ok_or("a scenario")?;
+        let text = put_scenario(rt.alloc(), &scenario)
+            .ok()
+            .ok_or("room for the text")?;
+        assert_eq!(rt; text.as_slice(), *whole);
     }
+    Ok(())
 }
 
 #[test]
@@ -137,14 +147,12 @@ fn three_objects_with_losses(rt: HostRuntime) -> Result<(), Fail> {
         b"transport l2cap\nsrm on\nwindow 32\nobject card.vcf\nobject photo.jpg\nobject gr\xC3\xB6\xC3\x9Fe.txt\nradio\n60 pass\n1 lose ab\n200 pass\n1 lose ba\n1 repeat ab\n6455000 pass";
     let whole =
         b"transport l2cap\nserves both\nacl 1021 8\nchunk 1024\nmtu 1024\nmps 1010\nwindow 32\ntries 4\ncredits 7\nobex 1024\nsrm on\nobject card.vcf\nobject photo.jpg\nobject gr\xC3\xB6\xC3\x9Fe.txt\nradio\n60 pass\n1 lose ab\n200 pass\n1 lose ba\n1 repeat ab\n6455000 pass\n";
-    let scenario = scenario_without(rt.alloc(), &[], short)
-        .ok()
-        .ok_or("a scenario")?;
+    let scenario = scenario_of(rt.alloc(), short).ok().ok_or("a scenario")?;
     let text = put_scenario(rt.alloc(), &scenario)
         .ok()
         .ok_or("room for the text")?;
     assert_eq!(rt; text.as_slice(), whole.as_slice());
-    let again = scenario_without(rt.alloc(), &[], &text)
+    let again = scenario_of(rt.alloc(), &text)
         .ok()
         .ok_or("a scenario again")?;
     assert!(rt; again.settings == scenario.settings);
@@ -191,7 +199,7 @@ fn made_of_two_numbers(rt: HostRuntime) -> Result<(), Fail> {
         let mut front = [0; 4];
         assert!(rt; shelf.fill("m1", 0, &mut front).is_ok());
         assert_eq!(rt; front, *octets);
-        let stated = scenario_without(rt.alloc(), &[], *text)
+        let stated = scenario_of(rt.alloc(), *text)
             .ok()
             .ok_or("the scenario that is stated")?;
         let stated = put_scenario(rt.alloc(), &stated).ok().ok_or("a text")?;

@@ -3,7 +3,6 @@ use Rattle.command_words.specs.declared.form.Form.TheVariants.{Decode, DecodeTag
 use Rattle.btpush_forms.specs.Ports.{written}
 use Rattle.btpush_forms.specs.declared.hosted.Hosted.TheVariants as hosted
 use Rattle.btpush.proofs.Asked.{not_push, not_receive, not_make, push_traces, nothing_pushed, nothing_made, made_so, makes_no_bad_words, left_alone, unanswered, receives_nothing, asks_hosted, no_end}
-use Rattle.small_push.specs.Plays.{stocked}
 use Rattle.btpush.proofs.run.run.Goals as goal
 
 -- ---- the form is done
@@ -20,7 +19,7 @@ returns-in-Ok-clause-decode_snoop g c = λ asks. c.in-Ok.ensures.does DecodeSnoo
 pub returns-in-Ok-clause-push : goal.returns-in-Ok-clause-push
 returns-in-Ok-clause-push g c = λ asks.
     let same = c.in-Ok.ensures.untouched hosted.Push asks in
-    nothing_pushed (g.S.Source.content c.args.source.now) _ (stocked (g.F.Shelf.content c.args.shelf.now) (g.F.Shelf.faults c.args.shelf.now) (g.F.Shelf.absences c.args.shelf.now) (g.B.Inbox.content c.args.inbox.now) (g.B.Inbox.faults c.args.inbox.now) (g.B.Inbox.shortages c.args.inbox.now)) _ _ _ _ _ _ c.in-Ok.status (c.in-Ok.ensures.hosted hosted.Push asks) (ap (λ s. g.S.Source.content s) same.0) (ap (λ k. g.K.Sink.content k) same.1) (ap (λ t. g.T.Sink.content t) same.2) (same.2, refl, refl)
+    nothing_pushed (g.S.Source.content c.args.source.now) _ _ _ _ c.in-Ok.status (c.in-Ok.ensures.hosted hosted.Push asks) (ap (λ s. g.S.Source.content s) same.0) (ap (λ k. g.K.Sink.content k) same.1) (same.2, refl, refl)
 
 pub returns-in-Ok-clause-receive : goal.returns-in-Ok-clause-receive
 returns-in-Ok-clause-receive g c = λ asks.
@@ -144,8 +143,11 @@ returns-in-Err-Push-clause-receive g c = λ asks. absurd (not_push _ Receive (as
 pub returns-in-Err-Push-clause-receive_memory : goal.returns-in-Err-Push-clause-receive_memory
 returns-in-Err-Push-clause-receive_memory g c = λ asks is. absurd (not_push _ Receive (asks_hosted c.run_alone.result hosted.Push _ c.run_alone.ensures.asked (c.in-Err-Push.is ∙ ap Err c.in-Err-Push.field-0-is)) (λ is. absurd cc) asks)
 
+pub returns-in-Err-Push-clause-shelf_short : goal.returns-in-Err-Push-clause-shelf_short
+returns-in-Err-Push-clause-shelf_short g c = let same = c.run_alone.ensures.untouched hosted.Push (asks_hosted c.run_alone.result hosted.Push _ c.run_alone.ensures.asked (c.in-Err-Push.is ∙ ap Err c.in-Err-Push.field-0-is)) in rw same.2 at c.push.ensures.shelf_short
+
 pub returns-in-Err-Push-clause-inbox_short : goal.returns-in-Err-Push-clause-inbox_short
-returns-in-Err-Push-clause-inbox_short g c = λ other. c.push.ensures.inbox_short
+returns-in-Err-Push-clause-inbox_short g c = λ other. let same = c.run_alone.ensures.untouched hosted.Push (asks_hosted c.run_alone.result hosted.Push _ c.run_alone.ensures.asked (c.in-Err-Push.is ∙ ap Err c.in-Err-Push.field-0-is)) in rw same.2 at c.push.ensures.inbox_short
 
 -- ---- a host that receives is asked for
 

@@ -7,7 +7,7 @@ use Rattle.scenario_play.proofs.ending.plays_end.Goals as goal
 pub returns : goal.returns
 returns c = record {
   asks = scenarios_end.asks;
-  ends = λ scenario shelf before after trace trace' outcomes peaks faults faults' shortages shortages' played transport serves.
+  ends = λ scenario shelf before after trace trace' outcomes peaks counts counts' played transport serves.
       let world = played.finished.ran.world in
       let ends = scenarios_end.ends scenario before played.capture played.finished ((client_of scenario).outcome world.a.upper) played.ends transport serves in
       record {

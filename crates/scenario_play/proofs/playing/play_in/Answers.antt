@@ -1,5 +1,4 @@
 use Rattle.std.proofs.Common.{[], length, sym, ap, subst, refl, ◌∙◌, arith}
-use Rattle.bt_base.specs.Counts.{HasRisen}
 use Rattle.radio_world.proofs.Wanting.{any_err, lacks_ok, lacks_on}
 use Rattle.radio_world.specs.Both.{Both}
 use Rattle.radio_world.specs.Hosts.{answering}
@@ -10,8 +9,7 @@ use Rattle.bt_host.specs.Noting.{Noted}
 use Rattle.bt_host.specs.NotedHosts.{client_noting, server_noting, noted_client_machine, noted_server_machine}
 use Rattle.bt_host.specs.Pushing.{Lacks as NoShelf}
 use Rattle.bt_host.specs.PushingLaws.{Answers}
-use Rattle.bt_host.specs.ServingLaws.{lacks as served_lacks}
-use Rattle.bt_host.specs.Serving.{Served, Asks, Lacks as NoInbox}
+use Rattle.bt_host.specs.Serving.{Served}
 use Rattle.bt_host.specs.Shells.{Shelled}
 use Rattle.bt_host.specs.Playing.{playing, PushesSoundly, ServesSoundly}
 use Rattle.bt_host.proofs.Beginning.{hosts_reached, client_sound, server_sound}
@@ -19,7 +17,6 @@ use Rattle.room_laws.specs.Rooms.{OwesNoneBack}
 use Rattle.scenario_play.specs.Peaks.{NotedMoment, AreNoted}
 use Rattle.scenario_play.proofs.Breaking.{broke, wanting, shelf_left, inbox_left}
 use Rattle.scenario_play.proofs.Plainness.{orderly}
-use Rattle.scenario_play.proofs.Sparing.{rose_or_not, Never, granted_both, granted_left}
 use Rattle.scenario_play.proofs.Course.{played, shelf_kept}
 use Rattle.scenario_play.proofs.playing.play_in.Goals as goal
 
@@ -67,10 +64,8 @@ returns-clause-plays g c =
     let inbox = c.play_out.new.inbox in
     let last : NotedMoment = moment c.in_ok-outcomes.world.scene (answering [] (playing (client_noting g.F.Shelf.content) shelf c.in_ok-outcomes.world.a.stack)) (answering [] (playing (server_noting g.I.Inbox.content) inbox c.in_ok-outcomes.world.b.stack)) in
     let noted : AreNoted c.in_ok-outcomes.world.scene.medium last c.peaks_of-peaks.result = record { buffers = c.peaks_of-peaks.ensures.buffers; windows = c.peaks_of-peaks.ensures.windows; credits = c.peaks_of-peaks.ensures.credits } in
-    played g.F.Shelf.content g.I.Inbox.content (Answers g.F.Shelf.content g.F.Shelf.faults g.F.Shelf.shortages) (Asks g.I.Inbox.faults g.I.Inbox.shortages) c.args.scenario.now c.args.world c.in_ok-outcomes.world
-    c.args.shelf.now shelf c.args.inbox.now inbox (traced c.args.trace.now) (traced c.play_out.new.trace) c.in_ok-outcomes.outcomes.items c.peaks_of-peaks.result (Never g.I.Inbox.faults g.I.Inbox.shortages c.args.inbox.now inbox)
-    (rose_or_not (g.I.Inbox.faults c.args.inbox.now) (g.I.Inbox.faults inbox) (g.I.Inbox.shortages c.args.inbox.now) (g.I.Inbox.shortages inbox))
-    (λ mid one two before behind never. granted_both g.I.Inbox.faults g.I.Inbox.shortages c.args.inbox.now mid inbox one two before behind never) c.requires.fresh c.in_ok-outcomes.ensures.runs c.in_ok-outcomes.ensures.outcomes noted
+    played g.F.Shelf.content g.I.Inbox.content (Answers g.F.Shelf.content g.F.Shelf.faults g.F.Shelf.shortages) g.I.Inbox.faults g.I.Inbox.shortages c.args.scenario.now c.args.world c.in_ok-outcomes.world
+    c.args.shelf.now shelf c.args.inbox.now inbox (traced c.args.trace.now) (traced c.play_out.new.trace) c.in_ok-outcomes.outcomes.items c.peaks_of-peaks.result c.requires.fresh c.in_ok-outcomes.ensures.runs c.in_ok-outcomes.ensures.outcomes noted
 
 pub returns-clause-each : goal.returns-clause-each
 returns-clause-each g c = c.in_ok-outcomes.ensures.each ∙ ap (λ (w : Both (Shelled (Noted ClientProfile)) (Shelled (Noted Served))). length w.scene.pushes.names) c.requires.fresh
@@ -85,7 +80,7 @@ returns-clause-shelf g c =
     runs.starts.used_a runs.turns.used_a runs.starts.answered_a runs.turns.answered_a
 
 pub returns-clause-inbox : goal.returns-clause-inbox
-returns-clause-inbox g c = let runs = c.in_ok-outcomes.ensures.runs in omega (arith, runs.starts.answered_b.shortages_stay, runs.turns.answered_b.shortages_stay)
+returns-clause-inbox g c = let runs = c.in_ok-outcomes.ensures.runs in omega (arith, runs.starts.answered_b.counted.shortages_stay, runs.turns.answered_b.counted.shortages_stay)
 
 pub returns-clause-blames : goal.returns-clause-blames
 returns-clause-blames g c = record { stays = c.play_out.ensures.blames.stays; failed = λ is. cc }
@@ -101,11 +96,8 @@ returns-in_err-outcomes-clause-breaks g c =
     let inbox = g.I.Inbox in
     let traced = g.T.Sink.content in
     any_err c.from_residual.result
-    (broke shelf.content inbox.content (Answers shelf.content shelf.faults shelf.shortages) (Asks inbox.faults inbox.shortages) (NoShelf shelf.shortages) (NoInbox inbox.shortages) c.args.scenario.now c.args.world
-    c.args.shelf.now c.play_out.new.shelf c.args.inbox.now c.play_out.new.inbox (traced c.args.trace.now) (traced c.play_out.new.trace) (HasRisen (inbox.shortages c.args.inbox.now) (inbox.shortages c.play_out.new.inbox)) (Never inbox.faults inbox.shortages c.args.inbox.now c.play_out.new.inbox)
-    (rose_or_not (inbox.faults c.args.inbox.now) (inbox.faults c.play_out.new.inbox) (inbox.shortages c.args.inbox.now) (inbox.shortages c.play_out.new.inbox))
-    (λ mid used asked left never. granted_left inbox.faults inbox.shortages c.args.inbox.now mid c.play_out.new.inbox used asked left never) c.requires.fresh
-    (λ mid used asked lacked. (served_lacks inbox.faults inbox.shortages c.args.inbox.now mid c.play_out.new.inbox used asked lacked).0) c.in_err-outcomes.ensures.breaks)
+    (broke shelf.content inbox.content (Answers shelf.content shelf.faults shelf.shortages) (NoShelf shelf.shortages) inbox.faults inbox.shortages c.args.scenario.now c.args.world
+    c.args.shelf.now c.play_out.new.shelf c.args.inbox.now c.play_out.new.inbox (traced c.args.trace.now) (traced c.play_out.new.trace) c.requires.fresh c.in_err-outcomes.ensures.breaks)
 
 pub returns-in_err-outcomes-clause-left : goal.returns-in_err-outcomes-clause-left
 returns-in_err-outcomes-clause-left g c =
@@ -121,6 +113,6 @@ returns-in_err-outcomes-clause-lacks g c =
     let inbox = g.I.Inbox in
     let traced = g.T.Sink.content in
     lacks_on _ _ _ _ _ c.play_out.result c.from_residual.result c.in_err-outcomes.field-0.0 c.from_residual.ensures.1 c.in_err-outcomes.was (omega arith)
-    (λ cause. wanting shelf.content inbox.content (Answers shelf.content shelf.faults shelf.shortages) (Asks inbox.faults inbox.shortages) (NoShelf shelf.shortages) (NoInbox inbox.shortages) c.args.scenario.now c.args.world
+    (λ cause. wanting shelf.content inbox.content (Answers shelf.content shelf.faults shelf.shortages) (NoShelf shelf.shortages) inbox.faults inbox.shortages c.args.scenario.now c.args.world
     c.args.shelf.now c.play_out.new.shelf c.args.inbox.now c.play_out.new.inbox (traced c.args.trace.now) (traced c.play_out.new.trace) _ _
     c.requires.fresh (λ lacked. lacked.0) (λ lacked. lacked.0) cause) c.play_out.ensures.lacks

@@ -1,4 +1,0 @@
-pub mod Wiring
-pub mod Sending
-pub mod Spoken
-pub mod WireLaws

@@ -1,4 +1,0 @@
-pub mod Conversations
-pub mod Gains
-pub mod PushNames
-pub mod PushParts

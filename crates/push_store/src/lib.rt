@@ -1,4 +1,0 @@
-//! What a server stores while things happen in the pure world.
-#![tactic(auto)]
-
-pub mod laws;

@@ -1,9 +1,0 @@
-pub mod Silence
-pub mod Opening
-pub mod Payloads
-pub mod Conversing
-pub mod Speaking
-pub mod ClientTurns
-pub mod ServerTurns
-pub mod Serving
-pub mod HostTurns
