@@ -3,8 +3,7 @@ use Rattle.std.proofs.Common.{arith, ◌≡◌, ◌∙◌, ◌-◌, ◌≤◌, �
 use Rattle.std.specs.Prelude.{Option, Some, None, is_some, Result, Ok, Err, IsTrue, IfSome}
 use Rattle.std.specs.List.{AllByRecursion, list_any}
 use Rattle.bt_base.specs.Counts.{HasRisen}
-use Rattle.bt_base.specs.Objects.{Object, octets_of, HasAt}
-use Rattle.bt_base.specs.Octets.{IsOctets}
+use Rattle.bt_base.specs.Objects.{Object}
 use Rattle.obex_session.specs.PutPackets.{place_of}
 use Rattle.push_model.proofs.LinkLaws as LinkLaws
 use Rattle.push_model.proofs.LinkLaws.{steps_keep}
@@ -42,14 +41,14 @@ use Rattle.push_client.specs.Pushing.{gone, payload_in, step_of, wants_memory}
 use Rattle.push_client.specs.Putting.{AreAnswers, IsAnswer, Comes}
 use Rattle.push_client.specs.declared.step.Step.{Step}
 use Rattle.push_client.specs.declared.step.Step.TheVariants as step
-use Rattle.host_model.specs.Circumstances.{Circumstance, Part, parts_in}
+use Rattle.host_model.specs.Circumstances.{Circumstance, Excerpt, Part, parts_in}
 use Rattle.host_model.specs.Clients as model
 use Rattle.host_model.specs.Clients.{ClientProfile, client_profile, after_end}
 use Rattle.host_model.specs.Endpoints.{Endpoint, endpoint_of, takes_sdu}
 use Rattle.host_model.specs.Pdus.{sdu_of}
 use Rattle.host_model.specs.Profiles.{Stride}
-use Rattle.host_model.specs.Shelves.{measured, fitting, unused}
-use Rattle.host_model.proofs.Shelves.{unused_none, unused_one}
+use Rattle.host_model.specs.Shelves.{measured, bare_part, fitting, unused}
+use Rattle.host_model.proofs.Shelves.{unused_none, unused_one, next_part}
 use Rattle.bt_host.specs.Calls.{Does}
 use Rattle.bt_host.specs.Uppers.{IsAside}
 use Rattle.bt_host.specs.Pushing.{pushing, HasCid, Pushes, IsOf, is_failure, AreOf}
@@ -158,31 +157,34 @@ ended_is client = over_by client.failed client.given client
 
 -- ---- answers of the shelf
 
-parts_of : (used : List Octs) (rest : List Circumstance) → parts_in (map Part used ++ rest) ≡ used ++ parts_in rest
-parts_of [] rest = refl
-parts_of (answer ∷ used) rest = ap (λ xs. answer ∷ xs) (parts_of used rest)
+-- an answer is of the object that is pushed, from where the body of the next PUT begins
+abbrev excerpt_of : Client → Octs → Excerpt
+excerpt_of client answer = record { name = client.name; at = place_of client.session.put; answer = answer }
 
-stands : (content : Option (List Object)) (name : List ℕ) (at : ℕ) (part : List ℕ) → IsOctets part → IfSome content (λ objects. HasAt at part (octets_of name objects)) → IsOf content (Part (Ok part))
-stands None name at part are is = (are, tt)
-stands (Some objects) name at part are is = (are, (name, at, is))
+abbrev answered : Client → Octs → Circumstance
+answered client answer = Part (excerpt_of client answer)
+
+parts_of : (client : Client) (used : List Octs) (rest : List Circumstance) → parts_in (map (answered client) used ++ rest) ≡ map (excerpt_of client) used ++ parts_in rest
+parts_of client [] rest = refl
+parts_of client (answer ∷ used) rest = ap (λ (xs : List Excerpt). excerpt_of client answer ∷ xs) (parts_of client used rest)
 
 -- answers fit what was asked, and behind the step those that were left over are left, whichever they are
-record Fits (client : Client) (used rest : List Octs) (new : Client) (result : Step) : Type 0 where
+record Fits (client : Client) (used : List Octs) (rest : List Excerpt) (new : Client) (result : Step) : Type 0 where
   left : List Octs
-  stepped_is : steps client (fitting client (used ++ rest)) ≡ gone new result left
-  left_is : unused left (used ++ rest) ≡ rest
+  stepped_is : steps client (fitting client (map (excerpt_of client) used ++ rest)) ≡ gone new result left
+  left_is : unused left (map (excerpt_of client) used ++ rest) ≡ rest
 
 module _ (client : Client) (content : Option (List Object)) (f f' s s' : ℕ) where
-  one_is : (answer : Octs) → IsAnswer client content f f' s s' answer → IsOf content (Part answer)
-  one_is (Ok part) is = stands content client.name (place_of client.session.put) part is.1 is.2
+  one_is : (answer : Octs) → IsAnswer client content f f' s s' answer → IsOf content (answered client answer)
+  one_is (Ok part) is = (is.1, is.2)
   one_is (Err fault) is = tt
 
-  one_fails : (answer : Octs) → IsAnswer client content f f' s s' answer → list_any is_failure (Part answer ∷ []) ≡ true → HasRisen f f'
+  one_fails : (answer : Octs) → IsAnswer client content f f' s s' answer → list_any is_failure (answered client answer ∷ []) ≡ true → HasRisen f f'
   one_fails (Ok part) is some = absurd (false≢true some)
   one_fails (Err fault.Failed) is some = is
   one_fails (Err fault.NoMemory) is some = absurd (false≢true some)
 
-  pub answers_of : (content' : Option (List Object)) (used : List Octs) → AreAnswers client content f f' s s' used → content' ≡ content → f ≤ f' → s ≤ s' → AreOf content content' f f' s s' (map Part used)
+  pub answers_of : (content' : Option (List Object)) (used : List Octs) → AreAnswers client content f f' s s' used → content' ≡ content → f ≤ f' → s ≤ s' → AreOf content content' f f' s s' (map (answered client) used)
   answers_of content' [] answers stays faults shortages = record { content_stays = stays; faults_stay = faults; shortages_stay = shortages; each = tt; failed = λ some. absurd (false≢true some) }
   answers_of content' (answer ∷ []) answers stays faults shortages =
       record { content_stays = stays; faults_stay = faults; shortages_stay = shortages; each = (one_is answer answers, tt); failed = one_fails answer answers }
@@ -193,24 +195,25 @@ module _ (client : Client) (content : Option (List Object)) (f f' s s' : ℕ) wh
   one_fits (Ok part) is = cond-true (length part == course.put_count client) (Ok part) (Err fault.Failed) (eq-eqb (length part) (course.put_count client) is.0)
   one_fits (Err cause) is = refl
 
-  all_fit : (used rest : List Octs) (new : Client) (result : Step) → AreAnswers client content f f' s s' used → ((rest : List Octs) → steps client (used ++ rest) ≡ gone new result rest) → Fits client used rest new result
+  all_fit : (used : List Octs) (rest : List Excerpt) (new : Client) (result : Step) → AreAnswers client content f f' s s' used → ((rest : List Octs) → steps client (used ++ rest) ≡ gone new result rest) → Fits client used rest new result
   all_fit [] rest new result answers comes = record { left = fitting client rest; stepped_is = comes (fitting client rest); left_is = unused_none client rest }
   all_fit (answer ∷ []) rest new result answers comes =
-      record { left = rest; stepped_is = ap (λ (a : Octs). steps client (a ∷ rest)) (one_fits answer answers) ∙ comes rest; left_is = unused_one answer rest }
+      let left = map bare_part rest in
+      record { left = left; stepped_is = ap (λ (a : Octs). steps client (a ∷ left)) (next_part client answer ∙ one_fits answer answers) ∙ comes left; left_is = unused_one (excerpt_of client answer) rest }
   all_fit (answer ∷ other ∷ more) rest new result answers comes = absurd answers
 
 -- ---- a step
 
-abbrev with_parts : List Octs → Stride ClientProfile → Stride ClientProfile
+abbrev with_parts : List Excerpt → Stride ClientProfile → Stride ClientProfile
 with_parts parts stride = record { channels = stride.channels; profile = record (stride.profile) { parts = parts }; more = stride.more }
 
-submitted_with : (test : Bool) (own : ℕ) (on v : Channels) (end : ClientProfile) (parts : List Octs)
+submitted_with : (test : Bool) (own : ℕ) (on v : Channels) (end : ClientProfile) (parts : List Excerpt)
     → (if test then model.waiting on (record end { parts = parts; submitted = Some own }) else model.waiting v (record end { parts = parts }))
     ≡ with_parts parts (if test then model.waiting on (record end { submitted = Some own }) else model.waiting v end)
 submitted_with true own on v end parts = refl
 submitted_with false own on v end parts = refl
 
-submits_with : (own : Option ℕ) (payload : Payload) (v : Channels) (end : ClientProfile) (parts : List Octs) → model.submits own payload v (record end { parts = parts }) ≡ with_parts parts (model.submits own payload v end)
+submits_with : (own : Option ℕ) (payload : Payload) (v : Channels) (end : ClientProfile) (parts : List Excerpt) → model.submits own payload v (record end { parts = parts }) ≡ with_parts parts (model.submits own payload v end)
 submits_with None payload v end parts = refl
 submits_with (Some own) payload v end parts = submitted_with (takes_sdu own (sdu_of payload) v) own (sends own (sdu_of payload) v) v end parts
 
@@ -218,7 +221,7 @@ asks_one : link_steps course.MakeLink ≡ 0 → ⊥
 asks_one is = omega (arith, is)
 
 -- what a step does hangs neither on the answers that are left, nor on what was before
-takes_with : (one : course.Step) (v : Channels) (after before : ClientProfile) (parts : List Octs) → link_steps one ≡ 0 → model.takes one v (record after { parts = parts }) before ≡ with_parts parts (model.takes one v after after)
+takes_with : (one : course.Step) (v : Channels) (after before : ClientProfile) (parts : List Excerpt) → link_steps one ≡ 0 → model.takes one v (record after { parts = parts }) before ≡ with_parts parts (model.takes one v after after)
 takes_with course.Wait v after before parts is = refl
 takes_with course.MakeLink v after before parts is = absurd (asks_one is)
 takes_with course.AskFeatures v after before parts is = refl
@@ -243,16 +246,17 @@ module _ {P : Type 0} (content : P → Option (List Object)) (faults shortages :
       → record { channels = v'; profile = after; more = more } ≡ model.takes (step_of (payload_in mid.client) result) v mid mid
       → (settings : Settings) → Does (Answers content faults shortages) (λ rest. (client_profile settings).steps v (pushing end rest)) (λ rest. record { channels = v'; profile = pushing after rest; more = more }) first last
   step_does end mid after new result lacks more v v' first last mid_is called k stays takes_is settings = record {
-    used = map Part k.used;
+    used = map (answered end.client) k.used;
     answered = answers_of end.client (content first) (faults first) (faults last) (shortages first) (shortages last) (content last) k.used k.answers stays k.faults_stay k.shortages_stay;
     does = λ rest.
         let one = step_of (payload_in new) result in
-        let none : link_steps one ≡ 0 = ap (λ (s : Stepped). link_steps s.step) (sym (k.comes (parts_in rest))) ∙ asks_none end.client (k.used ++ parts_in rest) called in
+        let none : link_steps one ≡ 0 = ap (λ (s : Stepped). link_steps s.step) (sym (k.comes [])) ∙ asks_none end.client (k.used ++ []) called in
         let fits = all_fit end.client (content first) (faults first) (faults last) (shortages first) (shortages last) k.used (parts_in rest) new result k.answers k.comes in
-        ap (λ (xs : List Octs). model.next_stride v (record end { parts = xs })) (parts_of k.used rest)
-        ∙ ap (λ (s : Stepped). model.takes s.step v (record end { client = s.client; parts = unused s.left (k.used ++ parts_in rest) }) (record end { parts = k.used ++ parts_in rest })) fits.stepped_is
-        ∙ ap (λ (xs : List Octs). model.takes one v (record end { client = new; parts = xs }) (record end { parts = k.used ++ parts_in rest })) fits.left_is
-        ∙ takes_with one v (record end { client = new }) (record end { parts = k.used ++ parts_in rest }) (parts_in rest) none
+        let given = map (excerpt_of end.client) k.used ++ parts_in rest in
+        ap (λ (xs : List Excerpt). model.next_stride v (record end { parts = xs })) (parts_of end.client k.used rest)
+        ∙ ap (λ (s : Stepped). model.takes s.step v (record end { client = s.client; parts = unused s.left given }) (record end { parts = given })) fits.stepped_is
+        ∙ ap (λ (xs : List Excerpt). model.takes one v (record end { client = new; parts = xs }) (record end { parts = given })) fits.left_is
+        ∙ takes_with one v (record end { client = new }) (record end { parts = given }) (parts_in rest) none
         ∙ ap (λ (m : ClientProfile). with_parts (parts_in rest) (model.takes (step_of (payload_in m.client) result) v m m)) (sym mid_is)
         ∙ ap (with_parts (parts_in rest)) (sym takes_is);
   }

@@ -22,11 +22,11 @@ use Rattle.push_client.specs.Pushing.{gone, payload_in, step_of, Begins}
 use Rattle.push_client.specs.Putting.{Comes}
 use Rattle.push_client.specs.declared.step.Step.{Step}
 use Rattle.world_model.specs.Machines.{Opening}
-use Rattle.host_model.specs.Circumstances.{Circumstance, Size, parts_in}
+use Rattle.host_model.specs.Circumstances.{Circumstance, Excerpt, Size, parts_in}
 use Rattle.host_model.specs.Clients as model
 use Rattle.host_model.specs.Clients.{ClientProfile, calls, after_call}
 use Rattle.host_model.specs.Shelves.{name_for, size_if, is_short}
-use Rattle.shelf_model.specs.Held.{in_octets, held_by}
+use Rattle.shelf_model.specs.Held.{given_by, held_by}
 use Rattle.host_model.proofs.Shelves.{name_stays, size_stays}
 use Rattle.bt_host.specs.Calls.{Does}
 use Rattle.bt_host.specs.Pushing.{pushing, Pushes, IsDue, IsOf, is_failure, AreOf}
@@ -158,7 +158,7 @@ module _ (end : ClientProfile) (mid after : Client) (size : Result ℕ PortFault
 
 -- ---- as its profile
 
-after_with : (one : course.Step) (client : Client) (end : ClientProfile) (parts : List Octs) → after_call one client (record end { parts = parts }) ≡ record (after_call one client end) { parts = parts }
+after_with : (one : course.Step) (client : Client) (end : ClientProfile) (parts : List Excerpt) → after_call one client (record end { parts = parts }) ≡ record (after_call one client end) { parts = parts }
 after_with course.Wait client end parts = refl
 after_with course.MakeLink client end parts = refl
 after_with course.AskFeatures client end parts = refl
@@ -204,8 +204,8 @@ module _ {P : Type 0} (content : P → Option (List Object)) (faults shortages :
         (size_answered end.client mid name (content first) (content second) (faults first) (faults second) (shortages first) (shortages second) works b stays) behind;
     does = λ rest.
         let client_is : model.ended (begins b.size name end.client) ≡ after = ap model.ended (sym b.client) ∙ ended_is mid ∙ sym is in
-        let begun : model.told (held_by (content first) (Opening name) (Size b.size ∷ rest)) (Opening name) (pushing end (map in_octets (Size b.size ∷ rest))) ≡ pushing new (map in_octets rest) =
-        let left = parts_in (map in_octets rest) in
+        let begun : model.told (held_by (content first) (Opening name) (Size b.size ∷ rest)) (Opening name) (pushing end (map (given_by (content first)) (Size b.size ∷ rest))) ≡ pushing new (map (given_by (content first)) rest) =
+        let left = parts_in (map (given_by (content first)) rest) in
         ap (λ (s : Result ℕ PortFault). model.opens (size_if (is_short name) s) (name_for name) (record end { parts = left })) (size_held (content first) name b.size rest b.few (b.told works))
         ∙ ap (λ (s : Result ℕ PortFault). model.opens s (name_for name) (record end { parts = left })) (size_stays b.size name few)
         ∙ ap (λ (n : List ℕ). model.opens b.size n (record end { parts = left })) (name_stays name few)
@@ -213,5 +213,5 @@ module _ {P : Type 0} (content : P → Option (List Object)) (faults shortages :
         ∙ after_with (steps after []).step (steps after []).client (opening end after) left
         ∙ ap (λ (e : ClientProfile). record e { parts = left }) (sym new_is) in
         ap (λ (p : ClientProfile). with_pushing p (shelved_by content end first rest)) begun
-        ∙ ap (λ (c : Option (List Object)). let one : Shelved = record { pushing = pushing new (map in_octets rest); shelf = c } in one) (sym (behind.content_stays ∙ stays));
+        ∙ ap (λ (c : Option (List Object)). let one : Shelved = record { pushing = pushing new (map (given_by c) rest); shelf = c } in one) (sym (behind.content_stays ∙ stays));
   }

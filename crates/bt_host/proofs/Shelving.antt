@@ -11,8 +11,8 @@ use Rattle.world_model.specs.Machines.{Opening}
 use Rattle.host_model.specs.Circumstances.{Circumstance, Size, Part, Stored, size_in}
 use Rattle.host_model.specs.Clients.{ClientProfile, client_profile}
 use Rattle.host_model.specs.Profiles.{Stride}
-use Rattle.shelf_model.specs.Held.{size_in_octets, in_octets, length_of, sized, held_by}
-use Rattle.shelf_model.proofs.Sizes.{part_stays, size_stays, sized_stays}
+use Rattle.shelf_model.specs.Held.{size_in_octets, given_by, length_of, sized, held_by}
+use Rattle.shelf_model.proofs.Sizes.{size_stays, sized_stays, held_stays}
 use Rattle.bt_host.specs.Calls.{Does}
 use Rattle.bt_host.specs.Pushing.{pushing, IsOf}
 use Rattle.bt_host.specs.PushingLaws.{Answers}
@@ -24,20 +24,19 @@ length_stays : (size : Result ℕ PortFault) → IfOk size (λ n. n < 2 ^ 32) �
 length_stays (Ok size) few = ap (λ (n : ℕ). let one : Result ℕ PortFault = Ok n in one) (size_stays size (omega (arith, few)))
 length_stays (Err fault) few = refl
 
-one_stays : (content : Option (List Object)) (answer : Circumstance) → IsOf content answer → in_octets answer ≡ answer
+one_stays : (content : Option (List Object)) (answer : Circumstance) → IsOf content answer → given_by content answer ≡ answer
 one_stays content (Size (Ok size)) of = ap (λ (n : ℕ). Size (Ok n)) (size_stays size of.0)
 one_stays content (Size (Err fault)) of = refl
-one_stays content (Part (Ok part)) of = ap Part (part_stays (Ok part) of.0)
-one_stays content (Part (Err fault)) of = refl
+one_stays content (Part excerpt) of = held_stays content excerpt of
 one_stays content (Stored answer) of = refl
 
--- what a shelf answered are octets
-all_stay : (content : Option (List Object)) (used : List Circumstance) → AllByRecursion (IsOf content) used → map in_octets used ≡ used
+-- what a shelf answered is of its objects
+all_stay : (content : Option (List Object)) (used : List Circumstance) → AllByRecursion (IsOf content) used → map (given_by content) used ≡ used
 all_stay content [] all = refl
-all_stay content (answer ∷ used) all = ap (λ (one : Circumstance). one ∷ map in_octets used) (one_stays content answer all.0) ∙ ap (λ (l : List Circumstance). answer ∷ l) (all_stay content used all.1)
+all_stay content (answer ∷ used) all = ap (λ (one : Circumstance). one ∷ map (given_by content) used) (one_stays content answer all.0) ∙ ap (λ (l : List Circumstance). answer ∷ l) (all_stay content used all.1)
 
-behind_octets : (content : Option (List Object)) (used rest : List Circumstance) → AllByRecursion (IsOf content) used → map in_octets (used ++ rest) ≡ used ++ map in_octets rest
-behind_octets content used rest all = map-append in_octets used rest ∙ ap (λ (l : List Circumstance). l ++ map in_octets rest) (all_stay content used all)
+behind_used : (content : Option (List Object)) (used rest : List Circumstance) → AllByRecursion (IsOf content) used → map (given_by content) (used ++ rest) ≡ used ++ map (given_by content) rest
+behind_used content used rest all = map-append (given_by content) used rest ∙ ap (λ (l : List Circumstance). l ++ map (given_by content) rest) (all_stay content used all)
 
 -- ---- its calls
 
@@ -60,8 +59,8 @@ module _ {P : Type 0} (content : P → Option (List Object)) (faults shortages :
     used = one.used;
     answered = one.answered;
     does = λ rest.
-        let left = map in_octets rest in
-        ap (λ (l : List Circumstance). stride_shelved ((client_profile settings).steps v (pushing old l)) (shelved_by content old first (one.used ++ rest))) (behind_octets (content first) one.used rest one.answered.each)
+        let left = map (given_by (content first)) rest in
+        ap (λ (l : List Circumstance). stride_shelved ((client_profile settings).steps v (pushing old l)) (shelved_by content old first (one.used ++ rest))) (behind_used (content first) one.used rest one.answered.each)
         ∙ ap (λ (s : Stride ClientProfile). stride_shelved s (shelved_by content old first (one.used ++ rest))) (one.does left)
-        ∙ ap (λ (c : Option (List Object)). let after : Stride Shelved = record { channels = v'; profile = record { pushing = pushing new left; shelf = c }; more = more } in after) (sym one.answered.content_stays);
+        ∙ ap (λ (c : Option (List Object)). let after : Stride Shelved = record { channels = v'; profile = record { pushing = pushing new (map (given_by c) rest); shelf = c }; more = more } in after) (sym one.answered.content_stays);
   }

@@ -4,8 +4,7 @@ use Rattle.std.specs.List.{AllByRecursion, list_any}
 use Rattle.std.specs.Option.{option_map}
 use Rattle.bt_base.specs.Counts.{HasRisen}
 use Rattle.bt_base.specs.Numbers.{IsCid, IsPsm}
-use Rattle.bt_base.specs.Objects.{Object, octets_of, HasAt}
-use Rattle.bt_base.specs.Octets.{IsOctets}
+use Rattle.bt_base.specs.Objects.{Object, octets_of}
 use Rattle.bt_base.specs.declared.settings.Settings.{Settings}
 use Rattle.host_link.specs.declared.role.Role.TheVariants.{Client}
 use Rattle.host_link.specs.PuttingOut.{started}
@@ -13,13 +12,14 @@ use Rattle.l2cap_channels.specs.Machine.{new_machine}
 use Rattle.bt_base.specs.declared.ports.PortFault.TheVariants.{Failed, NoMemory}
 use Rattle.push_model.specs.Client as push
 use Rattle.push_model.specs.Laws.{links}
+use Rattle.push_model.specs.Steps.{Part as Octets}
 use Rattle.push_model.specs.declared.course.Point.TheVariants.{Due}
 use Rattle.push_model.specs.declared.course.Stage.TheVariants.{Link}
 use Rattle.host_model.specs.Circumstances.{Circumstance, Size, Part, Stored, parts_in}
 use Rattle.host_model.specs.Clients as model
 use Rattle.host_model.specs.Clients.{ClientProfile, client_profile}
 use Rattle.host_model.specs.Endpoints.{Endpoint}
-use Rattle.shelf_model.specs.Held.{longest_octets}
+use Rattle.shelf_model.specs.Held.{longest_octets, IsHeld}
 use Rattle.bt_host.specs.Noting.{Noted, unnoted}
 use Rattle.bt_host.specs.Stacks.{Stacked, usual_peer}
 use Rattle.bt_host.specs.declared.client_end.Bid.{Bid}
@@ -51,21 +51,23 @@ pub record IsDue (client : push.Client) : Type 0 where
 
 -- ---- the answers of a shelf
 
--- the length of an object that it has, a number of four octets, or octets that stand in one
+-- the length of an object that it has, a number of four octets, or octets of one that stand there
 abbrev pub IsOf : Option (List Object) → Circumstance → Type 0
 IsOf content (Size (Ok size)) = (size ≤ longest_octets) × IfSome content (λ objects. (name : List ℕ) × (option_map length (octets_of name objects) ≡ Some size))
 IsOf content (Size (Err fault)) = Unit {0}
-IsOf content (Part (Ok part)) = IsOctets part × IfSome content (λ objects. (name : List ℕ) × (at : ℕ) × HasAt at part (octets_of name objects))
-IsOf content (Part (Err fault)) = Unit {0}
+IsOf content (Part excerpt) = IsHeld content excerpt
 IsOf content (Stored answer) = ⊥
+
+abbrev pub has_failed : Octets → Bool
+has_failed (Ok part) = false
+has_failed (Err Failed) = true
+has_failed (Err NoMemory) = false
 
 abbrev pub is_failure : Circumstance → Bool
 is_failure (Size (Ok size)) = false
 is_failure (Size (Err Failed)) = true
 is_failure (Size (Err NoMemory)) = false
-is_failure (Part (Ok part)) = false
-is_failure (Part (Err Failed)) = true
-is_failure (Part (Err NoMemory)) = false
+is_failure (Part excerpt) = has_failed excerpt.answer
 is_failure (Stored answer) = false
 
 -- A shelf gave these answers: it has what it tells, and where it failed its count rose. What it has stays.

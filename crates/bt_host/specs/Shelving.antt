@@ -6,7 +6,7 @@ use Rattle.world_model.specs.Machines.{News}
 use Rattle.host_model.specs.Circumstances.{Circumstance}
 use Rattle.host_model.specs.Clients.{ClientProfile, client_profile, told}
 use Rattle.host_model.specs.Profiles.{Stride, Profile}
-use Rattle.shelf_model.specs.Held.{in_octets, held_by}
+use Rattle.shelf_model.specs.Held.{given_by, held_by}
 use Rattle.bt_host.specs.Pushing.{pushing}
 
 pub record Shelved : Type 0 where
@@ -24,12 +24,12 @@ stride_shelved stride shelved = record { channels = stride.channels; profile = w
 abbrev pub told_shelved : List Circumstance → News → Shelved → Shelved
 told_shelved circumstances news shelved = with_pushing (told (held_by shelved.shelf news circumstances) news shelved.pushing) shelved
 
--- It is given octets. But for that it is the profile that it was, whatever its shelf holds.
+-- It is given octets, those of its objects. But for that it is the profile that it was, whatever its shelf holds.
 abbrev pub shelf_profile : Settings → Profile Shelved
 shelf_profile settings = let A = client_profile settings in record {
   policy = A.policy;
   first = record { pushing = A.first; shelf = None };
-  given = λ circumstances shelved. with_pushing (A.given (map in_octets circumstances) shelved.pushing) shelved;
+  given = λ circumstances shelved. with_pushing (A.given (map (given_by shelved.shelf) circumstances) shelved.pushing) shelved;
   told = told_shelved;
   received = λ own psm sdu shelved. with_pushing (A.received own psm sdu shelved.pushing) shelved;
   happened = λ event channels shelved. with_pushing (A.happened event channels shelved.pushing) shelved;
@@ -43,6 +43,6 @@ shelf_profile settings = let A = client_profile settings in record {
   may_cancel = λ shelved. A.may_cancel shelved.pushing;
 }
 
--- with what its shelf is to answer, in octets
+-- with what its shelf is to answer, of its objects
 abbrev pub shelved_by : {P : Type 0} → (P → Option (List Object)) → ClientProfile → P → List Circumstance → Shelved
-shelved_by content end port rest = record { pushing = pushing end (map in_octets rest); shelf = content port }
+shelved_by content end port rest = record { pushing = pushing end (map (given_by (content port)) rest); shelf = content port }

@@ -1,5 +1,5 @@
 -- Host a holds credits at the end of a run.
-use Rattle.std.proofs.Common.{suc, arith, ◌≡◌, ℕ, List, [], ◌∷◌, true, false, Option, refl, sym, subst, ◌∙◌}
+use Rattle.std.proofs.Common.{suc, arith, ◌≡◌, ℕ, List, [], ◌∷◌, true, false, Option, None, refl, sym, subst, ◌∙◌}
 use Rattle.std.specs.Prelude.{get_or}
 use Rattle.std.specs.List.{AllByRecursion, flat_map}
 use Rattle.bt_base.specs.declared.settings.Transport.{Transport}
@@ -30,6 +30,7 @@ use Rattle.host_laws.proofs.InOrder.{asks-nothing, links-ask_none}
 use Rattle.host_laws.proofs.OverLinks.{fed_woven}
 use Rattle.host_laws.proofs.Asking.{clients-call}
 use Rattle.host_laws.proofs.Stepping.{asked_is}
+use Rattle.host_laws.specs.ShelfAnswers.{AnswersOf}
 use Rattle.scenario_laws.specs.Captures.{Ran}
 use Rattle.scenario_laws.specs.Gains.{holding, serving, asked_by}
 use Rattle.scenario_laws.specs.Parties.{party_of}
@@ -38,7 +39,6 @@ use Rattle.push_model.specs.Server.{object_psm}
 use Rattle.pair_laws.specs.Enough.{HappenedEnough}
 use Rattle.pair_laws.specs.Keeping.{PairsKeepOrder}
 use Rattle.pair_laws.specs.OnLinks.{ArePairs}
-use Rattle.pair_laws.specs.Served.{AnswersOf}
 use Rattle.pair_laws.proofs.Pairing.{hosts-are_pairs, enough-keep_order}
 use Rattle.request_laws.proofs.AlongStreams.{at_place, none_carry, all_carry}
 use Rattle.request_laws.proofs.Beginning.{good_first}
@@ -46,6 +46,7 @@ use Rattle.request_laws.proofs.GivenOctets.{affairs-given}
 use Rattle.request_laws.proofs.HeardTogether.{all_framed, affairs_hear}
 use Rattle.request_laws.proofs.MuxHeard.{GoodMux}
 use Rattle.request_laws.proofs.MuxPushed.{all-so}
+use Rattle.request_laws.proofs.Objects.{given_any}
 use Rattle.request_laws.proofs.OctetsHeard.{both-octets}
 use Rattle.request_laws.proofs.Paired.{lists_of}
 use Rattle.request_laws.proofs.SpellableClients.{client_frames_are_read}
@@ -157,7 +158,8 @@ module _ (scenario : Scenario) (shelf : Option (List Object)) (before : List Obj
       let octets = both-octets scenario before capture ran order in
       let framed = all_framed (pushed_from scenario.settings A.first a.lives.feeds) A.first.client (client_frames_are_read.first scenario.settings) (affairs_hear scenario.settings a.lives.feeds A.first octets.a)
       (affairs-given scenario.settings a.lives.feeds A.first (gives_octets shelf a.lives.feeds told) tt) in
-      let so = all-so (pushed_from scenario.settings A.first a.lives.feeds) A.first.client (clients_are_answered longest_octets scenario.settings A.first a.lives.feeds (none_longer shelf a.lives.feeds told)) framed in
+      let answered = clients_are_answered longest_octets scenario.settings A.first a.lives.feeds (none_longer shelf a.lives.feeds told) in
+      let so = all-so None (pushed_from scenario.settings A.first a.lives.feeds) A.first.client answered (given_any longest_octets (pushed_from scenario.settings A.first a.lives.feeds) A.first.client answered) framed in
       links-cover scenario.settings before muxed a.lives.spans a.lives.now a.lives.feeds A.first ran.world.a.upper.profile order.turns.pairs.a.fed.fed order.turns.asked (subst (AreTimely false) (sym a.lives.marks_are) a.timely) refl first so
       order.turns.pairs.a.uttered near_muxed
 

@@ -1,5 +1,5 @@
 -- The own talk of host a covers what it spent on each link over RFCOMM.
-use Rattle.std.proofs.Common.{suc, ◌≡◌, ℕ, Bool, true, false, ◌&&◌, not, List, [], ◌∷◌, ◌++◌, map, Some, Ok, refl, sym, ap, subst, ◌∙◌, inl, arith, find}
+use Rattle.std.proofs.Common.{suc, ◌≡◌, ℕ, Bool, true, false, ◌&&◌, not, List, [], ◌∷◌, ◌++◌, map, Some, None, Ok, refl, sym, ap, subst, ◌∙◌, inl, arith, find}
 use Rattle.std.specs.Prelude.{get_or}
 use Rattle.std.specs.List.{AllByRecursion, flat_map}
 use Rattle.bt_base.specs.declared.settings.Settings.{Settings}
@@ -34,7 +34,6 @@ use Rattle.push_model.specs.Events as events
 use Rattle.push_model.specs.Laws.{Deed, Hears, done, all_done}
 use Rattle.push_model.specs.Server.{rfcomm_psm}
 use Rattle.push_laws.specs.Carriage.{frames_by, heard_by}
-use Rattle.push_laws.specs.Searches.{IsPushedOver}
 use Rattle.world_model.specs.Machines.{LinkEvent, Up, Down}
 use Rattle.host_model.specs.Circumstances.{Circumstance}
 use Rattle.host_model.specs.Clients.{ClientProfile, is_paging, client_profile}
@@ -44,19 +43,20 @@ use Rattle.host_laws.specs.Fed.{WovenFed, FedSpan, span_feeds, behind_span, AreF
 use Rattle.host_laws.specs.Feeds.{Feed, all_fed}
 use Rattle.host_laws.specs.Lives.{Span, all_marks}
 use Rattle.host_laws.specs.OverLinks.{AreTimely}
-use Rattle.host_laws.specs.Pushing.{Affair, Begins, Does, client_behind, pushed_from}
+use Rattle.host_laws.specs.Pushing.{Affair, Begins, Does, client_behind, pushed_from, AllAsked}
 use Rattle.host_laws.specs.Woven.{Strand, turned}
 use Rattle.host_laws.proofs.Pushing.{all_pushed}
-use Rattle.request_laws.specs.BothFed.{AllAsked, over_stored}
+use Rattle.request_laws.specs.BothFed.{over_stored}
+use Rattle.host_laws.proofs.StrandsFed.{here_so}
 use Rattle.request_laws.specs.Carried.{frames_over, IsReadSo}
 use Rattle.request_laws.specs.Twists.{Set, all_deeds, OpensNone}
 use Rattle.request_laws.proofs.Accepted.{Accepted}
 use Rattle.request_laws.proofs.ClientTakes.{WasAsked, Sure}
-use Rattle.request_laws.proofs.Feeding.{all_both, IsDeed, here_so}
+use Rattle.request_laws.proofs.Feeding.{all_both, IsDeed}
 use Rattle.request_laws.proofs.Linked.{up_opens, wanted_up, down_off}
 use Rattle.request_laws.proofs.Moved.{exchanged_from, exchanged_all}
 use Rattle.request_laws.proofs.MuxHeard.{GoodMux}
-use Rattle.request_laws.proofs.MuxPushed.{IsSo, goes-on, TrueTwined, no-push, one-push}
+use Rattle.request_laws.proofs.MuxPushed.{IsSo, IsHeldOver, goes-on, TrueTwined, no-push, one-push}
 use Rattle.request_laws.proofs.OnPsm.{mux_heard_one}
 use Rattle.request_laws.proofs.Opening.{fed_between, begins_between, turned_free}
 use Rattle.request_laws.proofs.Paired.{lists_of}
@@ -149,14 +149,14 @@ module _ (settings : Settings) (before : List Object) (muxed : settings.transpor
   abbrev Covers : List Occurrence → Type 0
   Covers list = AreCovered (party_of settings sides.A) (run_of (policy settings false) list).said
 
-  framed_over : (affairs : List Affair) (client : Client) → AllByRecursion IsDeed affairs → AllAsked IsSo affairs client → AllByRecursion IsReadSo (frames_over (all_deeds affairs) client)
+  framed_over : (affairs : List Affair) (client : Client) → AllByRecursion IsDeed affairs → AllAsked (IsSo None) affairs client → AllByRecursion IsReadSo (frames_over (all_deeds affairs) client)
   framed_over [] client all so = tt
   framed_over (Begins size name ∷ affairs) client all so = absurd all.0
   framed_over (Does deed ∷ affairs) client all so = all_both IsReadSo (frames_by deed client) (frames_over (all_deeds affairs) (done deed client)) so.0.framed (framed_over affairs (done deed client) all.1 so.1)
 
   -- it comes up as a push has begun
   up_course : (near : Span) (client : ClientProfile) (a : FedSpan (client_profile settings) (both_ask.clients settings) near client) → near.event ≡ Up → (client_profile settings).wants_link a.mid ≡ true → AllByRecursion HearsNothing near.list → is_paging client.bid ≡ false
-      → GoodMux settings client.client → AllAsked IsSo (pushed_from settings client a.here) client.client → Pushing (behind_span (client_profile settings) (both_ask.clients settings) near client a) []
+      → GoodMux settings client.client → AllAsked (IsSo None) (pushed_from settings client a.here) client.client → Pushing (behind_span (client_profile settings) (both_ask.clients settings) near client a) []
   up_course near client a up wants deaf free good asked =
       let A = client_profile settings in
       let asks = both_ask.clients settings in
@@ -165,11 +165,11 @@ module _ (settings : Settings) (before : List Object) (muxed : settings.transpor
       let affairs = pushed_from settings client a.here in
       let old = client_behind begins.earlier client.client in
       let good_old : GoodMux settings old =
-      good_all set IsSo (GoodMux settings) IsPushedOver (TrueTwined set) (goes-on settings) (one-push set muxed) (no-push settings muxed set) begins.earlier client.client
-      (asked_ahead IsSo begins.earlier (Begins (Ok begins.size) begins.name ∷ map Does begins.deeds) client.client (subst (λ (l : List Affair). AllAsked IsSo l client.client) begins.affairs_are asked)) good in
+      good_all set (IsSo None) (GoodMux settings) (IsHeldOver None) (TrueTwined set) (goes-on None settings) (one-push None set muxed) (no-push None settings muxed set) begins.earlier client.client
+      (asked_ahead (IsSo None) begins.earlier (Begins (Ok begins.size) begins.name ∷ map Does begins.deeds) client.client (subst (λ (l : List Affair). AllAsked (IsSo None) l client.client) begins.affairs_are asked)) good in
       let mid : a.mid.client ≡ all_done begins.deeds (with_object begins.name begins.size old) =
       ap (λ (p : ClientProfile). p.client) (sym (here_so A asks near client a))
-      ∙ (all_pushed settings a.here client ∙ begun_at set IsSo (GoodMux settings) IsPushedOver (TrueTwined set) (goes-on settings) (one-push set muxed) (no-push settings muxed set) affairs client.client begins) in
+      ∙ (all_pushed settings a.here client ∙ begun_at set (IsSo None) (GoodMux settings) (IsHeldOver None) (TrueTwined set) (goes-on None settings) (one-push None set muxed) (no-push None settings muxed set) affairs client.client begins) in
       let up_is : (behind_span A asks near client a).client ≡ done (Hears events.LinkUp) (all_done begins.deeds (with_object begins.name begins.size old)) =
       ap (λ (e : LinkEvent). (turned A a.circumstances e (values_after A.policy no_channels near.list) a.mid).client) up ∙ ap (done (Hears events.LinkUp)) mid in
       Going (subst (λ (c : Client). Course 18 c []) (sym up_is) (begun_course settings begins.name begins.size old begins.deeds good_old begins.silent))
@@ -180,7 +180,7 @@ module _ (settings : Settings) (before : List Object) (muxed : settings.transpor
       paging false other is = is
 
   -- all that happens on it
-  link_covers : (list : List Occurrence) (feeds : List Feed) (p last : ClientProfile) (so : WovenFed (client_profile settings) (both_ask.clients settings) list feeds p last) → p.endpoints ≡ [] → AllByRecursion OpensNone so.woven.weave → AllAsked IsSo (pushed_from settings p feeds) p.client
+  link_covers : (list : List Occurrence) (feeds : List Feed) (p last : ClientProfile) (so : WovenFed (client_profile settings) (both_ask.clients settings) list feeds p last) → p.endpoints ≡ [] → AllByRecursion OpensNone so.woven.weave → AllAsked (IsSo None) (pushed_from settings p feeds) p.client
       → Pushing p [] → AreUttered (policy settings false) list → IsMuxed settings list → AreCovered (party_of settings sides.A) (run_of (policy settings false) list).said
   link_covers list feeds p last so bare opens asked pushing uttered mux = list_covered settings list uttered mux pays
     where
@@ -190,7 +190,7 @@ module _ (settings : Settings) (before : List Object) (muxed : settings.transpor
       pays : PaysOver settings list
       pays here agrees sure =
           let list_is : list ≡ woven settings here weave no_channels p = so.woven.list_is in
-          let here_asked : AllAsked IsSo (pushed_in settings here weave no_channels p) p.client = subst (λ (l : List Feed). AllAsked IsSo (pushed_from settings p l) p.client) so.feeds_are asked in
+          let here_asked : AllAsked (IsSo None) (pushed_in settings here weave no_channels p) p.client = subst (λ (l : List Feed). AllAsked (IsSo None) (pushed_from settings p l) p.client) so.feeds_are asked in
           subst (λ (l : List Spoken). Paid 18 Initiator (passes settings here l)) (sym (exchanged_all (policy settings false) here list ∙ ap (exchanged_from (policy settings false) here no_channels) list_is))
           (weave_pushes settings here weave [] no_channels p [] refl (subst (AllEndpoints (WasAsked [])) (sym bare) tt) (subst (λ (l : List Occurrence). Sure rfcomm_psm settings l here) list_is sure) (subst (AgreesOn settings here) list_is agrees) opens
           (framed_over (pushed_in settings here weave no_channels p) p.client (deeds_on set weave no_channels p opens) here_asked) pushing)
@@ -203,11 +203,11 @@ module _ (settings : Settings) (before : List Object) (muxed : settings.transpor
   Wants p = (client_profile settings).wants_link p ≡ true
 
   parted : (near : Span) (client : ClientProfile) (a : FedSpan (client_profile settings) (both_ask.clients settings) near client) (later feeds : List Feed) → feeds ≡ span_feeds (client_profile settings) (both_ask.clients settings) near client a ++ later
-      → GoodMux settings client.client → AllAsked IsSo (pushed_from settings client feeds) client.client → Splits set IsSo (GoodMux settings) IsPushedOver (TrueTwined set) (goes-on settings) (one-push set muxed) (no-push settings muxed set) near client a later
-  parted near client a later feeds is good asked = splits set IsSo (GoodMux settings) IsPushedOver (TrueTwined set) (goes-on settings) (one-push set muxed) (no-push settings muxed set) near client a later feeds is good asked
+      → GoodMux settings client.client → AllAsked (IsSo None) (pushed_from settings client feeds) client.client → Splits set (IsSo None) (GoodMux settings) (IsHeldOver None) (TrueTwined set) (goes-on None settings) (one-push None set muxed) (no-push None settings muxed set) near client a later
+  parted near client a later feeds is good asked = splits set (IsSo None) (GoodMux settings) (IsHeldOver None) (TrueTwined set) (goes-on None settings) (one-push None set muxed) (no-push None settings muxed set) near client a later feeds is good asked
 
   pub links-cover : (spans : List Span) (now : List Occurrence) (feeds : List Feed) (client last : ClientProfile) (fed : AreFed (client_profile settings) (both_ask.clients settings) spans now feeds client last)
-      → AreAsked (client_profile settings) (both_ask.clients settings) Wants false spans now feeds client last fed → AreTimely false (all_marks spans now) → is_paging client.bid ≡ false → GoodMux settings client.client → AllAsked IsSo (pushed_from settings client feeds) client.client
+      → AreAsked (client_profile settings) (both_ask.clients settings) Wants false spans now feeds client last fed → AreTimely false (all_marks spans now) → is_paging client.bid ≡ false → GoodMux settings client.client → AllAsked (IsSo None) (pushed_from settings client feeds) client.client
       → AllByRecursion (AreUttered (policy settings false)) (lists_of spans now) → ((number : ℕ) → IsMuxed settings (get_or (lists_of spans now) number [])) → AllByRecursion Covers (lists_of spans now)
   links-cover [] now feeds client last fed asked timely free good so uttered mux = (deaf-covered (party_of settings sides.A) (policy settings false) now (is_deaf_now now timely), tt)
   links-cover (near ∷ []) now feeds client last (here, later, is, fed) (ahead, wanted, none) timely free good so uttered mux =

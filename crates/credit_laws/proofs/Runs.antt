@@ -26,10 +26,11 @@ use Rattle.host_laws.specs.OverLinks.{AreTimely}
 use Rattle.host_laws.specs.Serving.{served_from}
 use Rattle.host_laws.proofs.Asking.{hosts_ask}
 use Rattle.host_laws.proofs.InOrder.{asks-nothing}
+use Rattle.host_laws.proofs.StrandsFed.{span_so}
 use Rattle.request_laws.specs.BothFed.{IsDown}
 use Rattle.host_laws.specs.OneOnLinks.{CarriesOneOn}
 use Rattle.request_laws.proofs.Between.{between_still}
-use Rattle.request_laws.proofs.Feeding.{span_so, served-both}
+use Rattle.request_laws.proofs.Feeding.{served-both}
 use Rattle.request_laws.proofs.Paired.{lists_of}
 use Rattle.request_laws.proofs.Silent.{IsStill}
 use Rattle.request_laws.proofs.Summing.{both_ask}

@@ -30,12 +30,13 @@ use Rattle.host_laws.specs.Serving.{news_served, event_served, taken_by, lent_by
 use Rattle.host_laws.specs.Woven.{Strand, IsOnLink, Hearing, Giving, Firing, Telling, Gifting, Learning, Checking, Stepping, strand_list, strand_profile, turned}
 use Rattle.host_laws.proofs.Asking.{hosts_ask}
 use Rattle.host_laws.proofs.InOrder.{asks-nothing}
+use Rattle.host_laws.proofs.StrandsFed.{strand_so, here_so}
 use Rattle.request_laws.specs.BothFed.{IsDown}
 use Rattle.host_laws.specs.OneOnLinks.{CarriesOneOn}
 use Rattle.push_laws.specs.Parties.{sdu_if}
 use Rattle.request_laws.specs.Carried.{NoneComesBehind}
 use Rattle.request_laws.proofs.Behind.{muxes_end_last}
-use Rattle.request_laws.proofs.Feeding.{all_both, strand_so, here_so, served-both, up_served, down_served}
+use Rattle.request_laws.proofs.Feeding.{all_both, served-both, up_served, down_served}
 use Rattle.request_laws.proofs.Silent.{IsStill}
 
 -- ---- the link lasts, or nothing happens

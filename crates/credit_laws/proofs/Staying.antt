@@ -1,5 +1,5 @@
 -- Both hosts hold credits at each moment of a run whose inbox does not lack memory.
-use Rattle.std.proofs.Common.{◌≡◌, List, [], map, Option, refl, sym, subst}
+use Rattle.std.proofs.Common.{◌≡◌, List, [], map, Option, refl, sym, ap, subst}
 use Rattle.bt_base.specs.declared.settings.Transport.{Transport}
 use Rattle.bt_base.specs.declared.settings.Transport.TheVariants.{L2cap, Rfcomm}
 use Rattle.bt_base.specs.Objects.{Object}
@@ -13,24 +13,34 @@ use Rattle.push_laws.specs.Premises.{NoneShort, AllMayFail}
 use Rattle.push_laws.specs.Searches.{AllServe}
 use Rattle.push_laws.proofs.Gaining.{all_alone}
 use Rattle.push_laws.proofs.Pushed.{pushed-are_taken}
+use Rattle.air_laws.specs.AirLaws.{IsLastEnd}
+use Rattle.world_model.specs.Machines.{News}
+use Rattle.world_model.specs.Pushes.{Pushes}
 use Rattle.world_model.specs.Worlds.{all_words}
+use Rattle.host_model.specs.Circumstances.{Circumstance}
 use Rattle.shelf_model.specs.Held.{held_by}
 use Rattle.host_laws.specs.Serving.{served_from}
-use Rattle.scenario_laws.specs.Captures.{Ran}
+use Rattle.scenario_laws.specs.Captures.{client_of, server_of, BothHosts, beginning, Ran}
 use Rattle.scenario_laws.specs.Gains.{holding, serving}
 use Rattle.pair_laws.specs.Enough.{remembered, HappenedEnough}
 use Rattle.pair_laws.specs.Keeping.{LosesNothing}
+use Rattle.pair_laws.proofs.Answered.{runs-so}
 use Rattle.pair_laws.proofs.Pairing.{enough-keep_order}
 use Rattle.request_laws.proofs.HeardTogether.{pushed_over, serves_over}
 use Rattle.request_laws.proofs.Summing.{both_ask}
 use Rattle.request_laws.proofs.Told.{none_longer, gives_octets, all_answer}
+use Rattle.inbox_laws.proofs.Deciding.{answers_decide}
 use Rattle.credit_laws.specs.Fronts.{IsGentle}
-use Rattle.credit_laws.specs.Kept.{IsSolvent}
+use Rattle.credit_laws.specs.Kept.{IsSolvent, StaysSolvent}
 use Rattle.credit_laws.specs.Staying.{RunsStaySolvent}
 use Rattle.credit_laws.proofs.Direct.{direct_solvent}
 use Rattle.credit_laws.proofs.Fronts.{credits-are_kept}
 use Rattle.credit_laws.proofs.Initiating.{initiator_solvent}
 use Rattle.credit_laws.proofs.Runs.{missed_solvent}
+
+-- its inbox does not lack memory
+abbrev memory : News → List Circumstance → List Circumstance
+memory news answers = map remembered answers
 
 -- host b at its end over RFCOMM
 enough_solvent : (scenario : Scenario) (shelf : Option (List Object)) (before : List Object) (capture : List Entry) (ran : Ran scenario (holding before) capture) → scenario.settings.transport ≡ Rfcomm → HappenedEnough scenario shelf (holding before) ran.happenings ran.world
@@ -62,7 +72,22 @@ side_solvent : (side : Side) (scenario : Scenario) (shelf : Option (List Object)
 side_solvent A scenario shelf before capture ran happened gentle = initiator_solvent scenario.settings.transport scenario shelf before capture ran refl happened gentle
 side_solvent B scenario shelf before capture ran happened gentle = solvent_over scenario.settings.transport scenario shelf before capture ran refl happened gentle
 
+-- at each moment, where the inbox holds these
+held_solvent : (scenario : Scenario) (shelf : Option (List Object)) (before : List Object) (capture : List Entry) (side : Side) (ran : Ran scenario (holding before) capture) → HappenedEnough scenario shelf (holding before) ran.happenings ran.world → IsGentle scenario ran.happenings
+    → StaysSolvent scenario.settings side capture
+held_solvent scenario shelf before capture side ran happened gentle =
+    credits-are_kept scenario (held_by shelf) memory (holding before) capture side ran happened gentle (λ front run there softly. side_solvent side scenario shelf before front run there softly)
+
+-- or whatever it holds: what happened, happens as well where it holds nothing
 pub runs-stay_solvent : RunsStaySolvent
-runs-stay_solvent scenario shelf before capture side ran happened gentle =
-    credits-are_kept scenario (held_by shelf) (λ news answers. map remembered answers) (holding before) capture side ran happened gentle
-    (λ front run there softly. side_solvent side scenario shelf before front run there softly)
+runs-stay_solvent scenario shelf content capture side ran happened gentle =
+    let (there, alike, happens) = answers_decide scenario (held_by shelf) memory content (holding []) ran.happenings ran.world happened in
+    let as_empty : Ran scenario (holding []) capture = record {
+      happenings = ran.happenings;
+      world = there;
+      happened = runs-so (client_of scenario) (server_of scenario (holding [])) (held_by shelf) memory ran.happenings (beginning scenario (holding [])) there happens;
+      ends = ran.ends;
+      last = subst (λ (pushes : Pushes). IsLastEnd pushes ran.ends) (sym (ap (λ (w : BothHosts). w.pushes) alike.same)) ran.last;
+      capture_is = ran.capture_is;
+    } in
+    held_solvent scenario shelf [] capture side as_empty happens gentle

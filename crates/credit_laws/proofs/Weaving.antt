@@ -33,13 +33,14 @@ use Rattle.host_laws.specs.Fed.{feeds_up, strand_feeds, woven_feeds}
 use Rattle.host_laws.specs.Pushing.{Affair, pushed_from}
 use Rattle.host_laws.specs.Woven.{Strand, Hearing, Giving, Firing, Telling, Gifting, Learning, Checking, Stepping, strand_list, strand_profile, woven_list}
 use Rattle.host_laws.proofs.Asking.{clients_ask}
+use Rattle.host_laws.proofs.StrandsFed.{strand_so}
 use Rattle.request_laws.specs.Carried.{frames_over, IsReadSo}
 use Rattle.request_laws.specs.Streams.{taken_at}
 use Rattle.request_laws.specs.Twists.{all_deeds, OpensNone}
 use Rattle.request_laws.proofs.Accepted.{Opened, OpenedUp, opened-up, up-stays}
 use Rattle.request_laws.proofs.Asking.{Even, Stuck, Makes, Same, Takes, Refuses}
 use Rattle.request_laws.proofs.ClientTakes.{Asked, Sure, strand_asked, strand_takes}
-use Rattle.request_laws.proofs.Feeding.{all_ahead, pushed-both, strand_client, strand_so}
+use Rattle.request_laws.proofs.Feeding.{all_ahead, pushed-both, strand_client}
 use Rattle.request_laws.proofs.HandedUp.{handed_from}
 use Rattle.request_laws.proofs.Moved.{exchanged_from, exchanged_both, call_exchanges}
 use Rattle.request_laws.proofs.MuxAsking.{octets_over, strand_makes}

@@ -65,7 +65,11 @@ pub mod Onward
 pub mod OnwardSteps
 pub mod Memory
 pub mod MemorySteps
+pub mod AllAsked
+pub mod Excerpts
 pub mod Answered
+pub mod ShelfAnswers
+pub mod Openings
 mod Querying
 mod Alone
 mod Searching
@@ -91,3 +95,10 @@ mod ServiceHeard
 mod MuxReplies
 mod AsTold
 mod StepsAsTold
+pub mod FramesSent
+mod StepsTold
+mod CalledHeld
+mod SaidAsTold
+pub mod GoingAsTold
+pub mod Paging
+pub mod StrandsFed

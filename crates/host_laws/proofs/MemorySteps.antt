@@ -1,5 +1,5 @@
 -- A client whose shelf never lacks memory has not failed.
-use Rattle.std.proofs.Common.{◌≡◌, ℕ, zero, suc, List, [], ◌∷◌, eqb, ◌==◌, length, drop, ◌-◌, Bool, true, false, cond, not, ◌&&◌, Option, Some, None, Result, Ok, Err, refl, sym, subst}
+use Rattle.std.proofs.Common.{◌≡◌, ℕ, zero, suc, List, [], ◌∷◌, eqb, ◌==◌, length, map, drop, ◌-◌, Bool, true, false, cond, not, ◌&&◌, Option, Some, None, Result, Ok, Err, refl, sym, subst}
 use Rattle.std.specs.List.{AllByRecursion}
 use Rattle.bt_base.specs.declared.ports.PortFault.{PortFault}
 use Rattle.bt_base.specs.declared.ports.PortFault.TheVariants as fault
@@ -29,12 +29,12 @@ use Rattle.push_model.specs.Payloads.{Payload, Octets}
 use Rattle.push_model.specs.Steps as course
 use Rattle.push_model.specs.Steps.{Step, Wait, MakeLink, AskFeatures, OpenChannel, SendSdu, CloseChannel, BreakLink, Ended, NoMemory, Stepped, Made, Ask, Connect, Put, Abort, Disconnect, Close, Nothing, steps, put_count}
 use Rattle.world_model.specs.Machines.{News, Linked, Up, Down, Failed, Heard, TimerFired, Cancelled, Opening}
-use Rattle.host_model.specs.Circumstances.{Circumstance, Size, Part, Stored, size_in, parts_in}
+use Rattle.host_model.specs.Circumstances.{Circumstance, Excerpt, Size, Part, Stored, size_in, parts_in}
 use Rattle.host_model.specs.Endpoints.{endpoint_of, takes_sdu}
 use Rattle.host_model.specs.Pdus.{sdu_of}
 use Rattle.host_model.specs.Clients as clients
 use Rattle.host_model.specs.Clients.{NoBid, ClientProfile, client_profile, after_end, ended, after_call, calls, cause_of, closed_by, opened_by, event_heard, sent_on, submits, takes, fitted}
-use Rattle.host_model.specs.Shelves.{is_short, size_if, size_for, name_for, measured, fitting, unused}
+use Rattle.host_model.specs.Shelves.{is_short, size_if, size_for, name_for, is_next, measured, bare_part, fitting, unused}
 use Rattle.host_laws.specs.Feeds.{Feed, Gifts, Learns, Receives, Happens, Sent, Steps, fed, all_fed}
 use Rattle.host_laws.specs.Memory.{HasRoom, IsRoomy, IsRoomyFeed, ClientsHaveMemory}
 use Rattle.host_laws.proofs.Memory.{Well, well_if, well_ends, news_well}
@@ -207,9 +207,13 @@ steps_well c parts well rooms =
 
 -- ---- its profile
 
+-- an excerpt, other than that the shelf lacks memory
+abbrev HasRoomAt : Excerpt → Type 0
+HasRoomAt excerpt = HasRoom excerpt.answer
+
 record IsWell (p : ClientProfile) : Type 0 where
   well : Well p.client
-  rooms : Rooms p.parts
+  rooms : AllByRecursion HasRoomAt p.parts
 
 event_well : (event : ChannelEvent) (v : Channels) (c : Client) → Well c → Well (event_heard event v c)
 event_well (Opened own psm) v c well = by (peer_mtu own v)
@@ -294,13 +298,13 @@ begins_well size name c room well = well_if c.failed c (begun_by size name c) we
 size_room : (circumstances : List Circumstance) → AllByRecursion IsRoomy circumstances → HasRoom (size_in circumstances)
 size_room [] all = tt
 size_room (Size answer ∷ rest) all = all.0
-size_room (Part answer ∷ rest) all = size_room rest all.1
+size_room (Part excerpt ∷ rest) all = size_room rest all.1
 size_room (Stored answer ∷ rest) all = size_room rest all.1
 
-parts_room : (circumstances : List Circumstance) → AllByRecursion IsRoomy circumstances → Rooms (parts_in circumstances)
+parts_room : (circumstances : List Circumstance) → AllByRecursion IsRoomy circumstances → AllByRecursion HasRoomAt (parts_in circumstances)
 parts_room [] all = tt
 parts_room (Size answer ∷ rest) all = parts_room rest all.1
-parts_room (Part answer ∷ rest) all = (all.0, parts_room rest all.1)
+parts_room (Part excerpt ∷ rest) all = (all.0, parts_room rest all.1)
 parts_room (Stored answer ∷ rest) all = parts_room rest all.1
 
 -- the same of what a client makes of them
@@ -316,14 +320,22 @@ measured_room count (Ok part) room = by (length part == count)
     by false = tt
 measured_room count (Err cause) room = room
 
-fitting_room : (c : Client) (parts : List course.Part) → Rooms parts → Rooms (fitting c parts)
-fitting_room c [] all = tt
-fitting_room c (part ∷ parts) all = (measured_room (put_count c) part all.0, all.1)
+next_room : (count : ℕ) (part : course.Part) (test : Bool) → HasRoom part → HasRoom (cond test (measured count part) (Err fault.Failed))
+next_room count part true room = measured_room count part room
+next_room count part false room = tt
 
-rooms_left : (count : ℕ) (parts : List course.Part) → Rooms parts → Rooms (drop count parts)
-rooms_left zero parts all = all
+answers_room : (excerpts : List Excerpt) → AllByRecursion HasRoomAt excerpts → Rooms (map bare_part excerpts)
+answers_room [] all = tt
+answers_room (excerpt ∷ excerpts) all = (all.0, answers_room excerpts all.1)
+
+fitting_room : (c : Client) (excerpts : List Excerpt) → AllByRecursion HasRoomAt excerpts → Rooms (fitting c excerpts)
+fitting_room c [] all = tt
+fitting_room c (excerpt ∷ excerpts) all = (next_room (put_count c) excerpt.answer (is_next c excerpt) all.0, answers_room excerpts all.1)
+
+rooms_left : (count : ℕ) (excerpts : List Excerpt) → AllByRecursion HasRoomAt excerpts → AllByRecursion HasRoomAt (drop count excerpts)
+rooms_left zero excerpts all = all
 rooms_left (suc count) [] all = tt
-rooms_left (suc count) (part ∷ parts) all = rooms_left count parts all.1
+rooms_left (suc count) (excerpt ∷ excerpts) all = rooms_left count excerpts all.1
 
 told_well : (circumstances : List Circumstance) (news : News) (p : ClientProfile) → AllByRecursion IsRoomy circumstances → IsWell p → IsWell (clients.told circumstances news p)
 told_well circumstances (Linked Up) p all so = record { well = news_well events.LinkUp p.client so.well; rooms = so.rooms }

@@ -26,7 +26,7 @@ use Rattle.host_laws.specs.Turning.{OnLink}
 use Rattle.host_laws.proofs.SearchHosts.{links_begin_searches}
 use Rattle.host_laws.proofs.Talking.{talks_plainly_on}
 
-abbrev AreInOctets : List Occurrence → Type 0
+abbrev pub AreInOctets : List Occurrence → Type 0
 AreInOctets list = AllByRecursion ComesInOctets list
 
 acts_octets : (acts : List (Act Circumstance)) → AllByRecursion (IsActSo IsOctets) acts → AreInOctets (from_acts acts)
@@ -39,7 +39,7 @@ acts_octets (Hears gifts Cancelled ∷ acts) all = acts_octets acts all.1
 acts_octets (Hears gifts (Opening name) ∷ acts) all = acts_octets acts all.1
 acts_octets (Says pdu ∷ acts) all = (tt, acts_octets acts all.1)
 
-outer_octets : (list : List Occurrence) → AreInOctets (filter_map outer list) → AreInOctets list
+pub outer_octets : (list : List Occurrence) → AreInOctets (filter_map outer list) → AreInOctets list
 outer_octets [] all = tt
 outer_octets (Comes pdu ∷ list) all = (all.0, outer_octets list all.1)
 outer_octets (Connects psm ∷ list) all = (tt, outer_octets list all)

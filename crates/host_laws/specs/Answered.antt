@@ -1,6 +1,6 @@
 -- A client goes through no answer of its shelf that is not as long as it asked for, whatever its shelf answers (IrOBEX 1.5, 3.4; Object
 -- Push Profile 1.2, 4.3).
-use Rattle.std.specs.Prelude.{ℕ, ◌≡◌, ◌≤◌, List, [], ◌∷◌, length, None, Result, Ok}
+use Rattle.std.specs.Prelude.{ℕ, ◌≡◌, ◌≤◌, List, length, None, Result, Ok}
 use Rattle.std.specs.List.{AllByRecursion}
 use Rattle.bt_base.specs.declared.ports.PortFault.{PortFault}
 use Rattle.bt_base.specs.declared.settings.Settings.{Settings}
@@ -11,7 +11,7 @@ use Rattle.world_model.specs.Machines.{News, Linked, Failed, Heard, TimerFired, 
 use Rattle.host_model.specs.Circumstances.{Circumstance, size_in}
 use Rattle.host_model.specs.Clients.{ClientProfile}
 use Rattle.host_laws.specs.Feeds.{Feed, Gifts, Learns, Receives, Happens, Sent, Steps}
-use Rattle.host_laws.specs.Pushing.{Affair, Begins, Does, client_after, pushed_from}
+use Rattle.host_laws.specs.Pushing.{Affair, Begins, Does, AllAsked, pushed_from}
 
 -- an object of so many octets at most, whose name has at most 100 units
 pub record IsSmall (most : ℕ) (size : Result ℕ PortFault) (name : List ℕ) : Type 0 where
@@ -24,8 +24,7 @@ IsAnswered most (Begins size name) client = IsSmall most size name
 IsAnswered most (Does deed) client = AnswersTo None deed client
 
 abbrev pub AllAnswered : (most : ℕ) → List Affair → Client → Type 0
-AllAnswered most [] client = Unit {0}
-AllAnswered most (one ∷ rest) client = IsAnswered most one client × AllAnswered most rest (client_after one client)
+AllAnswered most affairs client = AllAsked (IsAnswered most) affairs client
 
 -- ---- the law
 

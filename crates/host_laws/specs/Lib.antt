@@ -28,9 +28,12 @@ pub mod Onward
 pub mod Memory
 pub mod Asked
 pub mod Answered
+pub mod ShelfAnswers
+pub mod Openings
 pub mod Gifts
 pub mod Searching
 pub mod SearchOrder
 pub mod OneOnLinks
 pub mod SearchSent
 pub mod Services
+pub mod AsTold

@@ -16,7 +16,7 @@ HasRoom (Err fault.NoMemory) = ⊥
 
 abbrev pub IsRoomy : Circumstance → Type 0
 IsRoomy (Size answer) = HasRoom answer
-IsRoomy (Part answer) = HasRoom answer
+IsRoomy (Part excerpt) = HasRoom excerpt.answer
 IsRoomy (Stored answer) = Unit {0}
 
 abbrev pub IsRoomyFeed : Feed → Type 0

@@ -41,6 +41,11 @@ abbrev pub client_behind : List Affair → Client → Client
 client_behind [] client = client
 client_behind (one ∷ rest) client = client_behind rest (client_after one client)
 
+-- so it is of each thing that happens to the client
+abbrev pub AllAsked : (Affair → Client → Type 0) → List Affair → Client → Type 0
+AllAsked Is [] client = Unit {0}
+AllAsked Is (one ∷ rest) client = Is one client × AllAsked Is rest (client_after one client)
+
 -- ---- one thing
 
 -- a push that is over is asked for its end at once

@@ -1,7 +1,10 @@
 //! Laws of a host above its line.
 
 ghost use Rattle.host_laws.specs.Answered.{ClientsAreAnswered};
+ghost use Rattle.host_laws.specs.Openings.{ClientsBeginWhatIsTold};
+ghost use Rattle.host_laws.specs.ShelfAnswers.{ClientsAreGivenObjects};
 ghost use Rattle.host_laws.specs.Armed.{ArmedIsRead, ServersAreArmed};
+ghost use Rattle.host_laws.specs.AsTold.{ClientsGoAsTold};
 ghost use Rattle.host_laws.specs.Calls.{HostsAsk};
 ghost use Rattle.host_laws.specs.Carriers.{HostsGainByCarriers};
 ghost use Rattle.host_laws.specs.Calm.{CalmHostsMove, HostsTalkInTurns};
@@ -306,6 +309,17 @@ pub fn clients_are_answered()
     ensures { ClientsAreAnswered }
 {}
 
+/// Where its shelf tells what it holds, each part that a client goes on with is of the object that it pushes, from where the body of its next PUT begins,
+/// and that object is as long as the shelf told: whatever else its shelf answers, which it takes for a fault.
+pub fn clients_are_given_objects()
+    ensures { ClientsAreGivenObjects }
+{}
+
+/// A client begins to push objects that it was told to push, in their order, each at most as often as it was told.
+pub fn clients_begin_what_is_told()
+    ensures { ClientsBeginWhatIsTold }
+{}
+
 /// With each step of its push a client asks its channels for what the step says and for nothing else, and a server has the SDUs sent that it lends.
 pub fn hosts_ask_as_they_step()
     ensures { HostsAskAsTheyStep }
@@ -357,4 +371,10 @@ pub fn servers_carry_alone()
 /// Where the channels of a client have nothing to give, its request for services was sent: none is held back by its channel, and no step of it is under way.
 pub fn searches_are_sent()
     ensures { SearchesAreSent }
+{}
+
+/// On a link that came up for its push a client goes by what service discovery told it there: it asks for no channel, and opens, uses and closes no data link
+/// connection, but as an answer told it before, however often its timer repeats its requests.
+pub fn clients_go_as_told()
+    ensures { ClientsGoAsTold }
 {}

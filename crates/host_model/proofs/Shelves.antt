@@ -1,15 +1,18 @@
 -- What a client makes of the answers of its shelf.
-use Rattle.std.proofs.Common.{ℕ, ◌≡◌, ◌-◌, ◌≤◌, Bool, true, false, List, [], ◌∷◌, length, drop, Result, Ok, Err, refl, sym, ap, subst, arith}
-use Rattle.std.proofs.lemmas.Bool.{le-leb, leb-true}
+use Rattle.std.proofs.Common.{ℕ, ◌≡◌, ◌-◌, ◌==◌, ◌&&◌, ◌≤◌, Bool, true, false, List, [], ◌∷◌, map, length, drop, Result, Ok, Err, refl, sym, ap, subst, arith}
+use Rattle.std.proofs.lemmas.Bool.{le-leb, leb-true, and_from, eq-eqb, cond-true}
+use Rattle.std.proofs.lemmas.Slice.Eq.{bytes_eq-Decides}
 use Rattle.std.proofs.lemmas.Str.{chars-nil}
 use Rattle.std.specs.Char.Escape.{encode_utf16}
 use Rattle.std.specs.List.{flat_map}
+use Rattle.std.specs.Str.{bytes_eq}
 use Rattle.bt_base.specs.declared.ports.PortFault.{PortFault}
-use Rattle.obex_session.specs.PutPackets.{units_in}
+use Rattle.bt_base.specs.declared.ports.PortFault.TheVariants.{Failed}
+use Rattle.obex_session.specs.PutPackets.{units_in, place_of}
 use Rattle.push_model.specs.Client.{Client}
-use Rattle.push_model.specs.Steps.{Part}
-use Rattle.host_model.specs.Circumstances.{Circumstance, size_in}
-use Rattle.host_model.specs.Shelves.{is_short, size_if, name_if, size_for, name_for, fitting, unused}
+use Rattle.push_model.specs.Steps.{Part, put_count}
+use Rattle.host_model.specs.Circumstances.{Circumstance, Excerpt, size_in}
+use Rattle.host_model.specs.Shelves.{is_short, size_if, name_if, size_for, name_for, measured, part_for, bare_part, fitting, unused}
 
 -- ---- a name
 
@@ -41,10 +44,29 @@ size_stays size name few = ap (λ (test : Bool). size_if test size) (le-leb (len
 
 -- ---- answers that are left
 
--- behind a step that used none, and behind one that used one
-pub unused_none : (client : Client) (parts : List Part) → unused (fitting client parts) parts ≡ parts
-unused_none client [] = refl
-unused_none client (part ∷ parts) = let none : length (part ∷ parts) - length (fitting client (part ∷ parts)) ≡ 0 = omega arith in ap (λ (n : ℕ). drop n (part ∷ parts)) none
+answers_length : (excerpts : List Excerpt) → length (map bare_part excerpts) ≡ length excerpts
+answers_length [] = refl
+answers_length (excerpt ∷ excerpts) = let more = answers_length excerpts in omega (arith, more)
 
-pub unused_one : (part : Part) (parts : List Part) → unused parts (part ∷ parts) ≡ parts
-unused_one part parts = let one : length (part ∷ parts) - length parts ≡ 1 = omega arith in ap (λ (n : ℕ). drop n (part ∷ parts)) one
+-- behind a step that used none, and behind one that used one
+pub unused_none : (client : Client) (excerpts : List Excerpt) → unused (fitting client excerpts) excerpts ≡ excerpts
+unused_none client [] = refl
+unused_none client (excerpt ∷ excerpts) =
+    let same = answers_length excerpts in
+    let none : length (excerpt ∷ excerpts) - length (fitting client (excerpt ∷ excerpts)) ≡ 0 = omega (arith, same) in
+    ap (λ (n : ℕ). drop n (excerpt ∷ excerpts)) none
+
+pub unused_one : (excerpt : Excerpt) (excerpts : List Excerpt) → unused (map bare_part excerpts) (excerpt ∷ excerpts) ≡ excerpts
+unused_one excerpt excerpts =
+    let same = answers_length excerpts in
+    let one : length (excerpt ∷ excerpts) - length (map bare_part excerpts) ≡ 1 = omega (arith, same) in
+    ap (λ (n : ℕ). drop n (excerpt ∷ excerpts)) one
+
+-- ---- an answer that is asked for
+
+-- an excerpt that is the next one
+pub next_part : (client : Client) (answer : Part) → (let excerpt : Excerpt = record { name = client.name; at = place_of client.session.put; answer = answer } in part_for client excerpt ≡ measured (put_count client) answer)
+next_part client answer =
+    let place = place_of client.session.put in
+    let same = and_from (bytes_eq client.name client.name) (place == place) ((bytes_eq-Decides client.name client.name).1 refl) (eq-eqb place place refl) in
+    cond-true (bytes_eq client.name client.name && place == place) (measured (put_count client) answer) (Err Failed) same

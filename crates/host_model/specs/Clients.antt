@@ -20,7 +20,7 @@ use Rattle.push_model.specs.Events.{hears_news, armed}
 use Rattle.push_model.specs.Payloads.{Payload}
 use Rattle.push_model.specs.Steps.{Part, Step, Wait, MakeLink, AskFeatures, OpenChannel, SendSdu, CloseChannel, BreakLink, Ended, NoMemory, steps, stepped}
 use Rattle.world_model.specs.Machines.{News, Linked, Up, Down, Failed, Heard, TimerFired, Cancelled, Opening}
-use Rattle.host_model.specs.Circumstances.{Circumstance, parts_in}
+use Rattle.host_model.specs.Circumstances.{Circumstance, Excerpt, parts_in}
 use Rattle.host_model.specs.Pdus.{sdu_of}
 use Rattle.host_model.specs.Endpoints.{Endpoint, endpoint_of, with_answer, takes_sdu}
 use Rattle.host_model.specs.Profiles.{Stride, Profile}
@@ -34,7 +34,7 @@ pub data Bid : Type 0 where
 pub record ClientProfile : Type 0 where
   pub client : Client
   -- the answers of the shelf that are not used up
-  pub parts : List Part
+  pub parts : List Excerpt
   -- the channel that it asked for last, for each PSM
   pub endpoints : List Endpoint
   -- the channel that took its SDU, until that is sent

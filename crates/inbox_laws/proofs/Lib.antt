@@ -2,3 +2,6 @@ pub mod Keeping
 pub mod Granting
 pub mod Owning
 pub mod Spending
+pub mod Seen
+pub mod Untelling
+pub mod Deciding

@@ -22,7 +22,7 @@ use Rattle.host_model.proofs.Setting.{said_by, set_hosts_are_orderly}
 use Rattle.scenario_laws.proofs.SetHosts.{hear_same, says_same}
 use Rattle.pair_laws.specs.Enough.{remembered}
 use Rattle.pair_laws.specs.Granted.{answered_by, granted}
-use Rattle.pair_laws.proofs.Answered.{same_alike}
+use Rattle.pair_laws.proofs.Answered.{IsSame, same_alike}
 use Rattle.inbox_laws.specs.Owned.{own_profile, own_machine, BothSet, OwnRunsAreRuns, OwnRestsAreRests, GrantedRunsAreGranted, EnoughRunsAreEnough}
 use Rattle.inbox_laws.proofs.Granting.{all_left, answers_kept}
 use Rattle.inbox_laws.proofs.Keeping.{KeepsSo, hear_kept, next_kept}
@@ -57,7 +57,7 @@ heard_alike settings one other (Opening name) host = refl
 abbrev keeps_own : List Circumstance → ServerProfile → ServerProfile
 keeps_own circumstances serving = serving
 
-own_hears : (settings : Settings) (answers : List Circumstance) (news : News) (host : Host ServerProfile) → hear (Given settings) (its host.profile) news host ≡ hear (own_profile settings) answers news host
+pub own_hears : (settings : Settings) (answers : List Circumstance) (news : News) (host : Host ServerProfile) → hear (Given settings) (its host.profile) news host ≡ hear (own_profile settings) answers news host
 own_hears settings answers news host =
     let A = Given settings in
     let gifts = its host.profile in
@@ -65,7 +65,7 @@ own_hears settings answers news host =
     ap (λ (serving : ServerProfile). let after : Host ServerProfile = record host { profile = serving; may_say = most_said } in driven A (hears_news A gifts news after)) (given_its host.profile)
     ∙ (ap (λ (h : Host ServerProfile). driven A h) (heard_alike settings gifts answers news now) ∙ sym (hear_same A A.first keeps_own answers news host))
 
-own_next : (settings : Settings) (host : Host ServerProfile) → next (Given settings) host ≡ next (own_profile settings) host
+pub own_next : (settings : Settings) (host : Host ServerProfile) → next (Given settings) host ≡ next (own_profile settings) host
 own_next settings host = let A = Given settings in sym (says_same A A.first keeps_own (next_given host.channels) host.may_say host)
 
 -- ---- the machines
@@ -90,10 +90,7 @@ own_alike = record {
   has_check = λ s t own is. ap (λ x. server_machine.has_check x own) is;
 }
 
-abbrev IsSame : {S : Type 0} → S → S → Type 0
-IsSame s t = t ≡ s
-
-itself : {S G : Type 0} (U : Upper S G) → AreAlike (IsSame {S = S}) U U
+pub itself : {S G : Type 0} (U : Upper S G) → AreAlike (IsSame {S = S}) U U
 itself {G = G} U = same_alike (λ news (answers : List G). answers) U
 
 -- where each answer that is left is one which other ports give as well, it goes as a server with these ports

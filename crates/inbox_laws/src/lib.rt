@@ -3,6 +3,7 @@
 
 ghost use Rattle.inbox_laws.specs.Owned.{EnoughRunsAreEnough, GrantedRunsAreGranted, OwnRestsAreRests, OwnRunsAreRuns};
 ghost use Rattle.inbox_laws.specs.Spending.{GivesWhatIsLeft, SpendsWhatIsGiven};
+ghost use Rattle.inbox_laws.specs.Untold.{AnswersAloneDecide};
 
 /// What happens to both hosts, where the server keeps the answers of its inbox from its first moment on and uses them up one by one, happens
 /// where it is given them with each thing that it hears.
@@ -34,4 +35,10 @@ pub fn spends_what_is_given()
 /// And where none of those answers is want of memory, none that it is given is.
 pub fn gives_what_is_left()
     ensures { GivesWhatIsLeft }
+{}
+
+/// What happens to both hosts happens as well where the inbox holds something else, or does not tell what it holds, if it answers the same: neither
+/// host, nor anything on the air, is another then.
+pub fn answers_alone_decide()
+    ensures { AnswersAloneDecide }
 {}

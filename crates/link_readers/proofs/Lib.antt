@@ -1,14 +1,8 @@
-pub mod Totals
-pub mod Replies
-pub mod Grants
 pub mod InPlace
 pub mod Multiplexed
 pub mod Picking
 pub mod Runs
-pub mod PassedOver
 pub mod Speaking
+pub mod Streaming
 pub mod Turns
-pub mod Pendings
-pub mod Wants
-pub mod Unacknowledged
 pub mod Spelling

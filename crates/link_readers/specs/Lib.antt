@@ -1,5 +1,3 @@
 pub mod Lent
 pub mod Spans
-pub mod Crediting
-pub mod Exchanging
 pub mod Frames

@@ -1,25 +1,17 @@
 //! Plain readers of talk, for tests and tools: each computes a definition as it stands.
 #![tactic(auto)]
 
-mod accounting;
-mod answering;
 mod carrying;
-mod crediting;
-mod demanding;
 #[cfg(test)]
 mod enhanced_samples;
 mod entries;
-mod exchanging;
-mod holding;
 mod joining;
 mod meaning;
 #[cfg(test)]
 mod mixed_samples;
-mod moments;
 mod multiplexing;
 mod objects;
 mod packing;
-mod polling;
 mod reading;
 #[cfg(test)]
 mod rfcomm_samples;
@@ -28,35 +20,19 @@ mod samples;
 mod sayings;
 mod sdus;
 mod sensing;
-mod silencing;
 #[cfg(test)]
 mod tests;
-mod waiting;
-#[cfg(test)]
-mod waiting_samples;
-#[cfg(test)]
-mod waiting_tests;
-mod windows;
 
-pub use accounting::{widest, window_peak};
-pub use answering::{answers_in, channel_answers, service_answers};
 use capture::Flow;
 pub use carrying::{mode_of, passages, stretch};
-pub use crediting::{Credits, link_credits};
 pub use entries::{Entry, Setup};
-pub use exchanging::{Exchange, Pending, exchanges};
-pub use holding::credits_peak;
 use l2cap_signal::{Signal, SignalRefusal};
 pub use meaning::Requests;
-pub use moments::{is_armed, is_checked_at};
 pub use objects::{channel_objects, link_objects, objects_heard, spelled_within};
 pub use packing::{packets, packets_heard, packets_spoken};
 pub use reading::{Reading, reading_of};
 pub use sayings::sayings_of;
 pub use sdus::{sdus_of, sdus_spoken};
-pub use silencing::{answered, channel_exchanges};
-pub use waiting::{has_check_word, waits};
-pub use windows::window_used;
 
 /// A request that a host waits for no longer, without a word to its peer.
 #[derive(Clone, Copy, Debug)]

@@ -94,6 +94,11 @@ pub fn packets_heard(
 ) -> Result<Vec<Vec<u8>>, NoMemory>
     ensures { IfOk result (λ found. octets_of_all found.items ≡ packets_heard party.now channel.now (plain_sayings said.now)) }
 {
-    let packets = packets(alloc, party, channel, said)?;
+    let sdus = sdus_spoken(alloc, party, channel, said)?;
+    if channel.psm == RFCOMM {
+        let found = packets_over_rfcomm(alloc, party, Flow::Into, &sdus)?;
+        return Ok(found);
+    }
+    let packets = packets_spoken(alloc, party, channel.psm, sdus)?;
     heard(alloc, &packets)
 }

@@ -1,11 +1,12 @@
 //! The SDUs on a channel.
 
-ghost use Rattle.std.specs.Prelude.{◌≡◌, ◌++◌, ◌+◌, OnOk, IfOk, length, map, drop};
+ghost use Rattle.std.specs.Prelude.{◌≡◌, ◌++◌, ◌∷◌, [], ◌+◌, OnOk, IfOk, length, map, drop};
 ghost use Rattle.obex_headers.specs.Reader.{octets_of_all};
 ghost use Rattle.capture.specs.Pdus.{same_flow};
 ghost use Rattle.capture.specs.Histories.{given_by};
 ghost use Rattle.link_talk.specs.Carriages.{pdus_of, mode_of, stretch};
 ghost use Rattle.link_talk.specs.Gains.{beyond};
+ghost use Rattle.link_talk.specs.declared.party.Party.{Party as PlainParty};
 ghost use Rattle.link_talk.specs.Sdus.{longest, sdus_by, sdus_of, spoken_as, spoken_with, spoken};
 ghost use Rattle.link_readers.specs.Lent.{plain_sayings, plain_carriage, plain_carriages, plain_spoken};
 
@@ -130,6 +131,31 @@ fn spoken_of(
     Ok(found)
 }
 
+/// Adds the SDU that a PDU carries in basic mode.
+fn push_payload(
+    alloc: Global,
+    found: &mut Vec<Spoken>,
+    carriage: &Carriage<'_>,
+) -> Result<(), NoMemory>
+    ensures { OnOk result (map plain_spoken found.new.items ≡ map plain_spoken found.old.items ++ spoken_as carriage.now.flow (drop 4 carriage.now.pdu.now) ∷ []) }
+{
+    let octets = Vec::from_slice(alloc, payload(carriage.pdu))?;
+    let flow = carriage.flow;
+    found.push(Spoken { flow, octets })?;
+    Ok(())
+}
+
+/// The SDUs of all that a channel carried in basic mode, both ways: each PDU carries one.
+fn basic_sdus(alloc: Global, carriages: &[Carriage<'_>]) -> Result<Vec<Spoken>, NoMemory>
+    ensures { (party : PlainParty) → IfOk result (λ found. map plain_spoken found.items ≡ given_by (spoken_with party Mode.Basic) (plain_carriages carriages.now)) }
+{
+    let mut found = Vec::new(alloc);
+    for carriage in carriages {
+        push_payload(alloc, &mut found, carriage)?;
+    }
+    Ok(found)
+}
+
 /// The SDUs that a host sent and heard on a channel, in their order. `NoMemory` is answered for want
 /// of memory alone.
 pub fn sdus_spoken(
@@ -142,5 +168,8 @@ pub fn sdus_spoken(
 {
     let mode = mode_of(alloc, channel, said)?;
     let carriages = stretch(alloc, channel, said)?;
-    spoken_of(alloc, party, mode, &carriages)
+    match mode {
+        Mode::Basic => basic_sdus(alloc, &carriages),
+        Mode::Enhanced => spoken_of(alloc, party, mode, &carriages),
+    }
 }

@@ -1,6 +1,6 @@
 -- The objects of a link on which one channel alone has some.
 use Rattle.std.proofs.Common.{◌≡◌, ℕ, ◌+◌, ◌<◌, List, [], ◌∷◌, ◌++◌, Bool, true, false, cond, eqb, map, drop, get_or, length, Option, Some, None, refl, sym, ap, subst, ◌∙◌, append-nil, add-one, drop-cons, arith}
-use Rattle.std.specs.List.{AllByRecursion}
+use Rattle.std.specs.List.{AllByRecursion, filter_map, cons_option}
 use Rattle.std.specs.Prelude.{find}
 use Rattle.std.proofs.lemmas.Bool.{eqb-true, eq-eqb}
 use Rattle.std.proofs.lemmas.List.Elements.{filter_map-append}
@@ -26,6 +26,7 @@ use Rattle.talk_laws.specs.Sdus.{Ears, sdus_with, ears_so_far, spoken_now, ear_o
 use Rattle.talk_laws.proofs.Passes.{from_end}
 use Rattle.talk_laws.proofs.Sdus.{sdus-grow, sdus-look_back}
 use Rattle.talk_laws.proofs.Owning.{found_passes, some_is}
+use Rattle.talk_laws.specs.LinkObjects.{PlacedObject, placed_objects, object_on}
 use Rattle.talk_laws.proofs.LinkObjects.{objects-fall_to_channels}
 use Rattle.object_lines.specs.Alone.{has_endpoint, IsSilent, AreSilent, IsSole}
 
@@ -120,3 +121,27 @@ none_of (one ∷ found) is = absurd (omega (arith, is))
 
 pub seen_none : (found : List SpelledObject) (len : ℕ) → len ≡ length found → eqb len 0 ≡ true → objects_seen found ≡ []
 seen_none found len same is = none_of found (sym same ∙ eqb-true len 0 is)
+
+-- ---- no channel at all
+
+placed_none : (placed : List PlacedObject) → ((channel : Channel) → filter_map (object_on channel) placed ≡ []) → placed ≡ []
+placed_none [] none = refl
+placed_none (one ∷ rest) none =
+    absurd (cons_nil one.object (filter_map (object_on one.channel) rest)
+    (ap (λ b. cons_option (cond b (Some one.object) None) (filter_map (object_on one.channel) rest)) (sym (eq-eqb one.channel.own one.channel.own refl)) ∙ none one.channel))
+  where
+    cons_nil : (object : Object) (objects : List Object) → object ∷ objects ≡ [] → ⊥
+    cons_nil object objects e = cc
+
+-- a link on which no channel came to be has no objects
+no_channels : (party : Party) (said : List Saying) → (reading said).entries ≡ [] → [] ≡ objects party said
+no_channels party said is =
+    ap (map (λ (one : PlacedObject). one.object)) (sym (placed_none (placed_objects party said) (λ channel. objects-fall_to_channels.none party said channel (ap (find (has_own channel)) is))))
+    ∙ objects-fall_to_channels.all party said
+
+none_held : (held : List LentEntry) (len : ℕ) → len ≡ length held → eqb len 0 ≡ true → plain_entries held ≡ []
+none_held [] len same is = refl
+none_held (one ∷ held) len same is = absurd (omega (arith, same, eqb-true len 0 is))
+
+pub no_channels_held : (party : Party) (said : List Saying) (held : List LentEntry) (len : ℕ) → len ≡ length held → eqb len 0 ≡ true → plain_entries held ≡ (reading said).entries → [] ≡ objects party said
+no_channels_held party said held len same is are = no_channels party said (sym are ∙ none_held held len same is)

@@ -125,6 +125,9 @@ pub(crate) fn objects_said(
     ensures { IfOk result (λ found. objects_seen found.items ≡ objects party.now (plain_sayings said.now)) }
 {
     let held = reading_of(alloc, said)?;
+    if held.entries.is_empty() {
+        return Ok(Vec::new(alloc));
+    }
     match sole_channel(alloc, party, &held.entries, said)? {
         Some(entry) => {
             let found = objects_on(alloc, party, &entry.channel, said)?;

@@ -10,28 +10,29 @@ use Rattle.obex_session.specs.Counting.{Counts}
 use Rattle.push_script.specs.declared.scenario.Scenario.{Scenario}
 use Rattle.push_terms.specs.declared.outcome.Outcome.{Outcome}
 use Rattle.push_terms.specs.declared.peaks.Peaks.{Peaks}
-use Rattle.push_terms.specs.declared.word.Side.{Side}
 use Rattle.world_model.specs.Worlds.{all_entries}
 use Rattle.radio_world.specs.declared.fault.WorldFault.{WorldFault}
 use Rattle.radio_world.specs.declared.fault.WorldFault.TheVariants.{TraceFault, NoMemory}
 use Rattle.scenario_laws.specs.Gains.{holding}
 use Rattle.scenario_laws.proofs.Broken.{crowds_are_told}
-use Rattle.credit_laws.specs.Kept.{StaysSolvent}
 use Rattle.scenario_play.specs.Breaking as breaking
 use Rattle.scenario_play.specs.Breaking.{IsBroken, IsWanting}
 use Rattle.scenario_play.specs.Losing.{LeavesOutCounted, GainsLess}
 use Rattle.scenario_play.specs.Playing.{LackedNever, IsPlayed}
+use Rattle.scenario_play.specs.Pushed.{SpellsOfShelf}
 use Rattle.scenario_play.proofs.BufferPeaks.{buffer_peaks_are_told}
 use Rattle.scenario_play.proofs.Gained.{plays_keep}
 use Rattle.scenario_play.proofs.Lost.{none_left_out, plays_gain_less}
-use Rattle.scenario_play.proofs.PeakBounds.{peaks_are_bounded}
+use Rattle.scenario_play.proofs.Pushed.{plays_spell_pushed}
+use Rattle.scenario_play.proofs.Services.{plays_keep_service}
 use Rattle.scenario_play.proofs.Solvent.{plays_stay_solvent}
+use Rattle.scenario_play.proofs.WindowPeaks.{window_peaks_are_told}
 use Rattle.btpush_forms.specs.declared.status.Status.{Status}
 use Rattle.object_push.specs.Gains.{Gains, Grows}
 use Rattle.object_push.specs.Halting.{HasReason}
 use Rattle.object_push.specs.Ports.{Ports, counts_in}
 use Rattle.object_push.specs.Running.{Stops, Runs, RanToEnd, RanShort}
-use Rattle.object_push.specs.Told.{spelled_in, GainsSo, HasGained, HoldsCredits, ArePeaks, EndsSo, StopsSo, WantsMemory, TraceLacked, ShelfLacked, InboxLacked, NothingYet, AirCrowded, HasWhy, Tells, ToTheEnd, NotToTheEnd, RunsTell}
+use Rattle.object_push.specs.Told.{spelled_in, GainsSo, HasGained, ArePeaks, EndsSo, StopsSo, WantsMemory, TraceLacked, ShelfLacked, InboxLacked, NothingYet, AirCrowded, HasWhy, Tells, ToTheEnd, NotToTheEnd, RunsTell}
 
 some_is : (one other : List Object) → Some one ≡ Some other → one ≡ other
 some_is one other is = cc
@@ -58,6 +59,14 @@ has_gained scenario (Some held) (Some now) kept counts counts' capture none gain
         let same : so.gain ≡ gains.gain = append_cancel_left held.stored so.gain gains.gain (sym (some_is now.stored (held.stored ++ so.gain) so.stored) ∙ gains.stored) in
         subst (λ (gain : List Object). LeavesOutCounted gain (spelled_in scenario capture) counts.faults counts'.faults) same so.leaves
 
+-- what was pushed, where it is known of ports that tell what they hold
+has_pushed : (scenario : Scenario) (content : Option (List Object)) (before : Option Contents) (capture : List Entry) → IfSome before (λ held. held.pending ≡ None)
+    → ((shelf stored : List Object) → content ≡ Some shelf → before ≡ holding stored → SpellsOfShelf scenario shelf capture)
+    → IfSome content (λ shelf. IfSome before (λ held. SpellsOfShelf scenario shelf capture))
+has_pushed scenario None before capture none known = tt
+has_pushed scenario (Some shelf) None capture none known = tt
+has_pushed scenario (Some shelf) (Some held) capture none known = known shelf held.stored refl (held_is held none)
+
 -- ---- to its end
 
 module _ (scenario : Scenario) (old new : Ports) where
@@ -75,29 +84,30 @@ module _ (scenario : Scenario) (old new : Ports) where
           subst (λ (c : Option Contents). (played : Played c outcomes peaks) → Less stored played.capture) (sym is)
           (λ played enough. plays_gain_less.plays scenario old.shelf.content stored new.inbox.content old.trace.content new.trace.content outcomes peaks (counts_in old.inbox) (counts_in new.inbox) played enough)
 
-  solvent_played : (before : Option Contents) (outcomes : List Outcome) (peaks : Peaks) (played : Played before outcomes peaks) → IfSome before (λ held. held.pending ≡ None) → HoldsCredits scenario before played.capture
-  solvent_played None outcomes peaks played none = tt
-  solvent_played (Some held) outcomes peaks played none = from played
-    where
-      from : (played : Played (Some held) outcomes peaks) (side : Side) → StaysSolvent scenario.settings side played.capture
-      from =
-          subst (λ (c : Option Contents). (played : Played c outcomes peaks) (side : Side) → StaysSolvent scenario.settings side played.capture) (sym (held_is held none))
-          (λ played. plays_stay_solvent.plays scenario old.shelf.content held.stored new.inbox.content old.trace.content new.trace.content outcomes peaks (counts_in old.inbox) (counts_in new.inbox) played)
+  abbrev PlayedOf : Option (List Object) → Option Contents → List Outcome → Peaks → Type 0
+  PlayedOf content before outcomes peaks = IsPlayed scenario content before new.inbox.content old.trace.content new.trace.content outcomes peaks (counts_in old.inbox) (counts_in new.inbox)
+
+  pushed_played : (content : Option (List Object)) (before : Option Contents) (outcomes : List Outcome) (peaks : Peaks) (shelf stored : List Object) → content ≡ Some shelf → before ≡ holding stored
+      → (played : PlayedOf content before outcomes peaks) → SpellsOfShelf scenario shelf played.capture
+  pushed_played content before outcomes peaks shelf stored of is =
+      subst (λ (c : Option (List Object)). (played : PlayedOf c before outcomes peaks) → SpellsOfShelf scenario shelf played.capture) (sym of)
+      (subst (λ (b : Option Contents). (played : PlayedOf (Some shelf) b outcomes peaks) → SpellsOfShelf scenario shelf played.capture) (sym is)
+      (λ played. plays_spell_pushed.plays scenario shelf stored new.inbox.content old.trace.content new.trace.content outcomes peaks (counts_in old.inbox) (counts_in new.inbox) played))
 
   ends_so : (outcomes : List Outcome) (kept : ℕ) (peaks : Peaks) (played : Played old.inbox.content outcomes peaks) → IfSome old.inbox.content (λ before. before.pending ≡ None) → Gains old.inbox.content kept new.inbox.content
       → EndsSo scenario old new outcomes kept peaks played.capture
   ends_so outcomes kept peaks played none gains =
-      let bounds = peaks_are_bounded scenario old.inbox.content played.finished.ran.happenings peaks played.reached in
       record {
         captured = record { each = played.entries_are; written = played.written };
         keeps = plays_keep.plays scenario old.shelf.content old.inbox.content new.inbox.content old.trace.content new.trace.content outcomes peaks (counts_in old.inbox) (counts_in new.inbox) played;
+        pushed = has_pushed scenario old.shelf.content old.inbox.content played.capture none (λ shelf stored of is. pushed_played old.shelf.content old.inbox.content outcomes peaks shelf stored of is played);
         gains = has_gained scenario old.inbox.content new.inbox.content kept (counts_in old.inbox) (counts_in new.inbox) played.capture none gains (less_played old.inbox.content outcomes peaks played);
         counted = gains;
-        credits = solvent_played old.inbox.content outcomes peaks played none;
+        credits = plays_stay_solvent.plays scenario old.shelf.content old.inbox.content new.inbox.content old.trace.content new.trace.content outcomes peaks (counts_in old.inbox) (counts_in new.inbox) played;
+        service = plays_keep_service.plays scenario old.shelf.content old.inbox.content new.inbox.content old.trace.content new.trace.content outcomes peaks (counts_in old.inbox) (counts_in new.inbox) played;
         peaks_are = record {
           buffers = buffer_peaks_are_told scenario old.shelf.content old.inbox.content new.inbox.content old.trace.content new.trace.content outcomes peaks (counts_in old.inbox) (counts_in new.inbox) played;
-          window_a = bounds.stated_a;
-          window_b = bounds.stated_b;
+          windows = window_peaks_are_told scenario old.shelf.content old.inbox.content new.inbox.content old.trace.content new.trace.content outcomes peaks (counts_in old.inbox) (counts_in new.inbox) played;
         };
       }
 
@@ -114,14 +124,15 @@ module _ (scenario : Scenario) (old new : Ports) where
           subst (λ (c : Option Contents). (broken : Broke c) → Less stored (all_entries broken.happenings)) (sym is)
           (λ broken enough. plays_gain_less.breaks scenario old.shelf.content stored new.inbox.content old.trace.content new.trace.content (counts_in old.inbox) (counts_in new.inbox) broken enough)
 
-  solvent_broken : (before : Option Contents) (broken : Broke before) → IfSome before (λ held. held.pending ≡ None) → HoldsCredits scenario before (all_entries broken.happenings ++ broken.next)
-  solvent_broken None broken none = tt
-  solvent_broken (Some held) broken none = from broken
-    where
-      from : (broken : Broke (Some held)) (side : Side) → StaysSolvent scenario.settings side (all_entries broken.happenings ++ broken.next)
-      from =
-          subst (λ (c : Option Contents). (broken : Broke c) (side : Side) → StaysSolvent scenario.settings side (all_entries broken.happenings ++ broken.next)) (sym (held_is held none))
-          (λ broken. plays_stay_solvent.breaks scenario old.shelf.content held.stored new.inbox.content old.trace.content new.trace.content (counts_in old.inbox) (counts_in new.inbox) broken)
+  abbrev BrokeOf : Option (List Object) → Option Contents → Type 0
+  BrokeOf content before = IsBroken scenario content before new.inbox.content old.trace.content new.trace.content (counts_in old.inbox) (counts_in new.inbox)
+
+  pushed_broken : (content : Option (List Object)) (before : Option Contents) (shelf stored : List Object) → content ≡ Some shelf → before ≡ holding stored
+      → (broken : BrokeOf content before) → SpellsOfShelf scenario shelf (all_entries broken.happenings)
+  pushed_broken content before shelf stored of is =
+      subst (λ (c : Option (List Object)). (broken : BrokeOf c before) → SpellsOfShelf scenario shelf (all_entries broken.happenings)) (sym of)
+      (subst (λ (b : Option Contents). (broken : BrokeOf (Some shelf) b) → SpellsOfShelf scenario shelf (all_entries broken.happenings)) (sym is)
+      (λ broken. plays_spell_pushed.breaks scenario shelf stored new.inbox.content old.trace.content new.trace.content (counts_in old.inbox) (counts_in new.inbox) broken))
 
   stops_so : (broken : Broke old.inbox.content) → IfSome old.inbox.content (λ before. before.pending ≡ None) → Grows old.inbox.content new.inbox.content → StopsSo scenario old new (all_entries broken.happenings) broken.next
   stops_so broken none (kept, gains) = record {
@@ -129,8 +140,10 @@ module _ (scenario : Scenario) (old new : Ports) where
     each = broken.entries_are;
     written = broken.written;
     keeps = plays_keep.breaks scenario old.shelf.content old.inbox.content new.inbox.content old.trace.content new.trace.content (counts_in old.inbox) (counts_in new.inbox) broken;
+    pushed = has_pushed scenario old.shelf.content old.inbox.content (all_entries broken.happenings) none (λ shelf stored of is. pushed_broken old.shelf.content old.inbox.content shelf stored of is broken);
     gains = has_gained scenario old.inbox.content new.inbox.content kept (counts_in old.inbox) (counts_in new.inbox) (all_entries broken.happenings) none gains (less_broken old.inbox.content broken);
-    credits = solvent_broken old.inbox.content broken none;
+    credits = plays_stay_solvent.breaks scenario old.shelf.content old.inbox.content new.inbox.content old.trace.content new.trace.content (counts_in old.inbox) (counts_in new.inbox) broken;
+    service = plays_keep_service.breaks scenario old.shelf.content old.inbox.content new.inbox.content old.trace.content new.trace.content (counts_in old.inbox) (counts_in new.inbox) broken;
   }
 
   -- ---- why

@@ -2,12 +2,13 @@
 use Rattle.std.specs.Prelude.{ℕ, ◌≡◌, ◌≤◌, ◌<◌, ◌^◌, ◌++◌, List, [], length, Option, Some, None, IfSome}
 use Rattle.std.specs.List.{AllByRecursion}
 use Rattle.bt_base.specs.Counts.{HasRisen}
-use Rattle.bt_base.specs.Objects.{Object, Contents}
+use Rattle.bt_base.specs.Objects.{Object}
 use Rattle.bt_base.specs.Streams.{gained, GainedFront}
 use Rattle.capture.specs.Air.{words_of}
 use Rattle.capture.specs.Entries.{Entry, IsEntry, capture_octets}
 use Rattle.air_laws.specs.Crowded.{IsCrowded}
 use Rattle.link_talk.specs.Captures.{objects_heard}
+use Rattle.push_laws.specs.Spelled.{ArePushed}
 use Rattle.obex_session.specs.Counting.{Counts}
 use Rattle.push_script.specs.declared.scenario.Scenario.{Scenario}
 use Rattle.push_script.specs.Reports.{report_text}
@@ -24,6 +25,8 @@ use Rattle.scenario_play.specs.BufferPeaks.{AreBufferPeaks}
 use Rattle.scenario_play.specs.Gaining.{KeepsPlayed, KeepsBroken}
 use Rattle.scenario_play.specs.Losing.{LeavesOutCounted}
 use Rattle.scenario_play.specs.Playing.{LackedNever, RoseNever}
+use Rattle.scenario_play.specs.Services.{KeepsService}
+use Rattle.scenario_play.specs.WindowPeaks.{AreWindowPeaks}
 use Rattle.btpush_forms.specs.declared.status.Status.{Status}
 use Rattle.object_push.specs.Gains.{Gains}
 use Rattle.object_push.specs.Ports.{Ports, counts_in}
@@ -47,12 +50,18 @@ pub record GainsSo (scenario : Scenario) (before after : List Object) (counts co
 abbrev pub HasGained : (scenario : Scenario) (old new : Ports) (capture : List Entry) → Type 0
 HasGained scenario old new capture = IfSome old.inbox.content (λ before. IfSome new.inbox.content (λ after. GainsSo scenario before.stored after.stored (counts_in old.inbox) (counts_in new.inbox) capture))
 
+-- ---- what is pushed
+
+-- Each object that the capture spells is one push's of the scenario: what the shelf holds under its name, with that name in UTF-16 units and all its octets.
+-- They come in the order of the pushes, of each push one at most. So it is where shelf and inbox tell what they hold.
+abbrev pub HasPushed : (scenario : Scenario) (old : Ports) (capture : List Entry) → Type 0
+HasPushed scenario old capture = IfSome old.shelf.content (λ shelf. IfSome old.inbox.content (λ before. ArePushed shelf scenario.names (spelled_in scenario capture)))
+
 -- ---- credits
 
--- At each moment of the capture the credits that either host holds are a whole number that is not below nothing. So it is where the inbox tells what it holds,
--- whatever any port answers.
-abbrev pub HoldsCredits : Scenario → (inbox : Option Contents) → List Entry → Type 0
-HoldsCredits scenario inbox capture = IfSome inbox (λ before. (side : Side) → StaysSolvent scenario.settings side capture)
+-- At each moment of the capture the credits that either host holds are a whole number that is not below nothing, whatever any port answers.
+abbrev pub HoldsCredits : Scenario → List Entry → Type 0
+HoldsCredits scenario capture = (side : Side) → StaysSolvent scenario.settings side capture
 
 -- ---- to its end
 
@@ -61,32 +70,37 @@ pub record HasCapture (old new : Option (List ℕ)) (capture : List Entry) : Typ
   pub each : AllByRecursion IsEntry capture
   pub written : new ≡ gained old (capture_octets capture)
 
--- The greatest numbers of packets that were outstanding are those of the capture; and no window was greater than both hosts state.
+-- The greatest numbers of packets that were outstanding are those of the capture. No window is greater than both hosts state, nor less than the capture has
+-- unacknowledged as a word acts, or at its end.
 pub record ArePeaks (scenario : Scenario) (capture : List Entry) (peaks : Peaks) : Type 0 where
   pub buffers : AreBufferPeaks capture peaks
-  pub window_a : peaks.window_a ≤ scenario.settings.window
-  pub window_b : peaks.window_b ≤ scenario.settings.window
+  pub windows : AreWindowPeaks scenario capture peaks
 
--- It was played to its end: what its hosts kept to, what the inbox gained and how much of that was counted, the credits, and what was held at most.
+-- It was played to its end: what its hosts kept to, what was pushed, what the inbox gained and how much of that was counted, the credits, the service, and what
+-- was held at most.
 pub record EndsSo (scenario : Scenario) (old new : Ports) (outcomes : List Outcome) (kept : ℕ) (peaks : Peaks) (capture : List Entry) : Type 0 where
   pub captured : HasCapture old.trace.content new.trace.content capture
   pub keeps : KeepsPlayed scenario outcomes capture
+  pub pushed : HasPushed scenario old capture
   pub gains : HasGained scenario old new capture
   pub counted : Gains old.inbox.content kept new.inbox.content
-  pub credits : HoldsCredits scenario old.inbox.content capture
+  pub credits : HoldsCredits scenario capture
+  pub service : KeepsService scenario.settings capture
   pub peaks_are : ArePeaks scenario capture peaks
 
 -- ---- short of it
 
 -- The trace gained the capture of what happened, and a front of its next entry, if one was begun. The inbox gained what that capture spells, by the same
--- rule; and the credits are so behind that entry as well.
+-- rule; and the credits are so behind that entry as well, and the service too.
 pub record StopsSo (scenario : Scenario) (old new : Ports) (past next : List Entry) : Type 0 where
   pub few : length next ≤ 1
   pub each : AllByRecursion IsEntry (past ++ next)
   pub written : GainedFront (gained old.trace.content (capture_octets past)) new.trace.content (capture_octets next)
   pub keeps : KeepsBroken scenario (past ++ next)
+  pub pushed : HasPushed scenario old past
   pub gains : HasGained scenario old new past
-  pub credits : HoldsCredits scenario old.inbox.content (past ++ next)
+  pub credits : HoldsCredits scenario (past ++ next)
+  pub service : KeepsService scenario.settings (past ++ next)
 
 -- Why memory was wanting: a port lacked some; nothing happened yet; or more frames wait in the air than memory is reserved for.
 pub data WantsMemory (scenario : Scenario) (old new : Ports) : Type 0 where

@@ -58,8 +58,9 @@ use Rattle.pair_laws.proofs.Answered.{idle_so, rests-so, done-so}
 use Rattle.pair_laws.proofs.Given.{Allows, first-served}
 use Rattle.pair_laws.specs.Costs.{adverse_in}
 use Rattle.pair_laws.proofs.Facing.{View, NearBy, FarBy, whole_of, most_of, with_most, PairFrom, new_at}
-use Rattle.pair_laws.proofs.Meeting.{IsRight, IsRightDeed, fate_cost, deed_cost, word-right, word-cost, meets-it, IsGentle}
+use Rattle.pair_laws.proofs.Meeting.{IsRight, IsRightDeed, fate_cost, deed_cost, word-right, word-cost, meets-it, IsGentle, adverse-both}
 use Rattle.pair_laws.proofs.Numbered.{part_at, part-now, coming_at, coming_none, Links, turned-links, owes-both, richer-links, comes-over}
+use Rattle.pair_laws.proofs.Openings.{same_names}
 use Rattle.pair_laws.proofs.Hosting.{marks_of, HostAt, Held, IsWord, says-held, moves-held, told-held, held-silent, fired-silent, fires-held, hears-held, turns-held, besides}
 use Rattle.pair_laws.proofs.Silence.{no-answer}
 
@@ -243,8 +244,8 @@ module _ {P Q : Type 0} (whole : Bool) (most : ℕ) (A : Profile P) (asks_a : As
       let others = length-append f.owed (Up ∷ []) in
       record {
         number = both.number + 1;
-        a = besides A asks_a (Wants A) F allows_a.silent H e e.talk e.queue e.coming (e.owed ++ Up ∷ []) refl both.a both.a.comes;
-        b = besides B asks_b Always G allows_b.silent J f f.talk f.queue f.coming (f.owed ++ Up ∷ []) refl both.b both.b.comes;
+        a = besides A asks_a (Wants A) F allows_a.silent H e e.talk e.queue e.coming (e.owed ++ Up ∷ []) refl refl both.a both.a.comes;
+        b = besides B asks_b Always G allows_b.silent J f f.talk f.queue f.coming (f.owed ++ Up ∷ []) refl refl both.b both.b.comes;
         level_a = omega (arith, one, more);
         level_b = omega (arith, two, others);
         links = owes-both (NearBy whole most) A.policy B.policy a.spans a.now (λ k. part_at k b.spans b.now) (length b.spans) Up Up e f both.links;
@@ -260,8 +261,8 @@ module _ {P Q : Type 0} (whole : Bool) (most : ℕ) (A : Profile P) (asks_a : As
       let others = length-append f.owed (Down y ∷ []) in
       record {
         number = both.number + 1;
-        a = besides A asks_a (Wants A) F allows_a.silent H e e.talk [] e.coming (e.owed ++ Down x ∷ []) refl both.a both.a.comes;
-        b = besides B asks_b Always G allows_b.silent J f f.talk [] f.coming (f.owed ++ Down y ∷ []) refl both.b both.b.comes;
+        a = besides A asks_a (Wants A) F allows_a.silent H e e.talk [] e.coming (e.owed ++ Down x ∷ []) refl refl both.a both.a.comes;
+        b = besides B asks_b Always G allows_b.silent J f f.talk [] f.coming (f.owed ++ Down y ∷ []) refl refl both.b both.b.comes;
         level_a = omega (arith, one, more);
         level_b = omega (arith, two, others);
         links = owes-both (NearBy whole most) A.policy B.policy a.spans a.now (λ k. part_at k b.spans b.now) (length b.spans) (Down x) (Down y) e f both.links;
@@ -274,7 +275,7 @@ module _ {P Q : Type 0} (whole : Bool) (most : ℕ) (A : Profile P) (asks_a : As
       let b = both.b.so.lives in
       record {
         number = both.number;
-        a = besides A asks_a (Wants A) F allows_a.silent H e (e.talk ++ Done outcome ∷ []) e.queue e.coming e.owed (silent_marks e.talk e.waiting (Done outcome) refl) both.a both.a.comes;
+        a = besides A asks_a (Wants A) F allows_a.silent H e (e.talk ++ Done outcome ∷ []) e.queue e.coming e.owed (silent_marks e.talk e.waiting (Done outcome) refl) (same_names e.talk (Done outcome) refl) both.a both.a.comes;
         b = both.b;
         level_a = both.level_a;
         level_b = both.level_b;
@@ -356,8 +357,8 @@ module _ {P Q : Type 0} (whole : Bool) (most m : ℕ) (A : Profile P) (asks_a : 
       (turned-links (NearBy whole most) A.policy B.policy a.spans b.spans a.now b.now e f both.links) in
       let now : Behind e1 f1 = record {
         number = both.number;
-        a = besides A asks_a (Wants A) F allows_a.silent H e talk rest e.coming e.owed (silent_marks e.talk e.waiting (Met fate meeting.checked) refl) both.a both.a.comes;
-        b = besides B asks_b Always G allows_b.silent J f f.talk f.queue (comes_of size fate meeting.checked meeting.frame) f.owed refl both.b (inr heard);
+        a = besides A asks_a (Wants A) F allows_a.silent H e talk rest e.coming e.owed (silent_marks e.talk e.waiting (Met fate meeting.checked) refl) (same_names e.talk (Met fate meeting.checked) refl) both.a both.a.comes;
+        b = besides B asks_b Always G allows_b.silent J f f.talk f.queue (comes_of size fate meeting.checked meeting.frame) f.owed refl refl both.b (inr heard);
         level_a = both.level_a;
         level_b = both.level_b;
         links = turned-links (FarBy whole m) B.policy A.policy b.spans a.spans b.now a.now f1 e1 links;
@@ -374,8 +375,8 @@ module _ {P Q : Type 0} (whole : Bool) (most m : ℕ) (A : Profile P) (asks_a : 
       let e1 : carriages.End (Host P) = record e { coming = comes_of size fate meeting.checked meeting.frame } in
       let now : Behind e1 f1 = record {
         number = both.number;
-        a = besides A asks_a (Wants A) F allows_a.silent H e e.talk e.queue (comes_of size fate meeting.checked meeting.frame) e.owed refl both.a (inr heard);
-        b = besides B asks_b Always G allows_b.silent J f talk rest f.coming f.owed (silent_marks f.talk f.waiting (Met fate meeting.checked) refl) both.b both.b.comes;
+        a = besides A asks_a (Wants A) F allows_a.silent H e e.talk e.queue (comes_of size fate meeting.checked meeting.frame) e.owed refl refl both.a (inr heard);
+        b = besides B asks_b Always G allows_b.silent J f talk rest f.coming f.owed (silent_marks f.talk f.waiting (Met fate meeting.checked) refl) (same_names f.talk (Met fate meeting.checked) refl) both.b both.b.comes;
         level_a = both.level_a;
         level_b = both.level_b;
         links = met_links A (NearBy whole most) m B.policy a.spans a.now (λ k. part_at k b.spans b.now) (length b.spans) size fate f e meeting.frame meeting.rest meeting.checked meeting.is meeting.checked_is right enough (same_number whole most A asks_a B asks_b to_a F allows_a to_b G allows_b H J e f both none_a none_b) none_b idle a.channels_run unchecked both.links;
@@ -555,17 +556,13 @@ module _ {P Q : Type 0} (whole : Bool) (A : Profile P) (asks_a : Asks A) (B : Pr
   done_pairs most m (Closes outcome) old new enough script gentle (down, idle_a, idle_b, going, pushes, is, same) ready sane =
       subst (PairsIn m) (sym same) (enriched most m (record old.a { talk = old.a.talk ++ Done outcome ∷ [] }) old.b enough (is_done whole most A asks_a B asks_b to_a E allows_a to_b G allows_b H J outcome old.a old.b sane.pairs))
 
-  adverse_both : (xs ys : List Word) → adverse_in (xs ++ ys) ≡ adverse_in xs + adverse_in ys
-  adverse_both [] ys = omega arith
-  adverse_both (x ∷ xs) ys = let later = adverse_both xs ys in omega (arith, later)
-
   carries_pairs : (doings : List Doing) (most m : ℕ) (old new : Carriage (Host P) (Host Q)) → adverse_in (all_words doings) + most ≤ m → AllByRecursion IsOfScript doings → AllByRecursion (IsGentle whole) doings → CarriesSo U V Ready doings old new → Sane most old → Sane m new
   carries_pairs [] most m old new enough script gentle same sane =
       subst (Sane m) (sym same) (record { both = sane.both; acted = sane.acted; tame = sane.tame; pairs = enriched most m old.a old.b enough sane.pairs; abreast = sane.abreast })
   carries_pairs (doing ∷ doings) most m old new enough script gentle (mid, (does', ready), runs) sane =
       let does = done-so (upper A) (upper B) to_a to_b doing old mid does' in
       let now : ℕ = adverse_in (words_at doing) + most in
-      let whole_cost = adverse_both (words_at doing) (all_words doings) in
+      let whole_cost = adverse-both (words_at doing) (all_words doings) in
       carries_pairs doings now m mid new (omega (arith, enough, whole_cost)) script.1 gentle.1 runs (record {
         both = (advances (upper A) (upper B) doing old nothing_more nothing_more mid does sane.both).both;
         acted = done_both (upper A) (upper B) (free_where A) (free_where B) doing old mid does (first_rests (AreReady (upper A) (upper B) (free_where A) (free_where B)) (StayOn Z Y) doing old ready) sane.both sane.acted;
@@ -578,8 +575,8 @@ module _ {P Q : Type 0} (whole : Bool) (A : Profile P) (asks_a : Asks A) (B : Pr
   unfolding first_calmly first_lives
   first_pairs size names = record {
     number = 0;
-    a = record { marks = []; so = first_calmly A asks_a; marks_are = refl; asked = first-asked A asks_a (Wants A); given = first-served A asks_a E; up_is = refl; heard = (tt, tt); comes = inl refl };
-    b = record { marks = []; so = first_calmly B asks_b; marks_are = refl; asked = first-asked B asks_b Always; given = first-served B asks_b G; up_is = refl; heard = (tt, tt); comes = inl refl };
+    a = record { marks = []; so = first_calmly A asks_a; marks_are = refl; asked = first-asked A asks_a (Wants A); given = first-served A asks_a E; up_is = refl; heard = (tt, tt); comes = inl refl; named = refl };
+    b = record { marks = []; so = first_calmly B asks_b; marks_are = refl; asked = first-asked B asks_b Always; given = first-served B asks_b G; up_is = refl; heard = (tt, tt); comes = inl refl; named = refl };
     level_a = refl;
     level_b = refl;
     links = first_links whole 0 (upper A) (upper B) A.policy B.policy;

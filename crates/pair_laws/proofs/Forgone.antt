@@ -139,7 +139,7 @@ over_stays Crossed (Some said) is = cc
 frozen : (more : Meaning) (x : Entry) → x.life ≡ Over → (entry_after more x).setup ≡ x.setup
 frozen more x over = ap (λ (life : Life). cond (is_there life) (setup_after x.setup (term x.channel more)) x.setup) over
 
-set_stays : (setup : Setup) (said : Option Term) → is_set setup ≡ true → setup_after setup said ≡ setup
+pub set_stays : (setup : Setup) (said : Option Term) → is_set setup ≡ true → setup_after setup said ≡ setup
 set_stays setup None is = refl
 set_stays setup (Some more) is = ap (λ (b : Bool). cond b setup (with_term setup more)) is
 
@@ -323,7 +323,7 @@ answered_spoken policy (one ∷ list) v =
     (both_spoken (exchanged one (reply_to policy one v) v) (asked_between v w) (exchanged_spoken one (reply_to policy one v) v) (asked_spoken v w)) (answered_spoken policy list w)
 
 -- nothing is given up with it
-comes_spoken : (policy : Policy) (pdu : List ℕ) (v : Channels) → AllSpoken (said_in policy (Comes pdu) v)
+pub comes_spoken : (policy : Policy) (pdu : List ℕ) (v : Channels) → AllSpoken (said_in policy (Comes pdu) v)
 comes_spoken policy pdu v = by (eqb (channel_of pdu) 0x0001)
   where
     by : (signal : Bool) → AllSpoken (cond signal (said_with_all policy (answers (drop 4 pdu)) v) (Carried Into pdu ∷ asked_between v (takes (channel_of pdu) pdu v)))

@@ -78,7 +78,7 @@ module _ (K : Feed → Type 0) (silent : (feed : Feed) → IsSilent feed → K f
   happenings_so v [] = tt
   happenings_so v (event ∷ events) = let w : Channels = record v { events = events } in (silent (Happens event w) tt, happenings_so w events)
 
-  turned_so : (circumstances : List Circumstance) (event : LinkEvent) (v : Channels) → AllByRecursion K (turned_feeds circumstances event v)
+  pub turned_so : (circumstances : List Circumstance) (event : LinkEvent) (v : Channels) → AllByRecursion K (turned_feeds circumstances event v)
   turned_so circumstances Up v = (silent (Learns circumstances (Linked Up)) tt, tt)
   turned_so circumstances (Down reason) v =
       all_both K (happenings (link_down v) (link_down v).events) (Learns circumstances (Linked (Down reason)) ∷ []) (happenings_so (link_down v) (link_down v).events) (silent (Learns circumstances (Linked (Down reason))) tt, tt)

@@ -28,6 +28,7 @@ use Rattle.host_laws.specs.Calls.{Asks, values_after, outer}
 use Rattle.host_laws.specs.Calm.{IsCalmNews, IsReadFrom}
 use Rattle.host_laws.specs.Feeds.{Feed, Gifts, Learns, all_fed, asked_from, tidings_of, brought_by}
 use Rattle.host_laws.specs.Lives.{Mark, Occurred, Turned, Span}
+use Rattle.host_laws.specs.Openings.{name_in, name_told, names_told}
 use Rattle.host_laws.specs.OverLinks.{talk_marks}
 use Rattle.host_laws.specs.Seen.{IsQuiet, IsCalmAt, IsCalm}
 use Rattle.host_laws.specs.Fed.{feeds_up}
@@ -40,6 +41,7 @@ use Rattle.host_laws.proofs.OverLinks.{Calmly, goes_calmly, turns_calmly, IsAske
 use Rattle.host_laws.proofs.Steps.{Grows}
 use Rattle.pair_laws.specs.Heard.{IsHeardSo, HearsSo}
 use Rattle.pair_laws.proofs.Given.{IsSilent, IsGift, IsServedSo, all_both, goes-served, turns-served, grown_served}
+use Rattle.pair_laws.proofs.Openings.{names_talked, same_names, news_names, no_names, turned_names, grown_names, goes-names, still-names, turns-names}
 use Rattle.pair_laws.proofs.Facing.{View, most_of, with_most, PairFrom, each_split, comes-in, fires-it}
 use Rattle.pair_laws.proofs.Walking.{AreMeant, calm-meant, ComesNot, gives_in, outer-gives, outer-comes_not, all_on}
 use Rattle.pair_laws.proofs.Numbered.{ended, Links, DoesMore, does-more, turns-to, fires-over}
@@ -63,7 +65,8 @@ abbrev pub AllHearSo : (List Occurrence → Type 0) → List Span → List Occur
 AllHearSo H spans now = AllByRecursion (λ (span : Span). HearsSo H span.list) spans × HearsSo H now
 
 -- it lived calmly through what it was told and said, also of what waits; no push began on its links, each came up where its profile was
--- so, and all that it had of its ports is so; and so is what happened before something came in, or is coming in now
+-- so, and all that it had of its ports is so; and so is what happened before something came in, or is coming in now. It was told to push
+-- what its talk has.
 pub record HostAt {P : Type 0} (A : Profile P) (asks : Asks A) (W : P → Type 0) (G : Feed → Type 0) (H : List Occurrence → Type 0) (e : carriages.End (Host P)) : Type 0 where
   pub marks : List Mark
   pub so : Calmly A asks marks e.upper
@@ -73,6 +76,7 @@ pub record HostAt {P : Type 0} (A : Profile P) (asks : Asks A) (W : P → Type 0
   pub up_is : up_behind false so.lives.spans ≡ e.linked
   pub heard : AllHearSo H so.lives.spans so.lives.now
   pub comes : (e.coming ≡ []) ⊎ (e.linked ≡ true → H so.lives.now)
+  pub named : names_told so.lives.feeds ≡ names_talked e.talk
 
 -- and is one end of a pair on each link; the other is on its link of number j
 pub record Held {P T : Type 0} (side : View) (A : Profile P) (asks : Asks A) (W : P → Type 0) (G : Feed → Type 0) (H : List Occurrence → Type 0) (theirs : Policy) (number : ℕ) (e : carriages.End (Host P)) (other : ℕ → List Occurrence) (j : ℕ) (f : carriages.End T) : Type 0 where
@@ -240,6 +244,16 @@ module _ {P : Type 0} (A : Profile P) (asks : Asks A) (W : P → Type 0) (G : Fe
       all_both G one.grows.feeds (Learns gifts (Opening name) ∷ two.grows.feeds) (gives_only [] (gifts ∷ []) host mid one.grows one.begins one.gifts_are (given, tt))
       (learnt, gives_only [] [] opened (driven A opened) two.grows two.begins two.gifts_are tt)
 
+  begun_names : (gifts : List Circumstance) (name : List ℕ) (host : Host P) → names_told (all_begun gifts name host).feeds ≡ name ∷ []
+  unfolding grows_then
+  begun_names gifts name host =
+      let mid = ready A gifts host in
+      let opened = hears_news A gifts (Opening name) mid in
+      let one = readies_plain A asks Calm gifts host in
+      let two = drives_plain A asks Calm most_steps opened in
+      flat_map-append name_told one.grows.feeds (Learns gifts (Opening name) ∷ two.grows.feeds)
+      ∙ ap₂ (λ (a b : List (List ℕ)). a ++ name ∷ b) (grown_names A asks [] host mid one.grows one.begins) (grown_names A asks [] opened (driven A opened) two.grows two.begins)
+
   -- what happened where something comes in is what was asked
   grows_still : (now acted : List Occurrence) (old new : Host P) (grows : Grows A asks Calm acted old new) → AllByRecursion HearsNot acted → EachAfter (IsHeardSo H) now grows.list
   grows_still now acted old new grows not = still_heard H now grows.list (subst (AllByRecursion HearsNot) (sym grows.acted_is) not)
@@ -247,9 +261,9 @@ module _ {P : Type 0} (A : Profile P) (asks : Asks A) (W : P → Type 0) (G : Fe
   -- something happened on its link
   grows_to : {T : Type 0} (side after : View) (theirs : Policy) (number : ℕ) (e e' : carriages.End (Host P)) (other : ℕ → List Occurrence) (j : ℕ) (f : carriages.End T) (acted : List Occurrence) (held : Held side A asks W G H theirs number e other j f) (grows : Grows A asks Calm acted e.upper e'.upper)
       → e'.upper.channels.events ≡ [] → (e.linked ≡ true → AllByRecursion BeginsNone grows.weave) → AllByRecursion G grows.feeds → e'.linked ≡ e.linked → e'.owed ≡ e.owed → held.host.marks ++ map Occurred acted ≡ marks_of (talk_of e')
-      → EachAfter (IsHeardSo H) held.host.so.lives.now grows.list → e'.coming ≡ [] → Links after A.policy theirs held.host.so.lives.spans (held.host.so.lives.now ++ grows.list) e' other j f → Held after A asks W G H theirs number e' other j f
+      → names_talked e.talk ++ names_told grows.feeds ≡ names_talked e'.talk → EachAfter (IsHeardSo H) held.host.so.lives.now grows.list → e'.coming ≡ [] → Links after A.policy theirs held.host.so.lives.spans (held.host.so.lives.now ++ grows.list) e' other j f → Held after A asks W G H theirs number e' other j f
   unfolding goes_calmly goes-on
-  grows_to side after theirs number e e' other j f acted held grows told begins gives linked owed marks hears none links =
+  grows_to side after theirs number e e' other j f acted held grows told begins gives linked owed marks names hears none links =
       let so = held.host.so in
       record {
         host = record {
@@ -261,6 +275,7 @@ module _ {P : Type 0} (A : Profile P) (asks : Asks A) (W : P → Type 0) (G : Fe
           up_is = held.host.up_is ∙ sym linked;
           heard = (held.host.heard.0, each_after-both (IsHeardSo H) [] so.lives.now grows.list held.host.heard.1 hears);
           comes = inl none;
+          named = goes-names A asks held.host.marks acted e.upper e'.upper so grows told ∙ (ap (λ (ns : List (List ℕ)). ns ++ names_told grows.feeds) held.host.named ∙ names);
         };
         level = ap (λ (l : List LinkEvent). length so.lives.spans + length l) owed ∙ held.level;
         links = links;
@@ -269,10 +284,10 @@ module _ {P : Type 0} (A : Profile P) (asks : Asks A) (W : P → Type 0) (G : Fe
   -- something happens on its link
   grows_held : {T : Type 0} (side : View) (theirs : Policy) (number : ℕ) (e e' : carriages.End (Host P)) (other : ℕ → List Occurrence) (j : ℕ) (f : carriages.End T) (acted : List Occurrence) (held : Held side A asks W G H theirs number e other j f) (grows : Grows A asks Calm acted e.upper e'.upper)
       → e'.upper.channels.events ≡ [] → (e.linked ≡ true → AllByRecursion BeginsNone grows.weave) → AllByRecursion G grows.feeds → e'.linked ≡ e.linked → e'.owed ≡ e.owed → held.host.marks ++ map Occurred acted ≡ marks_of (talk_of e')
-      → EachAfter (IsHeardSo H) held.host.so.lives.now grows.list → e'.coming ≡ [] → DoesMore side A.policy theirs (other (length held.host.so.lives.spans)) held.host.so.lives.now (held.host.so.lives.now ++ grows.list) e e' → Held side A asks W G H theirs number e' other j f
-  grows_held side theirs number e e' other j f acted held grows told begins gives linked owed marks hears none does =
+      → names_talked e.talk ++ names_told grows.feeds ≡ names_talked e'.talk → EachAfter (IsHeardSo H) held.host.so.lives.now grows.list → e'.coming ≡ [] → DoesMore side A.policy theirs (other (length held.host.so.lives.spans)) held.host.so.lives.now (held.host.so.lives.now ++ grows.list) e e' → Held side A asks W G H theirs number e' other j f
+  grows_held side theirs number e e' other j f acted held grows told begins gives linked owed marks names hears none does =
       let so = held.host.so in
-      grows_to side side theirs number e e' other j f acted held grows told begins gives linked owed marks hears none (does-more side A.policy theirs so.lives.spans so.lives.now other j f (so.lives.now ++ grows.list) e e' does held.links)
+      grows_to side side theirs number e e' other j f acted held grows told begins gives linked owed marks names hears none (does-more side A.policy theirs so.lives.spans so.lives.now other j f (so.lives.now ++ grows.list) e e' does held.links)
 
   -- ---- it says a PDU, which waits; the first that waits moves
 
@@ -291,6 +306,7 @@ module _ {P : Type 0} (A : Profile P) (asks : Asks A) (W : P → Type 0) (G : Fe
       let grows = plain.grows in
       grows_held side theirs number e e' other j f (Gives pdu ∷ []) held grows (act_told A act e.upper after next so.lives.all_told) (λ on. plain.begins) (gives_only (Gives pdu ∷ []) [] e.upper after grows plain.begins plain.gifts_are tt) refl refl
       (ap (λ (m : List Mark). m ++ Occurred (Gives pdu) ∷ []) held.host.marks_are ∙ said_marks e.talk e.waiting pdu)
+      (no_names e.talk (names_told grows.feeds) (grown_names A asks (Gives pdu ∷ []) e.upper after grows plain.begins))
       (grows_still so.lives.now (Gives pdu ∷ []) e.upper after grows (tt, tt)) none
       (walks side theirs (other (length so.lives.spans)) held.host.marks (Gives pdu ∷ []) e e' so grows (tt, tt) none none
       (λ far_rest was owed. ap (λ (l : List (List ℕ)). l ++ pdu ∷ []) (was owed) ∙ append_assoc e.queue e.waiting (pdu ∷ [])))
@@ -304,7 +320,7 @@ module _ {P : Type 0} (A : Profile P) (asks : Asks A) (W : P → Type 0) (G : Fe
       let e' : carriages.End (Host P) = record e { waiting = left; queue = landed e.owed e.queue pdu; talk = e.talk ++ Said pdu ∷ [] } in
       let so = held.host.so in
       record {
-        host = record { marks = held.host.marks; so = so; marks_are = held.host.marks_are ∙ (ap (λ (w : List (List ℕ)). marks_of (e.talk ++ map Unsent w)) first ∙ moved_marks e.talk pdu left); asked = held.host.asked; given = held.host.given; up_is = held.host.up_is; heard = held.host.heard; comes = held.host.comes };
+        host = record { marks = held.host.marks; so = so; marks_are = held.host.marks_are ∙ (ap (λ (w : List (List ℕ)). marks_of (e.talk ++ map Unsent w)) first ∙ moved_marks e.talk pdu left); asked = held.host.asked; given = held.host.given; up_is = held.host.up_is; heard = held.host.heard; comes = held.host.comes; named = held.host.named ∙ same_names e.talk (Said pdu) refl };
         level = held.level;
         links = does-more side A.policy theirs so.lives.spans so.lives.now other j f so.lives.now e e' (λ rest far_coming far_rest p. record {
           after = far_rest;
@@ -323,13 +339,13 @@ module _ {P : Type 0} (A : Profile P) (asks : Asks A) (W : P → Type 0) (G : Fe
       ∙ (sym (marks_more talk (one ∷ [])) ∙ (ap marks_of (sym (append-nil (talk ++ one ∷ []))) ∙ ap (λ (w : List (List ℕ)). marks_of ((talk ++ one ∷ []) ++ map Unsent w)) (sym none))))
 
   news_held : {T : Type 0} (side : View) (theirs : Policy) (number : ℕ) (e : carriages.End (Host P)) (other : ℕ → List Occurrence) (j : ℕ) (f : carriages.End T) (gifts : List Circumstance) (news : News) (acted : List Occurrence) (grows : Grows A asks Calm acted e.upper (hear A gifts news e.upper)) → (e.linked ≡ true → AllByRecursion BeginsNone grows.weave) → AllByRecursion G grows.feeds
-      → AllByRecursion ComesNot acted → AllByRecursion HearsNot acted → gives_in acted ≡ [] → talk_marks (Told news) ≡ map Occurred acted → e.waiting ≡ [] → e.coming ≡ [] → Held side A asks W G H theirs number e other j f → Held side A asks W G H theirs number (told (upper A) gifts news e) other j f
-  news_held side theirs number e other j f gifts news acted grows begins gives not deaf none is waits coming held =
+      → AllByRecursion ComesNot acted → AllByRecursion HearsNot acted → gives_in acted ≡ [] → talk_marks (Told news) ≡ map Occurred acted → names_told grows.feeds ≡ name_in news → e.waiting ≡ [] → e.coming ≡ [] → Held side A asks W G H theirs number e other j f → Held side A asks W G H theirs number (told (upper A) gifts news e) other j f
+  news_held side theirs number e other j f gifts news acted grows begins gives not deaf none is names waits coming held =
       let e' = told (upper A) gifts news e in
       let so = held.host.so in
       let act : Act Circumstance = Hears gifts news in
       grows_held side theirs number e e' other j f acted held grows (act_told A act e.upper e'.upper refl so.lives.all_told) begins gives refl refl
-      (still_marks held.host.marks e.talk e.waiting (Told news) (map Occurred acted) waits is held.host.marks_are)
+      (still_marks held.host.marks e.talk e.waiting (Told news) (map Occurred acted) waits is held.host.marks_are) (news_names e.talk news (names_told grows.feeds) names)
       (grows_still so.lives.now acted e.upper e'.upper grows deaf) coming
       (walks side theirs (other (length so.lives.spans)) held.host.marks acted e e' so grows not coming coming
       (λ far_rest was owed. ap (λ (l : List (List ℕ)). far_rest ++ l) none ∙ (append-nil far_rest ∙ was owed)))
@@ -344,9 +360,9 @@ module _ {P : Type 0} (A : Profile P) (asks : Asks A) (W : P → Type 0) (G : Fe
       → Held side A asks W G H theirs number e other j f → Held side A asks W G H theirs number (told (upper A) gifts news e) other j f
   told-held side theirs number e other j f gifts Cancelled word of calm given learnt waits coming held =
       let plain = act_plain A asks Calm (Hears gifts Cancelled) e.upper (hear A gifts Cancelled e.upper) tt (λ c. calm) refl in
-      news_held side theirs number e other j f gifts Cancelled [] plain.grows (λ on. plain.begins) (gives_only [] (gifts ∷ []) e.upper (hear A gifts Cancelled e.upper) plain.grows plain.begins plain.gifts_are (given, tt)) tt tt refl refl waits coming held
+      news_held side theirs number e other j f gifts Cancelled [] plain.grows (λ on. plain.begins) (gives_only [] (gifts ∷ []) e.upper (hear A gifts Cancelled e.upper) plain.grows plain.begins plain.gifts_are (given, tt)) tt tt refl refl (grown_names A asks [] e.upper (hear A gifts Cancelled e.upper) plain.grows plain.begins) waits coming held
   told-held side theirs number e other j f gifts (Opening name) word of calm given learnt waits coming held =
-      news_held side theirs number e other j f gifts (Opening name) [] (all_begun gifts name e.upper) (λ on. absurd (of on)) (begun_so gifts name e.upper given learnt) tt tt refl refl waits coming held
+      news_held side theirs number e other j f gifts (Opening name) [] (all_begun gifts name e.upper) (λ on. absurd (of on)) (begun_so gifts name e.upper given learnt) tt tt refl refl (begun_names gifts name e.upper) waits coming held
   told-held side theirs number e other j f gifts (Linked event) word of calm given learnt waits coming held = absurd word
   told-held side theirs number e other j f gifts (Failed status) word of calm given learnt waits coming held = absurd word
   told-held side theirs number e other j f gifts (Heard pdu) word of calm given learnt waits coming held = absurd word
@@ -402,7 +418,7 @@ module _ {P : Type 0} (A : Profile P) (asks : Asks A) (W : P → Type 0) (G : Fe
       (walks_still side theirs there now once.front rest put once.none_front parts.0 p))) in
       let enough : most_of side ≤ m = omega (arith, more) in
       grows_to side (with_most m side) theirs number e e' other j f (Fires ∷ []) held grows (act_told A act e.upper e'.upper refl so.lives.all_told) (λ on. plain.begins) (gives_only (Fires ∷ []) (gifts ∷ []) e.upper e'.upper grows plain.begins plain.gifts_are (allowed, tt)) refl refl
-      (still_marks held.host.marks e.talk e.waiting (Told TimerFired) (Occurred Fires ∷ []) waits refl held.host.marks_are)
+      (still_marks held.host.marks e.talk e.waiting (Told TimerFired) (Occurred Fires ∷ []) waits refl held.host.marks_are) (news_names e.talk TimerFired (names_told grows.feeds) (grown_names A asks (Fires ∷ []) e.upper e'.upper grows plain.begins))
       (grows_still now (Fires ∷ []) e.upper e'.upper grows (tt, tt)) coming
       (fires-over side m A.policy theirs so.lives.spans now (now ++ grows.list) other j e e' f level owed far_owed coming coming far_coming enough refl all_fires held.links)
 
@@ -423,6 +439,7 @@ module _ {P : Type 0} (A : Profile P) (asks : Asks A) (W : P → Type 0) (G : Fe
       let none : gives_in then'.list ≡ [] = sym (outer-gives then'.list) ∙ ap gives_in then'.acted_is in
       grows_held side theirs number e e' other j f (Comes pdu ∷ []) held grows (act_told A act e.upper e'.upper refl so.lives.all_told) (λ on. heard_begins gifts pdu e.upper calm) (gives_only (Comes pdu ∷ []) (gifts ∷ []) e.upper e'.upper grows (heard_begins gifts pdu e.upper calm) (heard_gifts gifts pdu e.upper calm) (allowed, tt)) refl refl
       (still_marks held.host.marks e.talk e.waiting (Told (Heard pdu)) (Occurred (Comes pdu) ∷ []) waits refl held.host.marks_are)
+      (news_names e.talk (Heard pdu) (names_told grows.feeds) (grown_names A asks (Comes pdu ∷ []) e.upper e'.upper grows (heard_begins gifts pdu e.upper calm)))
       (subst (EachAfter (IsHeardSo H) now) (sym list_is) (so_far held.host.comes, still_heard H (now ++ Comes pdu ∷ []) then'.list (subst (AllByRecursion HearsNot) (sym then'.acted_is) tt))) refl
       (λ rest far_coming far_rest p.
       let room : has_room (run_of A.policy now).value ≡ true = silent-room (run_of A.policy now).value (ap (λ (v : Channels). answers_of v.queue) (sym so.lives.channels_run) ∙ held-silent e held.host calm.0) in
@@ -492,6 +509,9 @@ module _ {P : Type 0} (A : Profile P) (asks : Asks A) (W : P → Type 0) (G : Fe
               let ahead : AllHearSo H spans now = (held.host.heard.0, each_after-both (IsHeardSo H) [] so.lives.now one.list held.host.heard.1 (grows_still so.lives.now [] e.upper mid one tt)) in
               heard_turned H spans now two.list event ahead (grows_still [] [] after (driven A after) two tt);
           comes = inl coming;
+          named =
+              still-names A asks ((marks ++ []) ++ Turned event ∷ []) [] after (driven A after) turned two (drives_told A most_steps after turned.lives.all_told) two_plain.begins
+              ∙ (turns-names A asks (marks ++ []) event gifts mid readied ∙ (still-names A asks marks [] e.upper mid so one so.lives.all_told one_plain.begins ∙ (held.host.named ∙ turned_names e.talk e.waiting event)));
         };
         level = omega arith;
         links = last_links;
@@ -499,5 +519,5 @@ module _ {P : Type 0} (A : Profile P) (asks : Asks A) (W : P → Type 0) (G : Fe
 
   -- ---- nothing that it does
 
-  abbrev pub besides : (e : carriages.End (Host P)) (talk : List Talk) (queue coming : List (List ℕ)) (owed : List LinkEvent) → marks_of (talk_of e) ≡ marks_of (talk ++ map Unsent e.waiting) → (host : HostAt A asks W G H e) → (coming ≡ []) ⊎ (e.linked ≡ true → H host.so.lives.now) → HostAt A asks W G H (record e { talk = talk; queue = queue; coming = coming; owed = owed })
-  besides e talk queue coming owed same host comes = record { marks = host.marks; so = host.so; marks_are = host.marks_are ∙ same; asked = host.asked; given = host.given; up_is = host.up_is; heard = host.heard; comes = comes }
+  abbrev pub besides : (e : carriages.End (Host P)) (talk : List Talk) (queue coming : List (List ℕ)) (owed : List LinkEvent) → marks_of (talk_of e) ≡ marks_of (talk ++ map Unsent e.waiting) → names_talked e.talk ≡ names_talked talk → (host : HostAt A asks W G H e) → (coming ≡ []) ⊎ (e.linked ≡ true → H host.so.lives.now) → HostAt A asks W G H (record e { talk = talk; queue = queue; coming = coming; owed = owed })
+  besides e talk queue coming owed same names host comes = record { marks = host.marks; so = host.so; marks_are = host.marks_are ∙ same; asked = host.asked; given = host.given; up_is = host.up_is; heard = host.heard; comes = comes; named = host.named ∙ names }

@@ -4,6 +4,8 @@ pub mod Numbered
 pub mod Abreast
 pub mod Silence
 pub mod Awaiting
+pub mod Openings
+pub mod Opened
 pub mod Hosting
 pub mod Meeting
 pub mod Answered
@@ -20,4 +22,6 @@ pub mod Paying
 pub mod Given
 pub mod Staying
 pub mod Forgone
+pub mod Moved
 pub mod Windows
+pub mod Modes

@@ -21,8 +21,14 @@ use Rattle.channel_model.specs.Policies.{Policy}
 use Rattle.channel_laws.specs.Runs.{Occurrence, Run, run_of}
 use Rattle.scenario_laws.proofs.Taming.{changed-channel}
 use Rattle.channel_laws.specs.Tries.{one_if}
-use Rattle.pair_laws.specs.Costs.{is_adverse}
+use Rattle.pair_laws.specs.Costs.{is_adverse, adverse_in}
 use Rattle.pair_laws.proofs.Facing.{View, whole_of, most_of, with_most, Whole, Again, Other, PairFrom, loses-it, is-handed}
+
+-- ---- what words cost
+
+pub adverse-both : (xs ys : List Word) → adverse_in (xs ++ ys) ≡ adverse_in xs + adverse_in ys
+adverse-both [] ys = omega arith
+adverse-both (x ∷ xs) ys = let later = adverse-both xs ys in omega (arith, later)
 
 -- ---- what a word does to a frame
 

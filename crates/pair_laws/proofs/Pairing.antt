@@ -44,6 +44,7 @@ use Rattle.host_laws.specs.Seen.{IsCalm}
 use Rattle.host_laws.proofs.Fitting.{AnyServer, IsLowClient}
 use Rattle.host_laws.proofs.OverLinks.{all_spans, calmly_fed}
 use Rattle.host_laws.proofs.Uttering.{calm-utters}
+use Rattle.host_laws.specs.ShelfAnswers.{TellsSizeOf, AnswersOf}
 use Rattle.scenario_laws.specs.Captures.{client_of, server_of, beginning, Ran}
 use Rattle.scenario_laws.specs.Coming.{CameOver}
 use Rattle.scenario_laws.proofs.Acting.{ActedSo}
@@ -58,8 +59,8 @@ use Rattle.scenario_laws.proofs.UnlinkedServers.{KnowsNone, servers_keep}
 use Rattle.turn_laws.proofs.Ordering.{at}
 use Rattle.turn_laws.proofs.Recounting.{HoldsAtRests}
 use Rattle.world_model.specs.Machines.{LinkEvent, News, Linked, Failed, Heard, TimerFired, Cancelled, Opening, Upper}
-use Rattle.shelf_model.specs.Held.{in_octets, length_of, held_by}
-use Rattle.shelf_model.proofs.Sizes.{shelves-give_octets, sizes-are_of_objects}
+use Rattle.shelf_model.specs.Held.{given_by, length_of, held_by}
+use Rattle.shelf_model.proofs.Sizes.{shelves-give_what_they_hold, sizes-are_of_objects}
 use Rattle.pair_laws.specs.Granted.{answered_by, granted, GrantedTakeTurns}
 use Rattle.pair_laws.specs.Heard.{IsHeardSo, HearsSo, HostsHearFirst}
 use Rattle.pair_laws.specs.InTurn.{PairsInTurn, HostsTakeTurns}
@@ -70,7 +71,7 @@ use Rattle.pair_laws.specs.Changes.{AreChanged, IsSeenThere, DamageIsSeen}
 use Rattle.pair_laws.specs.Costs.{adverse_in, DisturbancesCostWords}
 use Rattle.pair_laws.specs.OnLinks.{LivedOver, happened_on, IsInAir, HostsArePairs}
 use Rattle.pair_laws.specs.Pairs.{TakesAll, PairOnLink}
-use Rattle.pair_laws.specs.Served.{TellsOf, AnswersOf, HeldTakeTurns, ServedTakeTurns}
+use Rattle.pair_laws.specs.Served.{HeldTakeTurns, ServedTakeTurns}
 use Rattle.pair_laws.specs.ServedOrder.{HeldKeepOrder, ServedKeepOrder}
 use Rattle.pair_laws.specs.Seen.{IsAddressedAt, AreAddressed}
 use Rattle.pair_laws.proofs.Abreast.{IsShort}
@@ -82,6 +83,7 @@ use Rattle.pair_laws.proofs.Facing.{IsKept, AllKept, Goes, AllGo, AllTake, IsCom
 use Rattle.pair_laws.proofs.Hosting.{marks_of, talk_of, HostAt}
 use Rattle.pair_laws.proofs.Meeting.{gentle_doings}
 use Rattle.pair_laws.proofs.Numbered.{part_at, part-get, coming_none}
+use Rattle.pair_laws.proofs.Opened.{all-opened}
 use Rattle.pair_laws.proofs.Staying.{ClientStays, ServerStays, rests-stay, client-gives_nothing_up, server-gives_nothing_up, heard-on_links}
 use Rattle.pair_laws.proofs.Wording.{carried_worded}
 
@@ -254,6 +256,7 @@ module _ (whole : Bool) (asks : HostsAsk) (scenario : Scenario) (content : Optio
       HasNew (servers-await scenario.settings content (client_of scenario)) (λ gifts p. refl) to_a E allows_a to_b G allows_b GaveNothing_a GaveNothing_b ClientStays ServerStays
       (λ e host on stays. client-gives_nothing_up scenario.settings asks_a (Wants A) E GaveNothing_a e host stays)
       (λ f host on stays sends. server-gives_nothing_up scenario.settings content asks_b Always G GaveNothing_b f host sends stays) scenario.acl_length scenario.names all.doings c all.of_script (gentle_doings whole all.doings (λ on. subst LosesNothing (sym worded.words_are) (gentle on))) all.so in
+      let opened = all-opened U V scenario.names scenario.acl_length Ready all.doings c all.so in
       let same : (side : Side) → linking (moves side capture) ≡ linking (moves side past) = λ side. ap (λ (es : List Entry). linking (moves side es)) ran.capture_is ∙ ended_all side ran.world.pushes past ran.ends ran.last in
       let came_a = came_by A sides.A past capture c.a sane.acted.a.acted all.links_a (same sides.A) in
       let came_b = came_by B sides.B past capture c.b sane.acted.b.acted all.links_b (same sides.B) in
@@ -279,6 +282,7 @@ module _ (whole : Bool) (asks : HostsAsk) (scenario : Scenario) (content : Optio
           };
           asked = sane.pairs.a.asked;
           ahead = not_ahead (length sane.pairs.a.so.lives.spans) (length sane.pairs.b.so.lives.spans) (length c.a.owed) (length c.b.owed) sane.pairs.number sane.pairs.level_a sane.pairs.level_b (short_length c.a.owed sane.abreast.short);
+          named = (opened.later, opened.names_are ∙ ap (λ (names : List (List ℕ)). names ++ opened.later) (sym sane.pairs.a.named));
         };
         told = sane.pairs.a.given;
         given = sane.pairs.b.given;
@@ -354,21 +358,21 @@ granted-take_turns asks scenario content capture ran happened =
     let so = takes_turns false asks scenario content as_it_is Always any_allowed grants AreGrants grants_allowed capture ran happened (λ on. cc) in
     record { turns = so.turns; given = all_given AllGranted so.turns.pairs.b.fed.so.lives.feeds so.given }
 
--- ---- the shelf answers in octets, and tells how long its objects are
+-- ---- the shelf answers with octets of its objects, and tells how long they are
 
 tells_object : (shelf : Option (List Object)) (name : List ℕ) (answers : List Circumstance) (size : ℕ) → size_in (held_by shelf (Opening name) answers) ≡ Ok size → IfSome shelf (λ objects. length_of name objects ≡ Some size)
 tells_object None name answers size is = tt
-tells_object (Some objects) name answers size is = sizes-are_of_objects objects name (map in_octets answers) size is
+tells_object (Some objects) name answers size is = sizes-are_of_objects objects name (map (given_by (Some objects)) answers) size is
 
-tells_of : (shelf : Option (List Object)) (news : News) (answers : List Circumstance) → TellsOf shelf (held_by shelf news answers) news
+tells_of : (shelf : Option (List Object)) (news : News) (answers : List Circumstance) → TellsSizeOf shelf (held_by shelf news answers) news
 tells_of shelf (Linked event) answers = tt
 tells_of shelf (Failed status) answers = tt
 tells_of shelf (Heard pdu) answers = tt
 tells_of shelf TimerFired answers = tt
 tells_of shelf Cancelled answers = tt
-tells_of shelf (Opening name) answers = λ size is. (shelves-give_octets.sizes shelf (Opening name) answers size is, tells_object shelf name answers size is)
+tells_of shelf (Opening name) answers = λ size is. (shelves-give_what_they_hold.sizes shelf (Opening name) answers size is, tells_object shelf name answers size is)
 
-silent_news : (shelf : Option (List Object)) (circumstances : List Circumstance) (news : News) → IsSilentNews news → TellsOf shelf circumstances news
+silent_news : (shelf : Option (List Object)) (circumstances : List Circumstance) (news : News) → IsSilentNews news → TellsSizeOf shelf circumstances news
 silent_news shelf circumstances (Linked event) silent = tt
 silent_news shelf circumstances (Failed status) silent = tt
 silent_news shelf circumstances (Heard pdu) silent = tt
@@ -385,7 +389,7 @@ silent_answers shelf (Sent v) silent = tt
 silent_answers shelf (Steps v) silent = tt
 
 pub answers_allowed : (shelf : Option (List Object)) → Allows (held_by shelf) (AnswersOf shelf)
-answers_allowed shelf = record { silent = silent_answers shelf; given = shelves-give_octets.parts shelf; told = tells_of shelf }
+answers_allowed shelf = record { silent = silent_answers shelf; given = shelves-give_what_they_hold.parts shelf; told = tells_of shelf }
 
 pub held-take_turns : HeldTakeTurns
 held-take_turns asks scenario shelf content capture ran happened =

@@ -3,7 +3,6 @@ use Rattle.std.proofs.Common.{◌≡◌, ℕ, ◌+◌, ◌-◌, ◌%◌, ◌≤�
 use Rattle.std.specs.Prelude.{is_some}
 use Rattle.std.specs.List.{AllByRecursion, AllZip, filter_map, flat_map}
 use Rattle.std.proofs.lemmas.List.{take_all, take-append-le, take-append-drop}
-use Rattle.std.proofs.lemmas.List.Concat.{flat_map-append}
 use Rattle.std.proofs.lemmas.List.Elements.{filter_map-append}
 use Rattle.std.proofs.lemmas.Bool.{cases_lt}
 use Rattle.bt_base.specs.declared.settings.Settings.{Settings}
@@ -44,14 +43,13 @@ use Rattle.world_model.specs.Talks.{Talk}
 use Rattle.host_model.specs.Clients.{client_profile}
 use Rattle.host_model.specs.Servers.{server_profile}
 use Rattle.host_laws.specs.Calls.{HostsAsk}
-use Rattle.host_laws.specs.Calm.{pdus_in}
 use Rattle.host_laws.specs.Lives.{Span, on_links}
 use Rattle.host_laws.specs.OverLinks.{IsTalkOf, talk_marks, parts}
 use Rattle.host_laws.specs.Seen.{spoken_of}
 use Rattle.host_laws.proofs.Asking.{hosts_ask, clients_ask}
 use Rattle.host_laws.proofs.Keeping.{servers_lend}
 use Rattle.scenario_laws.specs.Captures.{Ran}
-use Rattle.scenario_laws.specs.Coming.{out_of, FallTo, LastIsUp}
+use Rattle.scenario_laws.specs.Coming.{LastIsUp}
 use Rattle.scenario_laws.specs.Parties.{party_of}
 use Rattle.scenario_laws.proofs.Fronts.{fronts_ran}
 use Rattle.scenario_laws.proofs.Wishes.{states_frame, wishes_window}
@@ -60,6 +58,7 @@ use Rattle.pair_laws.specs.OnLinks.{happened_on, ArePairs}
 use Rattle.pair_laws.specs.Windows.{HoldsOn, TalksHold, HoldsOnLinks, RunsHoldWindows}
 use Rattle.pair_laws.specs.Within.{BothSendWithin}
 use Rattle.pair_laws.proofs.Forgone.{KeepsAt, Stays, Ended, Moves, run-moves, unopened-passes}
+use Rattle.pair_laws.proofs.Moved.{link_moves, links_move, each_link}
 use Rattle.pair_laws.proofs.Pairing.{hosts-hear_first}
 use Rattle.pair_laws.proofs.Taking.{clients_within, servers_within, pairs-are_carried}
 use Rattle.pair_laws.proofs.Whole.{both_can, all_places}
@@ -162,31 +161,9 @@ moved_holds settings side said moved moves holds channel has mode =
     by (Some x) (Some y) found (Stays same) is enhanced = on x found (ap (λ (e : Known). e.channel) same ∙ is) (ap (λ (e : Known). agreed_mode e.setup) same ∙ enhanced)
     by (Some x) (Some y) found (Ended same over setup) is enhanced = ended x y found same setup (is_set x.setup) refl is enhanced
 
--- what moved on a link is a front of what moved of the own talk
-moves_hold : (settings : Settings) (side : Side) (wanted : Policy) (list : List Occurrence) (part : List Talk) (moved : List Pdu) (unsent : List (List ℕ)) → IsTalkOf wanted list part → flat_map pdus_in part ≡ moved ++ map out_of unsent
-    → HoldsOn settings side (spoken_of (run_of wanted list).said) → HoldsOn settings side (flat_map said_by moved)
-moves_hold settings side wanted list part moved unsent talk is holds =
-    let all : spoken_of (run_of wanted list).said ≡ flat_map said_by moved ++ (flat_map said_by (map out_of unsent) ++ talk.waits) =
-    talk.talk_is ∙ (ap (λ (ps : List Pdu). flat_map said_by ps ++ talk.waits) is ∙ (ap (λ (l : List Saying). l ++ talk.waits) (flat_map-append said_by moved (map out_of unsent)) ∙ append_assoc (flat_map said_by moved) (flat_map said_by (map out_of unsent)) talk.waits)) in
-    front_holds settings side (flat_map said_by moved) (flat_map said_by (map out_of unsent) ++ talk.waits) (subst (HoldsOn settings side) all holds)
-
 -- by what moved of what happened
 abbrev Seen : Settings → Side → Policy → List Occurrence → Type 0
 Seen settings side wanted list = HoldsOn settings side (spoken_of (run_of wanted list).said)
-
-fall_holds : (settings : Settings) (side : Side) (wanted : Policy) (lists : List (List Occurrence)) (parts : List (List Talk)) (links : List (List Pdu)) → AllZip (IsTalkOf wanted) lists parts → FallTo parts links
-    → AllByRecursion (Seen settings side wanted) lists → AllByRecursion (λ (moved : List Pdu). HoldsOn settings side (flat_map said_by moved)) links
-fall_holds settings side wanted [] [] links zip falls holds = subst (AllByRecursion (λ (moved : List Pdu). HoldsOn settings side (flat_map said_by moved))) (sym falls) tt
-fall_holds settings side wanted [] (part ∷ parts) links zip falls holds = absurd zip
-fall_holds settings side wanted (list ∷ lists) [] links zip falls holds = absurd zip
-fall_holds settings side wanted (list ∷ lists) (part ∷ parts) links zip (inl falls) holds = fall_holds settings side wanted lists parts links zip.1 falls.1 holds.1
-fall_holds settings side wanted (list ∷ lists) (part ∷ parts) links zip (inr (link, rest, unsent, links_are, moved, falls)) holds =
-    subst (AllByRecursion (λ (moved : List Pdu). HoldsOn settings side (flat_map said_by moved))) (sym links_are)
-    (moves_hold settings side wanted list part link unsent zip.0 moved holds.0, fall_holds settings side wanted lists parts rest zip.1 falls holds.1)
-
-each_link : (P : List Pdu → Type 0) (ones : List Link) → AllByRecursion P (map pdus ones) → AllByRecursion (λ (link : Link). P (pdus link)) ones
-each_link P [] all = tt
-each_link P (one ∷ ones) all = (all.0, each_link P ones all.1)
 
 -- the last of them
 zip_last : {X Y : Type 0} (R : X → Y → Type 0) (xs : List X) (ys : List Y) (x : X) (y : Y) → AllZip R (xs ++ x ∷ []) (ys ++ y ∷ []) → R x y
@@ -205,7 +182,7 @@ last_moves : (settings : Settings) (side : Side) (wanted : Policy) (lists : List
     → AllByRecursion (Seen settings side wanted) (lists ++ now ∷ []) → HoldsOn settings side (talk_on up)
 last_moves settings side wanted lists now ps None zip last holds = λ channel has. elim has [ ]
 last_moves settings side wanted lists now ps (Some link) zip (before, part, unsent, parts_are, moved) holds =
-    moves_hold settings side wanted now part (pdus link) unsent (zip_last (IsTalkOf wanted) lists before now part (subst (AllZip (IsTalkOf wanted) (lists ++ now ∷ [])) parts_are zip)) moved (of_last (Seen settings side wanted) lists now holds)
+    link_moves (HoldsOn settings side) (front_holds settings side) wanted now part (pdus link) unsent (zip_last (IsTalkOf wanted) lists before now part (subst (AllZip (IsTalkOf wanted) (lists ++ now ∷ [])) parts_are zip)) moved (of_last (Seen settings side wanted) lists now holds)
 
 -- ---- the own talk
 
@@ -250,7 +227,7 @@ seen_holds settings side wanted channel (list ∷ lists) states uttered hears ho
   seen_holds settings side wanted channel lists states uttered.1 hears.1 holds.1,
 )
 
-abbrev both_ask : HostsAsk
+abbrev pub both_ask : HostsAsk
 both_ask = record { clients = clients_ask; servers = hosts_ask.servers }
 
 within_both : BothSendWithin both_ask
@@ -294,11 +271,11 @@ module _ (windows : WindowsHold) (scenario : Scenario) (content : Option Content
   links_hold sides.A =
       let host = hearing.pairs.a in
       each_link (λ (moved : List Pdu). HoldsOn scenario.settings sides.A (flat_map said_by moved)) (links sides.A capture)
-      (fall_holds scenario.settings sides.A (policy scenario.settings false) lists_a (parts host.came.talk) (map pdus (links sides.A capture)) host.fed.so.talks_are host.came.fall seen_a)
+      (links_move (HoldsOn scenario.settings sides.A) (front_holds scenario.settings sides.A) (policy scenario.settings false) lists_a (parts host.came.talk) (map pdus (links sides.A capture)) host.fed.so.talks_are host.came.fall seen_a)
   links_hold sides.B =
       let host = hearing.pairs.b in
       each_link (λ (moved : List Pdu). HoldsOn scenario.settings sides.B (flat_map said_by moved)) (links sides.B capture)
-      (fall_holds scenario.settings sides.B (policy scenario.settings true) lists_b (parts host.came.talk) (map pdus (links sides.B capture)) host.fed.so.talks_are host.came.fall seen_b)
+      (links_move (HoldsOn scenario.settings sides.B) (front_holds scenario.settings sides.B) (policy scenario.settings true) lists_b (parts host.came.talk) (map pdus (links sides.B capture)) host.fed.so.talks_are host.came.fall seen_b)
 
 -- each front of a capture is that of a run
 pub runs_hold : WindowsHold → RunsHoldWindows

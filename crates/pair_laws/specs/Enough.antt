@@ -12,10 +12,11 @@ use Rattle.push_laws.specs.Premises.{NoneShort}
 use Rattle.host_model.specs.Circumstances.{Circumstance, Size, Part, Stored, answers_in}
 use Rattle.host_laws.specs.Calls.{HostsAsk}
 use Rattle.host_laws.specs.Gifts.{gifts_of}
+use Rattle.host_laws.specs.ShelfAnswers.{AnswersOf}
 use Rattle.scenario_laws.specs.Captures.{client_of, server_of, BothHosts, beginning, Ran}
 use Rattle.pair_laws.specs.Granted.{answered_by}
 use Rattle.pair_laws.specs.Keeping.{LosesNothing, PairsKeepOrder}
-use Rattle.pair_laws.specs.Served.{holding_on, AnswersOf}
+use Rattle.pair_laws.specs.Served.{holding_on}
 
 -- a call that lacked memory counts as one that failed
 abbrev pub with_memory : Answer → Answer

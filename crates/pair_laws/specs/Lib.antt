@@ -17,3 +17,4 @@ pub mod ServedOrder
 pub mod Enough
 pub mod Heard
 pub mod Windows
+pub mod Modes

@@ -1,17 +1,17 @@
 -- Runs in which the shelf of host a answers in octets and tells how long its objects are, and the inbox of host b grants all that it is asked (this project's own).
-use Rattle.std.specs.Prelude.{ℕ, ◌≡◌, ◌≤◌, List, Option, Some, Ok, IfSome}
+use Rattle.std.specs.Prelude.{List, Option}
 use Rattle.std.specs.List.{AllByRecursion}
 use Rattle.bt_base.specs.Objects.{Object, Contents}
 use Rattle.push_script.specs.declared.scenario.Scenario.{Scenario}
 use Rattle.capture.specs.Entries.{Entry}
-use Rattle.world_model.specs.Machines.{News, Linked, Failed, Heard, TimerFired, Cancelled, Opening, Upper}
+use Rattle.world_model.specs.Machines.{Upper}
 use Rattle.world_model.specs.Worlds.{Happening, Runs}
 use Rattle.push_laws.specs.Premises.{AllGranted}
-use Rattle.host_model.specs.Circumstances.{Circumstance, size_in, parts_in, answers_in}
-use Rattle.shelf_model.specs.Held.{longest_octets, IsPartOctets, length_of, held_by}
+use Rattle.host_model.specs.Circumstances.{Circumstance, answers_in}
+use Rattle.shelf_model.specs.Held.{held_by}
 use Rattle.host_laws.specs.Calls.{HostsAsk}
-use Rattle.host_laws.specs.Feeds.{Feed, Gifts, Learns, Receives, Happens, Sent, Steps}
 use Rattle.host_laws.specs.Gifts.{gifts_of}
+use Rattle.host_laws.specs.ShelfAnswers.{AnswersOf}
 use Rattle.scenario_laws.specs.Captures.{client_of, server_of, BothHosts, beginning, Ran}
 use Rattle.pair_laws.specs.Granted.{answered_by, granting}
 use Rattle.pair_laws.specs.InTurn.{PairsInTurn}
@@ -28,31 +28,10 @@ HappenedHeld scenario shelf content happenings world = Runs (holding_on shelf (c
 abbrev pub HappenedServed : Scenario → (shelf : Option (List Object)) → Option Contents → List Happening → BothHosts → Type 0
 HappenedServed scenario shelf content happenings world = Runs (holding_on shelf (client_of scenario)) (granting (server_of scenario content)) happenings (beginning scenario content) world
 
--- ---- what both hosts went through
-
--- As a push begins, the shelf tells a length alone that stands in four octets; and that is of the object that it holds under that name, where it tells
--- what it holds.
-abbrev pub TellsOf : Option (List Object) → List Circumstance → News → Type 0
-TellsOf shelf circumstances (Linked event) = Unit {0}
-TellsOf shelf circumstances (Failed status) = Unit {0}
-TellsOf shelf circumstances (Heard pdu) = Unit {0}
-TellsOf shelf circumstances TimerFired = Unit {0}
-TellsOf shelf circumstances Cancelled = Unit {0}
-TellsOf shelf circumstances (Opening name) = (size : ℕ) → size_in circumstances ≡ Ok size → (size ≤ longest_octets) × IfSome shelf (λ objects. length_of name objects ≡ Some size)
-
--- and the parts of objects that it gives are octets
-abbrev pub AnswersOf : Option (List Object) → Feed → Type 0
-AnswersOf shelf (Gifts circumstances) = AllByRecursion IsPartOctets (parts_in circumstances)
-AnswersOf shelf (Learns circumstances news) = TellsOf shelf circumstances news
-AnswersOf shelf (Receives own psm sdu) = Unit {0}
-AnswersOf shelf (Happens event v) = Unit {0}
-AnswersOf shelf (Sent v) = Unit {0}
-AnswersOf shelf (Steps v) = Unit {0}
-
 -- ---- the laws
 
--- Both hosts' channels are pairs whose links go side by side; what host a is given of its shelf are octets, and each length that it is told is that of
--- an object there.
+-- Both hosts' channels are pairs whose links go side by side; what host a is given of its shelf are octets of the objects there, and each length that it is
+-- told is that of one.
 pub record HeldInTurn (asks : HostsAsk) (scenario : Scenario) (shelf : Option (List Object)) (content : Option Contents) (capture : List Entry) (ran : Ran scenario content capture) : Type 0 where
   pub turns : PairsInTurn asks scenario content capture ran
   pub told : AllByRecursion (AnswersOf shelf) turns.pairs.a.fed.so.lives.feeds

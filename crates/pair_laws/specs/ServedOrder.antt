@@ -10,9 +10,10 @@ use Rattle.push_laws.specs.Premises.{AllGranted}
 use Rattle.host_model.specs.Circumstances.{Circumstance, answers_in}
 use Rattle.host_laws.specs.Calls.{HostsAsk}
 use Rattle.host_laws.specs.Gifts.{gifts_of}
+use Rattle.host_laws.specs.ShelfAnswers.{AnswersOf}
 use Rattle.scenario_laws.specs.Captures.{Ran}
 use Rattle.pair_laws.specs.Keeping.{LosesNothing, PairsKeepOrder}
-use Rattle.pair_laws.specs.Served.{HappenedHeld, HappenedServed, AnswersOf}
+use Rattle.pair_laws.specs.Served.{HappenedHeld, HappenedServed}
 
 -- Both hosts' channels are pairs each way of which keeps its order; what host a is given of its shelf are octets, and each length that it is told is that
 -- of an object there.

@@ -9,6 +9,7 @@ ghost use Rattle.pair_laws.specs.GrantedOrder.{GrantedKeepOrder};
 ghost use Rattle.pair_laws.specs.Heard.{ForgoneTakesNoFrame, HostsHearFirst};
 ghost use Rattle.pair_laws.specs.InTurn.{HostsTakeTurns};
 ghost use Rattle.pair_laws.specs.Keeping.{RunsKeepOrder};
+ghost use Rattle.pair_laws.specs.Modes.{RunsAreEnhanced};
 ghost use Rattle.pair_laws.specs.OnLinks.{HostsArePairs};
 ghost use Rattle.pair_laws.specs.PlainPipes.{PlainPairsArePipes};
 ghost use Rattle.pair_laws.specs.Served.{HeldTakeTurns, ServedTakeTurns};
@@ -136,3 +137,8 @@ pub fn runs_hold_windows()
 {
     channel_laws::laws::pipes::windows_hold();
 }
+
+/// In each run both hosts accept enhanced mode alone of each channel that carries objects over L2CAP and that opened, on each of their links.
+pub fn runs_are_enhanced()
+    ensures { RunsAreEnhanced }
+{}

@@ -85,6 +85,7 @@ pub mod Bounding
 pub mod Pushed
 pub mod Cancelling
 pub mod Apart
+pub mod Among
 pub mod SpeltOnce
 pub mod Spelt
 pub mod SpeltDirect

@@ -11,7 +11,7 @@ use Rattle.obex_session.specs.InboxCalls.{Answer}
 use Rattle.sdp_client.specs.Laws.{served_target}
 use Rattle.sdp_elements.specs.declared.target.Target.{Target}
 use Rattle.push_model.specs.Client.{Client, new_client, own_maximum, is_direct, with_object}
-use Rattle.push_model.specs.Laws.{all_done}
+use Rattle.push_model.specs.Laws.{Deed, all_done}
 use Rattle.push_model.specs.Server.{Reacted, server_channel}
 use Rattle.push_terms.specs.declared.outcome.Outcome.{Outcome}
 use Rattle.push_terms.specs.declared.outcome.Outcome.TheVariants as outcomes
@@ -24,11 +24,12 @@ use Rattle.push_laws.specs.Parties.{Push, begun_of, client_side, over_pushes, Mo
 use Rattle.push_laws.specs.Searches.{IsAsked, AllAreOwn, FindsWhatIsServed, IsMuxedClient, MayBePushed, NewClientsAreMuxed, MuxedClientsStay, IsPushedOver, ServesSo, AllServe, PushedAreHeard, PushedAreTaken}
 use Rattle.push_laws.specs.Sending.{MayPush}
 use Rattle.push_laws.specs.Premises.{AllGranted, NoneShort, AllMayFail}
-use Rattle.push_laws.specs.Spelled.{IsOnce, AreOnce, IsOfShelf, IsOfShelfOrStill, PushedSpellOnce}
+use Rattle.push_laws.specs.Spelled.{ArePushed, IsOfShelf, IsOfShelfOrStill, name_by, name_of, names_of, PushedSpellOnce}
+use Rattle.push_laws.proofs.Among.{none_pushed, one_pushed}
 use Rattle.link_talk.specs.ObjectsHeard.{spelled_within}
 use Rattle.push_laws.proofs.Calm.{silent_stream}
 use Rattle.push_laws.proofs.Spelt.{all_spelt}
-use Rattle.push_laws.proofs.SpeltOnce.{stands_once, unsent_once}
+use Rattle.push_laws.proofs.SpeltOnce.{stands_once, unsent_none}
 use Rattle.push_laws.proofs.Apart.{IsApart, pushes_none, serves_carried}
 use Rattle.push_laws.proofs.Carried.{pushes_are_heard, pushes_are_taken, pushes_taken}
 use Rattle.push_laws.proofs.Finding.{targets-are_served}
@@ -130,22 +131,29 @@ pushed-gain_less settings before pushes last all over serve =
 -- ---- what is spelled of them
 
 module _ (settings : Settings) (shelf : List Stored) where
-  -- a push is of an object of the shelf, or nothing is left to its client, which sent nothing
+  -- a push in which its client does something is of an object of the shelf, or nothing is left to the client, which sent nothing
   abbrev Left : Push → List Move → List (List ℕ) → Type 0
-  Left push moves sent = ((client_side moves ≡ []) × (sent ≡ [])) ⊎ IsOfShelf shelf push.name push.size push.content
+  Left push moves sent = ((client_side moves ≡ []) × (sent ≡ [])) ⊎ (IsOfShelf shelf push.name push.size push.content × (name_of push ≡ push.name ∷ []))
 
   left_fewer : (push : Push) (move : Move) (moves : List Move) (sent : List (List ℕ)) → Left push (move ∷ moves) sent → (more : List (List ℕ)) → (of_client move ≡ [] → more ≡ []) → Left push moves (sent ++ more)
   left_fewer push (OfServer one) moves sent (inl (still, unsent)) more none = inl (still, ap (λ (ps : List (List ℕ)). ps ++ more) unsent ∙ none refl)
   left_fewer push (OfClient deed) moves sent (inl (still, unsent)) more none = absurd (let never : deed ∷ client_side moves ≡ [] = still in cc)
   left_fewer push move moves sent (inr held) more none = inr held
 
-  left_once : (push : Push) (moves : List Move) (sent front : List (List ℕ)) (client : Client) → Fit (task_of push) sent client → Left push moves sent → IsFrontOf front sent → IsOnce shelf push.name (spelled_within (own_maximum Rfcomm settings) front)
-  left_once push moves sent front client fit (inl (still, unsent)) is = unsent_once (own_maximum Rfcomm settings) shelf push.name sent front unsent is
-  left_once push moves sent front client fit (inr held) is = stands_once (own_maximum Rfcomm settings) shelf (task_of push) sent front client (let high = settings.obex_high in omega (arith, high)) held fit.stands is
+  left_once : (push : Push) (moves : List Move) (sent front : List (List ℕ)) (client : Client) → Fit (task_of push) sent client → Left push moves sent → IsFrontOf front sent → ArePushed shelf (name_of push) (spelled_within (own_maximum Rfcomm settings) front)
+  left_once push moves sent front client fit (inl (still, unsent)) is = subst (ArePushed shelf (name_of push)) (sym (unsent_none (own_maximum Rfcomm settings) sent front unsent is)) (none_pushed shelf (name_of push))
+  left_once push moves sent front client fit (inr (held, named)) is =
+      let spelt = spelled_within (own_maximum Rfcomm settings) front in
+      subst (λ (ns : List (List ℕ)). ArePushed shelf ns spelt) (sym named)
+      (one_pushed shelf push.name spelt (stands_once (own_maximum Rfcomm settings) shelf (task_of push) sent front client (let high = settings.obex_high in omega (arith, high)) held fit.stands is))
 
   start_of : (push : Push) → IsOfShelfOrStill shelf push → Left push push.moves []
   start_of push (inl still) = inl (still, refl)
-  start_of push (inr held) = inr held
+  start_of push (inr held) = by (client_side push.moves) refl
+    where
+      by : (deeds : List Deed) → client_side push.moves ≡ deeds → Left push push.moves []
+      by [] is = inl (is, refl)
+      by (deed ∷ deeds) is = inr (held, ap (λ (ds : List Deed). name_by ds push.name) is)
 
   starts_of : (pushes : List Push) (last : Push) → AllByRecursion (IsOfShelfOrStill shelf) (pushes ++ last ∷ []) → AllByRecursion (λ (push : Push). Left push push.moves []) pushes × Left last last.moves []
   starts_of [] last held = (tt, start_of last held.0)
@@ -156,10 +164,10 @@ pushed-spell_once settings before shelf pushes last all over held serve =
     let f = found settings before pushes last all over (all_own NoneShort (new_over settings before) (over_pushes pushes last) serve) in
     let starts = starts_of settings shelf pushes last held in
     let taken =
-    pushes_are_taken settings before (λ (push : Push). IsOnce shelf push.name) (Left settings shelf) (left_fewer settings shelf) (left_once settings shelf) pushes last (all_pushes settings pushes all f.0) (pushes_of settings last over f.1) starts.0 starts.1
+    pushes_are_taken settings before (λ (push : Push). ArePushed shelf (name_of push)) (Left settings shelf) (left_fewer settings shelf) (left_once settings shelf) pushes last (all_pushes settings pushes all f.0) (pushes_of settings last over f.1) starts.0 starts.1
     (carried_of NoneShort settings before pushes last all over serve) in
     let spelt = all_spelt settings Rfcomm shelf pushes last [] (silent_stream [] refl) refl taken.1 in
-    subst (AreOnce shelf (pushes ++ last ∷ [])) (sym spelt.spelled) spelt.once
+    subst (ArePushed shelf (names_of (pushes ++ last ∷ []))) (sym spelt.spelled) spelt.once
 
 -- ---- such clients
 

@@ -1,5 +1,5 @@
 -- Push after push, what is spelled is spelled of one push.
-use Rattle.std.proofs.Common.{ℕ, Bool, true, false, ◌≡◌, List, [], ◌∷◌, ◌++◌, refl, sym, ap, ◌∙◌, append_assoc, append-nil, inl, inr}
+use Rattle.std.proofs.Common.{ℕ, Bool, true, false, ◌≡◌, List, [], ◌∷◌, ◌++◌, refl, sym, ap, subst, ◌∙◌, append_assoc, append-nil, inl, inr}
 use Rattle.std.specs.Prelude.{◌⊎◌}
 use Rattle.std.specs.List.{flat_map}
 use Rattle.capture.proofs.HistoryLaws.{given_by-more}
@@ -15,7 +15,8 @@ use Rattle.push_laws.specs.Gains.{objects_over, objects_with, objects}
 use Rattle.push_laws.specs.Occurrences.{Occurrence, LinkDown}
 use Rattle.push_laws.specs.Parties.{Push, server_side, ended_with, over_pushes}
 use Rattle.push_laws.specs.Readings.{packets_over}
-use Rattle.push_laws.specs.Spelled.{IsOnce, AreOnce}
+use Rattle.push_laws.specs.Spelled.{ArePushed, name_of, names_of}
+use Rattle.push_laws.proofs.Among.{none_pushed, both_pushed}
 use Rattle.push_laws.proofs.Keeping.{nothing_beyond}
 use Rattle.push_laws.proofs.Losses.{spelled_more}
 
@@ -109,19 +110,19 @@ module _ (settings : Settings) (t : Transport) where
   pub record AllSpelt (shelf : List Object) (pushes : List Push) (last : Push) (past : List Occurrence) : Type 0 where
     pub here : List Object
     pub spelled : objects settings (past ++ over_pushes pushes last) ≡ objects settings past ++ here
-    pub once : AreOnce shelf (pushes ++ last ∷ []) here
+    pub once : ArePushed shelf (names_of (pushes ++ last ∷ [])) here
 
-  pub all_spelt : (shelf : List Object) (pushes : List Push) (last : Push) (past : List Occurrence) → packets_over t past ≡ [] → packets_over (other_of t) past ≡ [] → AllSpell (λ (push : Push). IsOnce shelf push.name) pushes last past → AllSpelt shelf pushes last past
+  pub all_spelt : (shelf : List Object) (pushes : List Push) (last : Push) (past : List Occurrence) → packets_over t past ≡ [] → packets_over (other_of t) past ≡ [] → AllSpell (λ (push : Push). ArePushed shelf (name_of push)) pushes last past → AllSpelt shelf pushes last past
   all_spelt shelf [] last past here there spells =
-      let one = spelt_of (IsOnce shelf last.name) past (server_side last.moves) (inl refl) here there spells in
-      record { here = one.here; spelled = one.spelled; once = (one.here, [], sym (append-nil one.here), one.once, refl) }
+      let one = spelt_of (ArePushed shelf (name_of last)) past (server_side last.moves) (none_pushed shelf (name_of last)) here there spells in
+      record { here = one.here; spelled = one.spelled; once = subst (λ (ns : List (List ℕ)). ArePushed shelf ns one.here) (sym (append-nil (name_of last))) one.once }
   all_spelt shelf (push ∷ pushes) last past here there (spells, none, others) =
-      let one = spelt_of (IsOnce shelf push.name) past (ended_with push) (inl refl) here there spells in
+      let one = spelt_of (ArePushed shelf (name_of push)) past (ended_with push) (none_pushed shelf (name_of push)) here there spells in
       let rest = all_spelt shelf pushes last (past ++ ended_with push) none one.apart others in
       let whole : past ++ over_pushes (push ∷ pushes) last ≡ (past ++ ended_with push) ++ over_pushes pushes last =
       ap (λ (os : List Occurrence). past ++ os) (append_assoc (ended_with push) (flat_map ended_with pushes) (server_side last.moves)) ∙ sym (append_assoc past (ended_with push) (over_pushes pushes last)) in
       record {
         here = one.here ++ rest.here;
         spelled = ap (objects settings) whole ∙ (rest.spelled ∙ (ap (λ (os : List Object). os ++ rest.here) one.spelled ∙ append_assoc (objects settings past) one.here rest.here));
-        once = (one.here, rest.here, refl, one.once, rest.once);
+        once = both_pushed shelf (name_of push) (names_of (pushes ++ last ∷ [])) one.here rest.here one.once rest.once;
       }

@@ -114,5 +114,5 @@ stands_once most shelf w sent front client fits held s is =
     once_of most shelf (connect_of w) w.wanted w.name w.size w.content t.cause sent front fits (subst (λ (n : List ℕ). length (units_in n) ≤ 100) fixed.name_is fixed.short) refl held sent_is is
 
 -- and where it sent nothing
-pub unsent_once : (most : ℕ) (shelf : List Object) (name : List ℕ) (sent front : List (List ℕ)) → sent ≡ [] → IsFrontOf front sent → IsOnce shelf name (spelled_within most front)
-unsent_once most shelf name sent front none (behind, is) = inl (ap (spelled_within most) (none_before front behind (sym is ∙ none)))
+pub unsent_none : (most : ℕ) (sent front : List (List ℕ)) → sent ≡ [] → IsFrontOf front sent → spelled_within most front ≡ []
+unsent_none most sent front none (behind, is) = ap (spelled_within most) (none_before front behind (sym is ∙ none))

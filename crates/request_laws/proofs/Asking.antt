@@ -32,7 +32,7 @@ use Rattle.push_model.specs.Steps.{Part, Step, Stepped, Made, Wait, MakeLink, As
 use Rattle.push_laws.specs.Parties.{sent_by}
 use Rattle.push_laws.specs.Sending.{sdus_of, packets_through}
 use Rattle.world_model.specs.Machines.{News, Linked, Failed, Heard, TimerFired, Cancelled, Opening}
-use Rattle.host_model.specs.Circumstances.{Circumstance}
+use Rattle.host_model.specs.Circumstances.{Circumstance, Excerpt}
 use Rattle.host_model.specs.Clients as profile
 use Rattle.host_model.specs.Clients.{ClientProfile, ended, cause_of, client_profile, fitted}
 use Rattle.host_model.specs.Endpoints.{Endpoint, endpoint_of, takes_sdu}
@@ -327,7 +327,7 @@ module _ (settings : Settings) where
       Makes p (profile.takes o.step v (record p { client = o.client; parts = unused o.left p.parts }) p).profile (taken_with o.step p.endpoints v) (sent_with (step_pushed o.step (fitted p) ++ []) p.client)
 
   -- an SDU goes to its channel, or it does not
-  pub submits_sent : (own : Option ℕ) (payload : Payload) (v : Channels) (p : ClientProfile) (client : Client) (parts : List Part) → p.submitted ≡ None → p.client.given ≡ false → client.given ≡ true
+  pub submits_sent : (own : Option ℕ) (payload : Payload) (v : Channels) (p : ClientProfile) (client : Client) (parts : List Excerpt) → p.submitted ≡ None → p.client.given ≡ false → client.given ≡ true
       → (let after : ClientProfile = record p { client = client; parts = parts } in Makes p (profile.submits own payload v after).profile (taken_on own (sdu_of payload) v) (sdu_of payload ∷ []))
   submits_sent None payload v p client parts none free held = Refuses (λ stuck. not_held p free stuck.held) refl (sdu_of payload) refl (record { none = none; held = held })
   submits_sent (Some own) payload v p client parts none free held = by (takes_sdu own (sdu_of payload) v)
@@ -345,7 +345,7 @@ module _ (settings : Settings) where
       by true = refl
       by false = refl
 
-  request_makes : (here : Bool) (octets : List ℕ) (v : Channels) (p : ClientProfile) (client : Client) (parts : List Part) → (p.client.psm == object_psm) ≡ here → p.submitted ≡ None → p.client.given ≡ false → client.given ≡ true
+  request_makes : (here : Bool) (octets : List ℕ) (v : Channels) (p : ClientProfile) (client : Client) (parts : List Excerpt) → (p.client.psm == object_psm) ≡ here → p.submitted ≡ None → p.client.given ≡ false → client.given ≡ true
       → (let after : ClientProfile = record p { client = client; parts = parts } in
       Makes p (profile.submits (endpoint_of p.client.psm p.endpoints) (Octets octets) v after).profile (cond here (taken_on (endpoint_of p.client.psm p.endpoints) octets v) []) (cond here (octets ∷ []) []))
   request_makes true octets v p client parts is none free held = submits_sent (endpoint_of p.client.psm p.endpoints) (Octets octets) v p client parts none free held

@@ -20,9 +20,8 @@ use Rattle.push_laws.proofs.Pushing.{Task, Fixed, Fresh, Stands}
 use Rattle.push_laws.proofs.Sending.{deed_stands}
 use Rattle.push_laws.proofs.Staying.{multiplexers-stay}
 use Rattle.push_laws.proofs.Talks.{Talk, talk_of, Kept, news_keeps, hears_by}
-use Rattle.host_laws.specs.Answered.{IsSmall, IsAnswered, AllAnswered}
-use Rattle.host_laws.specs.Pushing.{Affair, Begins, Does, client_after, client_behind}
-use Rattle.request_laws.specs.BothFed.{AllAsked}
+use Rattle.host_laws.specs.Answered.{IsSmall, IsAnswered}
+use Rattle.host_laws.specs.Pushing.{Affair, Begins, Does, client_after, client_behind, AllAsked}
 
 -- ---- it stays on its transport
 
@@ -172,19 +171,6 @@ good_first settings line is =
 
 -- ---- lists of affairs
 
-pub answered_ahead : (most : ℕ) (xs ys : List Affair) (client : Client) → AllAsked (IsAnswered most) (xs ++ ys) client → AllAsked (IsAnswered most) xs client
-answered_ahead most [] ys client all = tt
-answered_ahead most (x ∷ xs) ys client all = (all.0, answered_ahead most xs ys (client_after x client) all.1)
-
-pub answered_behind : (most : ℕ) (xs ys : List Affair) (client : Client) → AllAsked (IsAnswered most) (xs ++ ys) client → AllAsked (IsAnswered most) ys (client_behind xs client)
-answered_behind most [] ys client all = all
-answered_behind most (x ∷ xs) ys client all = answered_behind most xs ys (client_after x client) all.1
-
 pub client-both : (xs ys : List Affair) (client : Client) → client_behind (xs ++ ys) client ≡ client_behind ys (client_behind xs client)
 client-both [] ys client = refl
 client-both (x ∷ xs) ys client = client-both xs ys (client_after x client)
-
--- what the laws on a client say of its affairs
-pub all_asked : (most : ℕ) (affairs : List Affair) (client : Client) → AllAnswered most affairs client → AllAsked (IsAnswered most) affairs client
-all_asked most [] client answered = tt
-all_asked most (one ∷ rest) client answered = (answered.0, all_asked most rest (client_after one client) answered.1)

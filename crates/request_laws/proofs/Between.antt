@@ -16,7 +16,8 @@ use Rattle.host_laws.specs.Fed.{strand_feeds, woven_feeds, WovenFed}
 use Rattle.host_laws.specs.Feeds.{Feed, Learns, tidings_by}
 use Rattle.host_laws.specs.Serving.{served_from, taken_by, lent_by}
 use Rattle.host_laws.specs.Woven.{Strand, IsOnLink, Hearing, Giving, Firing, Telling, Gifting, Learning, Checking, Stepping, strand_list, strand_profile, woven_list}
-use Rattle.request_laws.proofs.Feeding.{all_both, all_ahead, served-both, strand_so}
+use Rattle.host_laws.proofs.StrandsFed.{strand_so}
+use Rattle.request_laws.proofs.Feeding.{all_both, all_ahead, served-both}
 use Rattle.request_laws.proofs.Timely.{HearsNothing}
 use Rattle.request_laws.proofs.Silent.{IsStill}
 

@@ -1,7 +1,6 @@
 -- What both profiles went through, put together and taken apart.
 use Rattle.std.proofs.Common.{◌≡◌, ℕ, Bool, true, false, cond, List, [], ◌∷◌, ◌++◌, Option, Some, None, refl, sym, ap, ◌∙◌, append_assoc}
 use Rattle.std.specs.List.{AllByRecursion}
-use Rattle.std.proofs.lemmas.List.Sums.{fold-append}
 use Rattle.acl_fragments.specs.Pieces.{channel_of}
 use Rattle.bt_base.specs.declared.settings.Settings.{Settings}
 use Rattle.bt_base.specs.Objects.{Contents}
@@ -10,7 +9,7 @@ use Rattle.channel_model.specs.declared.event.ChannelEvent.TheVariants as events
 use Rattle.channel_model.specs.Carrying.{Up as Handed, Nothing, Received}
 use Rattle.channel_model.specs.Calls.{link_down, peer_mtu, waits}
 use Rattle.channel_model.specs.Hearing.{up}
-use Rattle.channel_model.specs.Value.{Channels, no_channels}
+use Rattle.channel_model.specs.Value.{Channels}
 use Rattle.push_model.specs.declared.closing.CloseCause.{CloseCause}
 use Rattle.push_model.specs.Client.{Client, cancelled}
 use Rattle.push_model.specs.Events.{hears_news}
@@ -24,64 +23,18 @@ use Rattle.world_model.specs.Machines.{LinkEvent, Up, Down, News, Linked, Failed
 use Rattle.host_model.specs.Circumstances.{Circumstance}
 use Rattle.host_model.specs.Clients.{ClientProfile, cause_of, client_profile, fitted}
 use Rattle.host_model.specs.Endpoints.{endpoint_of, takes_sdu}
-use Rattle.host_model.specs.Hosts.{handed}
 use Rattle.host_model.specs.Pdus.{sdu_of}
-use Rattle.host_model.specs.Profiles.{Profile}
 use Rattle.host_model.specs.Servers.{ServerProfile, is_told, server_profile}
-use Rattle.host_laws.specs.Calls.{Asks as Asking, values_after}
-use Rattle.host_laws.specs.Fed.{feeds_up, next_happening, strand_feeds, woven_feeds, happenings, turned_feeds, FedSpan, span_feeds, behind_span}
+use Rattle.host_laws.specs.Calls.{Asks as Asking}
+use Rattle.host_laws.specs.Fed.{feeds_up, next_happening, strand_feeds, happenings, turned_feeds}
 use Rattle.host_laws.specs.Feeds.{Feed, Gifts, Learns, Receives, Happens, Sent, Steps, fed, all_fed}
-use Rattle.host_laws.specs.Lives.{Span}
 use Rattle.host_laws.specs.Pushing.{Affair, Begins, Does, client_behind, end_asked, news_pushed, opened_pushed, closed_pushed, event_pushed, sent_pushed, step_pushed, pushed_with, pushed_from}
 use Rattle.host_laws.specs.Serving.{news_served, event_served, taken_by, lent_by, served_with, served_from}
-use Rattle.host_laws.specs.Woven.{Strand, Hearing, Giving, Firing, Telling, Gifting, Learning, Checking, Stepping, told_next, strand_list, strand_profile, woven_profile, turned}
-use Rattle.host_laws.proofs.Draining.{each_fed}
+use Rattle.host_laws.specs.Woven.{Strand, Hearing, Giving, Firing, Telling, Gifting, Learning, Checking, Stepping, strand_profile}
 use Rattle.host_laws.proofs.Pushing.{all_pushed}
+use Rattle.host_laws.proofs.StrandsFed.{strand_so}
 use Rattle.request_laws.specs.BothFed.{ComesNone}
 use Rattle.request_laws.specs.Twists.{all_deeds, OpensNone}
-
--- ---- one profile
-
-module _ {P : Type 0} (A : Profile P) (asks : Asking A) where
-  handed_so : (brought : Handed) (p : P) → all_fed A p (feeds_up brought) ≡ handed A brought p
-  handed_so Nothing p = refl
-  handed_so (Received own psm sdu) p = refl
-
-  told_so : (events : List ChannelEvent) (v : Channels) (p : P) → all_fed A p (next_happening events v) ≡ told_next A events v p
-  told_so [] v p = refl
-  told_so (event ∷ events) v p = refl
-
-  pub strand_so : (strand : Strand) (v : Channels) (p : P) → all_fed A p (strand_feeds strand v) ≡ strand_profile A strand v p
-  strand_so (Hearing pdu) v p = handed_so (up (channel_of pdu) pdu v) p
-  strand_so (Giving pdu) v p = refl
-  strand_so Firing v p = refl
-  strand_so Telling v p = told_so v.events v p
-  strand_so (Gifting circumstances) v p = refl
-  strand_so (Learning circumstances news) v p = refl
-  strand_so Checking v p = refl
-  strand_so Stepping v p = refl
-
-  pub woven_so : (weave : List Strand) (v : Channels) (p : P) → all_fed A p (woven_feeds A asks weave v p) ≡ woven_profile A asks weave v p
-  woven_so [] v p = refl
-  woven_so (strand ∷ weave) v p =
-      let q = strand_profile A strand v p in
-      let w = values_after A.policy v (strand_list A asks strand v p) in
-      fold-append (fed A) p (strand_feeds strand v) (woven_feeds A asks weave w q) ∙ (ap (λ (x : P). all_fed A x (woven_feeds A asks weave w q)) (strand_so strand v p) ∙ woven_so weave w q)
-
-  turned_so : (circumstances : List Circumstance) (event : LinkEvent) (v : Channels) (p : P) → all_fed A p (turned_feeds circumstances event v) ≡ turned A circumstances event v p
-  turned_so circumstances Up v p = refl
-  turned_so circumstances (Down reason) v p =
-      let w = link_down v in
-      fold-append (fed A) p (happenings w w.events) (Learns circumstances (Linked (Down reason)) ∷ []) ∙ ap (A.told circumstances (Linked (Down reason))) (sym (each_fed A w w.events p))
-
-  pub here_so : (span : Span) (first : P) (so : FedSpan A asks span first) → all_fed A first so.here ≡ so.mid
-  here_so span first so = ap (all_fed A first) so.so.feeds_are ∙ (woven_so so.so.woven.weave no_channels first ∙ sym so.so.woven.last_is)
-
-  pub span_so : (span : Span) (first : P) (so : FedSpan A asks span first) → all_fed A first (span_feeds A asks span first so) ≡ behind_span A asks span first so
-  span_so span first so =
-      let v = values_after A.policy no_channels span.list in
-      fold-append (fed A) first so.here (turned_feeds so.circumstances span.event v)
-      ∙ (ap (λ (p : P). all_fed A p (turned_feeds so.circumstances span.event v)) (here_so span first so) ∙ turned_so so.circumstances span.event v so.mid)
 
 -- ---- what that is for a client and a server
 

@@ -28,12 +28,13 @@ use Rattle.host_laws.specs.Feeds.{Feed, Learns, Sent, Steps}
 use Rattle.host_laws.specs.Pushing.{Affair, pushed_from}
 use Rattle.host_laws.specs.Serving.{news_served, event_served, lent_by, served_from}
 use Rattle.host_laws.specs.Woven.{Strand, Hearing, Giving, Firing, Telling, Gifting, Learning, Checking, Stepping, strand_list, strand_profile, woven_list}
+use Rattle.host_laws.proofs.StrandsFed.{strand_so}
 use Rattle.request_laws.specs.BothFed.{ComesNone}
 use Rattle.request_laws.specs.HandedUp.{up_for, handed_for, ObjectsAreHandedUp}
 use Rattle.request_laws.specs.Streams.{come_on, heard_on, taken_by, taken_at}
 use Rattle.request_laws.specs.Twists.{deeds_in, all_deeds, taken_with, taken_in, OpensNone}
 use Rattle.request_laws.proofs.OnPsm.{come_is, heard_is}
-use Rattle.request_laws.proofs.Feeding.{all_both, strand_so, pushed-both, served-both, Holds, FeedSo, all_so, news_shape, event_shape, lent_shape}
+use Rattle.request_laws.proofs.Feeding.{all_both, pushed-both, served-both, Holds, FeedSo, all_so, news_shape, event_shape, lent_shape}
 
 -- ---- what a run hands up
 

@@ -1,5 +1,5 @@
 -- What happened to both hosts over their links is a list of pushes, so no request is ignored.
-use Rattle.std.proofs.Common.{◌≡◌, ℕ, ◌≤◌, ◌<◌, ◌^◌, Some, Bool, true, false, List, [], ◌∷◌, ◌++◌, map, None, Result, Ok, refl, sym, ap, ap₂, subst, ◌∙◌, append-nil, arith}
+use Rattle.std.proofs.Common.{◌≡◌, ℕ, ◌≤◌, ◌<◌, ◌^◌, Some, Bool, true, false, List, [], ◌∷◌, ◌++◌, map, Option, None, Result, Ok, inl, inr, refl, sym, ap, ap₂, subst, ◌∙◌, append-nil, arith}
 use Rattle.std.specs.List.{AllByRecursion, flat_map}
 use Rattle.bt_base.specs.declared.ports.PortFault.{PortFault}
 use Rattle.bt_base.specs.declared.settings.Transport.TheVariants.{L2cap}
@@ -16,6 +16,8 @@ use Rattle.obex_session.specs.InboxCalls.{Answer}
 use Rattle.push_laws.specs.Parties.{come_by, Move, server_side, client_side, Pipes, no_pipes, ArePipes, StayPipes, Push, IsOffered, IsPushed, over_pushes, AllServeDirectly}
 use Rattle.push_laws.specs.Premises.{AllGranted, AllMayCome}
 use Rattle.push_laws.specs.Sending.{AllAnswer}
+use Rattle.push_laws.specs.Spelled.{name_by}
+use Rattle.push_laws.proofs.Among.{name_among}
 use Rattle.push_laws.proofs.Losing.{pushes-gain_all}
 use Rattle.push_laws.proofs.Parties.{requests-are_heard}
 use Rattle.bt_base.specs.Objects.{Object}
@@ -30,42 +32,53 @@ use Rattle.host_laws.specs.Answered.{IsSmall, IsAnswered, BeginsAtMost}
 use Rattle.host_laws.specs.Gaining.{IsDirect}
 use Rattle.host_laws.specs.Fed.{strand_feeds, woven_feeds, TalksFed}
 use Rattle.host_laws.specs.OverLinks.{AreTimely}
-use Rattle.host_laws.specs.Pushing.{Affair, Begins, Does, client_behind, pushed_from}
+use Rattle.host_laws.specs.Openings.{names_begun}
+use Rattle.host_laws.specs.Pushing.{Affair, Begins, Does, client_after, client_behind, pushed_from, AllAsked}
+use Rattle.host_laws.specs.ShelfAnswers.{IsGiven}
 use Rattle.host_laws.specs.Serving.{served_from}
 use Rattle.host_laws.specs.Woven.{Strand}
 use Rattle.host_laws.proofs.Answered.{clients_are_answered}
 use Rattle.host_laws.proofs.Pushing.{all_pushed}
-use Rattle.request_laws.specs.BothFed.{most_octets, AllAsked, ComesNone, AreTwined, over_stored, RequestsOfLinksAreHeard}
+use Rattle.request_laws.specs.BothFed.{most_octets, ComesNone, AreTwined, over_stored, RequestsOfLinksAreHeard}
+use Rattle.host_laws.proofs.StrandsFed.{strand_so}
 use Rattle.request_laws.specs.AllSizes.{BothAreOffered, LinksGainAll}
 use Rattle.request_laws.specs.Twists.{Twist, AtClient, AtServer, of_client, of_server, Both, new_both, Set, both_after, all_deeds, moves_by, all_moves, taken_in, carried_by, pipes_behind, AllStayPiped, NoneBehind, OpensNone, Twined}
 use Rattle.request_laws.proofs.Asking.{even_of, strand_makes}
 use Rattle.request_laws.proofs.Carrying.{Carries, pipes_carried, carries_none, carries_client, carries_server}
-use Rattle.request_laws.proofs.Beginning.{Good, may_push, no_units, good_all, good_affair, all_asked, good_first, answered_ahead, answered_behind}
+use Rattle.request_laws.proofs.Beginning.{Good, may_push, no_units, good_all, good_affair, good_first}
 use Rattle.request_laws.proofs.Silent.{IsStill}
-use Rattle.request_laws.proofs.Feeding.{strand_so, pushed-both, served-both, IsDeed, strand_client, strand_shape}
+use Rattle.request_laws.proofs.Feeding.{pushed-both, served-both, IsDeed, strand_client, strand_shape}
 use Rattle.request_laws.proofs.Lending.{serve_all}
-use Rattle.request_laws.proofs.Pushes.{map_deeds, all_does, pushed_on, served_on, server_on, client_on, deeds_on, Started, OnePush, Pushes, silent_up, done_both, made}
+use Rattle.request_laws.proofs.Objects.{IsOfObject, given_any, answers_both}
+use Rattle.request_laws.proofs.Pushes.{map_deeds, all_does, asked_ahead, asked_behind, pushed_on, served_on, server_on, client_on, deeds_on, Started, OnePush, Pushes, silent_up, done_both, made}
 use Rattle.request_laws.proofs.Piping.{moved, pipes_both, stay_both, server_both, client_both, by_client, by_server, client_moved, server_moved, client_of_client, server_of_client, server_of_server, client_of_server, stay_client, stay_quiet, stay_server, still_pipes, silent_pipes, still_quiet, no_pipes_are, closed_client, come_cut, quiet_after}
 
 -- ---- deeds of affairs
 
--- the shelf answers so at each of them
-answered_deeds : (most : ℕ) (affairs : List Affair) (client : Client) → AllByRecursion IsDeed affairs → AllAsked (IsAnswered most) affairs client → AllAnswer None (all_deeds affairs) client
-answered_deeds most [] client all answered = tt
-answered_deeds most (Begins size name ∷ affairs) client all answered = absurd all.0
-answered_deeds most (Does deed ∷ affairs) client all answered = (answered.0, answered_deeds most affairs (push.done deed client) all.1 answered.1)
+-- the shelf answers with as many octets as were asked for, and with those of its objects where it tells what it holds
+abbrev IsAskedSo : Option (List Object) → ℕ → Affair → Client → Type 0
+IsAskedSo shelf most one client = IsAnswered most one client × IsGiven shelf one client
 
-pub answers_both : (xs ys : List Deed) (client : Client) → AllAnswer None xs client → AllAnswer None ys (all_done xs client) → AllAnswer None (xs ++ ys) client
-answers_both [] ys client one two = two
-answers_both (x ∷ xs) ys client one two = (one.0, answers_both xs ys (push.done x client) one.1 two)
+both_asked : (shelf : Option (List Object)) (most : ℕ) (affairs : List Affair) (client : Client) → AllAsked (IsAnswered most) affairs client → AllAsked (IsGiven shelf) affairs client → AllAsked (IsAskedSo shelf most) affairs client
+both_asked shelf most [] client answered given = tt
+both_asked shelf most (one ∷ rest) client answered given = ((answered.0, given.0), both_asked shelf most rest (client_after one client) answered.1 given.1)
+
+answered_ones : (shelf : Option (List Object)) (most : ℕ) (affairs : List Affair) (client : Client) → AllAsked (IsAskedSo shelf most) affairs client → AllAsked (IsAnswered most) affairs client
+answered_ones shelf most [] client asked = tt
+answered_ones shelf most (one ∷ rest) client asked = (asked.0.0, answered_ones shelf most rest (client_after one client) asked.1)
+
+answered_deeds : (shelf : Option (List Object)) (most : ℕ) (affairs : List Affair) (client : Client) → AllByRecursion IsDeed affairs → AllAsked (IsAskedSo shelf most) affairs client → AllAnswer shelf (all_deeds affairs) client
+answered_deeds shelf most [] client all answered = tt
+answered_deeds shelf most (Begins size name ∷ affairs) client all answered = absurd all.0
+answered_deeds shelf most (Does deed ∷ affairs) client all answered = (answered.0.1, answered_deeds shelf most affairs (push.done deed client) all.1 answered.1)
 
 -- ---- on one link
 
 -- a push of an object that is no longer
-abbrev Offered : ℕ → Push → Type 0
-Offered most push = IsOffered push × (push.size ≤ most)
+abbrev pub Offered : Option (List Object) → ℕ → Push → Type 0
+Offered shelf most push = IsOffered push × (push.size ≤ most) × IsOfObject shelf push
 
-module _ (set : Set) (maximum : ℕ) (wanted : Bool) (most : ℕ) (fits : most < 2 ^ 32) where
+module _ (shelf : Option (List Object)) (set : Set) (maximum : ℕ) (wanted : Bool) (most : ℕ) (fits : most < 2 ^ 32) where
   -- a client over L2CAP that takes packets so long, and wants single response mode or not
   abbrev G : Client → Type 0
   G client = Good L2cap maximum wanted client
@@ -78,9 +91,9 @@ module _ (set : Set) (maximum : ℕ) (wanted : Bool) (most : ℕ) (fits : most <
   -- what the shelf answered, behind one thing more
   record Behind (strand : Strand) (weave : List Strand) (both : Both) : Type 0 where
     good : G (both_after set (AtClient strand) both).client.client
-    answered : (let next = both_after set (AtClient strand) both in AllAsked (IsAnswered most) (pushed_on set weave next.near next.client) next.client.client)
+    answered : (let next = both_after set (AtClient strand) both in AllAsked (IsAskedSo shelf most) (pushed_on set weave next.near next.client) next.client.client)
 
-  behind : (strand : Strand) (weave : List Strand) (both : Both) → G both.client.client → AllAsked (IsAnswered most) (pushed_on set (strand ∷ weave) both.near both.client) both.client.client → Behind strand weave both
+  behind : (strand : Strand) (weave : List Strand) (both : Both) → G both.client.client → AllAsked (IsAskedSo shelf most) (pushed_on set (strand ∷ weave) both.near both.client) both.client.client → Behind strand weave both
   behind strand weave both good answered =
       let A = client_profile set.settings in
       let asks = set.asks.clients set.settings in
@@ -91,11 +104,11 @@ module _ (set : Set) (maximum : ℕ) (wanted : Bool) (most : ℕ) (fits : most <
       let so = strand_so A asks strand both.near both.client in
       let cut : pushed_on set (strand ∷ weave) both.near both.client ≡ one ++ pushed_from set.settings next.client more =
       pushed-both set.settings feeds more both.client ∙ ap (λ (p : ClientProfile). one ++ pushed_from set.settings p more) so in
-      let all = subst (λ (l : List Affair). AllAsked (IsAnswered most) l both.client.client) cut answered in
+      let all = subst (λ (l : List Affair). AllAsked (IsAskedSo shelf most) l both.client.client) cut answered in
       let now : client_behind one both.client.client ≡ next.client.client = sym (all_pushed set.settings feeds both.client) ∙ ap (λ (p : ClientProfile). p.client) so in
       record {
-        good = subst G now (good_all L2cap maximum wanted most fits one both.client.client (answered_ahead most one (pushed_from set.settings next.client more) both.client.client all) good);
-        answered = subst (AllAsked (IsAnswered most) (pushed_from set.settings next.client more)) now (answered_behind most one (pushed_from set.settings next.client more) both.client.client all);
+        good = subst G now (good_all L2cap maximum wanted most fits one both.client.client (answered_ones shelf most one both.client.client (asked_ahead (IsAskedSo shelf most) one (pushed_from set.settings next.client more) both.client.client all)) good);
+        answered = subst (AllAsked (IsAskedSo shelf most) (pushed_from set.settings next.client more)) now (asked_behind (IsAskedSo shelf most) one (pushed_from set.settings next.client more) both.client.client all);
       }
 
   record Stays (moves : List Move) (client : Client) (pipes : Pipes) : Type 0 where
@@ -120,7 +133,7 @@ module _ (set : Set) (maximum : ℕ) (wanted : Bool) (most : ℕ) (fits : most <
       ∙ ap (λ (p : ServerProfile). served_from set.settings set.content both.server feeds ++ served_from set.settings set.content p more) (strand_so B asks strand both.far both.server)
 
   -- `channel` is what the channels carry, and `pipes` with what the client asked to send
-  stay_on : (twists : List Twist) (both : Both) (channel pipes : Pipes) → AllByRecursion OpensNone (flat_map of_client twists) → G both.client.client → AllAsked (IsAnswered most) (pushed_on set (flat_map of_client twists) both.near both.client) both.client.client
+  stay_on : (twists : List Twist) (both : Both) (channel pipes : Pipes) → AllByRecursion OpensNone (flat_map of_client twists) → G both.client.client → AllAsked (IsAskedSo shelf most) (pushed_on set (flat_map of_client twists) both.near both.client) both.client.client
       → Carries both.client channel pipes → ArePipes channel → AllStayPiped set twists both channel → (pipes.closed ≡ true → flat_map come_by (served_on set (flat_map of_server twists) both.far both.server) ≡ [])
       → NoneBehind (served_on set (flat_map of_server twists) both.far both.server) → Stays (all_moves set twists both) both.client.client pipes
   stay_on [] both channel pipes opens good answered carries now piped quiet ended = record { stays = tt; last = pipes_carried both.client channel pipes carries now }
@@ -151,9 +164,9 @@ module _ (set : Set) (maximum : ℕ) (wanted : Bool) (most : ℕ) (fits : most <
       (λ closed. come_cut occurrences rest (here closed)))
       (stay_on twists next channel_after after opens good answered then_carries piped.0 piped.1 then_quiet.0 then_quiet.1)
 
-  one_push : (client : ClientProfile) (server : ServerProfile) (ahead tail : List Occurrence) (near far : List Strand) → Started (IsAnswered most) G client → G client.client → AllByRecursion IsStill ahead → AllByRecursion ComesNone tail → Twined set near far client server
-      → AllAsked (IsAnswered most) (pushed_on set near no_channels client) client.client → OnePush (Offered most) (ahead ++ (served_on set far no_channels server ++ tail))
-  one_push client server ahead tail near far start good still quiet twined answered =
+  one_push : (client : ClientProfile) (server : ServerProfile) (names : List (List ℕ)) (ahead tail : List Occurrence) (near far : List Strand) → Started (IsAskedSo shelf most) G client names → G client.client → AllByRecursion IsStill ahead → AllByRecursion ComesNone tail → Twined set near far client server
+      → AllAsked (IsAskedSo shelf most) (pushed_on set near no_channels client) client.client → OnePush (Offered shelf most) (ahead ++ (served_on set far no_channels server ++ tail)) names
+  one_push client server names ahead tail near far start good still quiet twined answered =
       let begun = with_object start.name start.size start.old in
       let both = new_both client server in
       let deeds = start.deeds ++ Hears events.LinkUp ∷ [] in
@@ -170,7 +183,7 @@ module _ (set : Set) (maximum : ℕ) (wanted : Bool) (most : ℕ) (fits : most <
       -- pipes
       let after_first : pipes_behind first begun no_pipes ≡ no_pipes = still_pipes ahead begun no_pipes still in
       let after_second : pipes_behind second begun no_pipes ≡ no_pipes = silent_pipes deeds begun no_pipes silent in
-      let answered_here : AllAsked (IsAnswered most) (pushed_on set (flat_map of_client twists) no_channels client) client.client = subst (λ (w : List Strand). AllAsked (IsAnswered most) (pushed_on set w no_channels client) client.client) (sym twined.near_is) answered in
+      let answered_here : AllAsked (IsAskedSo shelf most) (pushed_on set (flat_map of_client twists) no_channels client) client.client = subst (λ (w : List Strand). AllAsked (IsAskedSo shelf most) (pushed_on set w no_channels client) client.client) (sym twined.near_is) answered in
       let here = stay_on twists both no_pipes no_pipes opens good answered_here (carries_none client start.free) no_pipes_are twined.piped (λ closed. cc) (subst (λ (w : List Strand). NoneBehind (served_on set w no_channels server)) (sym twined.far_is) twined.behind) in
       let pipes = pipes_behind third client.client no_pipes in
       let stay_third : StayPipes (third ++ last) client.client no_pipes = stay_both third last client.client no_pipes here.stays (stay_quiet tail (moved third client.client) pipes here.last quiet) in
@@ -186,36 +199,39 @@ module _ (set : Set) (maximum : ℕ) (wanted : Bool) (most : ℕ) (fits : most <
       let client_is : client_side moves ≡ deeds ++ all_deeds affairs =
       client_both first (second ++ (third ++ last)) ∙ (ap (λ (l : List Deed). l ++ client_side (second ++ (third ++ last))) (client_of_server ahead)
       ∙ (client_both second (third ++ last) ∙ (ap₂ (λ (a b : List Deed). a ++ b) (client_of_client deeds) (client_both third last ∙ (ap₂ (λ (a b : List Deed). a ++ b) here_deeds (client_of_server tail) ∙ append-nil (all_deeds affairs)))))) in
-      let answers_old : AllAnswer None start.deeds begun = subst (λ (l : List Deed). AllAnswer None l begun) (map_deeds start.deeds) (answered_deeds most (map Does start.deeds) begun (all_does start.deeds) start.asked) in
-      let answers : AllAnswer None (client_side moves) begun =
-      subst (λ (l : List Deed). AllAnswer None l begun) (sym client_is)
-      (answers_both deeds (all_deeds affairs) begun (answers_both start.deeds (Hears events.LinkUp ∷ []) begun answers_old (tt, tt))
-      (subst (λ (c : Client). AllAnswer None (all_deeds affairs) c) now (answered_deeds most affairs client.client (deeds_on set near no_channels client twined.opens) answered))) in
+      let answers_old : AllAnswer shelf start.deeds begun = subst (λ (l : List Deed). AllAnswer shelf l begun) (map_deeds start.deeds) (answered_deeds shelf most (map Does start.deeds) begun (all_does start.deeds) start.asked) in
+      let answers : AllAnswer shelf (client_side moves) begun =
+      subst (λ (l : List Deed). AllAnswer shelf l begun) (sym client_is)
+      (answers_both shelf deeds (all_deeds affairs) begun (answers_both shelf start.deeds (Hears events.LinkUp ∷ []) begun answers_old (tt, tt))
+      (subst (λ (c : Client). AllAnswer shelf (all_deeds affairs) c) now (answered_deeds shelf most affairs client.client (deeds_on set near no_channels client twined.opens) answered))) in
       -- what is the server's
       let server_is : server_side moves ≡ ahead ++ (served_on set far no_channels server ++ tail) =
       server_both first (second ++ (third ++ last)) ∙ (ap₂ (λ (a b : List Occurrence). a ++ b) (server_of_server ahead)
       (server_both second (third ++ last) ∙ (ap (λ (l : List Occurrence). l ++ server_side (third ++ last)) (server_of_client deeds)
       ∙ (server_both third last ∙ ap₂ (λ (a b : List Occurrence). a ++ b) (server_on set twists both ∙ ap (λ (w : List Strand). served_on set w no_channels server) twined.far_is) (server_of_server tail))))) in
       record {
-        push = record { client = start.old; name = start.name; size = start.size; content = None; moves = moves };
-        pushed = (record { direct = start.good.direct; may = may_push L2cap maximum wanted most fits start.old start.name start.size start.good start.begins; answers = answers; carried = stay_first }, start.begins.bounded start.size refl);
+        push = record { client = start.old; name = start.name; size = start.size; content = shelf; moves = moves };
+        named = name_among (client_side moves) start.name names start.named;
+        pushed = (record { direct = start.good.direct; may = may_push L2cap maximum wanted most fits start.old start.name start.size start.good start.begins.0; answers = answers; carried = stay_first }, start.begins.0.bounded start.size refl, inr (refl, start.begins.1 start.size refl));
         is = server_is;
       }
 
 -- a push of its own, on which nothing comes
-no_push : (maximum : ℕ) (wanted : Bool) (most : ℕ) → most < 2 ^ 32 → (client : Client) (occurrences : List Occurrence) → Good L2cap maximum wanted client → AllByRecursion ComesNone occurrences → OnePush (Offered most) occurrences
-no_push maximum wanted most fits client occurrences good quiet =
+no_push : (shelf : Option (List Object)) (maximum : ℕ) (wanted : Bool) (most : ℕ) → most < 2 ^ 32 → (client : Client) (occurrences : List Occurrence) → Good L2cap maximum wanted client → AllByRecursion ComesNone occurrences → OnePush (Offered shelf most) occurrences []
+no_push shelf maximum wanted most fits client occurrences good quiet =
     let small : IsSmall most (Ok 0) [] = record { short = no_units; bounded = λ count is. none_left count is } in
     record {
-      push = record { client = client; name = []; size = 0; content = None; moves = by_server occurrences };
+      push = record { client = client; name = []; size = 0; content = shelf; moves = by_server occurrences };
+      named = ap (λ (l : List Deed). name_by l []) (client_of_server occurrences);
       pushed = (
         record {
           direct = good.direct;
           may = may_push L2cap maximum wanted most fits client [] 0 good small;
-          answers = subst (λ (l : List Deed). AllAnswer None l (with_object [] 0 client)) (sym (client_of_server occurrences)) tt;
+          answers = subst (λ (l : List Deed). AllAnswer shelf l (with_object [] 0 client)) (sym (client_of_server occurrences)) tt;
           carried = stay_quiet occurrences (with_object [] 0 client) no_pipes no_pipes_are quiet;
         },
         omega arith,
+        inl (client_of_server occurrences),
       );
       is = server_of_server occurrences;
     }
@@ -229,37 +245,51 @@ no_push maximum wanted most fits client occurrences good quiet =
 -- ---- over all links
 
 -- what happened to the server is a list of pushes
-links_pushed : (most : ℕ) → most < 2 ^ 32 → (asks : HostsAsk) (settings : Settings) (before : List Object) → settings.transport ≡ L2cap →
+pub links_pushed : (shelf : Option (List Object)) (most : ℕ) → most < 2 ^ 32 → (asks : HostsAsk) (settings : Settings) (before : List Object) → settings.transport ≡ L2cap →
     (let set = over_stored asks settings before in (talk_a talk_b : List Talk) (a : Host ClientProfile) (b : Host ServerProfile)
     (near : TalksFed (client_profile settings) (asks.clients settings) talk_a a) (far : TalksFed (server_profile settings set.content) (asks.servers settings set.content) talk_b b)
     → AreTwined set (λ k. k) near.so.lives.spans near.so.lives.now near.so.lives.feeds (client_profile settings).first a.profile far.so.lives.spans far.so.lives.now far.so.lives.feeds (server_profile settings set.content).first b.profile near.fed far.fed
-    → AllByRecursion (BeginsAtMost most) near.so.lives.feeds → Pushes (Offered most) (served_from settings set.content (server_profile settings set.content).first far.so.lives.feeds))
-links_pushed most fits asks settings before direct talk_a talk_b a b near far twined small =
+    → AllByRecursion (BeginsAtMost most) near.so.lives.feeds → AllAsked (IsGiven shelf) (pushed_from settings (client_profile settings).first near.so.lives.feeds) (new_client settings)
+    → Pushes (Offered shelf most) (served_from settings set.content (server_profile settings set.content).first far.so.lives.feeds) (names_begun (pushed_from settings (client_profile settings).first near.so.lives.feeds)))
+links_pushed shelf most fits asks settings before direct talk_a talk_b a b near far twined small given =
     let set = over_stored asks settings before in
     let maximum = (new_client settings).session.maximum in
     let wanted = (new_client settings).session.wanted in
     let A = client_profile settings in
     let B = server_profile settings set.content in
-    made set (IsAnswered most) (Good L2cap maximum wanted) (Offered most) (Twined set) (good_affair L2cap maximum wanted most fits) (one_push set maximum wanted most fits) (no_push maximum wanted most fits) (λ k. k) near.so.lives.spans near.so.lives.now near.so.lives.feeds A.first a.profile
+    made set (IsAskedSo shelf most) (Good L2cap maximum wanted) (Offered shelf most) (Twined set) (λ one client asked. good_affair L2cap maximum wanted most fits one client asked.0) (one_push shelf set maximum wanted most fits) (no_push shelf maximum wanted most fits)
+    (λ k. k) near.so.lives.spans near.so.lives.now near.so.lives.feeds A.first a.profile
     far.so.lives.spans far.so.lives.now far.so.lives.feeds B.first b.profile near.fed far.fed twined (subst (AreTimely false) (sym near.so.lives.marks_are) near.so.timely) (subst (AreTimely false) (sym far.so.lives.marks_are) far.so.timely) refl (good_first settings L2cap direct)
-    (all_asked most _ A.first.client (clients_are_answered most settings A.first near.so.lives.feeds small))
+    (both_asked shelf most (pushed_from settings A.first near.so.lives.feeds) A.first.client (clients_are_answered most settings A.first near.so.lives.feeds small) given)
 
-is_pushed : (push : Push) → Offered most_octets push → IsPushed push
-is_pushed push (offered, bounded) = record { offered = offered; bounded = bounded }
+-- whatever the shelf holds
+links_any : (most : ℕ) → most < 2 ^ 32 → (asks : HostsAsk) (settings : Settings) (before : List Object) → settings.transport ≡ L2cap →
+    (let set = over_stored asks settings before in (talk_a talk_b : List Talk) (a : Host ClientProfile) (b : Host ServerProfile)
+    (near : TalksFed (client_profile settings) (asks.clients settings) talk_a a) (far : TalksFed (server_profile settings set.content) (asks.servers settings set.content) talk_b b)
+    → AreTwined set (λ k. k) near.so.lives.spans near.so.lives.now near.so.lives.feeds (client_profile settings).first a.profile far.so.lives.spans far.so.lives.now far.so.lives.feeds (server_profile settings set.content).first b.profile near.fed far.fed
+    → AllByRecursion (BeginsAtMost most) near.so.lives.feeds
+    → Pushes (Offered None most) (served_from settings set.content (server_profile settings set.content).first far.so.lives.feeds) (names_begun (pushed_from settings (client_profile settings).first near.so.lives.feeds)))
+links_any most fits asks settings before direct talk_a talk_b a b near far twined small =
+    let A = client_profile settings in
+    links_pushed None most fits asks settings before direct talk_a talk_b a b near far twined small
+    (given_any most (pushed_from settings A.first near.so.lives.feeds) A.first.client (clients_are_answered most settings A.first near.so.lives.feeds small))
 
-all_pushes : (pushes : List Push) → AllByRecursion (Offered most_octets) pushes → AllByRecursion IsPushed pushes
+is_pushed : (push : Push) → Offered None most_octets push → IsPushed push
+is_pushed push (offered, bounded, of) = record { offered = offered; bounded = bounded }
+
+all_pushes : (pushes : List Push) → AllByRecursion (Offered None most_octets) pushes → AllByRecursion IsPushed pushes
 all_pushes [] all = tt
 all_pushes (push ∷ pushes) all = (is_pushed push all.0, all_pushes pushes all.1)
 
-all_offered : (most : ℕ) (pushes : List Push) → AllByRecursion (Offered most) pushes → AllByRecursion IsOffered pushes
-all_offered most [] all = tt
-all_offered most (push ∷ pushes) all = (all.0.0, all_offered most pushes all.1)
+pub all_offered : (shelf : Option (List Object)) (most : ℕ) (pushes : List Push) → AllByRecursion (Offered shelf most) pushes → AllByRecursion IsOffered pushes
+all_offered shelf most [] all = tt
+all_offered shelf most (push ∷ pushes) all = (all.0.0, all_offered shelf most pushes all.1)
 
 pub requests_of_links_are_heard : RequestsOfLinksAreHeard
 requests_of_links_are_heard asks settings before direct talk_a talk_b a b near far so none =
     let set = over_stored asks settings before in
     let B = server_profile settings set.content in
-    let all = links_pushed most_octets (omega arith) asks settings before direct talk_a talk_b a b near far so.twined so.small in
+    let all = links_any most_octets (omega arith) asks settings before direct talk_a talk_b a b near far so.twined so.small in
     let heard = requests-are_heard settings before all.pushes all.last (all_pushes all.pushes all.pushed) (is_pushed all.last all.last_pushed)
     (subst (AllServeDirectly AllGranted (new_over settings before)) all.is (serve_all AllGranted settings set.content far.so.lives.feeds B.first so.granted none)) in
     subst (AllMayCome settings [] (new_over settings before)) (sym all.is) heard
@@ -281,12 +311,12 @@ pub links_offered : (Are : List Answer → Type 0) (asks : HostsAsk) (settings :
 links_offered Are asks settings before direct talk_a talk_b a b near far so none =
     let set = over_stored asks settings before in
     let B = server_profile settings set.content in
-    let all = links_pushed longest_octets (omega arith) asks settings before direct talk_a talk_b a b near far so.twined so.small in
+    let all = links_any longest_octets (omega arith) asks settings before direct talk_a talk_b a b near far so.twined so.small in
     record {
       pushes = all.pushes;
       last = all.last;
       is = all.is;
-      offered = all_offered longest_octets all.pushes all.pushed;
+      offered = all_offered None longest_octets all.pushes all.pushed;
       last_offered = all.last_pushed.0;
       serve = subst (AllServeDirectly Are (new_over settings before)) all.is (serve_all Are settings set.content far.so.lives.feeds B.first so.answers none);
     }

@@ -1,5 +1,5 @@
 -- In each run over RFCOMM each request is heard, where nothing is asked of what both hosts hear.
-use Rattle.std.proofs.Common.{◌≡◌, ℕ, suc, true, false, List, [], ◌∷◌, refl, sym, subst, ◌∙◌}
+use Rattle.std.proofs.Common.{◌≡◌, ℕ, suc, true, false, List, [], ◌∷◌, Option, None, refl, sym, subst, ◌∙◌}
 use Rattle.std.specs.Prelude.{get_or}
 use Rattle.std.specs.List.{AllByRecursion}
 use Rattle.bt_base.specs.declared.settings.Settings.{Settings}
@@ -19,6 +19,7 @@ use Rattle.push_model.specs.Laws.{Deed, Hears, Asks, Finishes, Cancels, done}
 use Rattle.push_model.specs.Server.{object_psm, rfcomm_psm}
 use Rattle.push_model.specs.Steps.{Step, Wait, MakeLink, AskFeatures, OpenChannel, SendSdu, CloseChannel, BreakLink, Ended, NoMemory, steps}
 use Rattle.push_laws.specs.Laws.{new_over}
+use Rattle.push_laws.specs.Parties.{Push}
 use Rattle.push_laws.specs.Premises.{AllGranted, AllMayCome}
 use Rattle.push_laws.specs.Searches.{AllServe, IsPushedOver}
 use Rattle.push_laws.proofs.Pushed.{pushed-are_heard}
@@ -34,9 +35,11 @@ use Rattle.host_laws.specs.Fed.{FedSpan, behind_span, AreFed}
 use Rattle.host_laws.specs.Feeds.{Feed, Gifts, Learns, Receives, Happens, Sent, Steps, fed}
 use Rattle.host_laws.specs.Lives.{Span}
 use Rattle.host_laws.specs.OneOnLinks.{CarriesOneOn}
+use Rattle.host_laws.specs.Openings.{names_begun}
 use Rattle.host_laws.specs.OverLinks.{AreTimely}
-use Rattle.host_laws.specs.Pushing.{Affair, Begins, Does, client_after, link_asked, then_ends, then_calls, pushed_with, pushed_from}
+use Rattle.host_laws.specs.Pushing.{Affair, Begins, Does, client_after, link_asked, then_ends, then_calls, pushed_with, pushed_from, AllAsked}
 use Rattle.host_laws.specs.Serving.{served_from}
+use Rattle.host_laws.specs.ShelfAnswers.{IsGiven}
 use Rattle.host_laws.specs.Woven.{Woven, turned}
 use Rattle.host_laws.proofs.Answered.{clients_are_answered}
 use Rattle.host_laws.proofs.InOrder.{asks-nothing}
@@ -49,7 +52,7 @@ use Rattle.pair_laws.specs.Within.{BothSendWithin}
 use Rattle.pair_laws.proofs.Pairing.{runs-keep_order, granted-keep_order}
 use Rattle.pair_laws.proofs.PlainPipes.{plain-pairs_are_pipes}
 use Rattle.pair_laws.proofs.Taking.{clients_within, servers_within, pairs-are_carried}
-use Rattle.request_laws.specs.BothFed.{AllAsked, InboxAnswers, OfLink, AreLinked, over_stored}
+use Rattle.request_laws.specs.BothFed.{InboxAnswers, OfLink, AreLinked, over_stored}
 use Rattle.request_laws.specs.GainsCarried.{AllAreHeard}
 use Rattle.request_laws.specs.ObjectPipes.{OpensOn}
 use Rattle.request_laws.specs.SpellableClients.{IsOfOctets, BringsOctets, SpellsAll}
@@ -65,7 +68,8 @@ use Rattle.request_laws.proofs.Joining.{lift}
 use Rattle.request_laws.proofs.Linked.{runs_are_linked}
 use Rattle.request_laws.proofs.MuxHeard.{GoodMux, serve_from}
 use Rattle.request_laws.proofs.MuxPackets.{all_packets}
-use Rattle.request_laws.proofs.MuxPushed.{IsFramed, IsSo, all-so, goes-on, TrueTwined, no-push, one-push, serves-so}
+use Rattle.request_laws.proofs.Objects.{given_any}
+use Rattle.request_laws.proofs.MuxPushed.{IsFramed, IsSo, IsHeldOver, all-so, goes-on, TrueTwined, no-push, one-push, serves-so}
 use Rattle.request_laws.proofs.OctetsHeard.{near-utters, far-utters, both-octets}
 use Rattle.request_laws.proofs.Paired.{lists_of}
 use Rattle.request_laws.proofs.Pushes.{Pushes, made}
@@ -188,6 +192,10 @@ module _ (set : Set) where
               (λ k. at_a (suc (suc k))) (λ k. at_b (suc (suc k))) more,
         )
 
+pub all_over : (shelf : Option (List Object)) (pushes : List Push) → AllByRecursion (IsHeldOver shelf) pushes → AllByRecursion IsPushedOver pushes
+all_over shelf [] all = tt
+all_over shelf (push ∷ pushes) all = (all.0.0, all_over shelf pushes all.1)
+
 -- ---- of a run
 
 module _ (scenario : Scenario) (before : List Object) (capture : List Entry) (ran : Ran scenario (holding before) capture) (muxed : scenario.settings.transport ≡ Rfcomm) (order : PairsKeepOrder both_ask scenario (holding before) capture ran) where
@@ -224,10 +232,11 @@ module _ (scenario : Scenario) (before : List Object) (capture : List Entry) (ra
         direct = stays-true object_psm settings (holding before) refl (near number) (far number) pair plain carried near_said far_said client server client_none server_none all.twists all.joints_are;
       }
 
-  -- all that happened to host b is a list of pushes
-  pub pushed_over : AllByRecursion GivesOctets order.turns.pairs.a.fed.so.lives.feeds → AllByRecursion (BeginsAtMost longest_octets) order.turns.pairs.a.fed.so.lives.feeds
-      → Pushes IsPushedOver (served_from scenario.settings (holding before) (serving scenario.settings before).first order.turns.pairs.b.fed.so.lives.feeds)
-  pushed_over given small =
+  -- all that happened to host b is a list of pushes, of objects of the shelf where that tells what it holds
+  pub held_over : (shelf : Option (List Object)) → AllByRecursion GivesOctets order.turns.pairs.a.fed.so.lives.feeds → AllByRecursion (BeginsAtMost longest_octets) order.turns.pairs.a.fed.so.lives.feeds
+      → AllAsked (IsGiven shelf) (pushed_from scenario.settings (client_profile scenario.settings).first order.turns.pairs.a.fed.so.lives.feeds) (client_profile scenario.settings).first.client
+      → Pushes (IsHeldOver shelf) (served_from scenario.settings (holding before) (serving scenario.settings before).first order.turns.pairs.b.fed.so.lives.feeds) (names_begun (pushed_from scenario.settings (client_profile scenario.settings).first order.turns.pairs.a.fed.so.lives.feeds))
+  held_over shelf octets_given small given =
       let settings = scenario.settings in
       let A = client_profile settings in
       let B = serving settings before in
@@ -236,12 +245,21 @@ module _ (scenario : Scenario) (before : List Object) (capture : List Entry) (ra
       let b = pairs.b.fed.so in
       let octets = both-octets scenario before capture ran order in
       let first : GoodMux settings A.first.client = record { good = good_first settings Rfcomm muxed; numbers = (refl, refl, refl) } in
-      let framed = all_framed (pushed_from settings A.first a.lives.feeds) A.first.client (client_frames_are_read.first settings) (affairs_hear settings a.lives.feeds A.first octets.a) (affairs-given settings a.lives.feeds A.first given tt) in
-      let so = all-so (pushed_from settings A.first a.lives.feeds) A.first.client (clients_are_answered longest_octets settings A.first a.lives.feeds small) framed in
+      let framed = all_framed (pushed_from settings A.first a.lives.feeds) A.first.client (client_frames_are_read.first settings) (affairs_hear settings a.lives.feeds A.first octets.a) (affairs-given settings a.lives.feeds A.first octets_given tt) in
+      let so = all-so shelf (pushed_from settings A.first a.lives.feeds) A.first.client (clients_are_answered longest_octets settings A.first a.lives.feeds small) given framed in
       let linked = all_true set near far on_each (λ k. k) a.lives.spans a.lives.now a.lives.feeds A.first ran.world.a.upper.profile b.lives.spans b.lives.now b.lives.feeds B.first ran.world.b.upper.profile
       pairs.a.fed.fed pairs.b.fed.fed (λ k. refl) (λ k. refl) (runs_are_linked both_ask scenario before capture ran order.turns) in
-      made set IsSo (GoodMux settings) IsPushedOver (TrueTwined set) (goes-on settings) (one-push set muxed) (no-push settings muxed set) (λ k. k) a.lives.spans a.lives.now a.lives.feeds A.first ran.world.a.upper.profile
+      made set (IsSo shelf) (GoodMux settings) (IsHeldOver shelf) (TrueTwined set) (goes-on shelf settings) (one-push shelf set muxed) (no-push shelf settings muxed set) (λ k. k) a.lives.spans a.lives.now a.lives.feeds A.first ran.world.a.upper.profile
       b.lives.spans b.lives.now b.lives.feeds B.first ran.world.b.upper.profile pairs.a.fed.fed pairs.b.fed.fed linked (subst (AreTimely false) (sym a.lives.marks_are) a.timely) (subst (AreTimely false) (sym b.lives.marks_are) b.timely) refl first so
+
+  pub pushed_over : AllByRecursion GivesOctets order.turns.pairs.a.fed.so.lives.feeds → AllByRecursion (BeginsAtMost longest_octets) order.turns.pairs.a.fed.so.lives.feeds
+      → Pushes IsPushedOver (served_from scenario.settings (holding before) (serving scenario.settings before).first order.turns.pairs.b.fed.so.lives.feeds) (names_begun (pushed_from scenario.settings (client_profile scenario.settings).first order.turns.pairs.a.fed.so.lives.feeds))
+  pushed_over given small =
+      let settings = scenario.settings in
+      let A = client_profile settings in
+      let feeds = order.turns.pairs.a.fed.so.lives.feeds in
+      let all = held_over None given small (given_any longest_octets (pushed_from settings A.first feeds) A.first.client (clients_are_answered longest_octets settings A.first feeds small)) in
+      record { pushes = all.pushes; last = all.last; pushed = all_over None all.pushes all.pushed; last_pushed = all.last_pushed.0; is = all.is; named = all.named }
 
   -- what goes is what host b lends, and its inbox answers so
   pub serves_over : (Are : List Answer → Type 0) → AllByRecursion (InboxAnswers Are) order.turns.pairs.b.fed.so.lives.feeds

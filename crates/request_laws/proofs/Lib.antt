@@ -10,6 +10,7 @@ pub mod Lending
 pub mod Timely
 pub mod Between
 pub mod Opening
+pub mod Objects
 pub mod Pushes
 pub mod Heard
 pub mod Joining
@@ -43,6 +44,7 @@ pub mod ResponseOctets
 pub mod SpellableServers
 pub mod AllSizes
 pub mod Losing
+pub mod ShelfPushes
 pub mod LendingOctets
 pub mod Moved
 pub mod ReadLinks
@@ -57,3 +59,5 @@ pub mod FaultsGiven
 pub mod LessHeard
 pub mod Scripts
 pub mod GivenOctets
+mod Quiet
+pub mod AsTold

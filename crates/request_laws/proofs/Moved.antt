@@ -44,10 +44,11 @@ use Rattle.host_laws.specs.Serving.{news_served, event_served, lent_by, served_f
 use Rattle.host_laws.specs.Woven.{Strand, Hearing, Giving, Firing, Telling, Gifting, Learning, Checking, Stepping, strand_list, strand_profile, woven_list}
 use Rattle.host_laws.proofs.Asking.{hosts_ask}
 use Rattle.host_laws.proofs.Gaining.{found_in}
+use Rattle.host_laws.proofs.StrandsFed.{strand_so}
 use Rattle.request_laws.specs.BothFed.{ComesNone}
 use Rattle.request_laws.specs.Streams.{come_on, gone_on}
 use Rattle.request_laws.proofs.Accepted.{Accepted, Opened, opened-stays, opened-open, OpenedUp, opened-up, up-stays}
-use Rattle.request_laws.proofs.Feeding.{all_both, strand_so, served-both, event_shape, news_shape, lent_shape}
+use Rattle.request_laws.proofs.Feeding.{all_both, served-both, event_shape, news_shape, lent_shape}
 use Rattle.request_laws.proofs.ServerTakes.{Open, Sure, strand_open, strand_goes, told_goes, news_go}
 use Rattle.request_laws.proofs.Sole.{CarriesPackets, is_of, for_of, sole}
 use Rattle.request_laws.proofs.Takes.{takes_from, run_more, value_behind, AllEndpoints}

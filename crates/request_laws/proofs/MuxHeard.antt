@@ -31,6 +31,8 @@ use Rattle.push_laws.specs.Opening.{targets_by, targets_heard}
 use Rattle.push_laws.specs.Parties.{Move, server_side, client_side, Push}
 use Rattle.push_laws.specs.Premises.{AllGranted, AllMayCome}
 use Rattle.push_laws.specs.Sending.{AllAnswer}
+use Rattle.push_laws.specs.Spelled.{name_by}
+use Rattle.push_laws.proofs.Among.{name_among}
 use Rattle.push_laws.proofs.Carried.{carried-are_heard}
 use Rattle.push_laws.proofs.Staying.{multiplexers-stay}
 use Rattle.world_model.specs.Machines.{News, Linked, Up, Down, Failed, Heard, TimerFired, Cancelled, Opening}
@@ -43,12 +45,12 @@ use Rattle.shelf_model.specs.Held.{longest_octets}
 use Rattle.host_laws.specs.Answered.{IsSmall, IsAnswered, AllAnswered}
 use Rattle.host_laws.specs.Feeds.{Feed, Gifts, Learns, Receives, Happens, Sent, Steps, fed}
 use Rattle.host_laws.specs.OverLinks.{AreTimely}
-use Rattle.host_laws.specs.Pushing.{Affair, Begins, Does, client_after}
+use Rattle.host_laws.specs.Pushing.{Affair, Begins, Does, client_after, AllAsked}
 use Rattle.host_laws.specs.Serving.{news_served, event_served, taken_by, lent_by, served_with, served_from, reacted}
 use Rattle.host_laws.specs.Woven.{Strand}
 use Rattle.host_laws.proofs.Answered.{clients_are_answered}
 use Rattle.host_laws.proofs.Serving.{feed_done}
-use Rattle.request_laws.specs.BothFed.{AllAsked, InboxAnswers, over_stored}
+use Rattle.request_laws.specs.BothFed.{InboxAnswers, over_stored}
 use Rattle.request_laws.specs.Carried.{frames_over, IsReadSo, NoneComesBehind, IsGoneThrough}
 use Rattle.request_laws.specs.MuxFed.{IsMuxAsked, SaysSo, AllSaySo, MuxTwined, CarriedRequestsAreHeard}
 use Rattle.request_laws.specs.Twists.{of_client, Set, new_both, all_deeds, all_moves, OpensNone}
@@ -56,6 +58,7 @@ use Rattle.request_laws.proofs.Beginning.{Good, may_push, good_affair, good_firs
 use Rattle.request_laws.proofs.Feeding.{IsDeed, all_ahead}
 use Rattle.request_laws.proofs.MuxCarrying.{carriage_behind, carried_both, stay_client, stay_quiet, over_both, read_more, link_stays, none_are_carried, still_carriage, silent_carriage}
 use Rattle.request_laws.proofs.Piping.{moved, server_both, client_both, by_client, by_server, client_moved, server_moved, client_of_client, server_of_client, server_of_server, client_of_server, still_quiet}
+use Rattle.request_laws.proofs.Objects.{answers_both}
 use Rattle.request_laws.proofs.Pushes.{map_deeds, all_does, pushed_on, served_on, server_on, client_on, deeds_on, IsOne, IsNone, silent_up, done_both, made}
 
 -- ---- a client over RFCOMM
@@ -127,13 +130,9 @@ targets_both [] ys client = refl
 targets_both (x ∷ xs) ys client =
     ap (λ (l : List Target). targets_by x client ++ l) (targets_both xs ys (push.done x client)) ∙ sym (append_assoc (targets_by x client) (targets_heard xs (push.done x client)) (targets_heard ys (all_done xs (push.done x client))))
 
-pub answers_both : (xs ys : List Deed) (client : Client) → AllAnswer None xs client → AllAnswer None ys (all_done xs client) → AllAnswer None (xs ++ ys) client
-answers_both [] ys client one two = two
-answers_both (x ∷ xs) ys client one two = (one.0, answers_both xs ys (push.done x client) one.1 two)
-
 so_both : (xs ys : List Deed) (client : Client) → DeedsSo xs client → DeedsSo ys (all_done xs client) → DeedsSo (xs ++ ys) client
 so_both xs ys client one two = record {
-  answers = answers_both xs ys client one.answers two.answers;
+  answers = answers_both None xs ys client one.answers two.answers;
   named = subst NameServer (sym (targets_both xs ys client)) (named_both (targets_heard xs client) (targets_heard ys (all_done xs client)) one.named two.named);
   read = subst (AllByRecursion IsReadSo) (sym (over_both xs ys client)) (read_more (frames_over xs client) (frames_over ys (all_done xs client)) one.read two.read);
 }
@@ -174,6 +173,7 @@ module _ (settings : Settings) (muxed : settings.transport ≡ Rfcomm) where
       let small : IsSmall longest_octets (Ok 0) [] = record { short = no_units; bounded = λ count is. none_left count is } in
       record {
         push = record { client = client; name = []; size = 0; content = None; moves = by_server occurrences };
+        named = ap (λ (l : List Deed). name_by l []) (client_of_server occurrences);
         pushed = carried_push client [] 0 (by_server occurrences) good small
             (subst (λ (l : List Deed). DeedsSo l (with_object [] 0 client)) (sym (client_of_server occurrences)) (record { answers = tt; named = tt; read = tt }))
             (stay_quiet occurrences (with_object [] 0 client) no_carriage none_are_carried quiet);
@@ -188,7 +188,7 @@ module _ (settings : Settings) (muxed : settings.transport ≡ Rfcomm) where
 
 module _ (set : Set) (muxed : set.settings.transport ≡ Rfcomm) where
   one_push : IsOne set IsSo (GoodMux set.settings) (IsCarried set.settings) (MuxTwined set)
-  one_push client server ahead tail near far start good still quiet twined asked =
+  one_push client server names ahead tail near far start good still quiet twined asked =
       let begun = with_object start.name start.size start.old in
       let both = new_both client server in
       let deeds = start.deeds ++ Hears events.LinkUp ∷ [] in
@@ -241,6 +241,7 @@ module _ (set : Set) (muxed : set.settings.transport ≡ Rfcomm) where
       ∙ (server_both third last ∙ ap₂ (λ (a b : List Occurrence). a ++ b) served_is (server_of_server tail))))) in
       record {
         push = record { client = start.old; name = start.name; size = start.size; content = None; moves = moves };
+        named = name_among (client_side moves) start.name names start.named;
         pushed = carried_push set.settings muxed start.old start.name start.size moves start.good start.begins.answered so stay_first;
         is = server_is;
       }

@@ -26,11 +26,12 @@ use Rattle.host_laws.specs.Feeds.{Feed}
 use Rattle.host_laws.specs.Lives.{Span}
 use Rattle.host_laws.specs.OneCarrier.{IsFor}
 use Rattle.host_laws.specs.Serving.{served_from}
+use Rattle.host_laws.proofs.StrandsFed.{here_so, span_so}
 use Rattle.request_laws.specs.BothFed.{ComesNone}
 use Rattle.request_laws.specs.HandedUp.{handed_for}
 use Rattle.host_laws.specs.OneOnLinks.{CarriesOneOn}
 use Rattle.request_laws.proofs.Accepted.{all-opened}
-use Rattle.request_laws.proofs.Feeding.{here_so, span_so, served-both, all_both, down_served}
+use Rattle.request_laws.proofs.Feeding.{served-both, all_both, down_served}
 use Rattle.request_laws.proofs.HandedUp.{none_flat, objects_are_handed_up}
 use Rattle.request_laws.proofs.OnPsm.{come_is}
 use Rattle.request_laws.proofs.Paired.{lists_of}

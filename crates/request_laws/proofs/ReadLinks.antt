@@ -52,12 +52,13 @@ use Rattle.host_laws.specs.Woven.{Strand, Hearing, Giving, Firing, Telling, Gift
 use Rattle.host_laws.proofs.Asking.{hosts_ask}
 use Rattle.scenario_laws.specs.Coming.{out_of, FallTo}
 use Rattle.scenario_laws.proofs.Gaining.{all-out}
+use Rattle.host_laws.proofs.StrandsFed.{strand_so, here_so, span_so}
 use Rattle.request_laws.specs.BothFed.{IsDown}
 use Rattle.request_laws.specs.Carried.{NoneComesBehind}
 use Rattle.request_laws.specs.Streams.{come_on}
 use Rattle.request_laws.proofs.Behind.{muxes_end_last}
 use Rattle.request_laws.proofs.Between.{between_still}
-use Rattle.request_laws.proofs.Feeding.{all_both, all_ahead, strand_so, here_so, span_so, served-both}
+use Rattle.request_laws.proofs.Feeding.{all_both, all_ahead, served-both}
 use Rattle.request_laws.proofs.Moved.{moves_in, link-moves}
 use Rattle.request_laws.proofs.Paired.{lists_of}
 use Rattle.request_laws.proofs.ServerTakes.{none-said}

@@ -1,21 +1,22 @@
 -- What the shelf told and the inbox answered, as it is said of all that a host went through.
-use Rattle.std.proofs.Common.{ℕ, List, [], ◌∷◌, Option}
+use Rattle.std.proofs.Common.{ℕ, List, [], ◌∷◌, Option, None}
 use Rattle.std.specs.List.{AllByRecursion}
 use Rattle.bt_base.specs.Objects.{Object}
 use Rattle.obex_session.specs.InboxCalls.{Answer}
 use Rattle.world_model.specs.Machines.{News, Linked, Failed, Heard, TimerFired, Cancelled, Opening}
-use Rattle.host_model.specs.Circumstances.{Circumstance, answers_in}
-use Rattle.shelf_model.specs.Held.{longest_octets}
+use Rattle.host_model.specs.Circumstances.{Circumstance, Excerpt, parts_in, answers_in}
+use Rattle.shelf_model.specs.Held.{longest_octets, IsHeld}
+use Rattle.shelf_model.proofs.Sizes.{held_any}
 use Rattle.host_laws.specs.Answered.{TellsAtMost, BeginsAtMost}
 use Rattle.host_laws.specs.Feeds.{Feed, Gifts, Learns, Receives, Happens, Sent, Steps}
 use Rattle.host_laws.specs.Gifts.{gifts_of}
-use Rattle.pair_laws.specs.Served.{TellsOf, AnswersOf}
+use Rattle.host_laws.specs.ShelfAnswers.{TellsSizeOf, AnswersOf}
 use Rattle.request_laws.specs.BothFed.{InboxAnswers}
 use Rattle.request_laws.specs.TogetherHeard.{GivesOctets}
 
 -- ---- the shelf
 
-few_told : (shelf : Option (List Object)) (circumstances : List Circumstance) (news : News) → TellsOf shelf circumstances news → TellsAtMost longest_octets circumstances news
+few_told : (shelf : Option (List Object)) (circumstances : List Circumstance) (news : News) → TellsSizeOf shelf circumstances news → TellsAtMost longest_octets circumstances news
 few_told shelf circumstances (Linked event) told = tt
 few_told shelf circumstances (Failed status) told = tt
 few_told shelf circumstances (Heard pdu) told = tt
@@ -24,7 +25,7 @@ few_told shelf circumstances Cancelled told = tt
 few_told shelf circumstances (Opening name) told = λ size is. (told size is).0
 
 -- what follows for each of all that the client went through
-module _ (most : ℕ) (shelf : Option (List Object)) (tells : (circumstances : List Circumstance) (news : News) → TellsOf shelf circumstances news → TellsAtMost most circumstances news) where
+module _ (most : ℕ) (shelf : Option (List Object)) (tells : (circumstances : List Circumstance) (news : News) → TellsSizeOf shelf circumstances news → TellsAtMost most circumstances news) where
   pub all_tell : (feeds : List Feed) → AllByRecursion (AnswersOf shelf) feeds → AllByRecursion (BeginsAtMost most) feeds
   all_tell [] all = tt
   all_tell (Gifts circumstances ∷ feeds) all = (tt, all_tell feeds all.1)
@@ -38,9 +39,13 @@ module _ (most : ℕ) (shelf : Option (List Object)) (tells : (circumstances : L
 pub none_longer : (shelf : Option (List Object)) (feeds : List Feed) → AllByRecursion (AnswersOf shelf) feeds → AllByRecursion (BeginsAtMost longest_octets) feeds
 none_longer shelf feeds all = all_tell longest_octets shelf (few_told shelf) feeds all
 
+all_octets : (shelf : Option (List Object)) (excerpts : List Excerpt) → AllByRecursion (IsHeld shelf) excerpts → AllByRecursion (IsHeld None) excerpts
+all_octets shelf [] all = tt
+all_octets shelf (excerpt ∷ excerpts) all = (held_any shelf excerpt.name excerpt.at excerpt.answer all.0, all_octets shelf excerpts all.1)
+
 pub gives_octets : (shelf : Option (List Object)) (feeds : List Feed) → AllByRecursion (AnswersOf shelf) feeds → AllByRecursion GivesOctets feeds
 gives_octets shelf [] all = tt
-gives_octets shelf (Gifts circumstances ∷ feeds) all = (all.0, gives_octets shelf feeds all.1)
+gives_octets shelf (Gifts circumstances ∷ feeds) all = (all_octets shelf (parts_in circumstances) all.0, gives_octets shelf feeds all.1)
 gives_octets shelf (Learns circumstances news ∷ feeds) all = (tt, gives_octets shelf feeds all.1)
 gives_octets shelf (Receives own psm sdu ∷ feeds) all = (tt, gives_octets shelf feeds all.1)
 gives_octets shelf (Happens event v ∷ feeds) all = (tt, gives_octets shelf feeds all.1)

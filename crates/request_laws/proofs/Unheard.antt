@@ -20,8 +20,9 @@ use Rattle.host_laws.specs.Serving.{event_served, lent_by, served_from}
 use Rattle.host_laws.specs.Woven.{Strand, Hearing, Giving, Firing, Telling, Gifting, Learning, Checking, Stepping, strand_list, strand_profile, woven_list}
 use Rattle.pair_laws.specs.Orders.{first_come, given_as, damaged_come, occurs_by, Joint, AtNear, AtFar, near_in, far_in, joints_with, joints_at, joints_from}
 use Rattle.pair_laws.specs.Pairs.{PairOnLink}
+use Rattle.host_laws.proofs.StrandsFed.{strand_so, span_so}
 use Rattle.request_laws.specs.BothFed.{ComesNone}
-use Rattle.request_laws.proofs.Feeding.{all_both, all_ahead, served-both, strand_so, span_so, news_shape, event_shape, lent_shape, up_served}
+use Rattle.request_laws.proofs.Feeding.{all_both, all_ahead, served-both, news_shape, event_shape, lent_shape, up_served}
 use Rattle.request_laws.proofs.Timely.{HearsNothing}
 
 -- ---- one end at which nothing happens

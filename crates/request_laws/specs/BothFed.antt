@@ -6,7 +6,6 @@ use Rattle.bt_base.specs.declared.settings.Transport.TheVariants.{L2cap}
 use Rattle.bt_base.specs.Objects.{Object}
 use Rattle.channel_laws.specs.Runs as channels
 use Rattle.obex_session.specs.InboxCalls.{Answer}
-use Rattle.push_model.specs.Client.{Client}
 use Rattle.push_laws.specs.Laws.{new_over}
 use Rattle.push_laws.specs.Occurrences.{Occurrence}
 use Rattle.obex_session.specs.InboxCalls.{Answer}
@@ -23,7 +22,6 @@ use Rattle.host_laws.specs.Fed.{FedSpan, behind_span, AreFed, TalksFed}
 use Rattle.host_laws.specs.Feeds.{Feed, Gifts, Learns, Receives, Happens, Sent, Steps}
 use Rattle.host_laws.specs.Gaining.{IsDirect}
 use Rattle.host_laws.specs.Lives.{Span}
-use Rattle.host_laws.specs.Pushing.{Affair, client_after}
 use Rattle.host_laws.specs.Serving.{served_from}
 use Rattle.host_laws.specs.Woven.{Woven}
 use Rattle.request_laws.specs.Streams.{come_on}
@@ -34,11 +32,6 @@ use Rattle.request_laws.specs.Twists.{Set, Twined}
 -- a server takes objects of so many octets at most (this project's own)
 abbrev pub most_octets : ℕ
 most_octets = 16777215
-
--- so it is of each thing that happens to the client
-abbrev pub AllAsked : (Affair → Client → Type 0) → List Affair → Client → Type 0
-AllAsked Is [] client = Unit {0}
-AllAsked Is (one ∷ rest) client = Is one client × AllAsked Is rest (client_after one client)
 
 -- what the inbox is to answer is so
 abbrev pub InboxAnswers : (List Answer → Type 0) → Feed → Type 0

@@ -24,3 +24,5 @@ pub mod GainsCarried
 pub mod TogetherHeard
 pub mod Scripts
 pub mod LessHeard
+pub mod Spelled
+pub mod AsTold

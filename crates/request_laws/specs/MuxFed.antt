@@ -22,10 +22,10 @@ use Rattle.host_laws.specs.Answered.{BeginsAtMost}
 use Rattle.host_laws.specs.Calls.{HostsAsk}
 use Rattle.host_laws.specs.Fed.{TalksFed}
 use Rattle.host_laws.specs.Feeds.{Feed, Gifts, Learns, Receives, Happens, Sent, Steps, fed}
-use Rattle.host_laws.specs.Pushing.{Affair, Begins, Does, pushed_from}
+use Rattle.host_laws.specs.Pushing.{Affair, Begins, Does, pushed_from, AllAsked}
 use Rattle.host_laws.specs.Serving.{served_from}
 use Rattle.host_laws.specs.Woven.{Strand}
-use Rattle.request_laws.specs.BothFed.{AllAsked, GrantsAll, OfLink, AreLinked, over_stored}
+use Rattle.request_laws.specs.BothFed.{GrantsAll, OfLink, AreLinked, over_stored}
 use Rattle.request_laws.specs.Carried.{IsReadSo, NoneComesBehind}
 use Rattle.request_laws.specs.Streams.{no_streams, AllStayStreams}
 use Rattle.request_laws.specs.Twists.{Twist, of_client, of_server, Set, new_both, served_on, OpensNone}

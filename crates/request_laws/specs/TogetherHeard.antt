@@ -1,6 +1,6 @@
 -- What host b serves and its inbox gains in each run of a scenario over RFCOMM, where nothing is asked of what both hosts hear (Object Push
 -- Profile 1.2, 4.3; RFCOMM 1.2, 2.1 and 5.1; Core 5.1, Volume 3 Part B, 4.7).
-use Rattle.std.specs.Prelude.{◌≡◌, List, ◌++◌, Some}
+use Rattle.std.specs.Prelude.{◌≡◌, List, ◌++◌, Some, None}
 use Rattle.std.specs.List.{AllByRecursion}
 use Rattle.bt_base.specs.declared.settings.Transport.TheVariants.{Rfcomm}
 use Rattle.bt_base.specs.Objects.{Object}
@@ -12,7 +12,7 @@ use Rattle.link_talk.specs.Captures.{objects_heard}
 use Rattle.push_laws.specs.Laws.{stored_in}
 use Rattle.world_model.specs.Worlds.{all_words}
 use Rattle.host_model.specs.Circumstances.{parts_in}
-use Rattle.shelf_model.specs.Held.{longest_octets, IsPartOctets}
+use Rattle.shelf_model.specs.Held.{longest_octets, IsHeld}
 use Rattle.host_laws.specs.Answered.{BeginsAtMost}
 use Rattle.host_laws.specs.Calls.{HostsAsk}
 use Rattle.host_laws.specs.Feeds.{Feed, Gifts, Learns, Receives, Happens, Sent, Steps}
@@ -24,9 +24,9 @@ use Rattle.pair_laws.specs.Keeping.{LosesNothing, PairsKeepOrder}
 use Rattle.request_laws.specs.BothFed.{GrantsAll}
 use Rattle.request_laws.specs.GainsCarried.{AllAreHeard}
 
--- a part of an object that the shelf gave are octets
+-- the excerpts of objects that the shelf gave are octets, whatever it holds
 abbrev pub GivesOctets : Feed → Type 0
-GivesOctets (Gifts circumstances) = AllByRecursion IsPartOctets (parts_in circumstances)
+GivesOctets (Gifts circumstances) = AllByRecursion (IsHeld None) (parts_in circumstances)
 GivesOctets (Learns circumstances news) = Unit {0}
 GivesOctets (Receives own psm sdu) = Unit {0}
 GivesOctets (Happens event v) = Unit {0}

@@ -3,6 +3,7 @@
 
 ghost use Rattle.request_laws.specs.AllSizes.{LinksGainAll, RunsGainAll};
 ghost use Rattle.request_laws.specs.Losing.{LinksGainLess, RunsGainLess};
+ghost use Rattle.request_laws.specs.AsTold.{RunsUseService};
 ghost use Rattle.request_laws.specs.Alternating.{LinksAlternate};
 ghost use Rattle.request_laws.specs.Behind.{NothingComesBehind};
 ghost use Rattle.request_laws.specs.BothFed.{RequestsOfLinksAreHeard};
@@ -23,6 +24,7 @@ ghost use Rattle.request_laws.specs.Scripts.{ScriptsLoseNothing};
 ghost use Rattle.request_laws.specs.Spellable.{FramesAreSpellable};
 ghost use Rattle.request_laws.specs.SpellableClients.{ClientFramesAreRead};
 ghost use Rattle.request_laws.specs.SpellableServers.{ServerFramesAreSaid};
+ghost use Rattle.request_laws.specs.Spelled.{RunsSpellPushed};
 ghost use Rattle.request_laws.specs.TogetherHeard.{RunsServeHeard, RunsServeHeardGranted};
 ghost use Rattle.request_laws.specs.Together.{RunsServeTogether};
 
@@ -198,4 +200,17 @@ pub fn runs_gain_less()
 /// a word is no scenario's.
 pub fn scripts_lose_nothing()
     ensures { ScriptsLoseNothing }
+{}
+
+/// In each run, over either transport and wherever it broke off, the objects that the capture spells to host b are what the shelf holds under names of the
+/// scenario, in their order: each whole, and of each name in the list once at most. That is so where the shelf tells what it holds and the inbox does not
+/// lack memory; over RFCOMM, where the words of the run lose, cut, repeat and damage nothing.
+pub fn runs_spell_pushed()
+    ensures { RunsSpellPushed }
+{}
+
+/// In each run, over either transport, wherever it broke off and whatever its ports answered: on each of its links host a asks for no channel, and opens, uses and
+/// closes no data link connection, but as an answer of service discovery told it there before.
+pub fn runs_use_service()
+    ensures { RunsUseService }
 {}

@@ -190,7 +190,7 @@ pdus_have_one_command scenario content capture sides.B ran = of_links (links sid
 -- ---- what a host heard, however it came to its links
 
 -- what came in
-abbrev IsTameInto : Pdu → Type 0
+abbrev pub IsTameInto : Pdu → Type 0
 IsTameInto pdu = pdu.flow ≡ Into → IsTame pdu.octets
 
 into_all : (list : List Pdu) → AreTamePdus list → AllByRecursion IsTameInto list
@@ -201,10 +201,10 @@ out_all : (pdus : List (List ℕ)) → AllByRecursion IsTameInto (map out_of pdu
 out_all [] = tt
 out_all (pdu ∷ pdus) = (λ is. cc, out_all pdus)
 
-abbrev IsTamePart : List Talk → Type 0
+abbrev pub IsTamePart : List Talk → Type 0
 IsTamePart part = AllByRecursion IsTameInto (flat_map pdus_in part)
 
-fallen : (list : List (List Talk)) (moved : List (List Pdu)) → FallTo list moved → AreTameLinks moved → AllByRecursion IsTamePart list
+pub fallen : (list : List (List Talk)) (moved : List (List Pdu)) → FallTo list moved → AreTameLinks moved → AllByRecursion IsTamePart list
 fallen [] moved fall tame = tt
 fallen (part ∷ list) moved (inl (none, rest)) tame = (subst (AllByRecursion IsTameInto) (sym none) tt, fallen list moved rest tame)
 fallen (part ∷ list) moved (inr (link, rest, unsent, is, part_is, fall)) tame =

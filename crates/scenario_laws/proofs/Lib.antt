@@ -36,3 +36,5 @@ pub mod Alone
 pub mod Rising
 pub mod Searched
 pub mod PlainRuns
+pub mod OneLink
+pub mod PushEnds

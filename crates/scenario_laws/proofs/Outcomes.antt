@@ -1,5 +1,5 @@
 -- The capture says how pushes ended.
-use Rattle.std.proofs.Common.{◌≡◌, ℕ, ◌+◌, ◌-◌, ◌≤◌, ◌<◌, Bool, true, false, cond, List, [], ◌∷◌, ◌++◌, length, replicate, Option, Some, None, unwrap_or, refl, sym, ap, ap₂, subst, ◌∙◌, arith, append_assoc, length-append}
+use Rattle.std.proofs.Common.{◌≡◌, ℕ, ◌+◌, ◌-◌, ◌≤◌, ◌<◌, Bool, true, false, cond, List, [], ◌∷◌, ◌++◌, length, replicate, Option, Some, None, if◌then◌else◌, unwrap_or, refl, sym, ap, ap₂, subst, ◌∙◌, arith, append_assoc, length-append}
 use Rattle.std.specs.List.{flat_map, slice_get}
 use Rattle.std.proofs.lemmas.List.{append-nil}
 use Rattle.std.proofs.lemmas.List.Concat.{flat_map-append}
@@ -16,6 +16,7 @@ use Rattle.radio_air.specs.Radio.{found}
 use Rattle.world_model.specs.Machines.{Upper}
 use Rattle.world_model.specs.Pushes.{Pushes, next_name, one_ended}
 use Rattle.world_model.specs.Worlds.{World, Happening, Tries, Departure, GivingBack, Piecemeal, Answering, Turns, Misses, Opens, Closes, Acts, Does, Runs, entries_of, all_entries}
+use Rattle.air_laws.proofs.Resting.{next_going}
 use Rattle.radio_world.specs.Standing.{last_ended, last_entries}
 use Rattle.scenario_laws.specs.Captures.{client_of, server_of, beginning}
 use Rattle.scenario_laws.specs.Outcomes.{outcome_of, outcomes_in, OutcomesAreStated}
@@ -32,16 +33,25 @@ acts_pushes {S} {T} U V FiresBoth old new (armed, g, h, same) = ap (λ (w : Worl
 acts_pushes {S} {T} U V Breaks old new same = ap (λ (w : World S T). w.pushes) same
 acts_pushes {S} {T} U V Cancels old new (may, g, same) = ap (λ (w : World S T). w.pushes) same
 
+-- whether a push goes on, as a number
+abbrev pub goes : Pushes → ℕ
+goes pushes = if pushes.going then 1 else 0
+
+-- each push that began has its outcome, but for the one that goes on
+abbrev pub IsEven : Pushes → Type 0
+IsEven pushes = length pushes.outcomes + goes pushes ≡ pushes.begun
+
 -- the pushes behind some entries
 pub record After (old : Pushes) (entries : List Entry) (new : Pushes) : Type 0 where
   begun_is : new.begun ≡ old.begun + pushes_begun entries
   outcomes_are : new.outcomes ≡ old.outcomes ++ outcomes_in entries
   pub names_are : new.names ≡ old.names
   few : old.begun ≤ length old.names → new.begun ≤ length new.names
+  pub even : IsEven old → IsEven new
 
 stays : (old new : Pushes) (entries : List Entry) → pushes_begun entries ≡ 0 → outcomes_in entries ≡ [] → new ≡ old → After old entries new
 stays old new entries none silent same =
-    subst (λ (p : Pushes). After old entries p) (sym same) (record { begun_is = omega (arith, none); outcomes_are = sym (append-nil old.outcomes) ∙ ap (λ (l : List Outcome). old.outcomes ++ l) (sym silent); names_are = refl; few = λ few. few })
+    subst (λ (p : Pushes). After old entries p) (sym same) (record { begun_is = omega (arith, none); outcomes_are = sym (append-nil old.outcomes) ∙ ap (λ (l : List Outcome). old.outcomes ++ l) (sym silent); names_are = refl; few = λ few. few; even = λ even. even })
 
 name_within : (pushes : Pushes) (name : List ℕ) → next_name pushes ≡ Some name → pushes.begun < length pushes.names
 name_within pushes name is = by pushes.going is
@@ -65,9 +75,13 @@ does_pushes {S} {T} U V (Turns ordinal word) old new (rest, is_word, count, mid,
 does_pushes {S} {T} U V (Misses word) old new (rest, nothing, same) = stays old.pushes new.pushes [] refl refl (ap (λ (w : World S T). w.pushes) same)
 does_pushes {S} {T} U V (Opens push name) old new (idle, next, count, g, same) =
     let within = name_within old.pushes name next in
-    subst (λ (w : World S T). After old.pushes (entries_of (Opens push name)) w.pushes) (sym same) (record { begun_is = refl; outcomes_are = sym (append-nil old.pushes.outcomes); names_are = refl; few = λ few. omega (arith, within) })
+    let still : goes old.pushes ≡ 0 = ap (λ (b : Bool). let n : ℕ = if b then 1 else 0 in n) (next_going old.pushes.going (slice_get old.pushes.names old.pushes.begun) name next) in
+    subst (λ (w : World S T). After old.pushes (entries_of (Opens push name)) w.pushes) (sym same) (record { begun_is = refl; outcomes_are = sym (append-nil old.pushes.outcomes); names_are = refl; few = λ few. omega (arith, within); even = λ even. omega (arith, still, even) })
 does_pushes {S} {T} U V (Closes push outcome) old new (going, count, idle, is, apart, none_a, none_b, quiet_a, quiet_b, same) =
-    subst (λ (w : World S T). After old.pushes (entries_of (Closes push outcome)) w.pushes) (sym same) (record { begun_is = omega arith; outcomes_are = refl; names_are = refl; few = λ few. few })
+    let on : goes old.pushes ≡ 1 = ap (λ (b : Bool). let n : ℕ = if b then 1 else 0 in n) going in
+    let more = length-append old.pushes.outcomes (outcome ∷ []) in
+    subst (λ (w : World S T). After old.pushes (entries_of (Closes push outcome)) w.pushes) (sym same)
+    (record { begun_is = omega arith; outcomes_are = refl; names_are = refl; few = λ few. few; even = λ even. omega (arith, on, more, even) })
 
 -- ---- a run
 
@@ -81,13 +95,14 @@ runs_pushes U V (happening ∷ happenings) old new (mid, does, runs) =
     let more = runs_pushes U V happenings mid new runs in
     let count = begun_more (entries_of happening) (all_entries happenings) in
     let first = one.begun_is in
-    let then = more.begun_is in
+    let later = more.begun_is in
     record {
-      begun_is = omega (arith, count, first, then);
+      begun_is = omega (arith, count, first, later);
       outcomes_are = more.outcomes_are ∙ (ap (λ (l : List Outcome). l ++ outcomes_in (all_entries happenings)) one.outcomes_are
           ∙ (append_assoc old.pushes.outcomes (outcomes_in (entries_of happening)) (outcomes_in (all_entries happenings)) ∙ ap (λ (l : List Outcome). old.pushes.outcomes ++ l) (sym (flat_map-append outcome_of (entries_of happening) (all_entries happenings)))));
       names_are = more.names_are ∙ one.names_are;
       few = λ few. more.few (one.few few);
+      even = λ even. more.even (one.even even);
     }
 
 -- ---- and its end

@@ -22,7 +22,7 @@ use Rattle.host_model.specs.Shelves.{size_for, name_for, unused}
 use Rattle.scenario_laws.proofs.Acting.{IsAside}
 use Rattle.scenario_laws.proofs.Unlinked.{Keeps}
 
-abbrev IsFree : Client → Type 0
+abbrev pub IsFree : Client → Type 0
 IsFree client = is_linked client.stage ≡ false
 
 -- and it waits for no SDU to be sent
@@ -32,7 +32,7 @@ pub record HasNoLink (pushing : ClientProfile) : Type 0 where
 
 -- ---- its steps
 
-abbrev IsAlone : Step → Type 0
+abbrev pub IsAlone : Step → Type 0
 IsAlone Wait = Unit {0}
 IsAlone MakeLink = Unit {0}
 IsAlone AskFeatures = ⊥
@@ -43,7 +43,7 @@ IsAlone BreakLink = ⊥
 IsAlone (Ended outcome) = Unit {0}
 IsAlone NoMemory = Unit {0}
 
-abbrev IsFreely : Stepped → Type 0
+abbrev pub IsFreely : Stepped → Type 0
 IsFreely one = IsAlone one.step × IsFree one.client
 
 end_free : (cause : Option Outcome) (client : Client) (parts : List Part) → IsFree client → IsFreely (tells_end cause client parts)
@@ -69,7 +69,7 @@ steps_by true given client parts free = (tt, free)
 steps_by false true client parts free = (tt, free)
 steps_by false false client parts free = at_free client.stage client parts free free
 
-steps_free : (client : Client) (parts : List Part) → IsFree client → IsFreely (steps client parts)
+pub steps_free : (client : Client) (parts : List Part) → IsFree client → IsFreely (steps client parts)
 steps_free client parts free = steps_by client.failed client.given client parts free
 
 end_by : (step : Step) (after before : Client) → IsFree after → IsFree before → IsFree (after_end step after before)

@@ -20,3 +20,5 @@ pub mod FreeClients
 pub mod Alone
 pub mod Searched
 pub mod PlainRuns
+pub mod OneLink
+pub mod PushEnds

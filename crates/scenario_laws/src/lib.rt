@@ -16,11 +16,13 @@ ghost use Rattle.scenario_laws.specs.Gentle.{FreeRestsAreLived, FreeRunsAreGentl
 ghost use Rattle.scenario_laws.specs.Gains.{FirstServersAreOrderly, GainsExactly, GainsOverEither, ServersAreRead};
 ghost use Rattle.scenario_laws.specs.Orderly.{ClientsAskOnce, HostsLiveOverLinks, ServersAreAskedOnce, ServersAreOrderly};
 ghost use Rattle.scenario_laws.specs.Keeping.{FreeServersKeepOn};
+ghost use Rattle.scenario_laws.specs.OneLink.{PushesHaveOneLink};
 ghost use Rattle.scenario_laws.specs.Onward.{PushesGoOnward};
 ghost use Rattle.scenario_laws.specs.Outcomes.{OutcomesAreStated};
 ghost use Rattle.scenario_laws.specs.Plain.{FreeHostsArePlain};
 ghost use Rattle.scenario_laws.specs.PlainRuns.{RunsArePlain};
 ghost use Rattle.scenario_laws.specs.Played.{CallsArePlayed, PlaysAreFinished, SetHostsAreHosts};
+ghost use Rattle.scenario_laws.specs.PushEnds.{PushesAreOfScenarios, PushesEnd};
 ghost use Rattle.scenario_laws.specs.Searched.{RunsSearch};
 ghost use Rattle.host_model.specs.Circumstances.{Circumstance};
 ghost use Rattle.world_model.specs.Machines.{Upper};
@@ -50,6 +52,21 @@ pub fn controllers_are_honest()
 /// Pushes are in turn, and the links of each lie within it.
 pub fn pushes_are_in_turn()
     ensures { PushesAreInTurn }
+{}
+
+/// Since a push began each host was told of one link at most, at each moment: a push is not begun on a second link where its own is lost.
+pub fn pushes_have_one_link()
+    ensures { PushesHaveOneLink }
+{}
+
+/// Where the push that goes on ends behind all that happened, each push that began has its end.
+pub fn pushes_end()
+    ensures { PushesEnd }
+{}
+
+/// No more pushes begin than the scenario has objects, and there is one outcome for each object.
+pub fn pushes_are_of_scenarios()
+    ensures { PushesAreOfScenarios }
 {}
 
 /// The air obeyed the script where the scenario ran to its end: what came into the hosts is what the words handed over, and

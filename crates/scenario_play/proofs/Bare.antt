@@ -10,20 +10,19 @@ use Rattle.channel_model.specs.Carrying.{Up as Handed, Nothing, Received}
 use Rattle.channel_model.specs.Hearing.{hears, up}
 use Rattle.channel_model.specs.Timing.{timed_out}
 use Rattle.channel_model.specs.Giving.{Given, next_given, after_given}
-use Rattle.push_model.specs.Steps.{Part as Octets}
 use Rattle.world_model.specs.Machines.{Upper, News, Linked, Up, Down, Failed, Heard, TimerFired, Cancelled, Opening}
 use Rattle.turn_laws.specs.Premises.{Idles}
 use Rattle.rest_laws.specs.Premises.{AsksOnce, AreOrderly}
 use Rattle.run_laws.specs.Embedding.{said_as}
 use Rattle.alike_laws.proofs.Alike.{AreAlike}
-use Rattle.host_model.specs.Circumstances.{Circumstance}
+use Rattle.host_model.specs.Circumstances.{Circumstance, Excerpt}
 use Rattle.host_model.specs.Clients.{ClientProfile, client_profile}
 use Rattle.host_model.specs.Hosts.{Host, with_channels, tells_each, tells_events, settles, strides, drives, driven, handed, told, hears_news, ready, hear, most_steps, most_said, steps_behind, after_said, says, next}
 use Rattle.host_model.specs.Pdus.{pdu_of, is_frame}
 use Rattle.host_model.specs.Profiles.{Profile}
 use Rattle.host_model.specs.Settings.{SetHost, set_to, said_with, with_settings, client_machine}
 use Rattle.host_model.proofs.Setting.{said_by}
-use Rattle.shelf_model.specs.Held.{in_octets, held_by}
+use Rattle.shelf_model.specs.Held.{given_by, held_by}
 use Rattle.shelf_model.proofs.Sizes.{parts_held}
 use Rattle.inbox_laws.specs.Owned.{own_machine}
 use Rattle.inbox_laws.proofs.Keeping.{KeepsSo, hear_kept, next_kept}
@@ -95,9 +94,9 @@ module _ (settings : Settings) where
   news_bare circumstances Cancelled host = refl
   news_bare circumstances (Opening name) host = refl
 
-  ready_bare : (shelf : Option (List Object)) (news : News) (circumstances : List Circumstance) (host : Host ClientProfile) → ready A (map in_octets circumstances) host ≡ ready A (held_by shelf news circumstances) host
+  ready_bare : (shelf : Option (List Object)) (news : News) (circumstances : List Circumstance) (host : Host ClientProfile) → ready A (map (given_by shelf) circumstances) host ≡ ready A (held_by shelf news circumstances) host
   ready_bare shelf news circumstances host =
-      ap (λ (parts : List Octets). let h : Host ClientProfile = record host { profile = record host.profile { parts = parts }; may_say = most_said } in h) (sym (parts_held shelf news circumstances))
+      ap (λ (parts : List Excerpt). let h : Host ClientProfile = record host { profile = record host.profile { parts = parts }; may_say = most_said } in h) (sym (parts_held shelf news circumstances))
 
   hear_bare : (circumstances : List Circumstance) (news : News) (host : Host Shelved) → bare_host (hear N circumstances news host) ≡ hear A (held_by host.profile.shelf news circumstances) news (bare_host host)
   hear_bare circumstances news host =

@@ -48,7 +48,7 @@ use Rattle.scenario_play.specs.Playing.{fresh_world, KeepsShelf, LackedNever, Ro
 use Rattle.scenario_play.specs.Breaking as breaking
 use Rattle.scenario_play.specs.Breaking.{BreaksThrough, OnItsWay, AtItsEnd, MayWant, IsBroken, IsWanting, NothingYet, ShelfWants, InboxWants, ManyWords}
 use Rattle.scenario_play.proofs.Newness.{new_client, new_server, client_twins, holding_twins, server_twins, answering_twins, beginning, hosts_begin}
-use Rattle.scenario_play.specs.Noting.{plain_set}
+use Rattle.noting_laws.specs.Noting.{plain_set}
 use Rattle.scenario_play.specs.Shelving.{plain_client}
 use Rattle.scenario_play.proofs.Plainness.{PlainWorld, plain_world, plain_runs, enough_runs, served_runs}
 use Rattle.scenario_play.proofs.Counting.{Says, rose_or_not, asked_once, left_says}

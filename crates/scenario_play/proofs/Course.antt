@@ -1,5 +1,5 @@
 -- The world of two new hosts from its beginning to its end.
-use Rattle.std.proofs.Common.{◌≡◌, ◌⊎◌, ℕ, List, [], ◌++◌, Option, refl, sym, ap, ◌∙◌, subst, arith}
+use Rattle.std.proofs.Common.{◌≡◌, ◌⊎◌, ℕ, false, List, [], ◌++◌, Option, refl, sym, ap, ◌∙◌, subst, arith}
 use Rattle.std.proofs.lemmas.Grind.{flat_map-append}
 use Rattle.bt_base.specs.Objects.{Object, Contents}
 use Rattle.bt_base.specs.Streams.{gained}
@@ -37,13 +37,13 @@ use Rattle.scenario_laws.proofs.SetHosts.{set_hosts_are_hosts}
 use Rattle.pair_laws.specs.Enough.{HappenedEnough}
 use Rattle.pair_laws.specs.Served.{HappenedServed}
 use Rattle.scenario_play.specs.Playing.{fresh_world, KeepsShelf, RoseNever, RanAnswered, IsPlayed}
-use Rattle.scenario_play.specs.Noting.{plain_set}
+use Rattle.noting_laws.specs.Noting.{plain_set}
 use Rattle.scenario_play.specs.Shelving.{plain_client}
 use Rattle.scenario_play.specs.Peaks.{NotedMoment, AreNoted, AreReached}
 use Rattle.scenario_play.specs.Running.{RunsThrough}
 use Rattle.scenario_play.proofs.Plainness.{PlainWorld, plain_world, orderly, enough_runs, served_runs, plain_rest}
 use Rattle.scenario_play.proofs.Newness.{new_client, new_server, client_twins, holding_twins, server_twins, answering_twins, beginning, hosts_begin}
-use Rattle.scenario_play.proofs.Alikeness.{IsLike, IsWhole, IsLikeServed, like_served, like_ends, told_b}
+use Rattle.scenario_play.proofs.Alikeness.{IsLike, IsWhole, IsLikeServed, like_served, like_ends, told_a, told_b}
 use Rattle.scenario_play.proofs.Counting.{Says, rose_or_not, asked_twice, asked_says}
 use Rattle.scenario_play.proofs.OwnServers.{ran_answered}
 
@@ -120,8 +120,8 @@ module _ {P Q : Type 0} (holds : P → Option (List Object)) (content : Q → Op
   came end shelf' = noted_client_machine.outcome ((client_at end shelf').upper [])
 
   pub played : (first end : Hosts) (shelf shelf' : P) (inbox inbox' : Q) (trace trace' : Option (List ℕ)) (outcomes : List Outcome) (peaks : Peaks) → first ≡ fresh_world scenario → Through first end shelf shelf' inbox inbox' trace trace'
-      → outcomes ≡ end.scene.pushes.outcomes → AreNoted end.scene.medium (at_moment end shelf' inbox' [] []) peaks → IsPlayed scenario (holds shelf) (content inbox) (content inbox') trace trace' outcomes peaks (counts_of faults shortages inbox) (counts_of faults shortages inbox')
-  played first end shelf shelf' inbox inbox' trace trace' outcomes peaks fresh through same noted =
+      → end.a.stack.upper.end.end.client.failed ≡ false → outcomes ≡ end.scene.pushes.outcomes → AreNoted end.scene.medium (at_moment end shelf' inbox' [] []) peaks → IsPlayed scenario (holds shelf) (content inbox) (content inbox') trace trace' outcomes peaks (counts_of faults shortages inbox) (counts_of faults shortages inbox')
+  played first end shelf shelf' inbox inbox' trace trace' outcomes peaks fresh through works same noted =
       let run = course first end shelf shelf' inbox inbox' trace trace' fresh through in
       let counts = counts_of faults shortages inbox in
       let counts' = counts_of faults shortages inbox' in
@@ -149,10 +149,13 @@ module _ {P Q : Type 0} (holds : P → Option (List Object)) (content : Q → Op
       (plain_rest (world_at now) rests) run.words_are in
       let held : like.world.b.upper.profile.inbox.content ≡ content inbox' =
       told_b client_machine server_machine scenario (content inbox) (set_to settings) (set_to settings) hosts s t twins_a twins_b run.happenings at like (λ (x : SetHost ServerProfile). x.host.profile.inbox.content) refl in
+      let able : like.world.a.upper.profile.client.failed ≡ end.a.stack.upper.end.end.client.failed =
+      told_a client_machine server_machine scenario (content inbox) (set_to settings) (set_to settings) hosts s t twins_a twins_b run.happenings at like (λ (x : SetHost ClientProfile). x.host.profile.client.failed) refl in
       record {
         capture = all_entries run.happenings ++ last_entries (came end shelf') last.pushes;
         finished = whole.finished;
         ends = whole.ends;
+        able = ap (λ (w : BothHosts). w.a.upper.profile.client.failed) whole.world_is ∙ (able ∙ works);
         outcomes_are = same ∙ (through.outcomes_are ∙ whole.outcomes_are);
         reached = subst (λ (hs : List Happening). AreReached scenario (content inbox) hs peaks) (sym whole.happenings_are) (record {
           shelf = holds shelf;

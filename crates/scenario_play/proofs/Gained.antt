@@ -1,5 +1,5 @@
 -- What a scenario comes to that was played: over either transport, and over L2CAP.
-use Rattle.std.proofs.Common.{◌≡◌, ℕ, List, [], ◌++◌, take, Option, Some, None, refl, sym, ap, ◌∙◌, subst, inl, inr, ◌⊎◌}
+use Rattle.std.proofs.Common.{◌≡◌, ℕ, List, [], ◌++◌, length, take, Option, Some, None, refl, sym, ap, ◌∙◌, subst, inl, inr, ◌⊎◌}
 use Rattle.std.proofs.lemmas.List.{append-nil}
 use Rattle.bt_base.specs.Objects.{Object, Contents}
 use Rattle.bt_base.specs.declared.settings.Transport.TheVariants.{L2cap}
@@ -24,17 +24,20 @@ use Rattle.shelf_model.specs.Held.{held_by}
 use Rattle.host_laws.specs.Answered.{TellsAtMost}
 use Rattle.host_laws.proofs.InOrder.{asks-nothing}
 use Rattle.request_laws.specs.BothFed.{most_octets}
+use Rattle.host_laws.specs.ShelfAnswers.{TellsSizeOf}
 use Rattle.scenario_laws.specs.Accounts.{KeepsWindow}
 use Rattle.scenario_laws.specs.Air.{hosts_of}
-use Rattle.scenario_laws.specs.Captures.{client_of, server_of, beginning, BothHosts, Ran, Finished}
+use Rattle.scenario_laws.specs.Captures.{client_of, server_of, beginning, BothHosts, Ran}
 use Rattle.scenario_laws.specs.Gains.{holding}
 use Rattle.scenario_laws.specs.Parties.{party_of}
 use Rattle.scenario_laws.proofs.Accounts.{buffers_kept, controllers_honest, pushes_in_turn}
 use Rattle.scenario_laws.proofs.Airs.{air_kept, air_obeyed}
 use Rattle.scenario_laws.proofs.Early.{fronts_spell_fronts}
 use Rattle.scenario_laws.proofs.Gaining.{gains_exactly}
+use Rattle.scenario_laws.proofs.OneLink.{pushes_have_one_link}
+use Rattle.scenario_laws.proofs.PushEnds.{pushes_end, pushes_are_of_scenarios}
 use Rattle.pair_laws.specs.Granted.{granting, HappenedGranted}
-use Rattle.pair_laws.specs.Served.{HappenedServed, TellsOf}
+use Rattle.pair_laws.specs.Served.{HappenedServed}
 use Rattle.pair_laws.proofs.Answered.{runs-so}
 use Rattle.pair_laws.proofs.Pairing.{granted-take_turns, held-take_turns, served-take_turns}
 use Rattle.pair_laws.proofs.Taking.{clients_within, servers_within}
@@ -47,6 +50,7 @@ use Rattle.request_laws.proofs.Told.{all_tell, none_longer}
 use Rattle.request_laws.proofs.ObjectPipes.{are_piped}
 use Rattle.request_laws.proofs.Paired.{paired_servers_serve}
 use Rattle.request_laws.proofs.Summing.{both_ask}
+use Rattle.scenario_play.proofs.Causes.{causes_shown}
 use Rattle.scenario_play.specs.Breaking.{IsBroken}
 use Rattle.scenario_play.specs.Gaining.{HaveAnswered, HaveGranted, HaveOffered, HoldsAtMost, KeepsAccounts, ServesAndGains, KeepsPlayed, KeepsBroken, GainsPlayed, GainsBroken, PlaysKeep, PlaysGain}
 use Rattle.scenario_play.specs.Playing.{IsPlayed}
@@ -67,6 +71,9 @@ accounts_kept scenario content capture ran = record {
   window_b = window_kept scenario content capture B ran;
   honest = controllers_honest scenario content capture ran;
   in_turn = pushes_in_turn scenario content capture ran;
+  one_link_a = pushes_have_one_link scenario content capture A ran;
+  one_link_b = pushes_have_one_link scenario content capture B ran;
+  few = (pushes_are_of_scenarios scenario content capture ran).few;
 }
 
 -- ---- over either transport
@@ -75,7 +82,10 @@ pub played_kept : (scenario : Scenario) (shelf : Option (List Object)) (before a
     → KeepsPlayed scenario outcomes played.capture
 played_kept scenario shelf before after trace trace' outcomes peaks counts counts' played = record {
   accounts = accounts_kept scenario before played.capture played.finished.ran;
+  all_ended = pushes_end scenario before played.capture played.finished.ran ((client_of scenario).outcome played.finished.ran.world.a.upper) played.ends;
   outcomes_are = played.outcomes_are;
+  causes = causes_shown scenario shelf before after trace trace' outcomes peaks counts counts' played;
+  outcomes_are_all = ap (λ (l : List Outcome). length l) played.outcomes_are ∙ (pushes_are_of_scenarios scenario before played.capture played.finished.ran).outcomes_are_all;
   obeys = air_obeyed scenario before played.capture played.finished;
 }
 
@@ -124,7 +134,7 @@ have_granted scenario shelf before capture ran happened =
 
 -- ---- what the shelf told
 
-no_longer : (most : ℕ) (shelf : Option (List Object)) → HoldsAtMost most shelf → (circumstances : List Circumstance) (news : News) → TellsOf shelf circumstances news → TellsAtMost most circumstances news
+no_longer : (most : ℕ) (shelf : Option (List Object)) → HoldsAtMost most shelf → (circumstances : List Circumstance) (news : News) → TellsSizeOf shelf circumstances news → TellsAtMost most circumstances news
 no_longer most shelf short circumstances (Linked event) told = tt
 no_longer most shelf short circumstances (Failed status) told = tt
 no_longer most shelf short circumstances (Heard pdu) told = tt

@@ -1,5 +1,5 @@
+pub mod Causes
 mod Embedded
-mod Forgetting
 mod Counting
 mod Bare
 mod Plainness
@@ -19,4 +19,7 @@ mod NotedWindows
 mod Along
 pub mod PeakBounds
 pub mod BufferPeaks
+pub mod WindowPeaks
 pub mod Solvent
+pub mod Pushed
+pub mod Services

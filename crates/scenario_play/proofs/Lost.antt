@@ -41,7 +41,7 @@ gains_less scenario shelf before after counts counts' happenings capture gentle 
 pub plays_gain_less : PlaysGainLess
 plays_gain_less = record {
   plays = λ scenario shelf before after trace trace' outcomes peaks counts counts' played none.
-      gains_less scenario shelf before after counts counts' played.finished.ran.happenings played.capture (λ muxed. loses_nothing scenario before played.capture muxed played.finished) (played.answered none);
+      gains_less scenario shelf before after counts counts' played.finished.ran.happenings played.capture (λ muxed. loses_nothing scenario (holding before) played.capture muxed played.finished) (played.answered none);
   breaks = λ scenario shelf before after trace trace' counts counts' broken none.
       gains_less scenario shelf before after counts counts' broken.happenings (all_entries broken.happenings) (λ muxed. broke_gently scenario shelf (holding before) after trace trace' counts counts' broken muxed) (broken.answered none);
 }

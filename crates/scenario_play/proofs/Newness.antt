@@ -30,7 +30,7 @@ use Rattle.bt_host.specs.NotedHosts.{noted_client, client_noting, noted_client_m
 use Rattle.bt_host.specs.Playing.{set_host, playing}
 use Rattle.pair_laws.specs.Granted.{answered_by}
 use Rattle.pair_laws.specs.Served.{holding_on}
-use Rattle.scenario_play.specs.Noting.{plain_set}
+use Rattle.noting_laws.specs.Noting.{plain_set}
 use Rattle.scenario_play.specs.Shelving.{plain_client}
 
 -- ---- what stands above their lines

@@ -1,11 +1,12 @@
 -- Between which numbers the reported windows of a played scenario lie.
-use Rattle.std.proofs.Common.{◌≡◌, ℕ, ◌≤◌, true, false, List, [], ◌++◌, Option, Some, None, refl, sym, ap, subst, ◌∙◌, arith, append-nil}
+use Rattle.std.proofs.Common.{◌≡◌, ℕ, ◌≤◌, true, false, List, [], ◌∷◌, ◌++◌, Option, Some, None, refl, sym, ap, subst, ◌∙◌, arith, append-nil}
 use Rattle.bt_base.specs.declared.settings.Settings.{Settings}
 use Rattle.bt_base.specs.Objects.{Object, Contents}
 use Rattle.push_script.specs.declared.scenario.Scenario.{Scenario}
 use Rattle.push_terms.specs.declared.peaks.Peaks.{Peaks}
 use Rattle.push_terms.specs.declared.word.Side.{Side}
 use Rattle.push_terms.specs.declared.word.Side.TheVariants as sides
+use Rattle.push_terms.specs.declared.word.Word.{Word}
 use Rattle.capture.specs.Links.{Link, link_up}
 use Rattle.capture.specs.Pdus.{pdus}
 use Rattle.link_talk.specs.Accounts.{window_used}
@@ -27,8 +28,7 @@ use Rattle.channel_laws.specs.Views.{peer_of, life_of, IsReadBy, IsRead, read_at
 use Rattle.channel_laws.proofs.Frames.{frames-are_held}
 use Rattle.channel_laws.proofs.Running.{channels-are_read}
 use Rattle.world_model.specs.Machines.{Upper}
-use Rattle.world_model.specs.Worlds.{Happening, IsAtRest, all_entries}
-use Rattle.turn_laws.specs.Laws.{IsFront}
+use Rattle.world_model.specs.Worlds.{Happening, Turns, IsAtRest, all_entries}
 use Rattle.radio_world.specs.Scenes.{world_at, Plays}
 use Rattle.radio_world.specs.Standing.{starting, first_moment}
 use Rattle.radio_world.proofs.Standing.{runs_of}
@@ -53,7 +53,7 @@ use Rattle.scenario_laws.proofs.PlainRuns.{stepping_asks, plain_runs as both_pla
 use Rattle.scenario_laws.proofs.SetHosts.{set_hosts_are_hosts}
 use Rattle.scenario_laws.proofs.Telling.{side_linked}
 use Rattle.scenario_laws.proofs.Wishes.{states_frame, wishes_window}
-use Rattle.scenario_play.specs.Noting.{plain_set}
+use Rattle.noting_laws.specs.Noting.{plain_set}
 use Rattle.scenario_play.specs.Shelving.{plain_client}
 use Rattle.scenario_play.specs.PeakBounds.{HoldsAtMost, AreBounded, PeaksAreBounded}
 use Rattle.scenario_play.specs.Peaks.{asked_client, asked_server, NotedMoment, AreReached}
@@ -214,14 +214,15 @@ module _ (scenario : Scenario) (content : Option Contents) (happenings : List Ha
   first_b = record { set = refl; told = refl; fine = record { goes = record { come = ([], refl); more = omega arith; high = omega arith }; low = omega arith } }
 
   -- the run at one of its moments
-  record Stop (front : List Happening) : Type 0 where
+  record Stop (front rest : List Happening) : Type 0 where
     mid : NotedMoment
     before : Plays noted_client_machine noted_server_machine front begun mid
+    behind : Plays noted_client_machine noted_server_machine rest mid reached.last
     low_a : most_used mid.a.upper.host.channels ≤ peaks.window_a
     low_b : most_used mid.b.upper.host.channels ≤ peaks.window_b
 
-  stops : (front : List Happening) → IsFront front happenings → Stop front
-  stops front (rest, is) =
+  stops : (front rest : List Happening) → happenings ≡ front ++ rest → Stop front rest
+  stops front rest is =
       let plays : Plays noted_client_machine noted_server_machine (front ++ rest) begun reached.last = subst (λ (hs : List Happening). Plays noted_client_machine noted_server_machine hs begun reached.last) is reached.plays in
       let (mid, before, behind) = plays_apart noted_client_machine noted_server_machine front rest begun reached.last plays in
       let (notes_a, notes_b) = both_along scenario.settings 0 0 front begun mid first_a first_b before in
@@ -231,6 +232,7 @@ module _ (scenario : Scenario) (content : Option Contents) (happenings : List Ha
       record {
         mid = mid;
         before = before;
+        behind = behind;
         low_a = noted_low credits_of_shelved shelf_profile shelf_asks shelf_less (λ of psm. wishes_window of psm) scenario.settings mid.a.upper reached.last.a.upper notes_a last_a peaks.window_a reached.noted.windows.0;
         low_b = noted_low credits_of_server profile_of server_asks server_less (λ of psm. wishes_window of psm) scenario.settings mid.b.upper reached.last.b.upper notes_b last_b peaks.window_b reached.noted.windows.1;
       }
@@ -251,55 +253,70 @@ module _ (scenario : Scenario) (content : Option Contents) (happenings : List Ha
       like_runs client_machine server_machine scenario content (set_to scenario.settings) (set_to scenario.settings) (set_hosts_are_hosts scenario content) s t (client_twins (λ (held : Option (List Object)). held) reached.shelf scenario.settings reached.for_a) (server_twins (λ (c : Option Contents). c) content scenario.settings reached.for_b)
       front (plain_world (world_at mid)) (plain_runs front (world_at begun) (world_at mid) (runs_of noted_client_machine noted_server_machine front begun mid before))
 
-  below_a : (front : List Happening) → IsFront front happenings → (stop : Stop front) → (let one = like front stop.mid stop.before in IsAtRest (client_of scenario) (server_of scenario content) one.world
+  below_a : (front rest : List Happening) → happenings ≡ front ++ rest → (stop : Stop front rest) → (let one = like front stop.mid stop.before in IsAtRest (client_of scenario) (server_of scenario content) one.world
       → HoldsAtMost scenario.settings sides.A peaks.window_a (all_entries front))
-  below_a front there stop rest =
+  below_a front rest is stop rests =
       let one = like front stop.mid stop.before in
       let same = told_a client_machine server_machine scenario content (set_to scenario.settings) (set_to scenario.settings) (set_hosts_are_hosts scenario content) s t (client_twins (λ (held : Option (List Object)). held) reached.shelf scenario.settings reached.for_a) (server_twins (λ (c : Option Contents). c) content scenario.settings reached.for_b)
       front (plain_world (world_at stop.mid)) one (λ (x : SetHost ClientProfile). x.host.channels) refl in
       side_most (client_profile scenario.settings) (stepping_asks.clients scenario.settings) scenario.settings sides.A one.world.a.upper (link_up sides.A (all_entries front)) peaks.window_a (states_frame scenario.settings false sides.A)
-      (subst (λ (v : Channels). most_used v ≤ peaks.window_a) (sym same) stop.low_a) ((both_plain scenario content happenings).a front one.world there one.happened rest)
+      (subst (λ (v : Channels). most_used v ≤ peaks.window_a) (sym same) stop.low_a) ((both_plain scenario content happenings).a front one.world (rest, is) one.happened rests)
 
-  below_b : (front : List Happening) → IsFront front happenings → (stop : Stop front) → (let one = like front stop.mid stop.before in IsAtRest (client_of scenario) (server_of scenario content) one.world
+  below_b : (front rest : List Happening) → happenings ≡ front ++ rest → (stop : Stop front rest) → (let one = like front stop.mid stop.before in IsAtRest (client_of scenario) (server_of scenario content) one.world
       → HoldsAtMost scenario.settings sides.B peaks.window_b (all_entries front))
-  below_b front there stop rest =
+  below_b front rest is stop rests =
       let one = like front stop.mid stop.before in
       let same = told_b client_machine server_machine scenario content (set_to scenario.settings) (set_to scenario.settings) (set_hosts_are_hosts scenario content) s t (client_twins (λ (held : Option (List Object)). held) reached.shelf scenario.settings reached.for_a) (server_twins (λ (c : Option Contents). c) content scenario.settings reached.for_b)
       front (plain_world (world_at stop.mid)) one (λ (x : SetHost ServerProfile). x.host.channels) refl in
       side_most (server_profile scenario.settings content) (stepping_asks.servers scenario.settings content) scenario.settings sides.B one.world.b.upper (link_up sides.B (all_entries front)) peaks.window_b (states_frame scenario.settings true sides.B)
-      (subst (λ (v : Channels). most_used v ≤ peaks.window_b) (sym same) stop.low_b) ((both_plain scenario content happenings).b front one.world there one.happened rest)
+      (subst (λ (v : Channels). most_used v ≤ peaks.window_b) (sym same) stop.low_b) ((both_plain scenario content happenings).b front one.world (rest, is) one.happened rests)
 
   -- ---- at its end
 
   ends : NotesA scenario.settings 0 reached.last.a.upper × NotesB scenario.settings 0 reached.last.b.upper
   ends = both_along scenario.settings 0 0 happenings begun reached.last first_a first_b reached.plays
 
-  whole : IsFront happenings happenings
-  whole = ([], sym (append-nil happenings))
+  whole : happenings ≡ happenings ++ []
+  whole = sym (append-nil happenings)
 
-  end_stop : Stop happenings
+  end_stop : Stop happenings []
   end_stop =
       let low_a = ends.0.fine.low in
       let low_b = ends.1.fine.low in
       let (is_a, is_b) = reached.noted.windows in
-      record { mid = reached.last; before = reached.plays; low_a = omega (arith, low_a, is_a); low_b = omega (arith, low_b, is_b) }
+      record { mid = reached.last; before = reached.plays; behind = refl; low_a = omega (arith, low_a, is_a); low_b = omega (arith, low_b, is_b) }
+
+  -- where the hosts that note are at rest both hosts are
+  so_rests : (front rest : List Happening) (stop : Stop front rest) → IsAtRest noted_client_machine noted_server_machine (world_at stop.mid) → (let one = like front stop.mid stop.before in IsAtRest (client_of scenario) (server_of scenario content) one.world)
+  so_rests front rest stop rests =
+      like_rests client_machine server_machine scenario content (set_to scenario.settings) (set_to scenario.settings) (set_hosts_are_hosts scenario content) s t (client_twins (λ (held : Option (List Object)). held) reached.shelf scenario.settings reached.for_a) (server_twins (λ (c : Option Contents). c) content scenario.settings reached.for_b)
+      front (plain_world (world_at stop.mid)) (like front stop.mid stop.before) (plain_rest (world_at stop.mid) rests)
 
   end_rests : (let one = like happenings end_stop.mid end_stop.before in IsAtRest (client_of scenario) (server_of scenario content) one.world)
   unfolding end_stop
-  end_rests =
-      like_rests client_machine server_machine scenario content (set_to scenario.settings) (set_to scenario.settings) (set_hosts_are_hosts scenario content) s t (client_twins (λ (held : Option (List Object)). held) reached.shelf scenario.settings reached.for_a) (server_twins (λ (c : Option Contents). c) content scenario.settings reached.for_b)
-      happenings (plain_world (world_at end_stop.mid)) (like happenings end_stop.mid end_stop.before) (plain_rest (world_at reached.last) reached.rests)
+  end_rests = so_rests happenings [] end_stop reached.rests
+
+  -- ---- as a word acts
+
+  at_word : (front later : List Happening) (ordinal : ℕ) (word : Word) → happenings ≡ front ++ Turns ordinal word ∷ later → HoldsAtMost scenario.settings sides.A peaks.window_a (all_entries front) × HoldsAtMost scenario.settings sides.B peaks.window_b (all_entries front)
+  at_word front later ordinal word is =
+      let rest = Turns ordinal word ∷ later in
+      let stop = stops front rest is in
+      let (next, does, runs) = runs_of noted_client_machine noted_server_machine rest stop.mid reached.last stop.behind in
+      let rests = so_rests front rest stop does.0 in
+      (below_a front rest is stop rests, below_b front rest is stop rests)
 
   pub are_bounded : AreBounded scenario content happenings peaks
   are_bounded = record {
     stated_a = noted_high credits_of_shelved shelf_profile shelf_asks shelf_less (λ of psm. wishes_window of psm) scenario.settings reached.last.a.upper ends.0 peaks.window_a reached.noted.windows.0;
     stated_b = noted_high credits_of_server profile_of server_asks server_less (λ of psm. wishes_window of psm) scenario.settings reached.last.b.upper ends.1 peaks.window_b reached.noted.windows.1;
     rests = λ front there.
-        let stop = stops front there in
+        let stop = stops front there.0 there.1 in
         let one = like front stop.mid stop.before in
-        record { world = one.world; happened = one.happened; below_a = below_a front there stop; below_b = below_b front there stop };
-    ends_a = below_a happenings whole end_stop end_rests;
-    ends_b = below_b happenings whole end_stop end_rests;
+        record { world = one.world; happened = one.happened; below_a = below_a front there.0 there.1 stop; below_b = below_b front there.0 there.1 stop };
+    words = at_word;
+    ends_a = below_a happenings [] whole end_stop end_rests;
+    ends_b = below_b happenings [] whole end_stop end_rests;
   }
 
 pub peaks_are_bounded : PeaksAreBounded

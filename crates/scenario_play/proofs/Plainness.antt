@@ -22,11 +22,11 @@ use Rattle.bt_host.specs.Noting.{Noted}
 use Rattle.bt_host.specs.NotedHosts.{credits_of_shelved, credits_of_server, noted_client_machine, noted_server_machine}
 use Rattle.bt_host.specs.Serving.{profile_of}
 use Rattle.bt_host.specs.Shelving.{Shelved, shelf_profile}
-use Rattle.scenario_play.specs.Noting.{plain_set}
+use Rattle.noting_laws.specs.Noting.{plain_set}
 use Rattle.scenario_play.specs.Shelving.{bare_set, plain_client}
 use Rattle.scenario_play.proofs.Bare.{shelf_machine, HoldsShelf, bare_alike, held_alike, shelf_orderly}
 use Rattle.scenario_play.proofs.Embedded.{alike_of, orderly_of}
-use Rattle.scenario_play.proofs.Forgetting.{notes_are_more}
+use Rattle.noting_laws.proofs.Forgetting.{notes_are_more}
 
 more_a : Embeds plain_set noted_client_machine shelf_machine
 more_a = notes_are_more credits_of_shelved shelf_profile

@@ -1,7 +1,6 @@
 -- The credits of no host ran out in a scenario that was played.
-use Rattle.std.proofs.Common.{List, ◌++◌}
+use Rattle.std.proofs.Common.{◌++◌}
 use Rattle.world_model.specs.Worlds.{all_entries, all_words}
-use Rattle.scenario_laws.specs.Gains.{holding}
 use Rattle.request_laws.proofs.Scripts.{scripts_lose_nothing}
 use Rattle.credit_laws.proofs.Staying.{runs-stay_solvent}
 use Rattle.scenario_play.specs.Solvent.{PlaysStaySolvent}

@@ -33,7 +33,7 @@ use Rattle.scenario_play.proofs.Gained.{played_kept, broken_kept, unless, run_so
 -- ---- the script
 
 -- its words are those of its script
-pub loses_nothing : (scenario : Scenario) (before : List Object) (capture : List Entry) → scenario.settings.transport ≡ Rfcomm → (finished : Finished scenario (holding before) capture) → LosesNothing (all_words finished.ran.happenings)
+pub loses_nothing : (scenario : Scenario) (before : Option Contents) (capture : List Entry) → scenario.settings.transport ≡ Rfcomm → (finished : Finished scenario before capture) → LosesNothing (all_words finished.ran.happenings)
 loses_nothing scenario before capture muxed finished =
     scripts_lose_nothing scenario (all_words finished.ran.happenings) [] muxed (sym finished.words_are ∙ sym (append-nil (all_words finished.ran.happenings)))
 
@@ -64,7 +64,7 @@ plays : (scenario : Scenario) (shelf : Option (List Object)) (before : List Obje
 plays scenario shelf before after trace trace' outcomes peaks counts counts' played muxed =
     let capture = played.capture in
     let ran = played.finished.ran in
-    let gentle = loses_nothing scenario before capture muxed played.finished in
+    let gentle = loses_nothing scenario (holding before) capture muxed played.finished in
     record {
       kept = played_kept scenario shelf (holding before) after trace trace' outcomes peaks counts counts' played;
       told = held-keep_order both_ask scenario shelf (holding before) capture ran (enough_held scenario shelf (holding before) ran.happenings ran.world played.enough) gentle;

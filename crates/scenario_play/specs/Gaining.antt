@@ -1,5 +1,5 @@
 -- What a scenario comes to that was played: over either transport, and over L2CAP with all that is still asked of its ports (this project's own).
-use Rattle.std.specs.Prelude.{ℕ, ◌≡◌, ◌≤◌, List, [], ◌++◌, Option, Some, None}
+use Rattle.std.specs.Prelude.{ℕ, ◌≡◌, ◌≤◌, List, [], ◌++◌, length, Option, Some, None}
 use Rattle.std.specs.List.{AllByRecursion}
 use Rattle.bt_base.specs.Objects.{Object, Contents}
 use Rattle.bt_base.specs.declared.settings.Transport.TheVariants.{L2cap}
@@ -13,7 +13,7 @@ use Rattle.capture.specs.Buffers.{KeepsWithin}
 use Rattle.capture.specs.Entries.{Entry}
 use Rattle.capture.specs.Histories.{EachAfter, AtEach}
 use Rattle.radio_air.specs.Air.{KeepsTo, Obeys}
-use Rattle.radio_air.specs.Course.{PushesInTurn}
+use Rattle.radio_air.specs.Course.{pushes_begun, PushesInTurn}
 use Rattle.radio_air.specs.Honest.{AreHonest}
 use Rattle.link_talk.specs.Captures.{objects_heard}
 use Rattle.world_model.specs.Worlds.{all_entries}
@@ -26,10 +26,13 @@ use Rattle.scenario_laws.specs.Broken.{BrokeOff}
 use Rattle.scenario_laws.specs.Captures.{BothHosts, Ran, Finished}
 use Rattle.scenario_laws.specs.Clauses.{Ends}
 use Rattle.scenario_laws.specs.Gains.{holding, OrderlyServer}
+use Rattle.scenario_laws.specs.OneLink.{HasOneLink}
 use Rattle.scenario_laws.specs.Outcomes.{outcomes_of}
 use Rattle.scenario_laws.specs.Parties.{party_of}
+use Rattle.scenario_laws.specs.PushEnds.{AllHaveEnded}
 use Rattle.pair_laws.specs.InTurn.{PairsInTurn}
 use Rattle.pair_laws.specs.Served.{HeldInTurn}
+use Rattle.cause_laws.specs.FirstCauses.{CausesAreShown}
 use Rattle.request_laws.specs.AllSizes.{InboxGrants}
 use Rattle.request_laws.specs.BothFed.{most_octets, GrantsAll}
 use Rattle.request_laws.specs.Together.{PortsAnswer}
@@ -63,7 +66,8 @@ HoldsAtMost most (Some objects) = (name : List ℕ) (size : ℕ) → length_of n
 
 -- ---- what is so
 
--- Whatever ports answer: the buffers of both controllers and the windows of both hosts at each moment, honest controllers, and pushes in turn.
+-- Whatever ports answer: the buffers of both controllers and the windows of both hosts at each moment, honest controllers, and pushes in turn, each of them
+-- over one link at most, and no more of them than objects.
 pub record KeepsAccounts (scenario : Scenario) (capture : List Entry) : Type 0 where
   pub within_a : KeepsWithin A scenario.acl_count capture
   pub within_b : KeepsWithin B scenario.acl_count capture
@@ -71,16 +75,23 @@ pub record KeepsAccounts (scenario : Scenario) (capture : List Entry) : Type 0 w
   pub window_b : AtEach (KeepsWindow scenario.settings B) capture
   pub honest : AreHonest capture
   pub in_turn : PushesInTurn capture
+  pub one_link_a : AtEach (HasOneLink A) capture
+  pub one_link_b : AtEach (HasOneLink B) capture
+  pub few : pushes_begun capture ≤ length scenario.names
 
 -- Host b serves in order, and the inbox gained exactly the objects that the packets spell which it heard.
 pub record ServesAndGains (asks : HostsAsk) (scenario : Scenario) (before : List Object) (capture : List Entry) (world : BothHosts) (stored : Option (List Object)) : Type 0 where
   pub orderly : OrderlyServer asks scenario.settings before capture world.b.upper
   pub gained : stored ≡ Some (before ++ objects_heard (party_of scenario.settings B) B capture)
 
--- A scenario that was played to its end: its accounts and its outcomes, and that the air obeyed the script, whatever ports answer.
+-- A scenario that was played to its end: its accounts, that each push which began has its end, an outcome for each object and what shows why it came, and that
+-- the air obeyed the script, whatever ports answer.
 pub record KeepsPlayed (scenario : Scenario) (outcomes : List Outcome) (capture : List Entry) : Type 0 where
   pub accounts : KeepsAccounts scenario capture
+  pub all_ended : AllHaveEnded capture
   pub outcomes_are : outcomes ≡ outcomes_of scenario capture
+  pub outcomes_are_all : length outcomes ≡ length scenario.names
+  pub causes : CausesAreShown capture
   pub obeys : Obeys (hosts_of scenario.settings) scenario.acl_length (words_of scenario.script) capture
 
 -- A scenario that broke off: its accounts, and each entry keeps to the script, whatever ports answer.

@@ -1,4 +1,3 @@
-pub mod Noting
 pub mod Shelving
 pub mod Peaks
 pub mod Playing
@@ -10,4 +9,7 @@ pub mod Streaming
 pub mod Losing
 pub mod PeakBounds
 pub mod BufferPeaks
+pub mod WindowPeaks
 pub mod Solvent
+pub mod Pushed
+pub mod Services

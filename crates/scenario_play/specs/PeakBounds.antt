@@ -1,17 +1,18 @@
 -- Between which numbers the reported peaks of a played scenario lie (Core 5.1, Volume 3 Part A, 5.4 and 8.6).
-use Rattle.std.specs.Prelude.{ℕ, ◌≡◌, ◌≤◌, true, List, Option, Some}
+use Rattle.std.specs.Prelude.{ℕ, ◌≡◌, ◌≤◌, true, List, ◌∷◌, ◌++◌, Option, Some}
 use Rattle.bt_base.specs.declared.settings.Settings.{Settings}
 use Rattle.bt_base.specs.Objects.{Contents}
 use Rattle.push_script.specs.declared.scenario.Scenario.{Scenario}
 use Rattle.push_terms.specs.declared.peaks.Peaks.{Peaks}
 use Rattle.push_terms.specs.declared.word.Side.{Side}
 use Rattle.push_terms.specs.declared.word.Side.TheVariants.{A, B}
+use Rattle.push_terms.specs.declared.word.Word.{Word}
 use Rattle.capture.specs.Entries.{Entry}
 use Rattle.link_talk.specs.Accounts.{window_used}
 use Rattle.link_talk.specs.Captures.{talk_now}
 use Rattle.link_talk.specs.Channels.{Entry as Known, is_alive, reading}
 use Rattle.channel_laws.specs.Views.{read_at}
-use Rattle.world_model.specs.Worlds.{Happening, IsAtRest, all_entries}
+use Rattle.world_model.specs.Worlds.{Happening, Turns, IsAtRest, all_entries}
 use Rattle.turn_laws.specs.Laws.{IsFront}
 use Rattle.scenario_laws.specs.Captures.{client_of, server_of, BothHosts, Happened}
 use Rattle.scenario_laws.specs.Parties.{party_of}
@@ -30,11 +31,13 @@ pub record RestsBelow (scenario : Scenario) (content : Option Contents) (front :
   pub below_b : IsAtRest (client_of scenario) (server_of scenario content) world → HoldsAtMost scenario.settings B peaks.window_b (all_entries front)
 
 -- The windows that were reported are at most what both hosts state. And no host had more frames unacknowledged, on a
--- channel that it had not closed, wherever the run was at rest, and so at its end.
+-- channel that it had not closed, wherever the run was at rest, and so as each word acted and at its end.
 pub record AreBounded (scenario : Scenario) (content : Option Contents) (happenings : List Happening) (peaks : Peaks) : Type 0 where
   pub stated_a : peaks.window_a ≤ scenario.settings.window
   pub stated_b : peaks.window_b ≤ scenario.settings.window
   pub rests : (front : List Happening) → IsFront front happenings → RestsBelow scenario content front peaks
+  pub words : (front later : List Happening) (ordinal : ℕ) (word : Word) → happenings ≡ front ++ Turns ordinal word ∷ later
+      → HoldsAtMost scenario.settings A peaks.window_a (all_entries front) × HoldsAtMost scenario.settings B peaks.window_b (all_entries front)
   pub ends_a : HoldsAtMost scenario.settings A peaks.window_a (all_entries happenings)
   pub ends_b : HoldsAtMost scenario.settings B peaks.window_b (all_entries happenings)
 

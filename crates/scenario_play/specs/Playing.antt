@@ -1,5 +1,5 @@
 -- A scenario that both hosts played (this project's own).
-use Rattle.std.specs.Prelude.{ℕ, ◌≡◌, ◌≤◌, List, Option, None}
+use Rattle.std.specs.Prelude.{ℕ, ◌≡◌, ◌≤◌, false, List, Option, None}
 use Rattle.std.specs.List.{AllByRecursion}
 use Rattle.bt_base.specs.Counts.{HasRisen}
 use Rattle.bt_base.specs.Objects.{Object, Contents}
@@ -66,11 +66,12 @@ pub record RanAnswered (scenario : Scenario) (shelf : Option (List Object)) (bef
 -- capture states, the peaks are those that the hosts noted on their way, and the inbox holds what host b made of it. Each entry is one that has octets, so
 -- the trace is read in one way. In that run the
 -- shelf told what it holds, and the inbox lacked no memory. Its counts say what it answered: where neither rose, it granted all that it was asked; and
--- where that of shortages did not, it failed no more often than the other says.
+-- where that of shortages did not, it failed no more often than the other says. The shelf lacked none.
 pub record IsPlayed (scenario : Scenario) (shelf : Option (List Object)) (before after : Option Contents) (trace trace' : Option (List ℕ)) (outcomes : List Outcome) (peaks : Peaks) (counts counts' : Counts) : Type 0 where
   pub capture : List Entry
   pub finished : Finished scenario before capture
   pub ends : finished.ran.ends ≡ last_entries ((client_of scenario).outcome finished.ran.world.a.upper) finished.ran.world.pushes
+  pub able : finished.ran.world.a.upper.profile.client.failed ≡ false
   pub outcomes_are : outcomes ≡ outcomes_of scenario capture
   pub reached : AreReached scenario before finished.ran.happenings peaks
   pub enough : HappenedEnough scenario shelf before finished.ran.happenings finished.ran.world

@@ -4,7 +4,7 @@ use Rattle.host_model.specs.Hosts.{Host}
 use Rattle.host_model.specs.Settings.{SetHost, set_to}
 use Rattle.bt_host.specs.Noting.{Noted}
 use Rattle.bt_host.specs.Shelving.{Shelved}
-use Rattle.scenario_play.specs.Noting.{plain_set}
+use Rattle.noting_laws.specs.Noting.{plain_set}
 
 abbrev pub bare_host : Host Shelved → Host ClientProfile
 bare_host host = record { channels = host.channels; profile = host.profile.pushing; may_say = host.may_say }

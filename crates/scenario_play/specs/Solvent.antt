@@ -7,7 +7,6 @@ use Rattle.push_terms.specs.declared.outcome.Outcome.{Outcome}
 use Rattle.push_terms.specs.declared.peaks.Peaks.{Peaks}
 use Rattle.push_terms.specs.declared.word.Side.{Side}
 use Rattle.world_model.specs.Worlds.{all_entries}
-use Rattle.scenario_laws.specs.Gains.{holding}
 use Rattle.credit_laws.specs.Kept.{StaysSolvent}
 use Rattle.scenario_play.specs.Breaking.{IsBroken}
 use Rattle.scenario_play.specs.Playing.{IsPlayed}
@@ -15,7 +14,7 @@ use Rattle.scenario_play.specs.Playing.{IsPlayed}
 -- At each moment of the capture of every scenario that was played, the credits that either host holds are not below nothing: over either transport, to its end
 -- or as far as it came, and behind its next entry as well, whatever its script says and its ports answer.
 pub record PlaysStaySolvent : Type 0 where
-  pub plays : (scenario : Scenario) (shelf : Option (List Object)) (before : List Object) (after : Option Contents) (trace trace' : Option (List ℕ)) (outcomes : List Outcome) (peaks : Peaks) (counts counts' : Counts)
-      (played : IsPlayed scenario shelf (holding before) after trace trace' outcomes peaks counts counts') (side : Side) → StaysSolvent scenario.settings side played.capture
-  pub breaks : (scenario : Scenario) (shelf : Option (List Object)) (before : List Object) (after : Option Contents) (trace trace' : Option (List ℕ)) (counts counts' : Counts)
-      (broken : IsBroken scenario shelf (holding before) after trace trace' counts counts') (side : Side) → StaysSolvent scenario.settings side (all_entries broken.happenings ++ broken.next)
+  pub plays : (scenario : Scenario) (shelf : Option (List Object)) (before after : Option Contents) (trace trace' : Option (List ℕ)) (outcomes : List Outcome) (peaks : Peaks) (counts counts' : Counts)
+      (played : IsPlayed scenario shelf before after trace trace' outcomes peaks counts counts') (side : Side) → StaysSolvent scenario.settings side played.capture
+  pub breaks : (scenario : Scenario) (shelf : Option (List Object)) (before after : Option Contents) (trace trace' : Option (List ℕ)) (counts counts' : Counts)
+      (broken : IsBroken scenario shelf before after trace trace' counts counts') (side : Side) → StaysSolvent scenario.settings side (all_entries broken.happenings ++ broken.next)

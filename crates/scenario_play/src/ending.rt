@@ -5,8 +5,11 @@ ghost use Rattle.scenario_play.specs.Ending.{PlaysBreakOff, PlaysEnd, PlaysServe
 ghost use Rattle.scenario_play.specs.Gaining.{PlaysGain, PlaysKeep};
 ghost use Rattle.scenario_play.specs.Losing.{PlaysGainLess};
 ghost use Rattle.scenario_play.specs.PeakBounds.{PeaksAreBounded};
+ghost use Rattle.scenario_play.specs.Pushed.{PlaysSpellPushed};
+ghost use Rattle.scenario_play.specs.Services.{PlaysKeepService};
 ghost use Rattle.scenario_play.specs.Solvent.{PlaysStaySolvent};
 ghost use Rattle.scenario_play.specs.Streaming.{PlaysStream};
+ghost use Rattle.scenario_play.specs.WindowPeaks.{WindowPeaksAreTold};
 
 /// What is so of every scenario that was played over L2CAP, over its capture alone: what the inbox gained, the accounts of both hosts, the
 /// pushes and how they ended, and that the air obeyed the script; where host b serves.
@@ -65,6 +68,12 @@ pub fn plays_stay_solvent()
     ensures { PlaysStaySolvent }
 {}
 
+/// What the capture of a scenario that was played spells to host b are objects that its shelf holds under names of the scenario, in their order: each whole,
+/// and of each name in the list once at most, where the shelf tells what it holds. So it is over L2CAP and over RFCOMM, to the end or as far as it came.
+pub fn plays_spell_pushed()
+    ensures { PlaysSpellPushed }
+{}
+
 /// The windows that a played scenario reports are at most what both hosts state. And no host had more frames
 /// unacknowledged on a channel that it had not closed, wherever the run was at rest, as the capture has it (Core 5.1, Volume 3 Part A, 5.4 and 8.6).
 pub fn peaks_are_bounded()
@@ -74,4 +83,17 @@ pub fn peaks_are_bounded()
 /// The greatest numbers of packets that a played scenario reports as outstanding are those of its capture, up to 65,535.
 pub fn buffer_peaks_are_told()
     ensures { BufferPeaksAreTold }
+{}
+
+/// On each of its links in every scenario that was played, over L2CAP or over RFCOMM, to its end or as far as it came, and whatever ports answer: host a asks for
+/// no channel, and opens, uses and closes no data link connection, but as an answer of service discovery told it there before; and both hosts accept enhanced mode
+/// alone of a channel that carries objects over L2CAP.
+pub fn plays_keep_service()
+    ensures { PlaysKeepService }
+{}
+
+/// No window that a played scenario reports is above the one that both hosts state; and by its capture no host had more frames unacknowledged on a channel
+/// that it had not closed, as each word acted and at the end.
+pub fn window_peaks_are_told()
+    ensures { WindowPeaksAreTold }
 {}

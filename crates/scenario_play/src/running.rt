@@ -36,6 +36,7 @@ fn run_through<P, A: Client<P>, Q, B: Host<Q>, T: Sink>(
     requires sound { A.Host.is_sound world.old.a shelf.old × B.is_sound world.old.b inbox.old }
     ensures runs { OnOk result (RunsThrough A.Host.machine B.machine A.Host.answers B.answers (words_of script.now) (stage world.old.scene (A.Host.station world.old.a shelf.old) (B.station world.old.b inbox.old) shelf.old inbox.old (T.content trace.old)) (stage world.new.scene (A.Host.station world.new.a shelf.new) (B.station world.new.b inbox.new) shelf.new inbox.new (T.content trace.new))) }
     ensures each { OnOk result (length world.new.scene.pushes.outcomes ≡ length world.old.scene.pushes.names) }
+    ensures sound { OnOk result (A.Host.is_sound world.new.a shelf.new) }
     ensures breaks { OnErr result (BreaksThrough A.Host.machine B.machine A.Host.answers B.answers A.Host.lacked B.lacked B.station (words_of script.now) (stage world.old.scene (A.Host.station world.old.a shelf.old) (B.station world.old.b inbox.old) shelf.old inbox.old (T.content trace.old)) shelf.new inbox.new (T.content trace.new)) }
     ensures blames { Blames (T.faults trace.old) (T.faults trace.new) result }
     ensures lacks { Lacks (T.shortages trace.old) (T.shortages trace.new) (Wants A.Host.machine B.machine A.Host.answers B.answers A.Host.lacked B.lacked (words_of script.now) (stage world.old.scene (A.Host.station world.old.a shelf.old) (B.station world.old.b inbox.old) shelf.old inbox.old (T.content trace.old)) shelf.new inbox.new (T.content trace.new)) result }
@@ -75,6 +76,7 @@ pub(crate) fn play_out<P, A: Client<P>, Q, B: Host<Q>, T: Sink>(
     ensures runs { IfOk result (λ end. RunsThrough A.Host.machine B.machine A.Host.answers B.answers (words_of script.now) (stage world.scene (A.Host.station world.a shelf.old) (B.station world.b inbox.old) shelf.old inbox.old (T.content trace.old)) (stage end.1.scene (A.Host.station end.1.a shelf.new) (B.station end.1.b inbox.new) shelf.new inbox.new (T.content trace.new))) }
     ensures outcomes { IfOk result (λ end. end.0.items ≡ end.1.scene.pushes.outcomes) }
     ensures each { IfOk result (λ end. length end.0.items ≡ length world.scene.pushes.names) }
+    ensures sound { IfOk result (λ end. A.Host.is_sound end.1.a shelf.new) }
     ensures breaks { OnErr result (BreaksThrough A.Host.machine B.machine A.Host.answers B.answers A.Host.lacked B.lacked B.station (words_of script.now) (stage world.scene (A.Host.station world.a shelf.old) (B.station world.b inbox.old) shelf.old inbox.old (T.content trace.old)) shelf.new inbox.new (T.content trace.new)) }
     ensures blames { Blames (T.faults trace.old) (T.faults trace.new) result }
     ensures lacks { Lacks (T.shortages trace.old) (T.shortages trace.new) (MayWant A.Host.machine B.machine A.Host.answers B.answers A.Host.lacked B.lacked (words_of script.now) (stage world.scene (A.Host.station world.a shelf.old) (B.station world.b inbox.old) shelf.old inbox.old (T.content trace.old)) shelf.new inbox.new (T.content trace.new)) result }

@@ -5,7 +5,7 @@ use Rattle.push_script.specs.declared.scenario.Scenario.{Scenario}
 use Rattle.channel_laws.specs.Pairs.{Near, Far}
 use Rattle.host_model.specs.Servers.{ServerProfile}
 use Rattle.shelf_model.specs.Held.{held_by}
-use Rattle.pair_laws.specs.Served.{AnswersOf}
+use Rattle.host_laws.specs.ShelfAnswers.{AnswersOf}
 use Rattle.pair_laws.proofs.Pairing.{answers_allowed, ordered}
 use Rattle.tape_laws.specs.Pairs.{TapedKeepOrder}
 use Rattle.tape_laws.specs.Taped.{Tape}

@@ -21,13 +21,14 @@ use Rattle.air_laws.specs.AirLaws.{IsLastEnd}
 use Rattle.alike_laws.specs.Twins.{IsOther}
 use Rattle.host_model.specs.Hosts.{Host, first_host}
 use Rattle.host_model.specs.Servers.{ServerProfile, server_profile}
+use Rattle.host_laws.specs.ShelfAnswers.{AnswersOf}
 use Rattle.scenario_laws.specs.Captures.{client_of, Ran}
 use Rattle.scenario_laws.specs.Gains.{holding}
 use Rattle.scenario_laws.specs.Parties.{party_of}
 use Rattle.shelf_model.specs.Held.{held_by}
 use Rattle.pair_laws.specs.InTurn.{PairsInTurn}
 use Rattle.pair_laws.specs.Keeping.{LosesNothing, PairsKeepOrder}
-use Rattle.pair_laws.specs.Served.{holding_on, AnswersOf}
+use Rattle.pair_laws.specs.Served.{holding_on}
 use Rattle.pair_laws.proofs.Pairing.{answers_allowed}
 use Rattle.request_laws.specs.Losing.{LosesFew, served_in}
 use Rattle.request_laws.proofs.LessHeard.{loses_few}

@@ -50,6 +50,7 @@ use Rattle.pair_laws.proofs.Facing.{AllKept}
 use Rattle.pair_laws.proofs.Given.{Allows}
 use Rattle.pair_laws.proofs.Meeting.{gentle_doings}
 use Rattle.pair_laws.proofs.Numbered.{part_at, coming_at}
+use Rattle.pair_laws.proofs.Opened.{all-opened}
 use Rattle.pair_laws.proofs.Pairing.{pair_of_two, lived, lived_at, came_by, came_talk, in_air, short_length, not_ahead}
 use Rattle.pair_laws.proofs.Wording.{carried_worded}
 use Rattle.tape_laws.specs.Pairs.{TapedHosts, taped_of, taped_beginning, AreOfTape, TapedTakeTurns}
@@ -159,6 +160,7 @@ module _ {T : Type 0} (whole : Bool) (asks : HostsAsk) (scenario : Scenario) (co
         let sane = all-sane whole A asks_a B asks_b IsLowClient HasNoLink (Within S tape AnyServer) (Within S tape KnowsNone) (client-keeps scenario.settings) keeps_b (clients_keep scenario.settings) away_b
         (Bare S tape HasNew) (taped_awaits S tape (client_of scenario) HasNew alone (servers-await scenario.settings content (client_of scenario))) (λ gifts p. refl) to_a E allows_a as_it_is Always any_allowed Always Always Always Always (λ e host on stays. tt) (λ f host on stays. tt)
         scenario.acl_length scenario.names all.doings c all.of_script (gentle_doings whole all.doings (λ on. subst LosesNothing (sym worded.words_are) (gentle on))) all.so in
+        let opened = all-opened U V scenario.names scenario.acl_length Ready all.doings c all.so in
         let same : (side : Side) → linking (moves side capture) ≡ linking (moves side past) = λ side. ap (λ (es : List Entry). linking (moves side es)) capture_is ∙ ended_all side world.pushes past ends last in
         let came_a = came_by A sides.A past capture c.a sane.acted.a.acted all.links_a (same sides.A) in
         let came_b = came_by B sides.B past capture c.b sane.acted.b.acted all.links_b (same sides.B) in
@@ -193,6 +195,7 @@ module _ {T : Type 0} (whole : Bool) (asks : HostsAsk) (scenario : Scenario) (co
             ahead =
                 let short = not_ahead (length sane.pairs.a.so.lives.spans) (length sane.pairs.b.so.lives.spans) (length c.a.owed) (length c.b.owed) sane.pairs.number sane.pairs.level_a sane.pairs.level_b (short_length c.a.owed sane.abreast.short) in
                 subst (λ (n : ℕ). n ≤ length sane.pairs.a.so.lives.spans + 1) number_b short;
+            named = (opened.later, opened.names_are ∙ ap (λ (names : List (List ℕ)). names ++ opened.later) (sym sane.pairs.a.named));
           };
           told = sane.pairs.a.given;
           given = (lived_b.fed.so.lives.feeds, begins_given S tape asks_s lived_b.came.talk c.b.upper lived_b.came.over lived_b.fed, bare_feeds S tape alone asks_s sides.B capture c.b.upper lived_b);

@@ -15,9 +15,10 @@ use Rattle.host_model.specs.Hosts.{Host, first_host}
 use Rattle.host_model.specs.Machines.{upper}
 use Rattle.host_model.specs.Servers.{ServerProfile, server_profile}
 use Rattle.host_laws.specs.Calls.{HostsAsk}
+use Rattle.host_laws.specs.ShelfAnswers.{AnswersOf}
 use Rattle.scenario_laws.specs.Captures.{client_of, BothHosts, Ran}
 use Rattle.pair_laws.specs.Keeping.{LosesNothing, PairsKeepOrder}
-use Rattle.pair_laws.specs.Served.{holding_on, AnswersOf}
+use Rattle.pair_laws.specs.Served.{holding_on}
 use Rattle.tape_laws.specs.Once.{SpendsOnce}
 use Rattle.tape_laws.specs.Own.{own_server}
 

@@ -14,10 +14,11 @@ use Rattle.host_model.specs.Machines.{upper}
 use Rattle.host_model.specs.Servers.{ServerProfile, server_profile}
 use Rattle.host_laws.specs.Calls.{HostsAsk}
 use Rattle.host_laws.specs.Feeds.{Feed}
+use Rattle.host_laws.specs.ShelfAnswers.{AnswersOf}
 use Rattle.scenario_laws.specs.Captures.{client_of, Ran}
 use Rattle.pair_laws.specs.InTurn.{PairsInTurn}
 use Rattle.pair_laws.specs.Keeping.{LosesNothing, PairsKeepOrder}
-use Rattle.pair_laws.specs.Served.{holding_on, AnswersOf}
+use Rattle.pair_laws.specs.Served.{holding_on}
 use Rattle.tape_laws.specs.Once.{BeginsGiven}
 use Rattle.tape_laws.specs.Runs.{untaped_world}
 use Rattle.tape_laws.specs.Taped.{Tape, Taped, taped, untaped}

@@ -1,29 +1,20 @@
--- What a host does by itself, and what it makes of a unit, as a run of it over units: the octets that it puts out are those of the units that go out
--- in that run (Core 5.1, Volume 4 Part A, 2).
-use Rattle.std.specs.Prelude.{ℕ, ◌≡◌, ◌≤◌, true, List, [], ◌++◌, length, Option, Some, None, if◌then◌else◌}
-use Rattle.std.specs.List.{AllByRecursion, filter_map}
+-- What a host does by itself, and what it makes of a unit, as a run of it over units: behind the unit that comes in others go out, and the octets that
+-- it puts out are those of these (Core 5.1, Volume 4 Part A, 2).
+use Rattle.std.specs.Prelude.{ℕ, ◌≡◌, ◌≤◌, true, List, [], ◌∷◌, ◌++◌, map, length, Option, Some, None}
+use Rattle.std.specs.List.{AllByRecursion, flat_map}
 use Rattle.bt_base.specs.Numbers.{IsHandle}
 use Rattle.bt_base.specs.Octets.{IsOctets}
 use Rattle.h4_framing.specs.Packets.{Packet, spellings, IsPacket}
 use Rattle.acl_fragments.specs.Pieces.{Piece}
-use Rattle.capture.specs.declared.flow.Flow.TheVariants.{Out}
-use Rattle.capture.specs.Moves.{Move}
-use Rattle.capture.specs.Pdus.{same_flow}
 use Rattle.host_link.specs.declared.role.Role.{Role}
 use Rattle.host_link.specs.declared.host_command.HostCommand.{HostCommand}
 use Rattle.host_link.specs.Hearing.{fault_of, news_of}
 use Rattle.host_link.specs.HostCommands.{command_packet, IsWhole}
 use Rattle.host_link.specs.Lines.{Line}
 use Rattle.host_link.specs.PuttingOut.{can_take_pdu, take_pdu, put_pieces, put_command, connecting, leaving}
+use Rattle.host_link.specs.Stands.{into, out_of}
 use Rattle.world_model.specs.Machines.{Upper}
-use Rattle.unit_laws.specs.Units.{Lined, starting, Occasion, units, after_unit, Runs, IsToldInTurn, ComesInTurn}
-
--- the packets that went out
-abbrev pub packet_out : Move → Option Packet
-packet_out move = if same_flow move.flow Out then Some move.packet else None
-
-abbrev pub packets_out : List Move → List Packet
-packets_out list = filter_map packet_out list
+use Rattle.unit_laws.specs.Units.{Lined, starting, Occasion, Comes, Learns, Says, Puts, Commands, Waits, units, after_unit, Runs, IsToldInTurn, ComesInTurn}
 
 -- ---- what waits can be written
 
@@ -46,11 +37,28 @@ pub record IsWritable (line : Line) : Type 0 where
 
 -- ---- runs
 
--- from the one to the other, one thing at a time: with the units that go out `out` gains their octets
-pub record GoesBy {S G : Type 0} (U : Upper S G) (old new : Lined S) : Type 0 where
+-- what the ports are to answer behind each thing that the host is told
+abbrev pub gifts_of : {G : Type 0} → Occasion G → List (List G)
+gifts_of (Comes gifts unit) = gifts ∷ []
+gifts_of (Learns gifts news) = gifts ∷ []
+gifts_of (Says pdu) = []
+gifts_of (Puts handle piece) = []
+gifts_of (Commands command) = []
+gifts_of Waits = []
+
+abbrev pub gifts_in : {G : Type 0} → List (Occasion G) → List (List G)
+gifts_in occasions = flat_map gifts_of occasions
+
+-- From the one to the other, one thing at a time: these units came in, and behind them units went out, whose octets `out` gained. The ports were to
+-- answer so.
+pub record GoesBy {S G : Type 0} (U : Upper S G) (gifts : List (List G)) (came : List Packet) (old new : Lined S) : Type 0 where
   pub occasions : List (Occasion G)
   pub runs : Runs U (ComesInTurn U) occasions old new
-  pub out : new.line.out ≡ old.line.out ++ spellings (packets_out (units occasions))
+  pub given : gifts_in occasions ≡ gifts
+  pub went : List Packet
+  pub each : AllByRecursion (IsPacket 1021) went
+  pub units_are : units occasions ≡ map into came ++ map out_of went
+  pub out : new.line.out ≡ old.line.out ++ spellings went
   pub writable : IsWritable new.line
 
 -- a machine says octets
@@ -60,15 +68,15 @@ SaysInOctets {S} U = (s : S) (pdu : List ℕ) (after : S) → U.next s ≡ Some 
 -- So does a host, whatever it does next: it puts out the pieces that wait, says a PDU, lets the end of its link or a call wait, puts out a command, or
 -- hears a unit where it has said all.
 pub record CallsGo {S G : Type 0} (U : Upper S G) (now : Lined S) : Type 0 where
-  pub puts : GoesBy U now (record now { line = put_pieces now.line })
-  pub says : (pdu : List ℕ) (after : S) → can_take_pdu now.line ≡ true → U.next now.upper ≡ Some (pdu, after) → GoesBy U now (record { line = take_pdu pdu now.line; upper = after })
-  pub ends : GoesBy U now (record now { line = leaving now.line.link now.line })
-  pub pages : (address : List ℕ) → length address ≡ 6 → IsOctets address → GoesBy U now (record now { line = connecting address now.line })
-  pub commands : GoesBy U now (record now { line = put_command now.line })
-  pub hears : (limit : ℕ) (gifts : List G) (unit : Packet) → IsPacket limit unit → fault_of unit now.line ≡ None → IsToldInTurn U now (news_of unit now.line) → GoesBy U now (after_unit U gifts unit now)
+  pub puts : GoesBy U [] [] now (record now { line = put_pieces now.line })
+  pub says : (pdu : List ℕ) (after : S) → can_take_pdu now.line ≡ true → U.next now.upper ≡ Some (pdu, after) → GoesBy U [] [] now (record { line = take_pdu pdu now.line; upper = after })
+  pub ends : GoesBy U [] [] now (record now { line = leaving now.line.link now.line })
+  pub pages : (address : List ℕ) → length address ≡ 6 → IsOctets address → GoesBy U [] [] now (record now { line = connecting address now.line })
+  pub commands : GoesBy U [] [] now (record now { line = put_command now.line })
+  pub hears : (limit : ℕ) (gifts : List G) (unit : Packet) → IsPacket limit unit → fault_of unit now.line ≡ None → IsToldInTurn U now (news_of unit now.line) → GoesBy U (gifts ∷ []) (unit ∷ []) now (after_unit U gifts unit now)
 
 pub record CallsAreRuns {S G : Type 0} (U : Upper S G) : Type 0 where
   pub fresh : (role : Role) → IsWritable (starting U role).line
   pub calls : (now : Lined S) → SaysInOctets U → IsWritable now.line → CallsGo U now
   -- one behind the other
-  pub joined : (old mid new : Lined S) → GoesBy U old mid → GoesBy U mid new → GoesBy U old new
+  pub joined : (gifts : List (List G)) (came : List Packet) (old mid new : Lined S) → GoesBy U gifts came old mid → GoesBy U [] [] mid new → GoesBy U gifts came old new

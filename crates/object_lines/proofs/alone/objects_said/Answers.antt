@@ -1,7 +1,15 @@
-use Rattle.std.proofs.Common.{ap, ◌∙◌}
+use Rattle.std.proofs.Common.{ap, sym, ◌∙◌}
+use Rattle.obex_headers.specs.Reader.{objects_seen}
+use Rattle.link_talk.specs.Channels.{Reading}
 use Rattle.link_readers.specs.Lent.{plain_sayings, plain_entry, plain_entries, plain_reading}
-use Rattle.object_lines.proofs.OneChannel.{sole_are}
+use Rattle.object_lines.proofs.OneChannel.{sole_are, no_channels_held}
 use Rattle.object_lines.proofs.alone.objects_said.Goals as goal
+
+pub returns-then-is_empty : goal.returns-then-is_empty
+returns-then-is_empty c =
+    ap objects_seen c.new.ensures.items
+    ∙ no_channels_held c.args.party.now (plain_sayings c.args.said.now) c.in_ok-held.held.entries.items c.in_ok-held.held.entries.len c.in_ok-held.held.entries.ok.0
+    (sym c.is_empty.ensures ∙ c.if-is_empty.true) (ap (λ (r : Reading). r.entries) c.in_ok-held.ensures)
 
 pub returns-in-Some : goal.returns-in-Some
 returns-in-Some c =

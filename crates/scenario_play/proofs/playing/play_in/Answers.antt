@@ -65,7 +65,7 @@ returns-clause-plays g c =
     let last : NotedMoment = moment c.in_ok-outcomes.world.scene (answering [] (playing (client_noting g.F.Shelf.content) shelf c.in_ok-outcomes.world.a.stack)) (answering [] (playing (server_noting g.I.Inbox.content) inbox c.in_ok-outcomes.world.b.stack)) in
     let noted : AreNoted c.in_ok-outcomes.world.scene.medium last c.peaks_of-peaks.result = record { buffers = c.peaks_of-peaks.ensures.buffers; windows = c.peaks_of-peaks.ensures.windows; credits = c.peaks_of-peaks.ensures.credits } in
     played g.F.Shelf.content g.I.Inbox.content (Answers g.F.Shelf.content g.F.Shelf.faults g.F.Shelf.shortages) g.I.Inbox.faults g.I.Inbox.shortages c.args.scenario.now c.args.world c.in_ok-outcomes.world
-    c.args.shelf.now shelf c.args.inbox.now inbox (traced c.args.trace.now) (traced c.play_out.new.trace) c.in_ok-outcomes.outcomes.items c.peaks_of-peaks.result c.requires.fresh c.in_ok-outcomes.ensures.runs c.in_ok-outcomes.ensures.outcomes noted
+    c.args.shelf.now shelf c.args.inbox.now inbox (traced c.args.trace.now) (traced c.play_out.new.trace) c.in_ok-outcomes.outcomes.items c.peaks_of-peaks.result c.requires.fresh c.in_ok-outcomes.ensures.runs c.in_ok-outcomes.ensures.sound.1.0.works c.in_ok-outcomes.ensures.outcomes noted
 
 pub returns-clause-each : goal.returns-clause-each
 returns-clause-each g c = c.in_ok-outcomes.ensures.each ∙ ap (λ (w : Both (Shelled (Noted ClientProfile)) (Shelled (Noted Served))). length w.scene.pushes.names) c.requires.fresh

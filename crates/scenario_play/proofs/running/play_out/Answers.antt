@@ -13,6 +13,9 @@ copy_from_slice-requires g c = c.in_ok-outcomes.ensures ∙ (c.requires.count �
 pub returns-clause-runs : goal.returns-clause-runs
 returns-clause-runs g c = c.in_ok-run_through.ensures.runs
 
+pub returns-clause-sound : goal.returns-clause-sound
+returns-clause-sound g c = c.in_ok-run_through.ensures.sound
+
 pub returns-clause-outcomes : goal.returns-clause-outcomes
 returns-clause-outcomes g c = c.copy_from_slice.ensures.items ∙ c.outcomes.ensures
 

@@ -38,6 +38,9 @@ returns-clause-runs g c =
       each = c.finish.ensures.entries [];
     }))
 
+pub returns-clause-sound : goal.returns-clause-sound
+returns-clause-sound g c = subst (λ a. g.A.Host.is_sound a c.turn_all.new.shelf) (sym c.finish.ensures.hosts.0) c.in_ok-turn_all.ensures.sound.0
+
 pub returns-clause-each : goal.returns-clause-each
 returns-clause-each g c =
     let one = g.A.Host in

@@ -1,0 +1,358 @@
+-- What a client hears and does, and the outcomes that come of it.
+use Rattle.std.proofs.Common.{◌≡◌, ℕ, zero, suc, Bool, true, false, not, ◌&&◌, ◌||◌, ◌==◌, List, [], ◌∷◌, ◌++◌, length, Option, Some, None, is_none, Result, Ok, Err, refl, sym, ap, subst, ◌∙◌, if◌then◌else◌}
+use Rattle.std.specs.Prelude.{nat_lt}
+use Rattle.std.specs.List.{AllByRecursion}
+use Rattle.bt_base.specs.declared.ports.PortFault.{PortFault}
+use Rattle.bt_base.specs.declared.ports.PortFault.TheVariants as fault
+use Rattle.bt_base.specs.declared.settings.Transport.{Transport}
+use Rattle.bt_base.specs.declared.settings.Transport.TheVariants.{L2cap, Rfcomm}
+use Rattle.push_terms.specs.declared.outcome.Outcome.{Outcome}
+use Rattle.push_terms.specs.declared.outcome.Outcome.TheVariants.{Done, LinkLost, RetryLimit, Refused, NoService, ShelfFault, Cancelled, PeerClosed, PeerFault, ScriptEnded}
+use Rattle.rfcomm_model.specs.Hearing.{Up, nothing, opened, bytes, closed, up, hears}
+use Rattle.rfcomm_model.specs.Saying.{Said, next}
+use Rattle.sdp_client.specs.Asking.{is_due}
+use Rattle.sdp_client.specs.Hearing.{found_at}
+use Rattle.sdp_client.specs.declared.reason.Found.{Found}
+use Rattle.sdp_client.specs.declared.reason.Found.TheVariants as found
+use Rattle.sdp_client.specs.declared.reason.QueryReason.{QueryReason}
+use Rattle.sdp_client.specs.declared.reason.QueryReason.TheVariants.{BadReply, ErrorCode, WrongTransaction, TooLong}
+use Rattle.obex_session.specs.declared.client.Answered.{Answered}
+use Rattle.obex_session.specs.declared.client.Answered.TheVariants as answer
+use Rattle.obex_session.specs.Views.{answer_at}
+use Rattle.push_model.specs.declared.closing.CloseCause.{CloseCause}
+use Rattle.push_model.specs.declared.closing.CloseCause.TheVariants as closing
+use Rattle.push_model.specs.declared.course.Point.TheVariants.{Due, Asked}
+use Rattle.push_model.specs.declared.course.Stage.{Stage}
+use Rattle.push_model.specs.declared.course.Stage.TheVariants.{Rest, Link, SearchChannel, Search, SearchEnd, Features, ObjectChannel, Object, ObjectEnd, LinkEnd, Over}
+use Rattle.push_model.specs.Causes.{cause_of_link, cause_of_close, cause_of_query, cause_of_mux, small_channel, unawaited_response}
+use Rattle.push_model.specs.Client.{Client, is_direct, begins, begun_by}
+use Rattle.push_model.specs.Events as events
+use Rattle.push_model.specs.Events.{News, is_linked, is_asking_features, armed, search_psm}
+use Rattle.push_model.specs.Laws.{Deed, Hears, Asks, Finishes, Cancels, done}
+use Rattle.push_model.specs.Responding.{is_early, is_success, is_left, is_object, hears_response}
+use Rattle.push_model.specs.Shown.{first_of, watched, closed_shows, opened_shows, way_of, found_shows, says, answer_shows, response_shows, front_shows, stream_shows, up_shows, object_shows, outside_shows, sdu_shows, part_shows, ask_shows, said_shows, step_shows, shows}
+use Rattle.push_model.specs.Steps as course
+use Rattle.push_model.specs.Steps.{Part, Ask, Stepped, puts, takes_some, filled, next_ask, may_ask, steps}
+use Rattle.push_model.specs.Streams.{Front, Whole, Partial, Broken, front_of}
+use Rattle.push_model.proofs.CauseLaws.{first_causes_stay}
+use Rattle.push_model.proofs.ShownLaws.{outcomes_are_shown}
+use Rattle.push_client.proofs.KeepingLaws.{news_keeps, cancelled_keeps}
+use Rattle.host_laws.specs.Pushing.{Affair, Begins, Does, client_after, client_behind}
+
+-- ---- outcomes
+
+-- those that come of anything
+abbrev pub is_any : Outcome → Bool
+is_any Done = false
+is_any LinkLost = false
+is_any RetryLimit = true
+is_any (Refused code) = false
+is_any NoService = false
+is_any ShelfFault = true
+is_any Cancelled = false
+is_any PeerClosed = true
+is_any (PeerFault layer reason) = true
+is_any ScriptEnded = false
+
+-- and those that come of an SDU besides
+abbrev pub is_heard : Outcome → Bool
+is_heard Done = true
+is_heard LinkLost = false
+is_heard RetryLimit = true
+is_heard (Refused code) = true
+is_heard NoService = true
+is_heard ShelfFault = true
+is_heard Cancelled = false
+is_heard PeerClosed = true
+is_heard (PeerFault layer reason) = true
+is_heard ScriptEnded = false
+
+abbrev pub is_lost : Outcome → Bool
+is_lost Done = false
+is_lost LinkLost = true
+is_lost RetryLimit = false
+is_lost (Refused code) = false
+is_lost NoService = false
+is_lost ShelfFault = false
+is_lost Cancelled = false
+is_lost PeerClosed = false
+is_lost (PeerFault layer reason) = false
+is_lost ScriptEnded = false
+
+-- and of the end of a link
+abbrev pub is_ended : (by_user : Bool) → Outcome → Bool
+is_ended by_user outcome = is_any outcome || (is_lost outcome && not by_user)
+
+abbrev pub Within : (Outcome → Bool) → Option Outcome → Type 0
+Within q None = Unit {0}
+Within q (Some outcome) = q outcome ≡ true
+
+pub any_heard : (outcome : Outcome) → is_any outcome ≡ true → is_heard outcome ≡ true
+any_heard Done is = refl
+any_heard LinkLost is = is
+any_heard RetryLimit is = refl
+any_heard (Refused code) is = refl
+any_heard NoService is = refl
+any_heard ShelfFault is = refl
+any_heard Cancelled is = is
+any_heard PeerClosed is = refl
+any_heard (PeerFault layer reason) is = refl
+any_heard ScriptEnded is = is
+
+pub any_ended : (by_user : Bool) (outcome : Outcome) → is_any outcome ≡ true → is_ended by_user outcome ≡ true
+any_ended by_user outcome is = ap (λ (b : Bool). b || (is_lost outcome && not by_user)) is
+
+within_more : (p q : Outcome → Bool) → ((outcome : Outcome) → p outcome ≡ true → q outcome ≡ true) → (shown : Option Outcome) → Within p shown → Within q shown
+within_more p q more None within = tt
+within_more p q more (Some outcome) within = more outcome within
+
+either : (q : Outcome → Bool) (test : Bool) (a b : Option Outcome) → Within q a → Within q b → Within q (if test then a else b)
+either q true a b x y = x
+either q false a b x y = y
+
+-- ---- what shows
+
+close_within : (cause : CloseCause) → Within is_any (cause_of_close cause)
+close_within closing.Peer = refl
+close_within (closing.Refused result) = refl
+close_within closing.NoAgreement = refl
+close_within closing.RetryLimit = refl
+close_within (closing.Broken number) = by (number == 5)
+  where
+    by : (test : Bool) → is_any (if test then RetryLimit else PeerFault 2 number) ≡ true
+    by true = refl
+    by false = refl
+close_within closing.Own = tt
+
+closed_within : (psm : ℕ) (cause : CloseCause) (own : Option ℕ) → Within is_any (closed_shows psm cause own)
+closed_within psm cause None = tt
+closed_within psm cause (Some own) = either is_any (psm == own) (cause_of_close cause) None (close_within cause) tt
+
+opened_within : (stage : Stage) (psm mtu : ℕ) (client : Client) → Within is_any (opened_shows stage psm mtu client)
+opened_within Rest psm mtu client = tt
+opened_within (Link point) psm mtu client = tt
+opened_within (SearchChannel point) psm mtu client = tt
+opened_within Search psm mtu client = tt
+opened_within (SearchEnd point) psm mtu client = tt
+opened_within (Features point) psm mtu client = tt
+opened_within (ObjectChannel Due) psm mtu client = tt
+opened_within (ObjectChannel Asked) psm mtu client = either is_any ((psm == client.psm) && (is_direct client.transport && nat_lt mtu 255)) (Some small_channel) None refl tt
+opened_within Object psm mtu client = tt
+opened_within (ObjectEnd point) psm mtu client = tt
+opened_within (LinkEnd point) psm mtu client = tt
+opened_within Over psm mtu client = tt
+
+query_within : (reason : QueryReason) → Within is_heard (cause_of_query reason)
+query_within BadReply = refl
+query_within (ErrorCode code) = refl
+query_within WrongTransaction = tt
+query_within TooLong = refl
+
+found_within : (transport : Transport) (what : Found) → Within is_heard (found_shows transport what)
+found_within transport found.More = tt
+found_within transport (found.Service target) = either is_heard (is_none (way_of transport target)) (Some NoService) None refl tt
+found_within transport found.NoService = refl
+found_within transport (found.Refused reason) = query_within reason
+
+says_within : (answered : Answered) → Within is_heard (says answered)
+says_within answer.Go = tt
+says_within answer.Done = refl
+says_within (answer.Refused code) = refl
+says_within (answer.Bad refusal) = refl
+says_within answer.Srmp = refl
+
+answer_within : (answered : Option Answered) (client : Client) → Within is_heard (answer_shows answered client)
+answer_within None client = refl
+answer_within (Some answered) client = either is_heard (is_success answered && is_early client) (Some unawaited_response) (says answered) refl (says_within answered)
+
+response_within : (packet : List ℕ) (client : Client) → Within is_heard (response_shows packet client)
+response_within packet client = answer_within (answer_at client.session.awaited client.session packet) client
+
+first_within : (first later : Option Outcome) → Within is_heard first → Within is_heard later → Within is_heard (first_of first later)
+first_within None later x y = y
+first_within (Some outcome) later x y = x
+
+front_within : (more : List ℕ → Client → Option Outcome) → ((rest : List ℕ) (client : Client) → Within is_heard (more rest client)) → (front : Front) (client : Client) → Within is_heard (front_shows more front client)
+front_within more all (Whole packet rest) client =
+    let alone : Client = record client { held = [] } in first_within (response_shows packet alone) (more rest (hears_response packet alone)) (response_within packet alone) (all rest (hears_response packet alone))
+front_within more all Partial client = tt
+front_within more all (Broken refusal) client = refl
+
+stream_within : (count : ℕ) (stream : List ℕ) (client : Client) → Within is_heard (stream_shows count stream client)
+unfolding stream_shows
+stream_within zero stream client = tt
+stream_within (suc count) stream client = front_within (λ rest next. stream_shows count rest next) (λ rest next. stream_within count rest next) (front_of client.session.maximum stream) client
+
+up_within : (news : Up) (client : Client) → Within is_heard (up_shows news client)
+up_within nothing client = tt
+up_within opened client = tt
+up_within (bytes octets) client = stream_within (length (client.held ++ octets)) (client.held ++ octets) client
+up_within (closed reason) client = either is_heard (is_left client.contact reason) None (Some (cause_of_mux reason)) tt refl
+
+object_within : (transport : Transport) (sdu : List ℕ) (client : Client) → Within is_heard (object_shows transport sdu client)
+object_within L2cap sdu client = response_within sdu client
+object_within Rfcomm sdu client = up_within (up sdu client.mux) (record client { mux = hears sdu client.mux })
+
+outside_within : (transport : Transport) → Within is_heard (outside_shows transport)
+outside_within L2cap = refl
+outside_within Rfcomm = tt
+
+sdu_within : (stage : Stage) (psm : ℕ) (sdu : List ℕ) (client : Client) → Within is_heard (sdu_shows stage psm sdu client)
+sdu_within Rest psm sdu client = tt
+sdu_within (Link point) psm sdu client = tt
+sdu_within (SearchChannel point) psm sdu client = tt
+sdu_within Search psm sdu client = either is_heard (psm == search_psm) (found_shows client.transport (found_at client.query sdu)) None (found_within client.transport (found_at client.query sdu)) tt
+sdu_within (SearchEnd point) psm sdu client = tt
+sdu_within (Features point) psm sdu client = tt
+sdu_within (ObjectChannel point) psm sdu client = either is_heard (psm == client.psm) (outside_shows client.transport) None (outside_within client.transport) tt
+sdu_within Object psm sdu client = either is_heard (psm == client.psm) (object_shows client.transport sdu client) None (object_within client.transport sdu client) tt
+sdu_within (ObjectEnd point) psm sdu client = either is_heard (psm == client.psm) (outside_shows client.transport) None (outside_within client.transport) tt
+sdu_within (LinkEnd point) psm sdu client = tt
+sdu_within Over psm sdu client = tt
+
+link_within : (by_user : Bool) → Within (is_ended by_user) (Some (if by_user then PeerClosed else LinkLost))
+link_within true = refl
+link_within false = refl
+
+pub down_within : (reason : ℕ) (client : Client) → Within (is_ended (reason == 0x13)) (shows (Hears (events.LinkDown reason)) client)
+down_within reason client = either (is_ended (reason == 0x13)) (is_linked client.stage) (Some (cause_of_link reason)) None (link_within (reason == 0x13)) tt
+
+part_within : (answer : Result (Unit {0}) PortFault) → Within is_any (part_shows answer)
+part_within (Ok done) = tt
+part_within (Err fault.Failed) = refl
+part_within (Err fault.NoMemory) = tt
+
+ask_within : (ask : Ask) (client : Client) (parts : List Part) → Within is_any (ask_shows ask client parts)
+ask_within course.Connect client parts = tt
+ask_within course.Put client parts = part_within (puts client parts).outcome
+ask_within course.Abort client parts = tt
+ask_within course.Disconnect client parts = tt
+ask_within course.Close client parts = tt
+ask_within course.Nothing client parts = tt
+
+said_within : (said : Option Said) (client : Client) (parts : List Part) → Within is_any (said_shows said client parts)
+said_within None client parts =
+    let quiet : Client = record client { frame = None; rest = [] } in either is_any (may_ask client && takes_some client.mux) (ask_shows (next_ask client) quiet parts) None (ask_within (next_ask client) quiet parts) tt
+said_within (Some said) client parts = tt
+
+step_within : (transport : Transport) (client : Client) (parts : List Part) → Within is_any (step_shows transport client parts)
+step_within L2cap client parts = let clear : Client = record client { rest = [] } in either is_any (may_ask client) (ask_shows (next_ask client) clear parts) None (ask_within (next_ask client) clear parts) tt
+step_within Rfcomm client parts = let full = filled client in said_within (next full.mux) full parts
+
+pub asks_within : (parts : List Part) (client : Client) → Within is_any (shows (Asks parts) client)
+asks_within parts client = either is_any (not client.failed && (not client.given && is_object client.stage)) (step_shows client.transport client parts) None (step_within client.transport client parts) tt
+
+-- ---- which deeds show no other ones
+
+abbrev pub ShowsWithin : (Outcome → Bool) → Deed → Type 0
+ShowsWithin q deed = (client : Client) → Within q (shows deed client)
+
+pub more_shown : (q : Outcome → Bool) → ((outcome : Outcome) → is_any outcome ≡ true → q outcome ≡ true) → (deed : Deed) → ShowsWithin is_any deed → ShowsWithin q deed
+more_shown q more deed within client = within_more is_any q more (shows deed client) (within client)
+
+pub up_shown : ShowsWithin is_any (Hears events.LinkUp)
+up_shown client = tt
+
+pub opens_shown : (psm mtu : ℕ) → ShowsWithin is_any (Hears (events.ChannelOpen psm mtu))
+opens_shown psm mtu client = opened_within client.stage psm mtu client
+
+pub closes_shown : (psm : ℕ) (cause : CloseCause) → ShowsWithin is_any (Hears (events.ChannelClosed psm cause))
+closes_shown psm cause client = closed_within psm cause (watched client.stage client)
+
+pub told_shown : ShowsWithin is_any (Hears events.FeaturesTold)
+told_shown client = tt
+
+pub lost_shown : ShowsWithin is_any (Hears events.FeaturesLost)
+lost_shown client = either is_any (is_asking_features client.stage) (Some RetryLimit) None refl tt
+
+pub timer_shown : ShowsWithin is_any (Hears events.Timer)
+timer_shown client = either is_any ((armed client && not (client.given || is_due client.query)) && (client.left == 0)) (Some RetryLimit) None refl tt
+
+pub asks_shown : (parts : List Part) → ShowsWithin is_any (Asks parts)
+asks_shown parts client = asks_within parts client
+
+pub finishes_shown : ShowsWithin is_any Finishes
+finishes_shown client = tt
+
+pub sdu_shown : (psm : ℕ) (sdu : List ℕ) → ShowsWithin is_heard (Hears (events.Sdu psm sdu))
+sdu_shown psm sdu client = sdu_within client.stage psm sdu client
+
+-- ---- from one outcome to a later one
+
+-- an outcome stays, and where there was none one of these may come
+abbrev pub Came : (Outcome → Bool) → (old new : Option Outcome) → Type 0
+Came q None new = Within q new
+Came q (Some outcome) new = new ≡ Some outcome
+
+pub came_same : (q : Outcome → Bool) (old : Option Outcome) → Came q old old
+came_same q None = tt
+came_same q (Some outcome) = refl
+
+pub came_then : (q : Outcome → Bool) (old mid new : Option Outcome) → Came q old mid → Came q mid new → Came q old new
+came_then q None None new one two = two
+came_then q None (Some outcome) new one two = subst (Within q) (sym two) one
+came_then q (Some outcome) mid new one two = subst (λ (c : Option Outcome). Came q c new) one two
+
+-- there is one
+abbrev pub HasCome : Option Outcome → Type 0
+HasCome None = ⊥
+HasCome (Some outcome) = Unit {0}
+
+pub has_come : (q : Outcome → Bool) (old new : Option Outcome) → Came q old new → HasCome old → HasCome new
+has_come q None new came come = absurd come
+has_come q (Some outcome) new came come = subst HasCome (sym came) tt
+
+pub over_comes : (outcome : Outcome) (client : Client) → HasCome (events.over outcome client).cause
+over_comes outcome client = by client.cause refl
+  where
+    by : (cause : Option Outcome) → client.cause ≡ cause → HasCome (events.over_by cause outcome client).cause
+    by None is = tt
+    by (Some earlier) is = subst HasCome (sym is) tt
+
+none_later : (shown : Option Outcome) → first_of shown None ≡ shown
+none_later None = refl
+none_later (Some outcome) = refl
+
+pub came_by : (q : Outcome → Bool) (deed : Deed) (client : Client) → Within q (shows deed client) → Came q client.cause (done deed client).cause
+came_by q deed client within = by client.cause refl
+  where
+    by : (cause : Option Outcome) → client.cause ≡ cause → Came q cause (done deed client).cause
+    by None is = subst (Within q) (sym (outcomes_are_shown (deed ∷ []) client is ∙ none_later (shows deed client))) within
+    by (Some outcome) is = first_causes_stay (deed ∷ []) client outcome is
+
+-- the same of several things that happen to a client, none of which begins a push
+abbrev pub IsWithin : (Outcome → Bool) → Affair → Type 0
+IsWithin q (Begins size name) = ⊥
+IsWithin q (Does deed) = ShowsWithin q deed
+
+pub came_behind : (q : Outcome → Bool) (affairs : List Affair) (client : Client) → AllByRecursion (IsWithin q) affairs → Came q client.cause (client_behind affairs client).cause
+came_behind q [] client all = came_same q client.cause
+came_behind q (Begins size name ∷ affairs) client all = absurd all.0
+came_behind q (Does deed ∷ affairs) client all = came_then q client.cause (done deed client).cause (client_behind affairs (done deed client)).cause (came_by q deed client (all.0 client)) (came_behind q affairs (done deed client) all.1)
+
+-- ---- want of memory stays
+
+lame_done : (deed : Deed) (client : Client) → client.failed ≡ true → (done deed client).failed ≡ true
+lame_done (Hears news) client lame = (news_keeps news client).2 ∙ lame
+lame_done (Asks parts) client lame =
+    ap (λ (b : Bool). let one : Stepped = if b then record { client = client; step = course.NoMemory; left = parts } else if client.given then course.rests client parts else course.steps_at client.stage client parts in one.client.failed) lame ∙ lame
+lame_done Finishes client lame = lame
+lame_done Cancels client lame = (cancelled_keeps client).2 ∙ lame
+
+lame_after : (affair : Affair) (client : Client) → client.failed ≡ true → (client_after affair client).failed ≡ true
+lame_after (Begins size name) client lame = ap (λ (b : Bool). (if b then client else begun_by size name client).failed) lame ∙ lame
+lame_after (Does deed) client lame = lame_done deed client lame
+
+pub lame_behind : (affairs : List Affair) (client : Client) → client.failed ≡ true → (client_behind affairs client).failed ≡ true
+lame_behind [] client lame = lame
+lame_behind (affair ∷ affairs) client lame = lame_behind affairs (client_after affair client) (lame_after affair client lame)
+
+-- a push that is begun has no outcome yet, or the shelf does not give its object
+pub begins_within : (size : Result ℕ PortFault) (name : List ℕ) (client : Client) → client.failed ≡ false → (begins size name client).failed ≡ false → Within is_any (begins size name client).cause
+begins_within size name client well after =
+    subst (λ (b : Bool). Within is_any (if b then client else begun_by size name client).cause) (sym well) (by size (sym (ap (λ (b : Bool). (if b then client else begun_by size name client).failed) well) ∙ after))
+  where
+    by : (s : Result ℕ PortFault) → (begun_by s name client).failed ≡ false → Within is_any (begun_by s name client).cause
+    by (Ok n) is = tt
+    by (Err fault.Failed) is = refl
+    by (Err fault.NoMemory) is = absurd (let never : true ≡ false = is in cc)

@@ -1,0 +1,79 @@
+-- A host that has done all that it can has said all, where a buffer of its controller is free: so what it hears comes in turn.
+use Rattle.std.proofs.Common.{◌≡◌, ◌&&◌, ◌==◌, not, nat_lt, Bool, true, false, ℕ, List, [], ◌∷◌, length, Option, Some, None, is_some, refl, sym, ap, subst, ◌∙◌, true≢false, arith}
+use Rattle.std.proofs.lemmas.Bool.{eqb-true}
+use Rattle.acl_fragments.specs.Pieces.{Piece}
+use Rattle.h4_framing.specs.Packets.{Packet}
+use Rattle.host_link.specs.Hearing.{PlainNews, Nothing, LinkUp, LinkFailed, LinkDown, Pdu, news_of}
+use Rattle.host_link.specs.PuttingOut.{has_room, has_buffer, is_waiting}
+use Rattle.host_model.specs.Circumstances.{Circumstance}
+use Rattle.host_model.specs.Profiles.{Profile}
+use Rattle.bt_host.specs.Stacks.{Standing, Rests, can_put_piece}
+use Rattle.bt_host.proofs.Resting.{none_goes}
+use Rattle.receiving.specs.Turns.{Stand, Posture, Turn, HasRest, HearsIn, HasTurns, emptied, is_full}
+use Rattle.receiving.proofs.Still.{rests_emptied}
+use Rattle.receive_laws.specs.InTurn.{SaidAll, IsToldAtRest, TakesInTurn, AreInTurn, IsFree, IsToldFree, TakesFree, AreFree, FreeBuffersSuffice}
+
+nothing : (pieces : List Piece) → length pieces ≡ 0 → pieces ≡ []
+nothing [] none = refl
+nothing (piece ∷ pieces) none = absurd (omega (arith, none))
+
+so_it_is : (b : Bool) → not b ≡ false → b ≡ true
+so_it_is true off = refl
+so_it_is false off = absurd (true≢false off)
+
+none_waits : (pieces : List Piece) → not (length pieces == 0) ≡ false → pieces ≡ []
+none_waits pieces off = nothing pieces (eqb-true (length pieces) 0 (so_it_is (length pieces == 0) off))
+
+idle_by : (link room buffer waiting : Bool) → link ≡ true → room ≡ true → buffer ≡ true → (link && ((room && buffer) && waiting)) ≡ false → waiting ≡ false
+idle_by true true true waiting on has free off = off
+idle_by false room buffer waiting on has free off = absurd (true≢false (sym on))
+idle_by true false buffer waiting on has free off = absurd (true≢false (sym has))
+idle_by true true false waiting on has free off = absurd (true≢false (sym free))
+
+may_by : (link room buffer waiting : Bool) → link ≡ true → room ≡ true → buffer ≡ true → waiting ≡ false → (link && (not waiting && (buffer && room))) ≡ true
+may_by true true true false on has free off = refl
+may_by false room buffer waiting on has free off = absurd (true≢false (sym on))
+may_by true false buffer waiting on has free off = absurd (true≢false (sym has))
+may_by true true false waiting on has free off = absurd (true≢false (sym free))
+may_by true true true true on has free off = absurd (true≢false off)
+
+lets_say : {S : Type 0} (A : Profile S) (now : Standing S) → Rests A now → now.line.out ≡ [] → IsFree now → SaidAll now
+lets_say A now rests none free =
+    let line = now.line in
+    let room : has_room line ≡ true = ap (λ (out : List ℕ). nat_lt (length out) 65536) none in
+    let idle = idle_by (is_some line.link) (has_room line) (has_buffer line) (is_waiting line) free.link room free.buffer (sym (ap can_put_piece rests.pieces) ∙ none_goes line) in
+    record {
+      pieces = none_waits line.pieces idle;
+      none_more = rests.said (may_by (is_some line.link) (has_room line) (has_buffer line) (is_waiting line) free.link room free.buffer idle);
+    }
+
+told_free : {S : Type 0} (A : Profile S) (news : PlainNews) (now : Standing S) → Rests A now → now.line.out ≡ [] → IsToldFree news now → IsToldAtRest news now
+told_free A Nothing now rests none free = tt
+told_free A LinkUp now rests none free = tt
+told_free A (LinkFailed status) now rests none free = free
+told_free A (LinkDown reason) now rests none free = tt
+told_free A (Pdu channel octets) now rests none free = lets_say A now rests none free
+
+takes_free : {S : Type 0} (A : Profile S) (packet : Option Packet) (now : Stand S) → HasRest A now → ((rest : List Circumstance) → (now rest).line.out ≡ []) → TakesFree packet now → TakesInTurn packet now
+takes_free A None now rests none free = tt
+takes_free A (Some packet) now rests none free = λ rest. told_free A (news_of packet (now rest).line) (now rest) (rests rest) (none rest) (free rest)
+
+-- behind a turn that left room the host rests
+rests_behind : {S : Type 0} (A : Profile S) (packet : Option Packet) (full : Bool) (before after : Stand S) (said : List ℕ) → full ≡ false → HearsIn A packet full before after → ((rest : List Circumstance) → (after rest).line.out ≡ said) → is_full said ≡ false
+    → HasRest A (λ rest. emptied (after rest))
+rests_behind A None full before after said off hears says room = absurd (true≢false (sym hears.0 ∙ off))
+rests_behind A (Some packet) full before after said off hears says room =
+    λ rest. rests_emptied A (after rest) (hears.1 rest) (ap (λ (out : List ℕ). nat_lt (length out) 65536) (says rest) ∙ so_it_is (nat_lt (length said) 65536) room)
+
+are_in_turn : {S : Type 0} (A : Profile S) (turns : List Turn) (old new : Posture S) (runs : HasTurns A turns old new) → (old.full ≡ false → HasRest A old.stands) → ((rest : List Circumstance) → (old.stands rest).line.out ≡ []) → AreFree A turns old new runs → AreInTurn A turns old new runs
+are_in_turn A [] old new runs rests none free = tt
+are_in_turn A (turn ∷ turns) old new (mid, one, more) rests none (off, takes, behind) = (
+  off,
+  takes_free A turn.packet old.stands (rests off) none takes,
+  are_in_turn A turns mid new more
+      (λ still. subst (HasRest A) (sym one.stands) (rests_behind A turn.packet old.full one.between one.after turn.said off one.hears one.says (sym one.full ∙ still)))
+      (λ rest. ap (λ (s : Stand _). (s rest).line.out) one.stands) behind,
+)
+
+pub free_buffers_suffice : {S : Type 0} → FreeBuffersSuffice S
+free_buffers_suffice A turns old new runs rests none free = are_in_turn A turns old new runs (λ off. rests) none free

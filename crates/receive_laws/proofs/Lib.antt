@@ -1,0 +1,5 @@
+pub mod Alike
+pub mod Deeds
+pub mod Following
+pub mod Buffers
+pub mod Streams

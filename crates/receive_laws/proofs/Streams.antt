@@ -1,0 +1,94 @@
+-- A stream is a run of the server that hears it, and its inbox gains what its packets spell.
+use Rattle.std.proofs.Common.{◌≡◌, ◌≢◌, ℕ, List, [], ◌++◌, Option, inr, refl, sym, ap, subst, ◌∙◌}
+use Rattle.std.specs.Prelude.{Result, Ok, Err}
+use Rattle.std.proofs.lemmas.List.{append-nil}
+use Rattle.bt_base.specs.declared.settings.Settings.{Settings}
+use Rattle.bt_base.specs.Objects.{Object}
+use Rattle.btpush_forms.specs.declared.status.Status.{Status}
+use Rattle.btpush_forms.specs.declared.status.Status.TheVariants as status
+use Rattle.host_link.specs.declared.role.Role.TheVariants.{Server}
+use Rattle.host_link.specs.Lines.{fresh}
+use Rattle.push_laws.specs.Laws.{stored_in}
+use Rattle.push_laws.specs.Premises.{AllGranted}
+use Rattle.host_model.specs.Circumstances.{Circumstance, answers_in}
+use Rattle.host_model.specs.Hosts.{Host, first_host}
+use Rattle.host_model.specs.Machines.{upper}
+use Rattle.host_model.specs.Servers.{ServerProfile}
+use Rattle.scenario_laws.specs.Gains.{holding, serving}
+use Rattle.bt_host.specs.Noting.{Noted}
+use Rattle.bt_host.specs.NotedHosts.{noted_server}
+use Rattle.bt_host.specs.Stacks.{Standing}
+use Rattle.unit_laws.proofs.Doing.{calls_are_runs}
+use Rattle.unit_laws.proofs.Gaining.{servers_gain}
+use Rattle.receiving.specs.declared.fault.ListenFault.{ListenFault}
+use Rattle.receiving.specs.declared.fault.ListenFault.TheVariants.{Refused, ReadFault, WriteFault, NoMemory}
+use Rattle.receiving.specs.Coming.{Unless}
+use Rattle.receiving.specs.Receiving.{Tells, new_server_host, stored_by}
+use Rattle.receiving.specs.Turns.{emptied}
+use Rattle.receive_laws.specs.Answers.{used_in}
+use Rattle.receive_laws.specs.Streams.{new_server, StreamsAreRuns, ReceivesSpelled}
+use Rattle.receive_laws.specs.Moving.{opening, MovesWith}
+use Rattle.receive_laws.proofs.Alike.{IsAlike, holds_alike}
+use Rattle.receive_laws.proofs.Deeds.{lined, calls_at}
+use Rattle.receive_laws.proofs.Following.{RunsTo, taken_behind, then_runs, turns_run}
+
+-- ---- the beginning
+
+module _ (settings : Settings) (before : List Object) where
+  abbrev first_there : Host ServerProfile
+  first_there = first_host (serving settings before)
+
+  abbrev begins_at : List Circumstance → Standing (Noted ServerProfile)
+  begins_at rest = new_server_host settings (holding before) rest
+
+  new_alike : (rest : List Circumstance) → IsAlike settings (holding before) (begins_at rest).host first_there
+  new_alike rest = inr (record { there_is = refl; answers = answers_in rest; host_is = refl })
+
+  -- before its first command went out
+  abbrev fresh_at : List Circumstance → Standing (Noted ServerProfile)
+  fresh_at rest = record (begins_at rest) { line = fresh Server }
+
+  opens : (rest : List Circumstance) → RunsTo settings (holding before) (MovesWith (opening (new_server settings before).said)) (fresh_at rest) first_there (emptied (begins_at rest))
+  opens rest =
+      let U = upper (serving settings before) in
+      taken_behind settings (holding before) (opening (new_server settings before).said) [] (fresh_at rest) first_there (begins_at rest)
+      (record { there = first_there; alike = new_alike rest; goes = (calls_at settings (holding before) (fresh Server) first_there ((calls_are_runs U).fresh Server)).commands })
+      (λ all. (tt, all)) refl refl
+
+pub streams_are_runs : StreamsAreRuns
+streams_are_runs settings before turns last runs each turn =
+    let all = used_in (noted_server settings) turns (new_server settings before).posture last runs ++ [] in
+    let first = opens settings before all in
+    let behind = turns_run settings (holding before) turns (new_server settings before).posture last runs each turn [] first.after first.alike first.writable first.taken in
+    let whole = then_runs settings (holding before) (opening (new_server settings before).said) turns (fresh_at settings before all) (first_there settings before) (emptied (new_server_host settings (holding before) all)) (last.stands []) first behind in
+    record {
+      occasions = whole.occasions;
+      now = lined (last.stands []).line whole.after;
+      did = whole.runs;
+      moves = whole.moves;
+      inbox_is = holds_alike settings (holding before) (last.stands []).host whole.after whole.alike;
+      granted = λ granting. (whole.granting (subst (λ (used : List Circumstance). AllGranted (answers_in used)) (sym (append-nil (used_in (noted_server settings) turns (new_server settings before).posture last runs))) granting)).0;
+    }
+
+-- ---- what its inbox gains
+
+-- the status tells want of memory
+stored_there : (end : Result (Unit {0}) ListenFault) (trace trace' : Option (List ℕ)) (result : Status) (told : Type 0) → Tells end trace trace' result → result ≢ status.NoMemory → Unless end told → told
+stored_there (Ok done) trace trace' result told tells not is = is
+stored_there (Err (Refused refusal place)) trace trace' result told tells not is = is
+stored_there (Err ReadFault) trace trace' result told tells not is = is
+stored_there (Err WriteFault) trace trace' result told tells not is = is
+stored_there (Err NoMemory) trace trace' result told tells not is = absurd (not tells.0)
+
+pub receives_spelled : ReceivesSpelled
+receives_spelled = record {
+  asks = servers_gain.asks;
+  receives = λ source source' sink sink' trace trace' before inbox' result received not orderly.
+      let settings = received.settings in
+      let halts = received.comes.halts in
+      let run = streams_are_runs settings before halts.turns halts.last halts.runs halts.each orderly.in_turn in
+      let stands_are = stored_there received.end trace trace' result _ received.tells not halts.there in
+      let stored = stored_there received.end trace trace' result _ received.tells not received.stored in
+      let held : inbox' ≡ run.now.upper.profile.inbox.content = stored ∙ (ap stored_by stands_are ∙ sym run.inbox_is) in
+      record { run = run; gains = ap stored_in held ∙ servers_gain.gains settings before run.occasions run.now received.plain.transport run.did (orderly.orderly run) };
+}

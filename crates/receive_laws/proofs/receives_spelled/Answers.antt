@@ -1,0 +1,5 @@
+use Rattle.receive_laws.proofs.Streams.{receives_spelled}
+use Rattle.receive_laws.proofs.receives_spelled.Goals as goal
+
+pub returns : goal.returns
+returns c = receives_spelled

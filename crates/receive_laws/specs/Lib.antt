@@ -1,0 +1,4 @@
+pub mod Moving
+pub mod Answers
+pub mod InTurn
+pub mod Streams

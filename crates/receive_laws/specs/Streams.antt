@@ -1,0 +1,67 @@
+-- What `receive` stores is what the packets of its stream spell (Object Push Profile 1.2, 4.3; IrOBEX 1.5, 3.4.3).
+use Rattle.std.specs.Prelude.{ℕ, ◌≡◌, ◌≢◌, List, ◌++◌, Option, Some}
+use Rattle.std.specs.List.{AllByRecursion}
+use Rattle.bt_base.specs.declared.settings.Settings.{Settings}
+use Rattle.bt_base.specs.Objects.{Object, Contents}
+use Rattle.btpush_forms.specs.declared.status.Status.{Status}
+use Rattle.btpush_forms.specs.declared.status.Status.TheVariants as status
+use Rattle.h4_framing.specs.Packets.{IsPacket}
+use Rattle.push_terms.specs.declared.word.Side.TheVariants as sides
+use Rattle.link_talk.specs.Captures.{objects_heard}
+use Rattle.host_link.specs.declared.role.Role.TheVariants.{Server}
+use Rattle.push_laws.specs.Laws.{stored_in}
+use Rattle.push_laws.specs.Premises.{AllGranted}
+use Rattle.host_model.specs.Circumstances.{Circumstance, answers_in}
+use Rattle.host_model.specs.Hosts.{Host}
+use Rattle.host_model.specs.Servers.{ServerProfile}
+use Rattle.host_laws.specs.Calls.{HostsAsk}
+use Rattle.scenario_laws.specs.Gains.{holding, serving}
+use Rattle.scenario_laws.specs.Parties.{party_of}
+use Rattle.bt_host.specs.Noting.{Noted}
+use Rattle.bt_host.specs.NotedHosts.{noted_server}
+use Rattle.bt_host.specs.Refusals.{acl_limit}
+use Rattle.unit_laws.specs.Units.{Lined, Occasion, units, lone_capture}
+use Rattle.unit_laws.specs.Calls.{gifts_in}
+use Rattle.unit_laws.specs.Living.{Did}
+use Rattle.unit_laws.specs.Gaining.{IsOrderlyInput}
+use Rattle.receiving.specs.Turns.{Begun, begun, Posture, Turn, HasTurns, packets_in}
+use Rattle.receiving.specs.Receiving.{new_server_host, stored_by, Receives}
+use Rattle.receive_laws.specs.Answers.{GrantsAllAsked}
+use Rattle.receive_laws.specs.InTurn.{AreInTurn}
+use Rattle.receive_laws.specs.Moving.{MoveFromStart}
+
+-- a new server of these settings, whose inbox stored these, and which put its first command out
+abbrev pub new_server : Settings → List Object → Begun (Noted ServerProfile)
+new_server settings before = begun (new_server_host settings (holding before))
+
+-- What such a server does with a stream is a run of it over units: these are the packets that it heard, and behind each those that it put out.
+pub record IsRunOverUnits (settings : Settings) (before : List Object) (turns : List Turn) (last : Posture (Noted ServerProfile)) (runs : HasTurns (noted_server settings) turns (new_server settings before).posture last) : Type 0 where
+  pub occasions : List (Occasion Circumstance)
+  pub now : Lined (Host ServerProfile)
+  pub did : Did (serving settings before) Server occasions now
+  pub moves : MoveFromStart (new_server settings before).said turns (units occasions)
+  pub inbox_is : now.upper.profile.inbox.content ≡ stored_by last.stands
+  -- where no call of its inbox failed, none of those fails that the inbox is to answer
+  pub granted : GrantsAllAsked (noted_server settings) turns (new_server settings before).posture last runs → AllByRecursion (λ (gift : List Circumstance). AllGranted (answers_in gift)) (gifts_in occasions)
+
+-- So it is where each packet comes in turn.
+abbrev pub StreamsAreRuns : Type 0
+StreamsAreRuns = (settings : Settings) (before : List Object) (turns : List Turn) (last : Posture (Noted ServerProfile)) (runs : HasTurns (noted_server settings) turns (new_server settings before).posture last)
+    → AllByRecursion (IsPacket acl_limit) (packets_in turns) → AreInTurn (noted_server settings) turns (new_server settings before).posture last runs → IsRunOverUnits settings before turns last runs
+
+-- What `receive` heard comes in turn, and as units it is orderly.
+pub record IsOrderlyStream (asks : HostsAsk) (settings : Settings) (before : List Object) (turns : List Turn) (last : Posture (Noted ServerProfile)) (runs : HasTurns (noted_server settings) turns (new_server settings before).posture last) : Type 0 where
+  pub in_turn : AreInTurn (noted_server settings) turns (new_server settings before).posture last runs
+  pub orderly : (run : IsRunOverUnits settings before turns last runs) → IsOrderlyInput asks settings before (lone_capture sides.B (units run.occasions)) run.now.upper
+
+-- Then its inbox gains exactly the objects that the packets spell which it heard, in the order of their last packets, over L2CAP. The packets are
+-- those of its run over units.
+pub record GainsSpelled (settings : Settings) (before : List Object) (turns : List Turn) (last : Posture (Noted ServerProfile)) (runs : HasTurns (noted_server settings) turns (new_server settings before).posture last) (inbox' : Option Contents) : Type 0 where
+  pub run : IsRunOverUnits settings before turns last runs
+  pub gains : stored_in inbox' ≡ Some (before ++ objects_heard (party_of settings sides.B) sides.B (lone_capture sides.B (units run.occasions)))
+
+pub record ReceivesSpelled : Type 0 where
+  pub asks : HostsAsk
+  pub receives : (source source' sink sink' trace trace' : Option (List ℕ)) (before : List Object) (inbox' : Option Contents) (result : Status) (received : Receives source source' sink sink' trace trace' (holding before) inbox' result)
+      → result ≢ status.NoMemory → IsOrderlyStream asks received.settings before received.comes.halts.turns received.comes.halts.last received.comes.halts.runs
+      → GainsSpelled received.settings before received.comes.halts.turns received.comes.halts.last received.comes.halts.runs inbox'

@@ -1,0 +1,20 @@
+//! What `receive` does with its stream is a run of a whole host over units, so what it stores is what the packets of the stream spell.
+#![tactic(auto)]
+
+ghost use Rattle.receive_laws.specs.InTurn.{FreeBuffersSuffice};
+ghost use Rattle.receive_laws.specs.Streams.{ReceivesSpelled, StreamsAreRuns};
+
+/// Each packet of a stream comes in turn where at each PDU that the host is told of its controller takes one packet more.
+pub fn free_buffers_suffice<S>()
+    ensures { FreeBuffersSuffice S }
+{}
+
+/// What a new server does with a stream, packet by packet, is a run of it over the units that move.
+pub fn streams_are_runs()
+    ensures { StreamsAreRuns }
+{}
+
+/// What `receive` stores is exactly what the packets of its stream spell, on orderly input over L2CAP.
+pub fn receives_spelled()
+    ensures { ReceivesSpelled }
+{}

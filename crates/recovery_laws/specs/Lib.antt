@@ -1,0 +1,4 @@
+pub mod Number
+pub mod Facts
+pub mod Words
+pub mod Requests

@@ -1,0 +1,18 @@
+-- The capture of a played scenario shows why its pushes ended.
+use Rattle.std.proofs.Common.{◌≡◌, ℕ, List, ◌++◌, Option, sym, ap, subst, ◌∙◌}
+use Rattle.bt_base.specs.Objects.{Object, Contents}
+use Rattle.obex_session.specs.Counting.{Counts}
+use Rattle.push_script.specs.declared.scenario.Scenario.{Scenario}
+use Rattle.push_terms.specs.declared.outcome.Outcome.{Outcome}
+use Rattle.push_terms.specs.declared.peaks.Peaks.{Peaks}
+use Rattle.capture.specs.Entries.{Entry}
+use Rattle.world_model.specs.Worlds.{all_entries}
+use Rattle.cause_laws.specs.FirstCauses.{CausesAreShown}
+use Rattle.cause_laws.proofs.Runs.{runs_show_causes}
+use Rattle.scenario_play.specs.Playing.{IsPlayed}
+
+pub causes_shown : (scenario : Scenario) (shelf : Option (List Object)) (before after : Option Contents) (trace trace' : Option (List ℕ)) (outcomes : List Outcome) (peaks : Peaks) (counts counts' : Counts) (played : IsPlayed scenario shelf before after trace trace' outcomes peaks counts counts')
+    → CausesAreShown played.capture
+causes_shown scenario shelf before after trace trace' outcomes peaks counts counts' played =
+    let ran = played.finished.ran in
+    subst CausesAreShown (sym (ran.capture_is ∙ ap (λ (ends : List Entry). all_entries ran.happenings ++ ends) played.ends)) (runs_show_causes.ends scenario before ran.happenings ran.world ran.happened played.able)
