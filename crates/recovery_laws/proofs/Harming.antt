@@ -6,7 +6,7 @@ use Rattle.ertm_frames.specs.Picking.{is_poll, is_final}
 use Rattle.ertm_model.specs.Hearing.{rejects_frames}
 use Rattle.ertm_model.specs.Pair.{Sent}
 use Rattle.recovery_laws.specs.Number.{Direction, number_in, numbers, is_past, is_among, is_rejected, has_poll, has_final, wants_again, wants_answer, sendings_left, firings_left}
-use Rattle.recovery_laws.specs.Facts.{IsRun, IsSound}
+use Rattle.recovery_laws.specs.Facts.{RunsToLast, IsSound}
 use Rattle.recovery_laws.proofs.Tests.{Skips, WantsAgain, WantsAnswer, bit, bit-at_most, again-le, again-none, again-one, answer-le, answer-none, answer-one, work-le, work-fired, work-harmed, work-asked, work-sent}
 use Rattle.recovery_laws.proofs.Runs.{numbers-same, any-on, run-behind, tells-lost}
 use Rattle.std.proofs.lemmas.List.Folds.{list_any-append}
@@ -94,10 +94,10 @@ unheard-goes sent queue d h =
 
 -- ---- the front frame will come twice
 
-twice_run : (a n : ℕ) (front run : List ℕ) → (front ≡ []) ⊎ ((number : ℕ) × (front ≡ number ∷ [])) → IsRun a n (front ++ run) → IsRun a n (front ++ (front ++ run))
-twice_run a n front run (inl none) h = subst (λ (l : List ℕ). IsRun a n (l ++ (l ++ run))) (sym none) (subst (λ (l : List ℕ). IsRun a n (l ++ run)) none h)
+twice_run : (a n : ℕ) (front run : List ℕ) → (front ≡ []) ⊎ ((number : ℕ) × (front ≡ number ∷ [])) → RunsToLast a n (front ++ run) → RunsToLast a n (front ++ (front ++ run))
+twice_run a n front run (inl none) h = subst (λ (l : List ℕ). RunsToLast a n (l ++ (l ++ run))) (sym none) (subst (λ (l : List ℕ). RunsToLast a n (l ++ run)) none h)
 twice_run a n front run (inr (number, is)) h =
-    subst (λ (l : List ℕ). IsRun a n (l ++ (l ++ run))) (sym is) (inl (omega arith), subst (λ (l : List ℕ). IsRun a n (l ++ run)) is h)
+    subst (λ (l : List ℕ). RunsToLast a n (l ++ (l ++ run))) (sym is) (inl (omega arith), subst (λ (l : List ℕ). RunsToLast a n (l ++ run)) is h)
 
 one_number : (number : ℕ) (frame : PlainFrame) → (number_in number frame ≡ []) ⊎ ((m : ℕ) × (number_in number frame ≡ m ∷ []))
 one_number number (information tx final req sar total octets) = inr (number, refl)

@@ -7,7 +7,7 @@ use Rattle.ertm_frames.specs.Picking.{is_final}
 use Rattle.ertm_model.specs.Hearing.{rejects_frames}
 use Rattle.ertm_model.specs.Pair.{Sent}
 use Rattle.recovery_laws.specs.Number.{Direction, rejections, numbers, is_past, is_among, is_rejected, has_final, sendings_left, firings_left}
-use Rattle.recovery_laws.specs.Facts.{Tells, IsSound}
+use Rattle.recovery_laws.specs.Facts.{AcknowledgesUpTo, IsSound}
 use Rattle.recovery_laws.proofs.Tests.{Skips, Untold, WantsAgain, WantsAnswer, bit, again-le, answer-le, answer-none, work-le, work-again}
 use Rattle.recovery_laws.proofs.Runs.{ups, numbers-on, run-less, run-again, among-ups, past-ups, tells-heard, tells-below, unrejected}
 use Rattle.recovery_laws.proofs.Putting.{Goes}
@@ -25,7 +25,7 @@ pub record IsPlain (sent : Sent) (waits : Bool) : Type 0 where
   pub rejects : waits ≡ false → rejects_frames sent.frame ≡ false
   pub ends : waits ≡ true → is_final sent.frame ≡ false
 
-untold_never : (sent : Sent) (queue : List Sent) (d : Direction) → Tells d.acknowledged d.accepted (sent ∷ queue) → Untold (heard sent queue d) → ⊥
+untold_never : (sent : Sent) (queue : List Sent) (d : Direction) → AcknowledgesUpTo d.acknowledged d.accepted (sent ∷ queue) → Untold (heard sent queue d) → ⊥
 untold_never sent [] d h (same, less, none) = let e = h.1 in omega arith
 untold_never sent (next ∷ queue) d h (same, less, none) = cc
 

@@ -6,7 +6,7 @@ use Rattle.ertm_frames.specs.Picking.{is_poll, is_final}
 use Rattle.ertm_model.specs.Hearing.{rejects_frames}
 use Rattle.ertm_model.specs.Pair.{Sent}
 use Rattle.recovery_laws.specs.Number.{Direction, number_in, numbers, is_past, is_among, is_rejected, has_poll, has_final, sendings_left, firings_left}
-use Rattle.recovery_laws.specs.Facts.{Follows, IsRun, IsSound}
+use Rattle.recovery_laws.specs.Facts.{RisesTo, RunsToLast, IsSound}
 use Rattle.recovery_laws.proofs.Tests.{Skips, Stalls, WantsAgain, WantsAnswer, bit, again-le, again-none, again-one, answer-le, answer-none, work-le}
 use Rattle.recovery_laws.proofs.Runs.{between, not_past, rejections-on, any-on, none-before, none-on, run-behind, tells-on, unrejected}
 use Rattle.recovery_laws.proofs.Putting.{not_none, rejections-same, Goes}
@@ -22,8 +22,8 @@ gone queue d = record d { going = queue }
 pub front_numbers : (sent : Sent) (queue : List Sent) (number : ℕ) → number_in sent.number sent.frame ≡ number ∷ [] → numbers (sent ∷ queue) ≡ number ∷ numbers queue
 front_numbers sent queue number is = ap (λ (l : List ℕ). l ++ numbers queue) is
 
-pub front_run : (sent : Sent) (queue : List Sent) (number a n : ℕ) → number_in sent.number sent.frame ≡ number ∷ [] → IsRun a n (numbers (sent ∷ queue)) → Follows a n number (numbers queue)
-front_run sent queue number a n is h = subst (λ (l : List ℕ). IsRun a n l) (front_numbers sent queue number is) h
+pub front_run : (sent : Sent) (queue : List Sent) (number a n : ℕ) → number_in sent.number sent.frame ≡ number ∷ [] → RunsToLast a n (numbers (sent ∷ queue)) → RisesTo a n number (numbers queue)
+front_run sent queue number a n is h = subst (λ (l : List ℕ). RunsToLast a n l) (front_numbers sent queue number is) h
 
 -- where it has none
 front_same : (sent : Sent) (queue : List Sent) → number_in sent.number sent.frame ≡ [] → numbers (sent ∷ queue) ≡ numbers queue
@@ -34,7 +34,7 @@ front_same sent queue none = ap (λ (l : List ℕ). l ++ numbers queue) none
 abbrev pub accepts : List Sent → Sent → Direction → Direction
 accepts queue answer d = record d { going = queue; accepted = d.accepted + 1; rejecting = false; coming = d.coming ++ answer ∷ [] }
 
-accepted_missing : (a n c : ℕ) (run : List ℕ) → a ≤ c → c + 1 < n → Follows a n c run → is_among (c + 1) run ≡ true
+accepted_missing : (a n c : ℕ) (run : List ℕ) → a ≤ c → c + 1 < n → RisesTo a n c run → is_among (c + 1) run ≡ true
 accepted_missing a n c [] low less h = absurd (omega arith)
 accepted_missing a n c (k ∷ behind) low less (step, h) = between a n (c + 1) k behind (omega arith) (elim step [ inl e ↦ omega arith | inr e ↦ omega arith ]) less h
 
@@ -166,7 +166,7 @@ passed-sound sent queue d none h = record {
   c_n = h.c_n;
   in_window = h.in_window;
   in_plan = h.in_plan;
-  run = subst (λ (l : List ℕ). IsRun d.acknowledged d.given l) (front_same sent queue none) h.run;
+  run = subst (λ (l : List ℕ). RunsToLast d.acknowledged d.given l) (front_same sent queue none) h.run;
   tells = h.tells;
   outstanding = h.outstanding;
 }

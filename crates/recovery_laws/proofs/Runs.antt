@@ -8,7 +8,7 @@ use Rattle.std.proofs.lemmas.Bool.{eq-eqb, ne_eqb, or_left, or_right, or_from, o
 use Rattle.ertm_model.specs.Hearing.{rejects_frames}
 use Rattle.ertm_model.specs.Pair.{Sent}
 use Rattle.recovery_laws.specs.Number.{weights, rejections, number_in, numbers, is_past, is_among, is_rejected}
-use Rattle.recovery_laws.specs.Facts.{Follows, IsRun, Climbs, Tells}
+use Rattle.recovery_laws.specs.Facts.{RisesTo, RunsToLast, Climbs, AcknowledgesUpTo}
 
 -- ---- frames that join a queue
 
@@ -50,7 +50,7 @@ ups from zero = []
 ups from (suc k) = from ∷ ups (from + 1) k
 
 -- where the numbers rise by one at most, none is left out between an accepted one and the last
-pub between : (a n c m : ℕ) (behind : List ℕ) → a ≤ c → m ≤ c → c < n → Follows a n m behind → is_among c (m ∷ behind) ≡ true
+pub between : (a n c m : ℕ) (behind : List ℕ) → a ≤ c → m ≤ c → c < n → RisesTo a n m behind → is_among c (m ∷ behind) ≡ true
 between a n c m [] low le less h = or_left (m == c) false (eq-eqb m c (omega arith))
 between a n c m (k ∷ behind) low le less (step, h) = elim (cases_order m c) [
   | inl same ↦ or_left (m == c) (is_among c (k ∷ behind)) (eq-eqb m c same)
@@ -59,46 +59,46 @@ between a n c m (k ∷ behind) low le less (step, h) = elim (cases_order m c) [
 ]
 
 -- the next one is not past what is expected then
-pub not_past : (a n c m : ℕ) (behind : List ℕ) → a ≤ c → m + 1 ≤ c → Follows a n m behind → is_past c behind ≡ false
+pub not_past : (a n c m : ℕ) (behind : List ℕ) → a ≤ c → m + 1 ≤ c → RisesTo a n m behind → is_past c behind ≡ false
 not_past a n c m [] low le h = refl
 not_past a n c m (k ∷ behind) low le (step, h) = le-ltb c k (elim step [ inl e ↦ omega arith | inr e ↦ omega arith ])
 
-follows_less : (a b n m : ℕ) (behind : List ℕ) → a ≤ b → Follows a n m behind → Follows b n m behind
+follows_less : (a b n m : ℕ) (behind : List ℕ) → a ≤ b → RisesTo a n m behind → RisesTo b n m behind
 follows_less a b n m [] le h = h
 follows_less a b n m (k ∷ behind) le (step, h) = (elim step [ inl e ↦ inl e | inr e ↦ inr (omega arith) ], follows_less a b n k behind le h)
 
-pub run-less : (a b n : ℕ) (run : List ℕ) → a ≤ b → IsRun a n run → IsRun b n run
+pub run-less : (a b n : ℕ) (run : List ℕ) → a ≤ b → RunsToLast a n run → RunsToLast b n run
 run-less a b n [] le h = tt
 run-less a b n (m ∷ behind) le h = follows_less a b n m behind le h
 
-pub run-behind : (a n m : ℕ) (behind : List ℕ) → Follows a n m behind → IsRun a n behind
+pub run-behind : (a n m : ℕ) (behind : List ℕ) → RisesTo a n m behind → RunsToLast a n behind
 run-behind a n m [] h = tt
 run-behind a n m (k ∷ behind) h = h.1
 
-follows_new : (a n m : ℕ) (behind : List ℕ) → Follows a n m behind → Follows a (n + 1) m (behind ++ n ∷ [])
+follows_new : (a n m : ℕ) (behind : List ℕ) → RisesTo a n m behind → RisesTo a (n + 1) m (behind ++ n ∷ [])
 follows_new a n m [] h = (inl (omega arith), refl)
 follows_new a n m (k ∷ behind) (step, h) = (step, follows_new a n k behind h)
 
 -- a new frame is given
-pub run-new : (a n : ℕ) (run : List ℕ) → IsRun a n run → IsRun a (n + 1) (run ++ n ∷ [])
+pub run-new : (a n : ℕ) (run : List ℕ) → RunsToLast a n run → RunsToLast a (n + 1) (run ++ n ∷ [])
 run-new a n [] h = refl
 run-new a n (m ∷ behind) h = follows_new a n m behind h
 
-follows_ups : (a n m k : ℕ) → m + (k + 1) ≡ n → Follows a n m (ups (m + 1) k)
+follows_ups : (a n m k : ℕ) → m + (k + 1) ≡ n → RisesTo a n m (ups (m + 1) k)
 follows_ups a n m zero is = omega arith
 follows_ups a n m (suc k) is = (inl (omega arith), follows_ups a n (m + 1) k (omega arith))
 
-follows_again : (a n k m : ℕ) (behind : List ℕ) → a + k ≡ n → Follows a n m behind → Follows a n m (behind ++ ups a k)
+follows_again : (a n k m : ℕ) (behind : List ℕ) → a + k ≡ n → RisesTo a n m behind → RisesTo a n m (behind ++ ups a k)
 follows_again a n zero m [] is h = h
 follows_again a n (suc k) m [] is h = (inr (omega arith), follows_ups a n a k (omega arith))
 follows_again a n k m (first ∷ behind) is (step, h) = (step, follows_again a n k first behind is h)
 
-ups_run : (a n k : ℕ) → a + k ≡ n → IsRun a n (ups a k)
+ups_run : (a n k : ℕ) → a + k ≡ n → RunsToLast a n (ups a k)
 ups_run a n zero is = tt
 ups_run a n (suc k) is = follows_ups a n a k (omega arith)
 
 -- all that are not acknowledged are given again
-pub run-again : (a n k : ℕ) (run : List ℕ) → a + k ≡ n → IsRun a n run → IsRun a n (run ++ ups a k)
+pub run-again : (a n k : ℕ) (run : List ℕ) → a + k ≡ n → RunsToLast a n run → RunsToLast a n (run ++ ups a k)
 run-again a n k [] is h = ups_run a n k is
 run-again a n k (m ∷ behind) is h = follows_again a n k m behind is h
 
@@ -120,21 +120,21 @@ climbs_on : (low c d : ℕ) (queue : List Sent) (sent : Sent) → c ≤ d → se
 climbs_on low c d [] sent le is h = (omega arith, is)
 climbs_on low c d (first ∷ queue) sent le is h = (h.0, climbs_on first.asks c d queue sent le is h.1)
 
-pub tells-on : (a c d : ℕ) (queue : List Sent) (sent : Sent) → c ≤ d → sent.asks ≡ d → Tells a c queue → Tells a d (queue ++ sent ∷ [])
+pub tells-on : (a c d : ℕ) (queue : List Sent) (sent : Sent) → c ≤ d → sent.asks ≡ d → AcknowledgesUpTo a c queue → AcknowledgesUpTo a d (queue ++ sent ∷ [])
 tells-on a c d [] sent le is h = (omega arith, is)
 tells-on a c d (first ∷ queue) sent le is h = (h.0, climbs_on first.asks c d queue sent le is h.1)
 
 -- the first is heard
-pub tells-heard : (a c : ℕ) (sent : Sent) (queue : List Sent) → Tells a c (sent ∷ queue) → Tells sent.asks c queue
+pub tells-heard : (a c : ℕ) (sent : Sent) (queue : List Sent) → AcknowledgesUpTo a c (sent ∷ queue) → AcknowledgesUpTo sent.asks c queue
 tells-heard a c sent [] h = let e = h.1 in omega arith
 tells-heard a c sent (next ∷ queue) h = h.1
 
 -- it is lost
-pub tells-lost : (a c : ℕ) (sent : Sent) (queue : List Sent) → a ≤ c → Tells a c (sent ∷ queue) → Tells a c queue
+pub tells-lost : (a c : ℕ) (sent : Sent) (queue : List Sent) → a ≤ c → AcknowledgesUpTo a c (sent ∷ queue) → AcknowledgesUpTo a c queue
 tells-lost a c sent [] le h = le
 tells-lost a c sent (next ∷ queue) le h = let e = h.0 in let f = h.1.0 in (omega arith, h.1.1)
 
-pub tells-below : (a c : ℕ) (sent : Sent) (queue : List Sent) → Tells a c (sent ∷ queue) → sent.asks ≤ c
+pub tells-below : (a c : ℕ) (sent : Sent) (queue : List Sent) → AcknowledgesUpTo a c (sent ∷ queue) → sent.asks ≤ c
 tells-below a c sent queue h = climbs_low sent.asks c queue h.1
 
 -- what names more than was accepted before is not there
@@ -148,7 +148,7 @@ climbs_unrejected low c d (sent ∷ queue) less h =
     let other = ne_eqb sent.asks d (λ is. omega (arith, is)) in
     or_from (rejects_at d sent) (is_rejected d queue) (and_right (rejects_frames sent.frame) (sent.asks == d) other) (climbs_unrejected sent.asks c d queue less h.1)
 
-pub unrejected : (a c d : ℕ) (queue : List Sent) → c < d → Tells a c queue → is_rejected d queue ≡ false
+pub unrejected : (a c d : ℕ) (queue : List Sent) → c < d → AcknowledgesUpTo a c queue → is_rejected d queue ≡ false
 unrejected a c d [] less h = refl
 unrejected a c d (sent ∷ queue) less h =
     let below = tells-below a c sent queue h in

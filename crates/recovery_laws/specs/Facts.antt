@@ -8,30 +8,30 @@ use Rattle.ertm_model.specs.Order.{StandsBoth}
 use Rattle.recovery_laws.specs.Number.{Direction, direction, numbers, is_rejected}
 
 -- each number is at most one past the one in front of it, or acknowledged, and the last is the last that was given
-abbrev pub Follows : (acknowledged given before : ℕ) → List ℕ → Type 0
-Follows acknowledged given before [] = before + 1 ≡ given
-Follows acknowledged given before (number ∷ behind) = ((number ≤ before + 1) ⊎ (number ≤ acknowledged)) × Follows acknowledged given number behind
+abbrev pub RisesTo : (acknowledged given before : ℕ) → List ℕ → Type 0
+RisesTo acknowledged given before [] = before + 1 ≡ given
+RisesTo acknowledged given before (number ∷ behind) = ((number ≤ before + 1) ⊎ (number ≤ acknowledged)) × RisesTo acknowledged given number behind
 
-abbrev pub IsRun : (acknowledged given : ℕ) → List ℕ → Type 0
-IsRun acknowledged given [] = Unit {0}
-IsRun acknowledged given (number ∷ behind) = Follows acknowledged given number behind
+abbrev pub RunsToLast : (acknowledged given : ℕ) → List ℕ → Type 0
+RunsToLast acknowledged given [] = Unit {0}
+RunsToLast acknowledged given (number ∷ behind) = RisesTo acknowledged given number behind
 
 -- the ReqSeqs rise, and the last of them is all that was accepted
 abbrev pub Climbs : (low accepted : ℕ) → List Sent → Type 0
 Climbs low accepted [] = low ≡ accepted
 Climbs low accepted (sent ∷ queue) = (low ≤ sent.asks) × Climbs sent.asks accepted queue
 
-abbrev pub Tells : (acknowledged accepted : ℕ) → List Sent → Type 0
-Tells acknowledged accepted [] = acknowledged ≤ accepted
-Tells acknowledged accepted (sent ∷ queue) = (acknowledged ≤ sent.asks) × Climbs sent.asks accepted queue
+abbrev pub AcknowledgesUpTo : (acknowledged accepted : ℕ) → List Sent → Type 0
+AcknowledgesUpTo acknowledged accepted [] = acknowledged ≤ accepted
+AcknowledgesUpTo acknowledged accepted (sent ∷ queue) = (acknowledged ≤ sent.asks) × Climbs sent.asks accepted queue
 
 pub record IsSound (d : Direction) : Type 0 where
   pub a_c : d.acknowledged ≤ d.accepted
   pub c_n : d.accepted ≤ d.given
   pub in_window : d.given ≤ d.acknowledged + d.window
   pub in_plan : d.given ≤ d.planned
-  pub run : IsRun d.acknowledged d.given (numbers d.going)
-  pub tells : Tells d.acknowledged d.accepted d.coming
+  pub run : RunsToLast d.acknowledged d.given (numbers d.going)
+  pub tells : AcknowledgesUpTo d.acknowledged d.accepted d.coming
   -- a REJ that names the expected frame is outstanding
   pub outstanding : is_rejected d.accepted d.coming ≡ true → d.rejecting ≡ true
 
