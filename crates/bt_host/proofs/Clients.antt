@@ -1,14 +1,15 @@
 -- The calls of a client as those of its profile.
 use Rattle.std.proofs.Common.{arith, ◌≡◌, ◌∙◌, ◌-◌, ◌≤◌, ◌==◌, ◌&&◌, ◌||◌, not, ℕ, zero, suc, Bool, true, false, List, [], ◌∷◌, ◌++◌, length, refl, sym, ap, subst, true≢false, if◌then◌else◌, map, inl, inr}
 use Rattle.std.specs.Prelude.{Option, Some, None, is_some, Result, Ok, Err, IsTrue, IfSome}
-use Rattle.std.specs.List.{AllByRecursion, list_any}
-use Rattle.bt_base.specs.Counts.{HasRisen}
+use Rattle.std.specs.List.{AllByRecursion}
 use Rattle.bt_base.specs.Objects.{Object}
+use Rattle.obex_session.specs.Counting.{HasRisenBy}
 use Rattle.obex_session.specs.PutPackets.{place_of}
+use Rattle.obex_session.proofs.CountingLaws.{rises_none, rises_once}
 use Rattle.push_model.proofs.LinkLaws as LinkLaws
 use Rattle.push_model.proofs.LinkLaws.{steps_keep}
 use Rattle.bt_base.specs.Numbers.{IsPsm}
-use Rattle.std.proofs.lemmas.Bool.{cases_Bool, cond-true, eqb-true, eq-eqb, false≢true}
+use Rattle.std.proofs.lemmas.Bool.{cases_Bool, cond-true, eqb-true, eq-eqb}
 use Rattle.channel_model.specs.declared.event.ChannelEvent.{ChannelEvent}
 use Rattle.channel_model.specs.declared.event.ChannelEvent.TheVariants as event
 use Rattle.world_model.specs.Machines as machines
@@ -51,9 +52,11 @@ use Rattle.host_model.specs.Shelves.{measured, bare_part, fitting, unused}
 use Rattle.host_model.proofs.Shelves.{unused_none, unused_one, next_part}
 use Rattle.bt_host.specs.Calls.{Does}
 use Rattle.bt_host.specs.Uppers.{IsAside}
-use Rattle.bt_host.specs.Pushing.{pushing, HasCid, Pushes, IsOf, is_failure, AreOf}
+use Rattle.bt_host.specs.Pushing.{pushing, HasCid, Pushes, FoundMemory, IsOf, failures_in, AreOf}
 use Rattle.bt_host.specs.PushingLaws.{Answers, joins}
+use Rattle.bt_host.specs.Shelving.{is_failed, failed_now, owed}
 use Rattle.bt_host.proofs.Calling.{does_none}
+use Rattle.bt_host.proofs.Spending.{Spends, Keeps, Takes, Fails, Wants, spends}
 use Rattle.push_client.proofs.KeepingLaws as keeping
 
 -- ---- a push that is over ends
@@ -175,20 +178,21 @@ record Fits (client : Client) (used : List Octs) (rest : List Excerpt) (new : Cl
   left_is : unused left (map (excerpt_of client) used ++ rest) ≡ rest
 
 module _ (client : Client) (content : Option (List Object)) (f f' s s' : ℕ) where
-  one_is : (answer : Octs) → IsAnswer client content f f' s s' answer → IsOf content (answered client answer)
-  one_is (Ok part) is = (is.1, is.2)
-  one_is (Err fault) is = tt
+  one_is : (answer : Octs) → IsAnswer client content f f' s s' answer → FoundMemory answer → IsOf content (answered client answer)
+  one_is (Ok part) is found = ((is.1, is.2), tt)
+  one_is (Err fault.Failed) is found = (tt, tt)
+  one_is (Err fault.NoMemory) is found = absurd found
 
-  one_fails : (answer : Octs) → IsAnswer client content f f' s s' answer → list_any is_failure (answered client answer ∷ []) ≡ true → HasRisen f f'
-  one_fails (Ok part) is some = absurd (false≢true some)
-  one_fails (Err fault.Failed) is some = is
-  one_fails (Err fault.NoMemory) is some = absurd (false≢true some)
+  one_fails : (answer : Octs) → IsAnswer client content f f' s s' answer → f ≤ f' → HasRisenBy (failures_in (answered client answer ∷ [])) f f'
+  one_fails (Ok part) is faults = rises_none f f' faults
+  one_fails (Err fault.Failed) is faults = rises_once f f' faults is
+  one_fails (Err fault.NoMemory) is faults = rises_none f f' faults
 
-  pub answers_of : (content' : Option (List Object)) (used : List Octs) → AreAnswers client content f f' s s' used → content' ≡ content → f ≤ f' → s ≤ s' → AreOf content content' f f' s s' (map (answered client) used)
-  answers_of content' [] answers stays faults shortages = record { content_stays = stays; faults_stay = faults; shortages_stay = shortages; each = tt; failed = λ some. absurd (false≢true some) }
-  answers_of content' (answer ∷ []) answers stays faults shortages =
-      record { content_stays = stays; faults_stay = faults; shortages_stay = shortages; each = (one_is answer answers, tt); failed = one_fails answer answers }
-  answers_of content' (answer ∷ other ∷ more) answers stays faults shortages = absurd answers
+  pub answers_of : (content' : Option (List Object)) (used : List Octs) → AreAnswers client content f f' s s' used → AllByRecursion FoundMemory used → content' ≡ content → f ≤ f' → s ≤ s' → AreOf content content' f f' s s' (map (answered client) used)
+  answers_of content' [] answers found stays faults shortages = record { content_stays = stays; faults_stay = faults; shortages_stay = shortages; each = tt; few = rises_none f f' faults }
+  answers_of content' (answer ∷ []) answers found stays faults shortages =
+      record { content_stays = stays; faults_stay = faults; shortages_stay = shortages; each = (one_is answer answers found.0, tt); few = one_fails answer answers faults }
+  answers_of content' (answer ∷ other ∷ more) answers found stays faults shortages = absurd answers
 
   -- and they fit
   one_fits : (answer : Octs) → IsAnswer client content f f' s s' answer → measured (course.put_count client) answer ≡ answer
@@ -201,6 +205,73 @@ module _ (client : Client) (content : Option (List Object)) (f f' s s' : ℕ) wh
       let left = map bare_part rest in
       record { left = left; stepped_is = ap (λ (a : Octs). steps client (a ∷ left)) (next_part client answer ∙ one_fits answer answers) ∙ comes left; left_is = unused_one (excerpt_of client answer) rest }
   all_fit (answer ∷ other ∷ more) rest new result answers comes = absurd answers
+
+-- what a step does leaves where its push is, its outcome, its PSM, and that it is not short of memory
+record Alike (before after : Client) : Type 0 where
+  pub failed : after.failed ≡ before.failed
+  pub stage : after.stage ≡ before.stage
+  pub psm : after.psm ≡ before.psm
+  pub cause : after.cause ≡ before.cause
+
+alike_if : (test : Bool) (own : ℕ) (on v : Channels) (end : ClientProfile) → Alike end.client (if test then model.waiting on (record end { submitted = Some own }) else model.waiting v end).profile.client
+alike_if true own on v end = record { failed = refl; stage = refl; psm = refl; cause = refl }
+alike_if false own on v end = record { failed = refl; stage = refl; psm = refl; cause = refl }
+
+alike_submits : (own : Option ℕ) (payload : Payload) (v : Channels) (end : ClientProfile) → Alike end.client (model.submits own payload v end).profile.client
+alike_submits None payload v end = record { failed = refl; stage = refl; psm = refl; cause = refl }
+alike_submits (Some own) payload v end = alike_if (takes_sdu own (sdu_of payload) v) own (sends own (sdu_of payload) v) v end
+
+alike : (one : course.Step) (v : Channels) (end : ClientProfile) → Alike end.client (model.takes one v end end).profile.client
+alike course.Wait v end = record { failed = refl; stage = refl; psm = refl; cause = refl }
+alike course.MakeLink v end = record { failed = refl; stage = refl; psm = refl; cause = refl }
+alike course.AskFeatures v end = record { failed = refl; stage = refl; psm = refl; cause = refl }
+alike (course.OpenChannel psm) v end = record { failed = refl; stage = refl; psm = refl; cause = refl }
+alike (course.SendSdu psm payload) v end = alike_submits (endpoint_of psm end.endpoints) payload v end
+alike (course.CloseChannel psm) v end = record { failed = refl; stage = refl; psm = refl; cause = refl }
+alike course.BreakLink v end = record { failed = refl; stage = refl; psm = refl; cause = refl }
+alike (course.Ended outcome) v end = record { failed = refl; stage = refl; psm = refl; cause = refl }
+alike course.NoMemory v end = record { failed = refl; stage = refl; psm = refl; cause = refl }
+
+-- ---- what a step used of them
+
+never_now : (failed : Bool) → (failed && not failed) ≡ false
+never_now true = refl
+never_now false = refl
+
+-- None of the answers that a step used was want of memory, and one said that the shelf failed where its push ends so.
+pub record Used (old new : Client) (used : List Octs) : Type 0 where
+  pub found : AllByRecursion FoundMemory used
+  pub pays : failures_in (map (answered old) used) ≡ owed (failed_now old.cause new.cause)
+
+still_owed : (old new : Client) → new.cause ≡ old.cause → 0 ≡ owed (failed_now old.cause new.cause)
+still_owed old new same = sym (ap (λ (c : Option Outcome). owed (failed_now old.cause c)) same ∙ ap owed (never_now (is_failed old.cause)))
+
+module _ (old new : Client) (result : Step) (works : new.failed ≡ false) where
+  abbrev Left : List Octs → List Octs → Type 0
+  Left parts left = Spends old.failed old.cause parts (gone new result left)
+
+  used_none : Left (Ok [] ∷ []) (Ok [] ∷ []) → Used old new []
+  used_none (Keeps left failed cause) = record { found = tt; pays = still_owed old new cause }
+  used_none (Takes part is failed cause) = absurd (let e = is in cc)
+  used_none (Fails (inl is) failed none now step) = absurd (let e = is in cc)
+  used_none (Fails (inr is) failed none now step) = absurd (let e = is.0 in cc)
+  used_none (Wants is failed) = absurd (let e = is in cc)
+
+  used_one : (answer : Octs) → Left (answer ∷ []) [] → Used old new (answer ∷ [])
+  used_one answer (Keeps left failed cause) = absurd (let e = left in cc)
+  used_one (Ok given) (Takes part is failed cause) = record { found = (tt, tt); pays = still_owed old new cause }
+  used_one (Err error) (Takes part is failed cause) = absurd (let e = is in cc)
+  used_one (Ok given) (Fails (inl is) failed none now step) = absurd (let e = is in cc)
+  used_one (Err fault.Failed) (Fails (inl is) failed none now step) =
+      record { found = (tt, tt); pays = sym (ap (λ (c : Option Outcome). owed (failed_now c new.cause)) none ∙ ap (λ (c : Option Outcome). owed (is_failed c && true)) now) }
+  used_one (Err fault.NoMemory) (Fails (inl is) failed none now step) = absurd (let e = is in cc)
+  used_one answer (Fails (inr is) failed none now step) = absurd (let e = is.0 in cc)
+  used_one answer (Wants is failed) = absurd (true≢false (sym failed ∙ works))
+
+  pub used_so : (content : Option (List Object)) (f f' s s' : ℕ) (used : List Octs) → AreAnswers old content f f' s s' used → ((rest : List Octs) → steps old (used ++ rest) ≡ gone new result rest) → Used old new used
+  used_so content f f' s s' [] answers comes = used_none (subst (λ (one : Stepped). Spends old.failed old.cause (Ok [] ∷ []) one) (comes (Ok [] ∷ [])) (spends old (Ok [] ∷ [])))
+  used_so content f f' s s' (answer ∷ []) answers comes = used_one answer (subst (λ (one : Stepped). Spends old.failed old.cause (answer ∷ []) one) (comes []) (spends old (answer ∷ [])))
+  used_so content f f' s s' (answer ∷ other ∷ more) answers comes = absurd answers
 
 -- ---- a step
 
@@ -239,15 +310,24 @@ asks_none client parts is = let e = steps_keep client parts in omega (arith, is,
 called_still : (client : Client) (parts : List Octs) → links client.stage ≡ 0 → links (steps client parts).client.stage ≡ 0
 called_still client parts is = let e = steps_keep client parts in omega (arith, is, e)
 
+-- a step of its profile, of which it is known whether its shelf failed
+pub record StepsTo {P : Type 0} (content : P → Option (List Object)) (faults shortages : P → ℕ) (settings : Settings) (old new : ClientProfile) (more : Bool) (v v' : Channels) (first last : P) : Type 0 where
+  pub used : List Circumstance
+  pub pays : failures_in used ≡ owed (failed_now old.client.cause new.client.cause)
+  pub answered : Answers content faults shortages first used last
+  pub does : (rest : List Circumstance) → (client_profile settings).steps v (pushing old (used ++ rest)) ≡ record { channels = v'; profile = pushing new rest; more = more }
+
 module _ {P : Type 0} (content : P → Option (List Object)) (faults shortages : P → ℕ) where
   pub step_does : (end mid after : ClientProfile) (new : Client) (result : Step) (lacks more : Bool) (v v' : Channels) (first last : P)
       → mid ≡ record end { client = new } → links end.client.stage ≡ 0
-      → Comes (steps end.client) (gone new result) end.client (content first) (faults first) (faults last) (shortages first) (shortages last) lacks → content last ≡ content first
+      → Comes (steps end.client) (gone new result) end.client (content first) (faults first) (faults last) (shortages first) (shortages last) lacks → new.failed ≡ false → content last ≡ content first
       → record { channels = v'; profile = after; more = more } ≡ model.takes (step_of (payload_in mid.client) result) v mid mid
-      → (settings : Settings) → Does (Answers content faults shortages) (λ rest. (client_profile settings).steps v (pushing end rest)) (λ rest. record { channels = v'; profile = pushing after rest; more = more }) first last
-  step_does end mid after new result lacks more v v' first last mid_is called k stays takes_is settings = record {
+      → (settings : Settings) → StepsTo content faults shortages settings end after more v v' first last
+  step_does end mid after new result lacks more v v' first last mid_is called k works stays takes_is settings = record {
     used = map (answered end.client) k.used;
-    answered = answers_of end.client (content first) (faults first) (faults last) (shortages first) (shortages last) (content last) k.used k.answers stays k.faults_stay k.shortages_stay;
+    pays = (used_so end.client new result works (content first) (faults first) (faults last) (shortages first) (shortages last) k.used k.answers k.comes).pays
+        ∙ ap (λ (c : Option Outcome). owed (failed_now end.client.cause c)) (sym (ap (λ (s : Stride ClientProfile). s.profile.client.cause) takes_is ∙ (alike (step_of (payload_in mid.client) result) v mid).cause ∙ ap (λ (m : ClientProfile). m.client.cause) mid_is));
+    answered = answers_of end.client (content first) (faults first) (faults last) (shortages first) (shortages last) (content last) k.used k.answers (used_so end.client new result works (content first) (faults first) (faults last) (shortages first) (shortages last) k.used k.answers k.comes).found stays k.faults_stay k.shortages_stay;
     does = λ rest.
         let one = step_of (payload_in new) result in
         let none : link_steps one ≡ 0 = ap (λ (s : Stepped). link_steps s.step) (sym (k.comes [])) ∙ asks_none end.client (k.used ++ []) called in
@@ -337,31 +417,6 @@ sent_sound_on (Some own) v end sound = settled_sound (waits own v) end sound
 
 pub sent_sound : (v : Channels) (end : ClientProfile) → Pushes end → Pushes (model.sent v end)
 sent_sound v end sound = sent_sound_on end.submitted v end sound
-
--- what a step does leaves where its push is, its PSM, and that it is not short of memory
-record Alike (before after : Client) : Type 0 where
-  pub failed : after.failed ≡ before.failed
-  pub stage : after.stage ≡ before.stage
-  pub psm : after.psm ≡ before.psm
-
-alike_if : (test : Bool) (own : ℕ) (on v : Channels) (end : ClientProfile) → Alike end.client (if test then model.waiting on (record end { submitted = Some own }) else model.waiting v end).profile.client
-alike_if true own on v end = record { failed = refl; stage = refl; psm = refl }
-alike_if false own on v end = record { failed = refl; stage = refl; psm = refl }
-
-alike_submits : (own : Option ℕ) (payload : Payload) (v : Channels) (end : ClientProfile) → Alike end.client (model.submits own payload v end).profile.client
-alike_submits None payload v end = record { failed = refl; stage = refl; psm = refl }
-alike_submits (Some own) payload v end = alike_if (takes_sdu own (sdu_of payload) v) own (sends own (sdu_of payload) v) v end
-
-alike : (one : course.Step) (v : Channels) (end : ClientProfile) → Alike end.client (model.takes one v end end).profile.client
-alike course.Wait v end = record { failed = refl; stage = refl; psm = refl }
-alike course.MakeLink v end = record { failed = refl; stage = refl; psm = refl }
-alike course.AskFeatures v end = record { failed = refl; stage = refl; psm = refl }
-alike (course.OpenChannel psm) v end = record { failed = refl; stage = refl; psm = refl }
-alike (course.SendSdu psm payload) v end = alike_submits (endpoint_of psm end.endpoints) payload v end
-alike (course.CloseChannel psm) v end = record { failed = refl; stage = refl; psm = refl }
-alike course.BreakLink v end = record { failed = refl; stage = refl; psm = refl }
-alike (course.Ended outcome) v end = record { failed = refl; stage = refl; psm = refl }
-alike course.NoMemory v end = record { failed = refl; stage = refl; psm = refl }
 
 pub step_sound : {content : Option (List Object)} {f f' s s' : ℕ} (end mid after : ClientProfile) (new : Client) (result : Step) (lacks more : Bool) (v v' : Channels)
     → mid ≡ record end { client = new } → Pushes end → Comes (steps end.client) (gone new result) end.client content f f' s s' lacks → wants_memory result ≡ new.failed → wants_memory result ≡ false

@@ -2,14 +2,16 @@
 use Rattle.std.proofs.Common.{◌≡◌, ◌∙◌, ◌<◌, ◌≤◌, ◌^◌, ◌&&◌, ◌||◌, not, ℕ, Bool, true, false, List, [], ◌∷◌, ◌++◌, length, refl, sym, ap, subst, true≢false, if◌then◌else◌, map, arith}
 use Rattle.std.proofs.lemmas.Bool.{false≢true}
 use Rattle.std.specs.Prelude.{Option, Some, None, Result, Ok, Err, IfOk, IfSome}
-use Rattle.std.specs.List.{list_any}
 use Rattle.std.specs.Option.{option_map}
-use Rattle.bt_base.specs.Counts.{HasRisen, HasCause}
+use Rattle.bt_base.specs.Counts.{HasCause}
 use Rattle.bt_base.specs.Numbers.{IsPsm}
 use Rattle.bt_base.specs.Objects.{Object, octets_of}
 use Rattle.bt_base.specs.declared.ports.PortFault.{PortFault}
 use Rattle.bt_base.specs.declared.ports.PortFault.TheVariants as fault
+use Rattle.obex_session.specs.Counting.{HasRisenBy}
 use Rattle.obex_session.specs.PutPackets.{units_in}
+use Rattle.obex_session.proofs.CountingLaws.{rises_none, rises_once}
+use Rattle.push_terms.specs.declared.outcome.Outcome.{Outcome}
 use Rattle.push_model.specs.declared.course.Point.TheVariants.{Due, Asked}
 use Rattle.push_model.specs.declared.course.Stage.{Stage}
 use Rattle.push_model.specs.declared.course.Stage.TheVariants.{Rest, Link, SearchChannel, Search, SearchEnd, Features, ObjectChannel, Object as Carries, ObjectEnd, LinkEnd, Over}
@@ -29,11 +31,11 @@ use Rattle.host_model.specs.Shelves.{name_for, size_if, is_short}
 use Rattle.shelf_model.specs.Held.{given_by, held_by}
 use Rattle.host_model.proofs.Shelves.{name_stays, size_stays}
 use Rattle.bt_host.specs.Calls.{Does}
-use Rattle.bt_host.specs.Pushing.{pushing, Pushes, IsDue, IsOf, is_failure, AreOf}
+use Rattle.bt_host.specs.Pushing.{pushing, Pushes, IsDue, FoundMemory, IsOf, failures_in, AreOf}
 use Rattle.bt_host.specs.PushingLaws.{Answers, joins}
-use Rattle.bt_host.specs.Shelving.{Shelved, with_pushing, told_shelved, shelved_by}
+use Rattle.bt_host.specs.Shelving.{Shelved, is_failed, owed, less_one, in_memory, told_shelved, shelved_by}
 use Rattle.bt_host.proofs.Clients.{ended_is, over_if}
-use Rattle.bt_host.proofs.Shelving.{size_held}
+use Rattle.bt_host.proofs.Shelving.{paid, size_held}
 
 -- ---- its link is asked for
 
@@ -64,7 +66,7 @@ module _ {content : Option (List Object)} {f f' s s' : ℕ} (old new : Client) (
   asks_link = ap (λ (s : Stepped). s.step) came
 
   pub asks_alone : (content' : Option (List Object)) → content' ≡ content → AreOf content content' f f' s s' []
-  asks_alone content' stays = record { content_stays = stays; faults_stay = k.faults_stay; shortages_stay = k.shortages_stay; each = tt; failed = λ some. absurd (false≢true some) }
+  asks_alone content' stays = record { content_stays = stays; faults_stay = k.faults_stay; shortages_stay = k.shortages_stay; each = tt; few = rises_none f f' k.faults_stay }
 
 -- ---- where no link is needed
 
@@ -173,45 +175,86 @@ told_size : (content : Option (List Object)) (name : List ℕ) (size : ℕ) → 
 told_size None name size few is = (omega (arith, few), tt)
 told_size (Some objects) name size few is = (omega (arith, few), (name, is))
 
-size_of : (size : Result ℕ PortFault) (content : Option (List Object)) (name : List ℕ) → IfOk size (λ n. n < 2 ^ 32) → IfOk size (λ n. IfSome content (λ objects. option_map length (octets_of name objects) ≡ Some n)) → IsOf content (Size size)
-size_of (Ok size) content name few is = told_size content name size few is
-size_of (Err fault) content name few is = tt
+size_of : (size : Result ℕ PortFault) (content : Option (List Object)) (name : List ℕ) → IfOk size (λ n. n < 2 ^ 32) → IfOk size (λ n. IfSome content (λ objects. option_map length (octets_of name objects) ≡ Some n)) → FoundMemory size → IsOf content (Size size)
+size_of (Ok size) content name few is found = told_size content name size few is
+size_of (Err fault) content name few is found = found
 
-size_fails : (size : Result ℕ PortFault) (f f' s s' : ℕ) → HasCause f f' s s' size → list_any is_failure (Size size ∷ []) ≡ true → HasRisen f f'
-size_fails (Ok size) f f' s s' cause some = absurd (false≢true some)
-size_fails (Err fault.Failed) f f' s s' cause some = cause.failed refl
-size_fails (Err fault.NoMemory) f f' s s' cause some = absurd (false≢true some)
+size_fails : (size : Result ℕ PortFault) (f f' s s' : ℕ) → HasCause f f' s s' size → HasRisenBy (failures_in (Size size ∷ [])) f f'
+size_fails (Ok size) f f' s s' cause = rises_none f f' cause.faults_stay
+size_fails (Err fault.Failed) f f' s s' cause = rises_once f f' cause.faults_stay (cause.failed refl)
+size_fails (Err fault.NoMemory) f f' s s' cause = rises_none f f' cause.faults_stay
 
-pub size_answered : (old new : Client) (name : List ℕ) (content content' : Option (List Object)) (f f' s s' : ℕ) → old.failed ≡ false → (b : Begins old new name content f f' s s') → content' ≡ content → AreOf content content' f f' s s' (Size b.size ∷ [])
-size_answered old new name content content' f f' s s' works b stays =
+pub size_answered : (old new : Client) (name : List ℕ) (content content' : Option (List Object)) (f f' s s' : ℕ) → old.failed ≡ false → (b : Begins old new name content f f' s s') → FoundMemory b.size → content' ≡ content → AreOf content content' f f' s s' (Size b.size ∷ [])
+size_answered old new name content content' f f' s s' works b found stays =
     let cause = b.cause works in
     record {
       content_stays = stays;
       faults_stay = cause.faults_stay;
       shortages_stay = cause.shortages_stay;
-      each = (size_of b.size content name b.few (b.told works), tt);
-      failed = λ some. size_fails b.size f f' s s' cause some;
+      each = (size_of b.size content name b.few (b.told works) found, tt);
+      few = size_fails b.size f f' s s' cause;
     }
+
+-- one that begins did not find memory wanting
+size_found : (size : Result ℕ PortFault) (name : List ℕ) (client : Client) → (begun_by size name client).failed ≡ false → FoundMemory size
+size_found (Ok size) name client works = tt
+size_found (Err fault.Failed) name client works = tt
+size_found (Err fault.NoMemory) name client works = absurd (true≢false works)
+
+-- and ended at once exactly where the shelf failed
+size_pays : (size : Result ℕ PortFault) (name : List ℕ) (client : Client) → (begun_by size name client).failed ≡ false → failures_in (Size size ∷ []) ≡ owed (is_failed (begun_by size name client).cause)
+size_pays (Ok size) name client works = refl
+size_pays (Err fault.Failed) name client works = refl
+size_pays (Err fault.NoMemory) name client works = absurd (true≢false works)
+
+over_cause : (test : Bool) (client : Client) → (over_if test client).cause ≡ client.cause
+over_cause true client = refl
+over_cause false client = refl
+
+-- that its link is asked for changes nothing of it
+begun_cause : (size : Result ℕ PortFault) (name : List ℕ) (end new : ClientProfile) (after : Client) → end.client.failed ≡ false → (begun_by size name end.client).failed ≡ false → after ≡ push.ended (begun_by size name end.client) → new ≡ calls (opening end after)
+    → new.client.cause ≡ (begun_by size name end.client).cause
+begun_cause size name end new after works still is new_is = ap (λ (p : ClientProfile). p.client.cause) new_is ∙ by (is_idle after) refl ∙ ap (λ (c : Client). c.cause) is ∙ over_cause (push.tells_end begun) begun
+  where
+    begun : Client
+    begun = begun_by size name end.client
+
+    by : (idle : Bool) → is_idle after ≡ idle → (calls (opening end after)).client.cause ≡ after.cause
+    by true idle = ap (λ (p : ClientProfile). p.client.cause) (sym (calls_none (opening end after) idle))
+    by false busy = ap (λ (p : ClientProfile). p.client.cause) (calls_is (opening end after) (subst IsDue (sym is) (due_by size name end.client works still (sym (ap is_idle is) ∙ busy))))
 
 module _ {P : Type 0} (content : P → Option (List Object)) (faults shortages : P → ℕ) where
   pub begin_does : (end new : ClientProfile) (mid after : Client) (name : List ℕ) (first second last : P) → length (units_in name) ≤ 100 → end.client.failed ≡ false
-      → (b : Begins end.client mid name (content first) (faults first) (faults second) (shortages first) (shortages second)) → content second ≡ content first → after ≡ push.ended mid → new ≡ calls (opening end after)
+      → (b : Begins end.client mid name (content first) (faults first) (faults second) (shortages first) (shortages second)) → mid.failed ≡ false → content second ≡ content first → after ≡ push.ended mid → new ≡ calls (opening end after)
       → Answers content faults shortages second [] last
       → Does (Answers content faults shortages) (λ rest. told_shelved rest (Opening name) (shelved_by content end first rest)) (shelved_by content new last) first last
-  begin_does end new mid after name first second last few works b stays is new_is behind = record {
+  begin_does end new mid after name first second last few works b mid_works stays is new_is behind = record {
     used = Size b.size ∷ [];
     answered = (joins content faults shortages).then first second last (Size b.size ∷ []) []
-        (size_answered end.client mid name (content first) (content second) (faults first) (faults second) (shortages first) (shortages second) works b stays) behind;
+        (size_answered end.client mid name (content first) (content second) (faults first) (faults second) (shortages first) (shortages second) works b found stays) behind;
     does = λ rest.
         let client_is : model.ended (begins b.size name end.client) ≡ after = ap model.ended (sym b.client) ∙ ended_is mid ∙ sym is in
-        let begun : model.told (held_by (content first) (Opening name) (Size b.size ∷ rest)) (Opening name) (pushing end (map (given_by (content first)) (Size b.size ∷ rest))) ≡ pushing new (map (given_by (content first)) rest) =
-        let left = parts_in (map (given_by (content first)) rest) in
-        ap (λ (s : Result ℕ PortFault). model.opens (size_if (is_short name) s) (name_for name) (record end { parts = left })) (size_held (content first) name b.size rest b.few (b.told works))
+        let begun : model.told (held_by (content first) (Opening name) (map in_memory (Size b.size ∷ rest))) (Opening name) (pushing end (map (given_by (content first)) (map in_memory (Size b.size ∷ rest)))) ≡ pushing new (map (given_by (content first)) (map in_memory rest)) =
+        let left = parts_in (map (given_by (content first)) (map in_memory rest)) in
+        ap (λ (s : Result ℕ PortFault). model.opens (size_if (is_short name) s) (name_for name) (record end { parts = left })) (size_held (content first) name b.size rest b.few (b.told works) found)
         ∙ ap (λ (s : Result ℕ PortFault). model.opens s (name_for name) (record end { parts = left })) (size_stays b.size name few)
         ∙ ap (λ (n : List ℕ). model.opens b.size n (record end { parts = left })) (name_stays name few)
         ∙ ap (λ (c : Client). calls (record (opening end c) { parts = left })) client_is
         ∙ after_with (steps after []).step (steps after []).client (opening end after) left
         ∙ ap (λ (e : ClientProfile). record e { parts = left }) (sym new_is) in
-        ap (λ (p : ClientProfile). with_pushing p (shelved_by content end first rest)) begun
-        ∙ ap (λ (c : Option (List Object)). let one : Shelved = record { pushing = pushing new (map (given_by c) rest); shelf = c } in one) (sym (behind.content_stays ∙ stays));
+        ap (λ (p : ClientProfile). let one : Shelved = record { pushing = p; shelf = content first; faults = less_one (is_failed p.client.cause) (failures_in (Size b.size ∷ rest)) } in one) begun
+        ∙ ap (λ (n : ℕ). let one : Shelved = record { pushing = pushing new (map (given_by (content first)) (map in_memory rest)); shelf = content first; faults = n } in one) (paid (is_failed new.client.cause) (Size b.size ∷ []) rest pays)
+        ∙ ap (λ (c : Option (List Object)). let one : Shelved = record { pushing = pushing new (map (given_by c) (map in_memory rest)); shelf = c; faults = failures_in rest } in one) (sym (behind.content_stays ∙ stays));
   }
+    where
+      mid_is : mid ≡ begun_by b.size name end.client
+      mid_is = b.client ∙ begins_is b.size name end.client works
+
+      still : (begun_by b.size name end.client).failed ≡ false
+      still = sym (ap (λ (c : Client). c.failed) mid_is) ∙ mid_works
+
+      found : FoundMemory b.size
+      found = size_found b.size name end.client still
+
+      pays : failures_in (Size b.size ∷ []) ≡ owed (is_failed new.client.cause)
+      pays = size_pays b.size name end.client still ∙ ap (λ (c : Option Outcome). owed (is_failed c)) (sym (begun_cause b.size name end new after works still (is ∙ ap push.ended mid_is) new_is))

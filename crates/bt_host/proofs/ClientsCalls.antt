@@ -33,7 +33,7 @@ use Rattle.bt_host.specs.Calls.{Does}
 use Rattle.bt_host.specs.Pushing.{pushing, HasCid, Pushes, IsDue}
 use Rattle.bt_host.specs.PushingLaws.{Answers}
 use Rattle.bt_host.specs.Shelving.{told_shelved, shelf_profile, shelved_by}
-use Rattle.bt_host.proofs.Clients.{ended_is, step_does, step_sound}
+use Rattle.bt_host.proofs.Clients.{ended_is, StepsTo, step_does, step_sound}
 use Rattle.bt_host.proofs.Shelving.{steps_shelved}
 use Rattle.bt_host.proofs.ClientsBeginning.{calls_is, asked_is, asks_link, opening, begin_does}
 use Rattle.bt_host.proofs.Servers.{takes-octets}
@@ -144,18 +144,18 @@ module _ {content : Option (List Object)} {f f' s s' : ℕ} (end now : ClientPro
 module _ {P : Type 0} (content : P → Option (List Object)) (faults shortages : P → ℕ) where
   pub stepped_does : (end now mid after : ClientProfile) (new : Client) (result : Step) (lacks more : Bool) (v v' : Channels) (first last : P) → end ≡ now
       → mid ≡ record end { client = new } → Pushes now
-      → Comes (steps end.client) (gone new result) end.client (content first) (faults first) (faults last) (shortages first) (shortages last) lacks → content last ≡ content first
+      → Comes (steps end.client) (gone new result) end.client (content first) (faults first) (faults last) (shortages first) (shortages last) lacks → wants_memory result ≡ new.failed → (result ≡ step.NoMemory → ⊥) → content last ≡ content first
       → record { channels = v'; profile = after; more = more } ≡ model.takes (step_of (payload_in mid.client) result) v mid mid
       → (settings : Settings) → Does (Answers content faults shortages) (λ rest. (shelf_profile settings).steps v (shelved_by content now first rest)) (λ rest. record { channels = v'; profile = shelved_by content after last rest; more = more }) first last
-  stepped_does end now mid after new result lacks more v v' first last view mid_is sound k stays takes_is settings =
+  stepped_does end now mid after new result lacks more v v' first last view mid_is sound k fails none stays takes_is settings =
       steps_shelved content faults shortages v v' more now after first last settings (
-      subst (λ (e : ClientProfile). Does (Answers content faults shortages) (λ rest. (client_profile settings).steps v (pushing e rest)) (λ rest. record { channels = v'; profile = pushing after rest; more = more }) first last) view
-      (step_does content faults shortages end mid after new result lacks more v v' first last mid_is (subst Pushes (sym view) sound).called k stays takes_is settings))
+      subst (λ (e : ClientProfile). StepsTo content faults shortages settings e after more v v' first last) view
+      (step_does content faults shortages end mid after new result lacks more v v' first last mid_is (subst Pushes (sym view) sound).called k (sym fails ∙ not_short result none) stays takes_is settings))
 
   pub begun_does : (end now new : ClientProfile) (mid after : Client) (name : List ℕ) (first second last : P) → length (units_in name) ≤ 100 → end ≡ now → Pushes now
-      → (b : Begins end.client mid name (content first) (faults first) (faults second) (shortages first) (shortages second)) → content second ≡ content first → after ≡ push.ended mid → new ≡ calls (opening end after)
+      → (b : Begins end.client mid name (content first) (faults first) (faults second) (shortages first) (shortages second)) → mid.failed ≡ false → content second ≡ content first → after ≡ push.ended mid → new ≡ calls (opening end after)
       → Answers content faults shortages second [] last
       → Does (Answers content faults shortages) (λ rest. told_shelved rest (Opening name) (shelved_by content now first rest)) (shelved_by content new last) first last
-  begun_does end now new mid after name first second last few view sound b stays is new_is behind =
+  begun_does end now new mid after name first second last few view sound b works stays is new_is behind =
       subst (λ (e : ClientProfile). Does (Answers content faults shortages) (λ rest. told_shelved rest (Opening name) (shelved_by content e first rest)) (shelved_by content new last) first last) view
-      (begin_does content faults shortages end new mid after name first second last few (subst Pushes (sym view) sound).works b stays is new_is behind)
+      (begin_does content faults shortages end new mid after name first second last few (subst Pushes (sym view) sound).works b works stays is new_is behind)

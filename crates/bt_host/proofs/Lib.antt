@@ -12,6 +12,7 @@ pub mod Resting
 pub mod PieceReading
 pub mod Feeding
 pub mod ToldNews
+pub mod Spending
 pub mod Clients
 pub mod Shelving
 pub mod ClientsBeginning

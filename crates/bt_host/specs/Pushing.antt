@@ -1,6 +1,6 @@
 -- The end of a client, as its profile (this project's own).
-use Rattle.std.specs.Prelude.{ℕ, ◌≡◌, ◌≤◌, Bool, true, false, List, length, Option, Some, Ok, Err, IfSome}
-use Rattle.std.specs.List.{AllByRecursion, list_any}
+use Rattle.std.specs.Prelude.{ℕ, ◌≡◌, ◌≤◌, ◌+◌, Bool, true, false, List, [], ◌∷◌, length, Option, Some, Result, Ok, Err, IfSome, if◌then◌else◌}
+use Rattle.std.specs.List.{AllByRecursion}
 use Rattle.std.specs.Option.{option_map}
 use Rattle.bt_base.specs.Counts.{HasRisen}
 use Rattle.bt_base.specs.Numbers.{IsCid, IsPsm}
@@ -9,7 +9,9 @@ use Rattle.bt_base.specs.declared.settings.Settings.{Settings}
 use Rattle.host_link.specs.declared.role.Role.TheVariants.{Client}
 use Rattle.host_link.specs.PuttingOut.{started}
 use Rattle.l2cap_channels.specs.Machine.{new_machine}
+use Rattle.bt_base.specs.declared.ports.PortFault.{PortFault}
 use Rattle.bt_base.specs.declared.ports.PortFault.TheVariants.{Failed, NoMemory}
+use Rattle.obex_session.specs.Counting.{HasRisenBy}
 use Rattle.push_model.specs.Client as push
 use Rattle.push_model.specs.Laws.{links}
 use Rattle.push_model.specs.Steps.{Part as Octets}
@@ -51,11 +53,17 @@ pub record IsDue (client : push.Client) : Type 0 where
 
 -- ---- the answers of a shelf
 
--- the length of an object that it has, a number of four octets, or octets of one that stand there
+-- it is no want of memory
+abbrev pub FoundMemory : {A : Type 0} → Result A PortFault → Type 0
+FoundMemory (Ok given) = Unit {0}
+FoundMemory (Err Failed) = Unit {0}
+FoundMemory (Err NoMemory) = ⊥
+
+-- the length of an object that it has, a number of four octets, or octets of one that stand there, or that it failed
 abbrev pub IsOf : Option (List Object) → Circumstance → Type 0
 IsOf content (Size (Ok size)) = (size ≤ longest_octets) × IfSome content (λ objects. (name : List ℕ) × (option_map length (octets_of name objects) ≡ Some size))
-IsOf content (Size (Err fault)) = Unit {0}
-IsOf content (Part excerpt) = IsHeld content excerpt
+IsOf content (Size (Err fault)) = FoundMemory {A = ℕ} (Err fault)
+IsOf content (Part excerpt) = IsHeld content excerpt × FoundMemory excerpt.answer
 IsOf content (Stored answer) = ⊥
 
 abbrev pub has_failed : Octets → Bool
@@ -70,13 +78,18 @@ is_failure (Size (Err NoMemory)) = false
 is_failure (Part excerpt) = has_failed excerpt.answer
 is_failure (Stored answer) = false
 
--- A shelf gave these answers: it has what it tells, and where it failed its count rose. What it has stays.
+-- how many of its answers say that a call failed
+abbrev pub failures_in : List Circumstance → ℕ
+failures_in [] = 0
+failures_in (answer ∷ answers) = (if is_failure answer then 1 else 0) + failures_in answers
+
+-- A shelf gave these answers: it has what it tells, found its memory, and its count rose with each that says that it failed. What it has stays.
 pub record AreOf (content content' : Option (List Object)) (faults faults' shortages shortages' : ℕ) (used : List Circumstance) : Type 0 where
   pub content_stays : content' ≡ content
   pub faults_stay : faults ≤ faults'
   pub shortages_stay : shortages ≤ shortages'
   pub each : AllByRecursion (IsOf content) used
-  pub failed : list_any is_failure used ≡ true → HasRisen faults faults'
+  pub few : HasRisenBy (failures_in used) faults faults'
 
 -- ---- a client as a host
 

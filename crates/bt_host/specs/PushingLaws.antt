@@ -1,8 +1,8 @@
 -- Answers of a shelf, one list behind another (this project's own).
-use Rattle.std.specs.Prelude.{ℕ, ◌≡◌, ◌≤◌, ◌<◌, ◌⊎◌, ◌||◌, Bool, true, false, Option, List, [], ◌∷◌, ◌++◌, refl}
-use Rattle.std.specs.List.{AllByRecursion, list_any}
+use Rattle.std.specs.Prelude.{ℕ, ◌≡◌, ◌≤◌, ◌+◌, ◌<◌, Option, List, [], ◌∷◌, ◌++◌, refl}
+use Rattle.std.specs.List.{AllByRecursion}
 use Rattle.std.proofs.Common.{◌∙◌, arith, inl, inr, subst, sym}
-use Rattle.std.proofs.lemmas.Bool.{cases_lt, false≢true}
+use Rattle.std.proofs.lemmas.Bool.{cases_lt}
 use Rattle.bt_base.specs.Counts.{HasRisen, last_count}
 use Rattle.bt_base.specs.Objects.{Object}
 use Rattle.bt_base.specs.declared.settings.Settings.{Settings}
@@ -11,28 +11,21 @@ use Rattle.host_model.specs.Circumstances.{Circumstance}
 use Rattle.host_model.specs.Clients.{ClientProfile, client_profile}
 use Rattle.bt_host.specs.Calls.{JoinAnswers}
 use Rattle.bt_host.specs.Uppers.{IsAside}
-use Rattle.bt_host.specs.Pushing.{IsOf, is_failure, AreOf}
+use Rattle.obex_session.specs.Counting.{HasRisenBy}
+use Rattle.obex_session.proofs.CountingLaws.{rises_none, rises_both}
+use Rattle.bt_host.specs.Pushing.{IsOf, failures_in, AreOf}
 
 rises_later : (a b c : ℕ) → a ≤ b → b ≤ c → HasRisen b c → HasRisen a c
 rises_later a b c before behind (inl rose) = inl (omega (arith, before, rose))
 rises_later a b c before behind (inr end) = elim (cases_lt a last_count) [ inl below ↦ inl (omega (arith, below, end, behind)) | inr above ↦ inr above ]
 
-rises_before : (a b c : ℕ) → b ≤ c → HasRisen a b → HasRisen a c
-rises_before a b c behind (inl rose) = inl (omega (arith, behind, rose))
-rises_before a b c behind (inr end) = inr end
-
 each_of : (content : Option (List Object)) (xs ys : List Circumstance) → AllByRecursion (IsOf content) xs → AllByRecursion (IsOf content) ys → AllByRecursion (IsOf content) (xs ++ ys)
 each_of content [] ys first second = second
 each_of content (x ∷ xs) ys first second = (first.0, each_of content xs ys first.1 second)
 
-either_of : (test a b both : Bool) → (both ≡ true → (a ≡ true) ⊎ (b ≡ true)) → (test || both) ≡ true → ((test || a) ≡ true) ⊎ (b ≡ true)
-either_of true a b both later some = inl refl
-either_of false a b both later some = later some
-
--- one of two lists has a failure
-one_of : (xs ys : List Circumstance) → list_any is_failure (xs ++ ys) ≡ true → (list_any is_failure xs ≡ true) ⊎ (list_any is_failure ys ≡ true)
-one_of [] ys some = inr some
-one_of (x ∷ xs) ys some = either_of (is_failure x) (list_any is_failure xs) (list_any is_failure ys) (list_any is_failure (xs ++ ys)) (one_of xs ys) some
+pub failures_join : (xs ys : List Circumstance) → failures_in (xs ++ ys) ≡ failures_in xs + failures_in ys
+failures_join [] ys = omega arith
+failures_join (x ∷ xs) ys = let rest = failures_join xs ys in omega (arith, rest)
 
 module _ {P : Type 0} (content : P → Option (List Object)) (faults shortages : P → ℕ) where
   abbrev pub Answers : P → List Circumstance → P → Type 0
@@ -40,16 +33,14 @@ module _ {P : Type 0} (content : P → Option (List Object)) (faults shortages :
 
   pub joins : JoinAnswers Answers
   joins = record {
-    none = λ port. record { content_stays = refl; faults_stay = omega arith; shortages_stay = omega arith; each = tt; failed = λ some. absurd (false≢true some) };
+    none = λ port. record { content_stays = refl; faults_stay = omega arith; shortages_stay = omega arith; each = tt; few = rises_none (faults port) (faults port) (omega arith) };
     then = λ first mid last xs ys one two. record {
       content_stays = two.content_stays ∙ one.content_stays;
       faults_stay = omega (arith, one.faults_stay, two.faults_stay);
       shortages_stay = omega (arith, one.shortages_stay, two.shortages_stay);
       each = each_of (content first) xs ys one.each (subst (λ c. AllByRecursion (IsOf c) ys) one.content_stays two.each);
-      failed = λ some. elim (one_of xs ys some) [
-        | inl here ↦ rises_before (faults first) (faults mid) (faults last) two.faults_stay (one.failed here)
-        | inr there ↦ rises_later (faults first) (faults mid) (faults last) one.faults_stay two.faults_stay (two.failed there)
-      ];
+      few = subst (λ (n : ℕ). HasRisenBy n (faults first) (faults last)) (sym (failures_join xs ys))
+          (rises_both (failures_in xs) (failures_in ys) (faults first) (faults mid) (faults last) two.faults_stay one.few two.few);
     };
   }
 

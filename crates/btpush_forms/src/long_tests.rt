@@ -94,7 +94,7 @@ fn packets_end_within_the_greatest_length(rt: HostRuntime) -> Result<(), Fail> {
         let mut source = LongSource { packets: 0, last };
         let mut sink = MemSink::new(rt.alloc(), &[])?;
         let found = decode(rt.alloc(), Viewing::Raw, &mut source, &mut sink);
-        assert_eq!(rt; found, *status);
+        assert!(rt; found == *status);
         assert!(rt; sink.octets().ends_with(text.as_bytes()));
     }
     Ok(())

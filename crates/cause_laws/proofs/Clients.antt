@@ -102,11 +102,11 @@ any_heard ScriptEnded is = is
 pub any_ended : (by_user : Bool) (outcome : Outcome) → is_any outcome ≡ true → is_ended by_user outcome ≡ true
 any_ended by_user outcome is = ap (λ (b : Bool). b || (is_lost outcome && not by_user)) is
 
-within_more : (p q : Outcome → Bool) → ((outcome : Outcome) → p outcome ≡ true → q outcome ≡ true) → (shown : Option Outcome) → Within p shown → Within q shown
+pub within_more : (p q : Outcome → Bool) → ((outcome : Outcome) → p outcome ≡ true → q outcome ≡ true) → (shown : Option Outcome) → Within p shown → Within q shown
 within_more p q more None within = tt
 within_more p q more (Some outcome) within = more outcome within
 
-either : (q : Outcome → Bool) (test : Bool) (a b : Option Outcome) → Within q a → Within q b → Within q (if test then a else b)
+pub either : (q : Outcome → Bool) (test : Bool) (a b : Option Outcome) → Within q a → Within q b → Within q (if test then a else b)
 either q true a b x y = x
 either q false a b x y = y
 
@@ -154,34 +154,67 @@ found_within transport (found.Service target) = either is_heard (is_none (way_of
 found_within transport found.NoService = refl
 found_within transport (found.Refused reason) = query_within reason
 
-says_within : (answered : Answered) → Within is_heard (says answered)
-says_within answer.Go = tt
-says_within answer.Done = refl
-says_within (answer.Refused code) = refl
-says_within (answer.Bad refusal) = refl
-says_within answer.Srmp = refl
+-- ---- responses show no other ones than these
 
-answer_within : (answered : Option Answered) (client : Client) → Within is_heard (answer_shows answered client)
-answer_within None client = refl
-answer_within (Some answered) client = either is_heard (is_success answered && is_early client) (Some unawaited_response) (says answered) refl (says_within answered)
+abbrev pub is_responded : Outcome → Bool
+is_responded Done = true
+is_responded LinkLost = false
+is_responded RetryLimit = false
+is_responded (Refused code) = true
+is_responded NoService = false
+is_responded ShelfFault = false
+is_responded Cancelled = false
+is_responded PeerClosed = false
+is_responded (PeerFault layer reason) = true
+is_responded ScriptEnded = false
+
+responded_heard : (outcome : Outcome) → is_responded outcome ≡ true → is_heard outcome ≡ true
+responded_heard Done is = refl
+responded_heard LinkLost is = is
+responded_heard RetryLimit is = refl
+responded_heard (Refused code) is = refl
+responded_heard NoService is = refl
+responded_heard ShelfFault is = refl
+responded_heard Cancelled is = is
+responded_heard PeerClosed is = refl
+responded_heard (PeerFault layer reason) is = refl
+responded_heard ScriptEnded is = is
+
+says_responds : (answered : Answered) → Within is_responded (says answered)
+says_responds answer.Go = tt
+says_responds answer.Done = refl
+says_responds (answer.Refused code) = refl
+says_responds (answer.Bad refusal) = refl
+says_responds answer.Srmp = refl
+
+answer_responds : (answered : Option Answered) (client : Client) → Within is_responded (answer_shows answered client)
+answer_responds None client = refl
+answer_responds (Some answered) client = either is_responded (is_success answered && is_early client) (Some unawaited_response) (says answered) refl (says_responds answered)
+
+response_responds : (packet : List ℕ) (client : Client) → Within is_responded (response_shows packet client)
+response_responds packet client = answer_responds (answer_at client.session.awaited client.session packet) client
+
+first_within : (q : Outcome → Bool) (first later : Option Outcome) → Within q first → Within q later → Within q (first_of first later)
+first_within q None later x y = y
+first_within q (Some outcome) later x y = x
+
+front_responds : (more : List ℕ → Client → Option Outcome) → ((rest : List ℕ) (client : Client) → Within is_responded (more rest client)) → (front : Front) (client : Client) → Within is_responded (front_shows more front client)
+front_responds more all (Whole packet rest) client =
+    let alone : Client = record client { held = [] } in
+    first_within is_responded (response_shows packet alone) (more rest (hears_response packet alone)) (response_responds packet alone) (all rest (hears_response packet alone))
+front_responds more all Partial client = tt
+front_responds more all (Broken refusal) client = refl
+
+pub stream_responds : (count : ℕ) (stream : List ℕ) (client : Client) → Within is_responded (stream_shows count stream client)
+unfolding stream_shows
+stream_responds zero stream client = tt
+stream_responds (suc count) stream client = front_responds (λ rest next. stream_shows count rest next) (λ rest next. stream_responds count rest next) (front_of client.session.maximum stream) client
 
 response_within : (packet : List ℕ) (client : Client) → Within is_heard (response_shows packet client)
-response_within packet client = answer_within (answer_at client.session.awaited client.session packet) client
-
-first_within : (first later : Option Outcome) → Within is_heard first → Within is_heard later → Within is_heard (first_of first later)
-first_within None later x y = y
-first_within (Some outcome) later x y = x
-
-front_within : (more : List ℕ → Client → Option Outcome) → ((rest : List ℕ) (client : Client) → Within is_heard (more rest client)) → (front : Front) (client : Client) → Within is_heard (front_shows more front client)
-front_within more all (Whole packet rest) client =
-    let alone : Client = record client { held = [] } in first_within (response_shows packet alone) (more rest (hears_response packet alone)) (response_within packet alone) (all rest (hears_response packet alone))
-front_within more all Partial client = tt
-front_within more all (Broken refusal) client = refl
+response_within packet client = within_more is_responded is_heard responded_heard (response_shows packet client) (response_responds packet client)
 
 stream_within : (count : ℕ) (stream : List ℕ) (client : Client) → Within is_heard (stream_shows count stream client)
-unfolding stream_shows
-stream_within zero stream client = tt
-stream_within (suc count) stream client = front_within (λ rest next. stream_shows count rest next) (λ rest next. stream_within count rest next) (front_of client.session.maximum stream) client
+stream_within count stream client = within_more is_responded is_heard responded_heard (stream_shows count stream client) (stream_responds count stream client)
 
 up_within : (news : Up) (client : Client) → Within is_heard (up_shows news client)
 up_within nothing client = tt
@@ -217,12 +250,38 @@ link_within false = refl
 pub down_within : (reason : ℕ) (client : Client) → Within (is_ended (reason == 0x13)) (shows (Hears (events.LinkDown reason)) client)
 down_within reason client = either (is_ended (reason == 0x13)) (is_linked client.stage) (Some (cause_of_link reason)) None (link_within (reason == 0x13)) tt
 
-part_within : (answer : Result (Unit {0}) PortFault) → Within is_any (part_shows answer)
+-- only the shelf's fault comes of a step
+
+abbrev pub is_shelf : Outcome → Bool
+is_shelf Done = false
+is_shelf LinkLost = false
+is_shelf RetryLimit = false
+is_shelf (Refused code) = false
+is_shelf NoService = false
+is_shelf ShelfFault = true
+is_shelf Cancelled = false
+is_shelf PeerClosed = false
+is_shelf (PeerFault layer reason) = false
+is_shelf ScriptEnded = false
+
+pub shelf_any : (outcome : Outcome) → is_shelf outcome ≡ true → is_any outcome ≡ true
+shelf_any Done is = is
+shelf_any LinkLost is = is
+shelf_any RetryLimit is = refl
+shelf_any (Refused code) is = is
+shelf_any NoService is = is
+shelf_any ShelfFault is = refl
+shelf_any Cancelled is = is
+shelf_any PeerClosed is = refl
+shelf_any (PeerFault layer reason) is = refl
+shelf_any ScriptEnded is = is
+
+part_within : (answer : Result (Unit {0}) PortFault) → Within is_shelf (part_shows answer)
 part_within (Ok done) = tt
 part_within (Err fault.Failed) = refl
 part_within (Err fault.NoMemory) = tt
 
-ask_within : (ask : Ask) (client : Client) (parts : List Part) → Within is_any (ask_shows ask client parts)
+ask_within : (ask : Ask) (client : Client) (parts : List Part) → Within is_shelf (ask_shows ask client parts)
 ask_within course.Connect client parts = tt
 ask_within course.Put client parts = part_within (puts client parts).outcome
 ask_within course.Abort client parts = tt
@@ -230,17 +289,17 @@ ask_within course.Disconnect client parts = tt
 ask_within course.Close client parts = tt
 ask_within course.Nothing client parts = tt
 
-said_within : (said : Option Said) (client : Client) (parts : List Part) → Within is_any (said_shows said client parts)
+said_within : (said : Option Said) (client : Client) (parts : List Part) → Within is_shelf (said_shows said client parts)
 said_within None client parts =
-    let quiet : Client = record client { frame = None; rest = [] } in either is_any (may_ask client && takes_some client.mux) (ask_shows (next_ask client) quiet parts) None (ask_within (next_ask client) quiet parts) tt
+    let quiet : Client = record client { frame = None; rest = [] } in either is_shelf (may_ask client && takes_some client.mux) (ask_shows (next_ask client) quiet parts) None (ask_within (next_ask client) quiet parts) tt
 said_within (Some said) client parts = tt
 
-step_within : (transport : Transport) (client : Client) (parts : List Part) → Within is_any (step_shows transport client parts)
-step_within L2cap client parts = let clear : Client = record client { rest = [] } in either is_any (may_ask client) (ask_shows (next_ask client) clear parts) None (ask_within (next_ask client) clear parts) tt
+step_within : (transport : Transport) (client : Client) (parts : List Part) → Within is_shelf (step_shows transport client parts)
+step_within L2cap client parts = let clear : Client = record client { rest = [] } in either is_shelf (may_ask client) (ask_shows (next_ask client) clear parts) None (ask_within (next_ask client) clear parts) tt
 step_within Rfcomm client parts = let full = filled client in said_within (next full.mux) full parts
 
-pub asks_within : (parts : List Part) (client : Client) → Within is_any (shows (Asks parts) client)
-asks_within parts client = either is_any (not client.failed && (not client.given && is_object client.stage)) (step_shows client.transport client parts) None (step_within client.transport client parts) tt
+pub asks_within : (parts : List Part) (client : Client) → Within is_shelf (shows (Asks parts) client)
+asks_within parts client = either is_shelf (not client.failed && (not client.given && is_object client.stage)) (step_shows client.transport client parts) None (step_within client.transport client parts) tt
 
 -- ---- which deeds show no other ones
 
@@ -269,7 +328,7 @@ pub timer_shown : ShowsWithin is_any (Hears events.Timer)
 timer_shown client = either is_any ((armed client && not (client.given || is_due client.query)) && (client.left == 0)) (Some RetryLimit) None refl tt
 
 pub asks_shown : (parts : List Part) → ShowsWithin is_any (Asks parts)
-asks_shown parts client = asks_within parts client
+asks_shown parts client = within_more is_shelf is_any shelf_any (shows (Asks parts) client) (asks_within parts client)
 
 pub finishes_shown : ShowsWithin is_any Finishes
 finishes_shown client = tt
@@ -293,6 +352,10 @@ came_then q None None new one two = two
 came_then q None (Some outcome) new one two = subst (Within q) (sym two) one
 came_then q (Some outcome) mid new one two = subst (λ (c : Option Outcome). Came q c new) one two
 
+pub came_more : (p q : Outcome → Bool) → ((outcome : Outcome) → p outcome ≡ true → q outcome ≡ true) → (old new : Option Outcome) → Came p old new → Came q old new
+came_more p q more None new came = within_more p q more new came
+came_more p q more (Some outcome) new came = came
+
 -- there is one
 abbrev pub HasCome : Option Outcome → Type 0
 HasCome None = ⊥
@@ -309,7 +372,7 @@ over_comes outcome client = by client.cause refl
     by None is = tt
     by (Some earlier) is = subst HasCome (sym is) tt
 
-none_later : (shown : Option Outcome) → first_of shown None ≡ shown
+pub none_later : (shown : Option Outcome) → first_of shown None ≡ shown
 none_later None = refl
 none_later (Some outcome) = refl
 
@@ -353,6 +416,15 @@ begins_within size name client well after =
     subst (λ (b : Bool). Within is_any (if b then client else begun_by size name client).cause) (sym well) (by size (sym (ap (λ (b : Bool). (if b then client else begun_by size name client).failed) well) ∙ after))
   where
     by : (s : Result ℕ PortFault) → (begun_by s name client).failed ≡ false → Within is_any (begun_by s name client).cause
+    by (Ok n) is = tt
+    by (Err fault.Failed) is = refl
+    by (Err fault.NoMemory) is = absurd (let never : true ≡ false = is in cc)
+
+pub begins_shelf : (size : Result ℕ PortFault) (name : List ℕ) (client : Client) → client.failed ≡ false → (begins size name client).failed ≡ false → Within is_shelf (begins size name client).cause
+begins_shelf size name client well after =
+    subst (λ (b : Bool). Within is_shelf (if b then client else begun_by size name client).cause) (sym well) (by size (sym (ap (λ (b : Bool). (if b then client else begun_by size name client).failed) well) ∙ after))
+  where
+    by : (s : Result ℕ PortFault) → (begun_by s name client).failed ≡ false → Within is_shelf (begun_by s name client).cause
     by (Ok n) is = tt
     by (Err fault.Failed) is = refl
     by (Err fault.NoMemory) is = absurd (let never : true ≡ false = is in cc)

@@ -1,3 +1,12 @@
 pub mod Clients
 pub mod Profiles
+pub mod Driving
+pub mod Saying
+pub mod Off
+pub mod Weaves
+pub mod Hearings
+pub mod Links
+pub mod Parts
+pub mod Words
+pub mod Heard
 pub mod Runs

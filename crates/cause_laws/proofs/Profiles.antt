@@ -35,12 +35,12 @@ use Rattle.cause_laws.proofs.Clients.{is_any, is_heard, is_ended, any_heard, any
 
 -- ---- the affairs of a feed
 
-any_more : (q : Outcome → Bool) → ((outcome : Outcome) → is_any outcome ≡ true → q outcome ≡ true) → (affairs : List Affair) → AllByRecursion (IsWithin is_any) affairs → AllByRecursion (IsWithin q) affairs
+pub any_more : (q : Outcome → Bool) → ((outcome : Outcome) → is_any outcome ≡ true → q outcome ≡ true) → (affairs : List Affair) → AllByRecursion (IsWithin is_any) affairs → AllByRecursion (IsWithin q) affairs
 any_more q more [] all = tt
 any_more q more (Begins size name ∷ affairs) all = absurd all.0
 any_more q more (Does deed ∷ affairs) all = (more_shown q more deed all.0, any_more q more affairs all.1)
 
-end_within : (step : Step) → AllByRecursion (IsWithin is_any) (end_asked step)
+pub end_within : (step : Step) → AllByRecursion (IsWithin is_any) (end_asked step)
 end_within Wait = tt
 end_within MakeLink = tt
 end_within AskFeatures = tt
@@ -51,7 +51,7 @@ end_within BreakLink = tt
 end_within (Ended outcome) = (asks_shown [], tt)
 end_within NoMemory = tt
 
-call_within : (step : Step) → AllByRecursion (IsWithin is_any) (link_asked step)
+pub call_within : (step : Step) → AllByRecursion (IsWithin is_any) (link_asked step)
 call_within Wait = tt
 call_within MakeLink = (asks_shown [], (finishes_shown, tt))
 call_within AskFeatures = tt
@@ -70,14 +70,14 @@ closed_within : (cause : Option CloseCause) (psm : ℕ) → AllByRecursion (IsWi
 closed_within None psm = tt
 closed_within (Some cause) psm = (closes_shown psm cause, tt)
 
-event_within : (event : ChannelEvent) (v : Channels) → AllByRecursion (IsWithin is_any) (event_pushed event v)
+pub event_within : (event : ChannelEvent) (v : Channels) → AllByRecursion (IsWithin is_any) (event_pushed event v)
 event_within (channels.Opened own psm) v = opened_within (peer_mtu own v) psm
 event_within (channels.Closed own psm reason) v = closed_within (cause_of reason) psm
 event_within (channels.Features features) v = (told_shown, tt)
 event_within channels.FeaturesLost v = (lost_shown, tt)
 event_within (channels.DisconnectLost own) v = tt
 
-sent_within : (own : Option ℕ) (v : Channels) → AllByRecursion (IsWithin is_any) (sent_pushed own v)
+pub sent_within : (own : Option ℕ) (v : Channels) → AllByRecursion (IsWithin is_any) (sent_pushed own v)
 sent_within None v = tt
 sent_within (Some own) v = by (waits own v)
   where
@@ -85,7 +85,7 @@ sent_within (Some own) v = by (waits own v)
     by true = tt
     by false = (finishes_shown, tt)
 
-step_within : (step : Step) (parts : List Part) → AllByRecursion (IsWithin is_any) (step_pushed step parts)
+pub step_within : (step : Step) (parts : List Part) → AllByRecursion (IsWithin is_any) (step_pushed step parts)
 step_within Wait parts = (asks_shown parts, tt)
 step_within MakeLink parts = tt
 step_within AskFeatures parts = (asks_shown parts, (finishes_shown, tt))
@@ -105,7 +105,7 @@ goes_same false false stay go on stay' go' on' one two three = three
 -- ---- a profile
 
 module _ (settings : Settings) where
-  came_fed : (q : Outcome → Bool) (old : Option Outcome) (p : ClientProfile) (feed : Feed) → AllByRecursion (IsWithin q) (pushed_with p feed) → Came q old p.client.cause → Came q old (fed (client_profile settings) p feed).client.cause
+  pub came_fed : (q : Outcome → Bool) (old : Option Outcome) (p : ClientProfile) (feed : Feed) → AllByRecursion (IsWithin q) (pushed_with p feed) → Came q old p.client.cause → Came q old (fed (client_profile settings) p feed).client.cause
   came_fed q old p feed all came =
       came_then q old p.client.cause (fed (client_profile settings) p feed).client.cause came
       (subst (λ (c : Client). Came q p.client.cause c.cause) (sym (feed_so settings p feed)) (came_behind q (pushed_with p feed) p.client all))
@@ -125,7 +125,7 @@ module _ (settings : Settings) where
   lame_fed : (p : ClientProfile) (feed : Feed) → p.client.failed ≡ true → (fed (client_profile settings) p feed).client.failed ≡ true
   lame_fed p feed lame = ap (λ (c : Client). c.failed) (feed_so settings p feed) ∙ lame_behind (pushed_with p feed) p.client lame
 
-  keeps_lame : Keeps (client_profile settings) (λ (p : ClientProfile). p.client.failed ≡ true)
+  pub keeps_lame : Keeps (client_profile settings) (λ (p : ClientProfile). p.client.failed ≡ true)
   keeps_lame = record {
     given = λ circumstances p lame. lame;
     received = λ own psm sdu p lame. lame_fed p (Receives own psm sdu) lame;
@@ -276,7 +276,7 @@ module _ (settings : Settings) where
 
   -- ---- a push begins
 
-  well_before : (old new : Bool) → (old ≡ true → new ≡ true) → new ≡ false → old ≡ false
+  pub well_before : (old new : Bool) → (old ≡ true → new ≡ true) → new ≡ false → old ≡ false
   well_before true new goes well = let never : true ≡ false = sym (goes refl) ∙ well in cc
   well_before false new goes well = refl
 

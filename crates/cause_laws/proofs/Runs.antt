@@ -1,9 +1,10 @@
 -- The capture of each run shows why its pushes ended.
-use Rattle.std.proofs.Common.{◌≡◌, ℕ, Bool, true, false, not, ◌&&◌, ◌==◌, List, [], ◌∷◌, ◌++◌, length, Option, Some, None, unwrap_or, refl, sym, ap, subst, ◌∙◌, append_assoc, if◌then◌else◌}
+use Rattle.std.proofs.Common.{◌≡◌, ℕ, Bool, true, false, ◌&&◌, ◌==◌, List, [], ◌∷◌, ◌++◌, Option, Some, None, unwrap_or, refl, sym, ap, subst, ◌∙◌, if◌then◌else◌}
 use Rattle.std.proofs.lemmas.Bool.{eq-eqb}
 use Rattle.std.proofs.lemmas.List.{append-nil}
 use Rattle.std.proofs.lemmas.List.Sums.{fold-append}
 use Rattle.std.specs.Prelude.{is_none}
+use Rattle.link_talk.specs.Sayings.{talk}
 use Rattle.bt_base.specs.Objects.{Contents}
 use Rattle.bt_base.specs.declared.settings.Settings.{Settings}
 use Rattle.acl_fragments.specs.Pieces.{Piece}
@@ -11,29 +12,23 @@ use Rattle.push_script.specs.declared.scenario.Scenario.{Scenario}
 use Rattle.push_terms.specs.declared.outcome.Outcome.{Outcome}
 use Rattle.push_terms.specs.declared.outcome.Outcome.TheVariants.{Done, LinkLost, RetryLimit, Refused, NoService, ShelfFault, Cancelled as PushCancelled, PeerClosed, PeerFault, ScriptEnded}
 use Rattle.push_terms.specs.declared.word.Side.TheVariants.{A, B}
-use Rattle.push_terms.specs.declared.word.Way.{Way}
 use Rattle.push_terms.specs.declared.word.Way.TheVariants.{Ab, Ba}
 use Rattle.push_terms.specs.declared.word.Word.{Word}
-use Rattle.push_terms.specs.declared.word.Word.TheVariants.{Pass, Lose, Repeat, Damage, Cut, Timer, Drop, Cancel}
 use Rattle.capture.specs.declared.flow.Flow.TheVariants.{Out, Into}
 use Rattle.capture.specs.Entries.{Entry, Moved, Acted, Begun, Ended}
-use Rattle.capture.specs.Frames.{way_served}
 use Rattle.capture.specs.Histories.{EachAfter}
+use Rattle.capture.specs.Links.{Link, link_up}
 use Rattle.capture.proofs.HistoryLaws.{each_after-more}
 use Rattle.radio_air.specs.declared.deed.Deed.{Deed}
 use Rattle.radio_air.specs.declared.deed.Deed.TheVariants.{Nothing, Meets, Fires, FiresBoth, Breaks, Cancels}
-use Rattle.radio_air.specs.declared.fate.Fate.{Fate}
-use Rattle.radio_air.specs.declared.fate.Fate.TheVariants.{Delivered, Lost, Repeated, CutOff, Changed}
 use Rattle.radio_air.specs.Controllers.{Answer, Returned, Stated, Called, LinkMade, LinkGone, GivenBack, answer_packet, piece_packet}
 use Rattle.radio_air.specs.Radio.{found, is_together}
-use Rattle.radio_air.specs.Words.{meets_on, passing, deed_of}
-use Rattle.radio_air.specs.Fates.{first_can_meet}
 use Rattle.push_model.specs.Client.{may_cancel}
 use Rattle.world_model.specs.Carriages.{Carriage, Doing, Carries, first_carriage}
 use Rattle.world_model.specs.Machines.{LinkEvent, Up, Down, Linked, Heard, TimerFired, Cancelled, Opening, Upper}
 use Rattle.world_model.specs.Pushes.{Pushes, one_begun, one_ended}
 use Rattle.world_model.specs.Stations.{order_packet, Station, Effort, Taking, Putting, Asking, Leaving, Commanding, MakesEffort, is_handle, longest_pdu, gives, holds, hears_each, hears_piece, event_in, upper_told, hears_answer, told}
-use Rattle.world_model.specs.Worlds.{World, Happening, Tries, Departure, GivingBack, Piecemeal, Answering, Turns, Misses, Opens, Closes, entries_of, all_entries, fired, Acts, one_turned, Does}
+use Rattle.world_model.specs.Worlds.{World, Happening, Tries, Departure, GivingBack, Piecemeal, Answering, Turns, Misses, Opens, Closes, entries_of, all_entries, fired, Acts, one_turned, IsAtRest, Does}
 use Rattle.radio_world.specs.Standing.{last_entries}
 use Rattle.turn_laws.proofs.Advancing.{Both, advances}
 use Rattle.turn_laws.proofs.Coming.{owed_first}
@@ -54,192 +49,16 @@ use Rattle.scenario_laws.specs.Captures.{client_of, server_of, BothHosts, beginn
 use Rattle.scenario_laws.proofs.Carrying.{carried}
 use Rattle.scenario_laws.proofs.Fronts.{fits}
 use Rattle.scenario_laws.proofs.Onward.{IsOnto, done_onto}
-use Rattle.cause_laws.specs.FirstCauses.{since_more, since_begun, is_cancel_word, is_cancel, is_piece, end_reason, IsLoss, BringsAbout, IsNoCause, AreNoCauses, AreNotCancelled, IsBroughtAbout, HasCause, EndsByCause, CausesAreShown}
+use Rattle.cause_laws.specs.FirstCauses.{since_more, since_begun, HasCause, IsHeardOn, HearsCause, EndsByCause, CausesAreShown}
+use Rattle.cause_laws.specs.Said.{IsHeard}
 use Rattle.cause_laws.specs.Shown.{RunsShowCauses}
-use Rattle.cause_laws.proofs.Clients.{is_any, is_heard, is_ended, Came, came_same, came_then, HasCome}
-use Rattle.cause_laws.proofs.Profiles.{heard_came, next_came, up_came, timer_came, down_came, down_comes, may_none, cancel_came, lame_next, lame_hear, opens_came}
-
--- ---- how a part stands
-
--- what it shows of an outcome that came before the script ended
-abbrev Shown : Outcome → List Entry → Type 0
-Shown Done part = IsBroughtAbout Done part
-Shown (Refused code) part = IsBroughtAbout (Refused code) part
-Shown NoService part = IsBroughtAbout NoService part
-Shown LinkLost part = IsBroughtAbout LinkLost part
-Shown PushCancelled part = IsBroughtAbout PushCancelled part
-Shown RetryLimit part = AreNotCancelled part
-Shown ShelfFault part = AreNotCancelled part
-Shown PeerClosed part = AreNotCancelled part
-Shown (PeerFault layer reason) part = AreNotCancelled part
-Shown ScriptEnded part = ⊥
-
--- as the outcome of its push is so far
-abbrev Stood : List Entry → Option Outcome → Type 0
-Stood part None = AreNoCauses part
-Stood part (Some outcome) = Shown outcome part
-
-shown_cause : (outcome : Outcome) (part : List Entry) → Shown outcome part → HasCause outcome part
-shown_cause Done part shown = shown
-shown_cause (Refused code) part shown = shown
-shown_cause NoService part shown = shown
-shown_cause LinkLost part shown = shown
-shown_cause PushCancelled part shown = shown
-shown_cause RetryLimit part shown = shown
-shown_cause ShelfFault part shown = shown
-shown_cause PeerClosed part shown = shown
-shown_cause (PeerFault layer reason) part shown = shown
-shown_cause ScriptEnded part shown = absurd shown
-
-not_cancelled_of : (part : List Entry) → AreNoCauses part → AreNotCancelled part
-not_cancelled_of [] all = tt
-not_cancelled_of (entry ∷ part) all = (all.0.not_cancelled, not_cancelled_of part all.1)
-
-all_more : (part : List Entry) (entry : Entry) → is_cancel entry ≡ false → AreNotCancelled part → AreNotCancelled (part ++ entry ∷ [])
-all_more [] entry plain all = (plain, tt)
-all_more (one ∷ part) entry plain all = (all.0, all_more part entry plain all.1)
-
-none_more : (part : List Entry) (entry : Entry) → IsNoCause entry → AreNoCauses part → AreNoCauses (part ++ entry ∷ [])
-none_more [] entry none all = (none, tt)
-none_more (one ∷ part) entry none all = (all.0, none_more part entry none all.1)
-
-brought_more : (outcome : Outcome) (part : List Entry) (entry : Entry) → is_cancel entry ≡ false → IsBroughtAbout outcome part → IsBroughtAbout outcome (part ++ entry ∷ [])
-brought_more outcome part entry plain about = record {
-  before = about.before;
-  entry = about.entry;
-  after = about.after ++ entry ∷ [];
-  part_is = ap (λ (l : List Entry). l ++ entry ∷ []) about.part_is ∙ append_assoc about.before (about.entry ∷ about.after) (entry ∷ []);
-  first = about.first;
-  brings = about.brings;
-  none_after = all_more about.after entry plain about.none_after;
-}
-
-shown_more : (outcome : Outcome) (part : List Entry) (entry : Entry) → is_cancel entry ≡ false → Shown outcome part → Shown outcome (part ++ entry ∷ [])
-shown_more Done part entry plain shown = brought_more Done part entry plain shown
-shown_more (Refused code) part entry plain shown = brought_more (Refused code) part entry plain shown
-shown_more NoService part entry plain shown = brought_more NoService part entry plain shown
-shown_more LinkLost part entry plain shown = brought_more LinkLost part entry plain shown
-shown_more PushCancelled part entry plain shown = brought_more PushCancelled part entry plain shown
-shown_more RetryLimit part entry plain shown = all_more part entry plain shown
-shown_more ShelfFault part entry plain shown = all_more part entry plain shown
-shown_more PeerClosed part entry plain shown = all_more part entry plain shown
-shown_more (PeerFault layer reason) part entry plain shown = all_more part entry plain shown
-shown_more ScriptEnded part entry plain shown = absurd shown
-
-stood_more : (part : List Entry) (entry : Entry) (cause : Option Outcome) → IsNoCause entry → Stood part cause → Stood (part ++ entry ∷ []) cause
-stood_more part entry None none stood = none_more part entry none stood
-stood_more part entry (Some outcome) none stood = shown_more outcome part entry none.not_cancelled stood
-
-never : {X : Type 0} → false ≡ true → X
-never is = absurd cc
-
--- what comes of anything needs no entry
-any_shown : (outcome : Outcome) (part : List Entry) → is_any outcome ≡ true → AreNotCancelled part → Shown outcome part
-any_shown Done part is all = never is
-any_shown (Refused code) part is all = never is
-any_shown NoService part is all = never is
-any_shown LinkLost part is all = never is
-any_shown PushCancelled part is all = never is
-any_shown RetryLimit part is all = all
-any_shown ShelfFault part is all = all
-any_shown PeerClosed part is all = all
-any_shown (PeerFault layer reason) part is all = all
-any_shown ScriptEnded part is all = never is
-
--- where one of them comes of the entry, it brings it about
-abbrev Brings : (Outcome → Bool) → Entry → Type 0
-Brings q entry = (outcome : Outcome) (part : List Entry) → q outcome ≡ true → AreNoCauses part → Shown outcome (part ++ entry ∷ [])
-
-stood_with : (q : Outcome → Bool) (part : List Entry) (entry : Entry) (old new : Option Outcome) → IsNoCause entry → Brings q entry → Came q old new → Stood part old → Stood (part ++ entry ∷ []) new
-stood_with q part entry None None none brings came stood = none_more part entry none stood
-stood_with q part entry None (Some outcome) none brings came stood = brings outcome part came stood
-stood_with q part entry (Some outcome) new none brings came stood = subst (λ (c : Option Outcome). Stood (part ++ entry ∷ []) c) (sym came) (shown_more outcome part entry none.not_cancelled stood)
-
--- the same where the entry is a cause, and one of them came
-stood_by : (q : Outcome → Bool) (part : List Entry) (entry : Entry) (old new : Option Outcome) → is_cancel entry ≡ false → Brings q entry → Came q old new → HasCome new → Stood part old → Stood (part ++ entry ∷ []) new
-stood_by q part entry None None plain brings came comes stood = absurd comes
-stood_by q part entry None (Some outcome) plain brings came comes stood = brings outcome part came stood
-stood_by q part entry (Some outcome) new plain brings came comes stood = subst (λ (c : Option Outcome). Stood (part ++ entry ∷ []) c) (sym came) (shown_more outcome part entry plain stood)
-
-stood_still : (part : List Entry) (old new : Option Outcome) → Came is_any old new → Stood part old → Stood part new
-stood_still part None None came stood = stood
-stood_still part None (Some outcome) came stood = any_shown outcome part came (not_cancelled_of part stood)
-stood_still part (Some outcome) new came stood = subst (λ (c : Option Outcome). Stood part c) (sym came) stood
-
-any_brings : (entry : Entry) → is_cancel entry ≡ false → Brings is_any entry
-any_brings entry plain outcome part is all = any_shown outcome (part ++ entry ∷ []) is (all_more part entry plain (not_cancelled_of part all))
-
-brought_by : (outcome : Outcome) (part : List Entry) (entry : Entry) → AreNoCauses part → BringsAbout outcome entry → IsBroughtAbout outcome (part ++ entry ∷ [])
-brought_by outcome part entry all brings = record { before = part; entry = entry; after = []; part_is = refl; first = all; brings = brings; none_after = tt }
-
-piece_brings : (entry : Entry) → is_cancel entry ≡ false → is_piece entry ≡ true → Brings is_heard entry
-piece_brings entry plain piece Done part is all = brought_by Done part entry all piece
-piece_brings entry plain piece (Refused code) part is all = brought_by (Refused code) part entry all piece
-piece_brings entry plain piece NoService part is all = brought_by NoService part entry all piece
-piece_brings entry plain piece LinkLost part is all = never is
-piece_brings entry plain piece PushCancelled part is all = never is
-piece_brings entry plain piece RetryLimit part is all = all_more part entry plain (not_cancelled_of part all)
-piece_brings entry plain piece ShelfFault part is all = all_more part entry plain (not_cancelled_of part all)
-piece_brings entry plain piece PeerClosed part is all = all_more part entry plain (not_cancelled_of part all)
-piece_brings entry plain piece (PeerFault layer reason) part is all = all_more part entry plain (not_cancelled_of part all)
-piece_brings entry plain piece ScriptEnded part is all = never is
-
-not_true : (b : Bool) → not b ≡ true → b ≡ false
-not_true true is = never is
-not_true false is = refl
-
-gone_brings : (handle reason : ℕ) (entry : Entry) → is_cancel entry ≡ false → end_reason entry ≡ Some reason → Brings (is_ended (reason == 0x13)) entry
-gone_brings handle reason entry plain ends LinkLost part is all = brought_by LinkLost part entry all (subst IsLoss (sym ends) (not_true (reason == 0x13) is))
-gone_brings handle reason entry plain ends Done part is all = never is
-gone_brings handle reason entry plain ends (Refused code) part is all = never is
-gone_brings handle reason entry plain ends NoService part is all = never is
-gone_brings handle reason entry plain ends PushCancelled part is all = never is
-gone_brings handle reason entry plain ends RetryLimit part is all = all_more part entry plain (not_cancelled_of part all)
-gone_brings handle reason entry plain ends ShelfFault part is all = all_more part entry plain (not_cancelled_of part all)
-gone_brings handle reason entry plain ends PeerClosed part is all = all_more part entry plain (not_cancelled_of part all)
-gone_brings handle reason entry plain ends (PeerFault layer r) part is all = all_more part entry plain (not_cancelled_of part all)
-gone_brings handle reason entry plain ends ScriptEnded part is all = never is
-
--- ---- words
-
-abbrev IsPlainDeed : Deed → Type 0
-IsPlainDeed Nothing = Unit {0}
-IsPlainDeed (Meets way fate) = Unit {0}
-IsPlainDeed (Fires side) = Unit {0}
-IsPlainDeed FiresBoth = Unit {0}
-IsPlainDeed Breaks = Unit {0}
-IsPlainDeed Cancels = ⊥
-
-meets_plain : (test : Bool) (way : Way) (fate : Fate) → IsPlainDeed (if test then Meets way fate else Nothing)
-meets_plain true way fate = tt
-meets_plain false way fate = tt
-
-on_plain : (way : Way) (fate : Fate) (ab ba : List (List ℕ)) → IsPlainDeed (meets_on way fate ab ba)
-on_plain Ab fate ab ba = meets_plain (first_can_meet fate ab (length ba)) Ab fate
-on_plain Ba fate ab ba = meets_plain (first_can_meet fate ba (length ab)) Ba fate
-
-passing_plain : (way : Option Way) (ab ba : List (List ℕ)) → IsPlainDeed (passing way ab ba)
-passing_plain None ab ba = tt
-passing_plain (Some way) ab ba = on_plain way Delivered ab ba
-
-breaks_plain : (linked : Bool) → IsPlainDeed (if linked then Breaks else Nothing)
-breaks_plain true = tt
-breaks_plain false = tt
-
--- only `cancel` cancels, and it does nothing else
-data WordIs (word : Word) (deed : Deed) : Type 0 where
-  Plain : is_cancel_word word ≡ false → IsPlainDeed deed → WordIs word deed
-  Cancelling : is_cancel_word word ≡ true → deed ≡ Cancels → WordIs word deed
-
-word_is : (word : Word) (served : Option Way) (ab ba : List (List ℕ)) (linked : Bool) → WordIs word (deed_of word served ab ba linked)
-word_is Pass served ab ba linked = Plain refl (passing_plain (way_served served ab ba) ab ba)
-word_is (Lose way) served ab ba linked = Plain refl (on_plain way Lost ab ba)
-word_is (Repeat way) served ab ba linked = Plain refl (on_plain way Repeated ab ba)
-word_is (Damage way at mask) served ab ba linked = Plain refl (on_plain way (Changed at mask) ab ba)
-word_is (Cut way packets) served ab ba linked = Plain refl (on_plain way (CutOff packets) ab ba)
-word_is (Timer side) served ab ba linked = Plain refl tt
-word_is Drop served ab ba linked = Plain refl (breaks_plain linked)
-word_is Cancel served ab ba linked = Cancelling refl refl
+use Rattle.cause_laws.proofs.Clients.{is_any, is_heard, is_ended, is_shelf, shelf_any, Came, came_same, came_more, came_then}
+use Rattle.cause_laws.proofs.Heard.{HeardSo, heard_with, heard_same, any_hears, ended_hears, piece_hears, heard_still}
+use Rattle.cause_laws.proofs.Parts.{Stood, shown_cause, stood_more, never, stood_with, stood_by, stood_still, shelf_brings, brought_by, turned_brings, piece_brings, gone_brings, timed_any}
+use Rattle.cause_laws.proofs.Words.{IsPlainDeed, WordIs, Plain, Cancelling, word_is}
+use Rattle.cause_laws.proofs.Links.{none_told, rest_hears}
+use Rattle.cause_laws.proofs.Driving.{is_timed, is_gone, next_shelf, up_shelf, timer_timed, down_gone, opens_shelf}
+use Rattle.cause_laws.proofs.Profiles.{heard_came, down_came, down_comes, may_none, cancel_came, lame_next, lame_hear, opens_came}
 
 -- ---- a moment of a run
 
@@ -266,6 +85,7 @@ module _ {T H : Type 0} (settings : Settings) (V : Upper T H) where
   record Stands (past : List Entry) (w : W) : Type 0 where
     each : EachAfter EndsByCause [] past
     stood : w.pushes.going ≡ true → Stood (since_begun past) (cause_in w)
+    heard : w.pushes.going ≡ true → HeardSo (cause_in w) past
 
   -- where its client did not lack memory
   abbrev At : List Entry → W → Type 0
@@ -275,29 +95,36 @@ module _ {T H : Type 0} (settings : Settings) (V : Upper T H) where
   at_same past new to same at = subst (λ (w : W). At past w) (sym same) at
 
   -- nothing moves
-  still_at : (past : List Entry) (old to : W) → to.pushes ≡ old.pushes → (failed_in old ≡ true → failed_in to ≡ true) → Came is_any (cause_in old) (cause_in to) → At past old → At (past ++ []) to
+  still_at : (past : List Entry) (old to : W) → to.pushes ≡ old.pushes → (failed_in old ≡ true → failed_in to ≡ true) → Came is_shelf (cause_in old) (cause_in to) → At past old → At (past ++ []) to
   still_at past old to pushes lame came at = subst (λ (l : List Entry). At l to) (sym (append-nil past)) (λ well.
       let now = at (well_before (failed_in old) (failed_in to) lame well) in
-      record { each = now.each; stood = λ going. stood_still (since_begun past) (cause_in old) (cause_in to) came (now.stood (sym (ap (λ (p : Pushes). p.going) pushes) ∙ going)) })
+      let still : to.pushes.going ≡ true → old.pushes.going ≡ true = λ going. sym (ap (λ (p : Pushes). p.going) pushes) ∙ going in
+      record {
+        each = now.each;
+        stood = λ going. stood_still (since_begun past) (cause_in old) (cause_in to) came (now.stood (still going));
+        heard = λ going. heard_still past (cause_in old) (cause_in to) (came_more is_shelf is_any shelf_any (cause_in old) (cause_in to) came) (now.heard (still going));
+      })
 
   -- an entry is written
   entry_at : (past : List Entry) (entry : Entry) (old to : W) → EndsByCause past entry → since_more (since_begun past) entry ≡ since_begun past ++ entry ∷ [] → to.pushes ≡ old.pushes → (failed_in old ≡ true → failed_in to ≡ true)
-      → (Stood (since_begun past) (cause_in old) → Stood (since_begun past ++ entry ∷ []) (cause_in to)) → At past old → At (past ++ entry ∷ []) to
-  entry_at past entry old to ends since pushes lame goes at = λ well.
+      → (Stood (since_begun past) (cause_in old) → Stood (since_begun past ++ entry ∷ []) (cause_in to)) → (HeardSo (cause_in old) past → HeardSo (cause_in to) (past ++ entry ∷ [])) → At past old → At (past ++ entry ∷ []) to
+  entry_at past entry old to ends since pushes lame goes hears at = λ well.
       let now = at (well_before (failed_in old) (failed_in to) lame well) in
+      let still : to.pushes.going ≡ true → old.pushes.going ≡ true = λ going. sym (ap (λ (p : Pushes). p.going) pushes) ∙ going in
       record {
         each = each_after-more EndsByCause past entry now.each ends;
-        stood = λ going. subst (λ (l : List Entry). Stood l (cause_in to)) (sym (since_then past entry ∙ since)) (goes (now.stood (sym (ap (λ (p : Pushes). p.going) pushes) ∙ going)));
+        stood = λ going. subst (λ (l : List Entry). Stood l (cause_in to)) (sym (since_then past entry ∙ since)) (goes (now.stood (still going)));
+        heard = λ going. hears (now.heard (still going));
       }
 
   -- ---- by itself
 
-  effort_came : (effort : Effort) (one two : Station (Host ClientProfile)) → MakesEffort U A effort one two → Came is_any one.upper.profile.client.cause two.upper.profile.client.cause
-  effort_came Taking one two makes = subst (λ (s : Station (Host ClientProfile)). Came is_any one.upper.profile.client.cause s.upper.profile.client.cause) (sym makes.new_is) (next_came settings one.upper makes.pdu makes.after makes.next)
-  effort_came Putting one two makes = subst (λ (s : Station (Host ClientProfile)). Came is_any one.upper.profile.client.cause s.upper.profile.client.cause) (sym makes.new_is) (came_same is_any one.upper.profile.client.cause)
-  effort_came Asking one two makes = subst (λ (s : Station (Host ClientProfile)). Came is_any one.upper.profile.client.cause s.upper.profile.client.cause) (sym makes.new_is) (came_same is_any one.upper.profile.client.cause)
-  effort_came Leaving one two makes = subst (λ (s : Station (Host ClientProfile)). Came is_any one.upper.profile.client.cause s.upper.profile.client.cause) (sym makes.new_is) (came_same is_any one.upper.profile.client.cause)
-  effort_came Commanding one two makes = subst (λ (s : Station (Host ClientProfile)). Came is_any one.upper.profile.client.cause s.upper.profile.client.cause) (sym makes.new_is) (came_same is_any one.upper.profile.client.cause)
+  effort_came : (effort : Effort) (one two : Station (Host ClientProfile)) → one.upper.channels.events ≡ [] → MakesEffort U A effort one two → Came is_shelf one.upper.profile.client.cause two.upper.profile.client.cause
+  effort_came Taking one two none makes = subst (λ (s : Station (Host ClientProfile)). Came is_shelf one.upper.profile.client.cause s.upper.profile.client.cause) (sym makes.new_is) (next_shelf settings one.upper makes.pdu makes.after none makes.next)
+  effort_came Putting one two none makes = subst (λ (s : Station (Host ClientProfile)). Came is_shelf one.upper.profile.client.cause s.upper.profile.client.cause) (sym makes.new_is) (came_same is_shelf one.upper.profile.client.cause)
+  effort_came Asking one two none makes = subst (λ (s : Station (Host ClientProfile)). Came is_shelf one.upper.profile.client.cause s.upper.profile.client.cause) (sym makes.new_is) (came_same is_shelf one.upper.profile.client.cause)
+  effort_came Leaving one two none makes = subst (λ (s : Station (Host ClientProfile)). Came is_shelf one.upper.profile.client.cause s.upper.profile.client.cause) (sym makes.new_is) (came_same is_shelf one.upper.profile.client.cause)
+  effort_came Commanding one two none makes = subst (λ (s : Station (Host ClientProfile)). Came is_shelf one.upper.profile.client.cause s.upper.profile.client.cause) (sym makes.new_is) (came_same is_shelf one.upper.profile.client.cause)
 
   effort_lame : (effort : Effort) (one two : Station (Host ClientProfile)) → MakesEffort U A effort one two → one.upper.profile.client.failed ≡ true → two.upper.profile.client.failed ≡ true
   effort_lame Taking one two makes lame = subst (λ (s : Station (Host ClientProfile)). s.upper.profile.client.failed ≡ true) (sym makes.new_is) (lame_next settings one.upper makes.pdu makes.after makes.next lame)
@@ -336,9 +163,9 @@ module _ {T H : Type 0} (settings : Settings) (V : Upper T H) where
   told_lame g None host lame = lame
   told_lame g (Some event) host lame = lame_hear settings g (Linked event) host lame
 
-  made_came : (g : List Circumstance) (here : Bool) (host : Host ClientProfile) → Came is_any host.profile.client.cause (upper_told U g (if here then Some Up else None) host).profile.client.cause
-  made_came g true host = up_came settings g host
-  made_came g false host = came_same is_any host.profile.client.cause
+  made_came : (g : List Circumstance) (here : Bool) (host : Host ClientProfile) → host.channels.events ≡ [] → Came is_shelf host.profile.client.cause (upper_told U g (if here then Some Up else None) host).profile.client.cause
+  made_came g true host none = up_shelf settings g host none
+  made_came g false host none = came_same is_shelf host.profile.client.cause
 
   -- an answer but for the end of a link
   abbrev TellsNoEnd : Answer → Type 0
@@ -349,33 +176,51 @@ module _ {T H : Type 0} (settings : Settings) (V : Upper T H) where
   TellsNoEnd (LinkGone handle reason) = ⊥
   TellsNoEnd (GivenBack handle count) = Unit {0}
 
-  answer_stood : (g : List Circumstance) (answer : Answer) (s : Station (Host ClientProfile)) (part : List Entry) → TellsNoEnd answer → Stood part s.upper.profile.client.cause
+  answer_stood : (g : List Circumstance) (answer : Answer) (s : Station (Host ClientProfile)) (part : List Entry) → s.upper.channels.events ≡ [] → TellsNoEnd answer → Stood part s.upper.profile.client.cause
       → Stood (part ++ Moved A Into (answer_packet A answer) ∷ []) (hears_answer U g A answer s).upper.profile.client.cause
-  answer_stood g (Returned number params) s part plain stood = stood_more part (Moved A Into (answer_packet A (Returned number params))) s.upper.profile.client.cause (record { not_cancelled = refl; not_ended = refl }) stood
-  answer_stood g (Stated number) s part plain stood = stood_more part (Moved A Into (answer_packet A (Stated number))) s.upper.profile.client.cause (record { not_cancelled = refl; not_ended = refl }) stood
-  answer_stood g Called s part plain stood = stood_more part (Moved A Into (answer_packet A Called)) s.upper.profile.client.cause (record { not_cancelled = refl; not_ended = refl }) stood
-  answer_stood g (LinkMade handle) s part plain stood =
+  answer_stood g (Returned number params) s part none plain stood = stood_more part (Moved A Into (answer_packet A (Returned number params))) s.upper.profile.client.cause (record { not_cancelled = refl; not_ended = refl }) stood
+  answer_stood g (Stated number) s part none plain stood = stood_more part (Moved A Into (answer_packet A (Stated number))) s.upper.profile.client.cause (record { not_cancelled = refl; not_ended = refl }) stood
+  answer_stood g Called s part none plain stood = stood_more part (Moved A Into (answer_packet A Called)) s.upper.profile.client.cause (record { not_cancelled = refl; not_ended = refl }) stood
+  answer_stood g (LinkMade handle) s part none plain stood =
       let entry = Moved A Into (answer_packet A (LinkMade handle)) in
-      stood_with is_any part entry s.upper.profile.client.cause (hears_answer U g A (LinkMade handle) s).upper.profile.client.cause (record { not_cancelled = refl; not_ended = refl }) (any_brings entry refl) (made_came g (s.asked && is_none s.link) s.upper) stood
-  answer_stood g (LinkGone handle reason) s part plain stood = absurd plain
-  answer_stood g (GivenBack handle count) s part plain stood = stood_more part (Moved A Into (answer_packet A (GivenBack handle count))) s.upper.profile.client.cause (record { not_cancelled = refl; not_ended = refl }) stood
+      stood_with is_shelf part entry s.upper.profile.client.cause (hears_answer U g A (LinkMade handle) s).upper.profile.client.cause (record { not_cancelled = refl; not_ended = refl }) (shelf_brings entry refl) (made_came g (s.asked && is_none s.link) s.upper none) stood
+  answer_stood g (LinkGone handle reason) s part none plain stood = absurd plain
+  answer_stood g (GivenBack handle count) s part none plain stood = stood_more part (Moved A Into (answer_packet A (GivenBack handle count))) s.upper.profile.client.cause (record { not_cancelled = refl; not_ended = refl }) stood
+
+  answer_heard : (g : List Circumstance) (answer : Answer) (s : Station (Host ClientProfile)) (past : List Entry) → s.upper.channels.events ≡ [] → TellsNoEnd answer → HeardSo s.upper.profile.client.cause past
+      → HeardSo (hears_answer U g A answer s).upper.profile.client.cause (past ++ Moved A Into (answer_packet A answer) ∷ [])
+  answer_heard g (Returned number params) s past none plain heard = heard_same past (Moved A Into (answer_packet A (Returned number params))) s.upper.profile.client.cause tt (λ outcome is. tt) heard
+  answer_heard g (Stated number) s past none plain heard = heard_same past (Moved A Into (answer_packet A (Stated number))) s.upper.profile.client.cause tt (λ outcome is. tt) heard
+  answer_heard g Called s past none plain heard = heard_same past (Moved A Into (answer_packet A Called)) s.upper.profile.client.cause tt (λ outcome is. tt) heard
+  answer_heard g (LinkMade handle) s past none plain heard =
+      let entry = Moved A Into (answer_packet A (LinkMade handle)) in
+      heard_with is_any past entry s.upper.profile.client.cause (hears_answer U g A (LinkMade handle) s).upper.profile.client.cause tt (any_hears (past ++ entry ∷ [])) (λ outcome is. tt) (came_more is_shelf is_any shelf_any _ _ (made_came g (s.asked && is_none s.link) s.upper none)) heard
+  answer_heard g (LinkGone handle reason) s past none plain heard = absurd plain
+  answer_heard g (GivenBack handle count) s past none plain heard = heard_same past (Moved A Into (answer_packet A (GivenBack handle count))) s.upper.profile.client.cause tt (λ outcome is. tt) heard
 
   -- the end of its link
-  end_stood : (g : List Circumstance) (handle reason : ℕ) (s : Station (Host ClientProfile)) (part : List Entry) → is_handle handle s.link ≡ true → IsSo true s.upper.profile → Stood part s.upper.profile.client.cause
+  end_heard : (g : List Circumstance) (handle reason : ℕ) (s : Station (Host ClientProfile)) (past : List Entry) → is_handle handle s.link ≡ true → HeardSo s.upper.profile.client.cause past
+      → HeardSo (hears_answer U g A (LinkGone handle reason) s).upper.profile.client.cause (past ++ Moved A Into (answer_packet A (LinkGone handle reason)) ∷ [])
+  end_heard g handle reason s past here heard =
+      let entry = Moved A Into (answer_packet A (LinkGone handle reason)) in
+      subst (λ (b : Bool). HeardSo (upper_told U g (if b then Some (Down reason) else None) s.upper).profile.client.cause (past ++ entry ∷ [])) (sym here)
+      (heard_with (is_ended (reason == 0x13)) past entry s.upper.profile.client.cause (hear (client_profile settings) g (Linked (Down reason)) s.upper).profile.client.cause tt (ended_hears (reason == 0x13) (past ++ entry ∷ [])) (λ outcome is. tt) (down_came settings g reason s.upper) heard)
+
+  end_stood : (g : List Circumstance) (handle reason : ℕ) (s : Station (Host ClientProfile)) (part : List Entry) → s.upper.channels.events ≡ [] → is_handle handle s.link ≡ true → IsSo true s.upper.profile → Stood part s.upper.profile.client.cause
       → Stood (part ++ Moved A Into (answer_packet A (LinkGone handle reason)) ∷ []) (hears_answer U g A (LinkGone handle reason) s).upper.profile.client.cause
-  end_stood g handle reason s part here so stood =
+  end_stood g handle reason s part none here so stood =
       let entry = Moved A Into (answer_packet A (LinkGone handle reason)) in
       subst (λ (b : Bool). Stood (part ++ entry ∷ []) (upper_told U g (if b then Some (Down reason) else None) s.upper).profile.client.cause) (sym here)
-      (stood_by (is_ended (reason == 0x13)) part entry s.upper.profile.client.cause (hear (client_profile settings) g (Linked (Down reason)) s.upper).profile.client.cause refl (gone_brings handle reason entry refl refl) (down_came settings g reason s.upper) (down_comes settings g reason s.upper so) stood)
+      (stood_by (is_gone (reason == 0x13)) part entry s.upper.profile.client.cause (hear (client_profile settings) g (Linked (Down reason)) s.upper).profile.client.cause refl (gone_brings handle reason entry refl refl) (down_gone settings g reason s.upper none) (down_comes settings g reason s.upper so) stood)
 
   -- ---- words
 
-  fired_came : (g : List Circumstance) (s : Station (Host ClientProfile)) → Came is_any s.upper.profile.client.cause (fired U g s).upper.profile.client.cause
-  fired_came g s = by (U.armed s.upper)
+  fired_came : (g : List Circumstance) (s : Station (Host ClientProfile)) → s.upper.channels.events ≡ [] → Came is_timed s.upper.profile.client.cause (fired U g s).upper.profile.client.cause
+  fired_came g s none = by (U.armed s.upper)
     where
-      by : (armed : Bool) → Came is_any s.upper.profile.client.cause (if armed then told U g TimerFired s else s).upper.profile.client.cause
-      by true = timer_came settings g s.upper
-      by false = came_same is_any s.upper.profile.client.cause
+      by : (armed : Bool) → Came is_timed s.upper.profile.client.cause (if armed then told U g TimerFired s else s).upper.profile.client.cause
+      by true = timer_timed settings g s.upper none
+      by false = came_same is_timed s.upper.profile.client.cause
 
   fired_lame : (g : List Circumstance) (s : Station (Host ClientProfile)) → s.upper.profile.client.failed ≡ true → (fired U g s).upper.profile.client.failed ≡ true
   fired_lame g s lame = by (U.armed s.upper)
@@ -385,43 +230,45 @@ module _ {T H : Type 0} (settings : Settings) (V : Upper T H) where
       by false = lame
 
   abbrev SoBehind : (old mid : W) → Type 0
-  SoBehind old mid = Came is_any (cause_in old) (cause_in mid) × (failed_in old ≡ true → failed_in mid ≡ true)
+  SoBehind old mid = Came is_timed (cause_in old) (cause_in mid) × (failed_in old ≡ true → failed_in mid ≡ true)
 
   stays_so : (old mid to : W) → mid ≡ to → SoBehind old to → SoBehind old mid
   stays_so old mid to same so = subst (λ (w : W). SoBehind old w) (sym same) so
 
-  acts_so : (deed : Deed) (old mid : W) → IsPlainDeed deed → Acts U V deed old mid → SoBehind old mid
-  acts_so Nothing old mid plain acts = absurd acts
-  acts_so (Meets Ab fate) old mid plain acts = stays_so old mid _ acts (came_same is_any (cause_in old), (λ lame. lame))
-  acts_so (Meets Ba fate) old mid plain acts = stays_so old mid _ acts (came_same is_any (cause_in old), (λ lame. lame))
-  acts_so (Fires A) old mid plain (armed, g, same) = stays_so old mid _ same (timer_came settings g old.a.upper, (λ lame. lame_hear settings g TimerFired old.a.upper lame))
-  acts_so (Fires B) old mid plain (armed, h, same) = stays_so old mid _ same (came_same is_any (cause_in old), (λ lame. lame))
-  acts_so FiresBoth old mid plain (armed, g, h, same) = stays_so old mid _ same (fired_came g old.a, (λ lame. fired_lame g old.a lame))
-  acts_so Breaks old mid plain acts = stays_so old mid _ acts (came_same is_any (cause_in old), (λ lame. lame))
-  acts_so Cancels old mid plain acts = absurd plain
+  acts_so : (deed : Deed) (old mid : W) → old.a.upper.channels.events ≡ [] → IsPlainDeed deed → Acts U V deed old mid → SoBehind old mid
+  acts_so Nothing old mid none plain acts = absurd acts
+  acts_so (Meets Ab fate) old mid none plain acts = stays_so old mid _ acts (came_same is_timed (cause_in old), (λ lame. lame))
+  acts_so (Meets Ba fate) old mid none plain acts = stays_so old mid _ acts (came_same is_timed (cause_in old), (λ lame. lame))
+  acts_so (Fires A) old mid none plain (armed, g, same) = stays_so old mid _ same (timer_timed settings g old.a.upper none, (λ lame. lame_hear settings g TimerFired old.a.upper lame))
+  acts_so (Fires B) old mid none plain (armed, h, same) = stays_so old mid _ same (came_same is_timed (cause_in old), (λ lame. lame))
+  acts_so FiresBoth old mid none plain (armed, g, h, same) = stays_so old mid _ same (fired_came g old.a none, (λ lame. fired_lame g old.a lame))
+  acts_so Breaks old mid none plain acts = stays_so old mid _ acts (came_same is_timed (cause_in old), (λ lame. lame))
+  acts_so Cancels old mid none plain acts = absurd plain
 
   both_true : (a b : Bool) → (a && b) ≡ true → b ≡ true
   both_true true b is = is
   both_true false b is = cc
 
-  word_at : (past : List Entry) (ordinal : ℕ) (word : Word) (deed : Deed) (old mid : W) → WordIs word deed → Acts U V deed old mid → At past old → At (past ++ Acted ordinal word ∷ []) (one_turned mid)
-  word_at past ordinal word deed old mid (Plain plain_word plain) acts at =
-      let so = acts_so deed old mid plain acts in
+  word_at : (past : List Entry) (ordinal : ℕ) (word : Word) (deed : Deed) (old mid : W) → old.a.upper.channels.events ≡ [] → ((outcome : Outcome) → cause_in old ≡ Some outcome → IsHeardOn outcome (link_up A past)) → WordIs word deed → Acts U V deed old mid → At past old → At (past ++ Acted ordinal word ∷ []) (one_turned mid)
+  word_at past ordinal word deed old mid none shows (Plain plain_word plain) acts at =
+      let so = acts_so deed old mid none plain acts in
       let entry = Acted ordinal word in
       entry_at past entry old (one_turned mid) tt refl (acts_pushes U V deed old mid acts) so.1
-      (λ stood. stood_with is_any (since_begun past) entry (cause_in old) (cause_in mid) (record { not_cancelled = plain_word; not_ended = refl }) (any_brings entry plain_word) so.0 stood) at
-  word_at past ordinal word deed old mid (Cancelling cancel_word is) acts at = by (subst (λ (d : Deed). Acts U V d old mid) is acts)
+      (λ stood. stood_with is_timed (since_begun past) entry (cause_in old) (cause_in mid) (record { not_cancelled = plain_word; not_ended = refl }) (turned_brings entry plain_word refl) so.0 stood)
+      (λ heard. heard_with is_any past entry (cause_in old) (cause_in mid) tt (any_hears (past ++ entry ∷ [])) shows (came_more is_timed is_any timed_any (cause_in old) (cause_in mid) so.0) heard) at
+  word_at past ordinal word deed old mid none shows (Cancelling cancel_word is) acts at = by (subst (λ (d : Deed). Acts U V d old mid) is acts)
     where
       by : Acts U V Cancels old mid → At (past ++ Acted ordinal word ∷ []) (one_turned mid)
       by (may, g, same) =
           let entry = Acted ordinal word in
           let to : W = record old { a = told U g Cancelled old.a } in
           let may_now = both_true old.pushes.going (may_cancel old.a.upper.profile.client) may in
-          let none = may_none settings old.a.upper.profile.client may_now in
+          let uncaused = may_none settings old.a.upper.profile.client may_now in
           at_same (past ++ entry ∷ []) (one_turned mid) (one_turned to) (ap one_turned same)
           (entry_at past entry old (one_turned to) tt refl refl (λ lame. lame_hear settings g Cancelled old.a.upper lame)
           (λ stood. subst (λ (c : Option Outcome). Stood (since_begun past ++ entry ∷ []) c) (sym (cancel_came settings g old.a.upper may_now))
-          (brought_by PushCancelled (since_begun past) entry (subst (λ (c : Option Outcome). Stood (since_begun past) c) none stood) cancel_word)) at)
+          (brought_by PushCancelled (since_begun past) entry (subst (λ (c : Option Outcome). Stood (since_begun past) c) uncaused stood) cancel_word))
+          (λ heard. subst (λ (c : Option Outcome). HeardSo c (past ++ entry ∷ [])) (sym (cancel_came settings g old.a.upper may_now)) tt) at)
 
   -- ---- whatever happens
 
@@ -429,63 +276,85 @@ module _ {T H : Type 0} (settings : Settings) (V : Upper T H) where
   abbrev IsOn : W → Type 0
   IsOn w = (handle reason : ℕ) (rest : List Answer) → w.radio.a.owed ≡ LinkGone handle reason ∷ rest → (is_handle handle w.a.link ≡ true) × IsSo true w.a.upper.profile
 
-  answered_at : (past : List Entry) (answer : Answer) (rest : List Answer) (g : List Circumstance) (old to : W) → old.radio.a.owed ≡ answer ∷ rest → IsOn old → to.pushes ≡ old.pushes → to.a ≡ hears_answer U g A answer old.a → At past old
+  answered_at : (past : List Entry) (answer : Answer) (rest : List Answer) (g : List Circumstance) (old to : W) → old.a.upper.channels.events ≡ [] → old.radio.a.owed ≡ answer ∷ rest → IsOn old → to.pushes ≡ old.pushes → to.a ≡ hears_answer U g A answer old.a → At past old
       → At (past ++ Moved A Into (answer_packet A answer) ∷ []) to
-  answered_at past answer rest g old to first on pushes same at =
+  answered_at past answer rest g old to none first on pushes same at =
       let entry = Moved A Into (answer_packet A answer) in
       entry_at past entry old to tt refl pushes (λ lame. ap (λ (s : Station (Host ClientProfile)). s.upper.profile.client.failed) same ∙ told_lame g (event_in answer old.a) old.a.upper lame)
-      (λ stood. subst (λ (s : Station (Host ClientProfile)). Stood (since_begun past ++ entry ∷ []) s.upper.profile.client.cause) (sym same) (by answer first stood)) at
+      (λ stood. subst (λ (s : Station (Host ClientProfile)). Stood (since_begun past ++ entry ∷ []) s.upper.profile.client.cause) (sym same) (by answer first stood))
+      (λ heard. subst (λ (s : Station (Host ClientProfile)). HeardSo s.upper.profile.client.cause (past ++ entry ∷ [])) (sym same) (hears answer first heard)) at
     where
-      by : (one : Answer) → old.radio.a.owed ≡ one ∷ rest → Stood (since_begun past) (cause_in old) → Stood (since_begun past ++ Moved A Into (answer_packet A one) ∷ []) (hears_answer U g A one old.a).upper.profile.client.cause
-      by (Returned number params) is stood = answer_stood g (Returned number params) old.a (since_begun past) tt stood
-      by (Stated number) is stood = answer_stood g (Stated number) old.a (since_begun past) tt stood
-      by Called is stood = answer_stood g Called old.a (since_begun past) tt stood
-      by (LinkMade handle) is stood = answer_stood g (LinkMade handle) old.a (since_begun past) tt stood
-      by (LinkGone handle reason) is stood = let now = on handle reason rest is in end_stood g handle reason old.a (since_begun past) now.0 now.1 stood
-      by (GivenBack handle count) is stood = answer_stood g (GivenBack handle count) old.a (since_begun past) tt stood
+      hears : (one : Answer) → old.radio.a.owed ≡ one ∷ rest → HeardSo (cause_in old) past → HeardSo (hears_answer U g A one old.a).upper.profile.client.cause (past ++ Moved A Into (answer_packet A one) ∷ [])
+      hears (Returned number params) is heard = answer_heard g (Returned number params) old.a past none tt heard
+      hears (Stated number) is heard = answer_heard g (Stated number) old.a past none tt heard
+      hears Called is heard = answer_heard g Called old.a past none tt heard
+      hears (LinkMade handle) is heard = answer_heard g (LinkMade handle) old.a past none tt heard
+      hears (LinkGone handle reason) is heard = let now = on handle reason rest is in end_heard g handle reason old.a past now.0 heard
+      hears (GivenBack handle count) is heard = answer_heard g (GivenBack handle count) old.a past none tt heard
 
-  does_at : (happening : Happening) (past : List Entry) (old new : W) → IsOn old → Does U V happening old new → At past old → At (past ++ entries_of happening) new
-  does_at (Tries A effort) past old new on (station, makes, same) at =
-      at_same (past ++ []) new (record old { a = station }) same (still_at past old (record old { a = station }) refl (effort_lame effort old.a station makes) (effort_came effort old.a station makes) at)
-  does_at (Tries B effort) past old new on (station, makes, same) at =
-      at_same (past ++ []) new (record old { b = station }) same (still_at past old (record old { b = station }) refl (λ lame. lame) (came_same is_any (cause_in old)) at)
-  does_at (Departure A order) past old new on (rest, first, same) at =
+      by : (one : Answer) → old.radio.a.owed ≡ one ∷ rest → Stood (since_begun past) (cause_in old) → Stood (since_begun past ++ Moved A Into (answer_packet A one) ∷ []) (hears_answer U g A one old.a).upper.profile.client.cause
+      by (Returned number params) is stood = answer_stood g (Returned number params) old.a (since_begun past) none tt stood
+      by (Stated number) is stood = answer_stood g (Stated number) old.a (since_begun past) none tt stood
+      by Called is stood = answer_stood g Called old.a (since_begun past) none tt stood
+      by (LinkMade handle) is stood = answer_stood g (LinkMade handle) old.a (since_begun past) none tt stood
+      by (LinkGone handle reason) is stood = let now = on handle reason rest is in end_stood g handle reason old.a (since_begun past) none now.0 now.1 stood
+      by (GivenBack handle count) is stood = answer_stood g (GivenBack handle count) old.a (since_begun past) none tt stood
+
+  abbrev Shows : List Entry → W → Type 0
+  Shows past w = IsAtRest U V w → (outcome : Outcome) → cause_in w ≡ Some outcome → IsHeardOn outcome (link_up A past)
+
+  does_at : (happening : Happening) (past : List Entry) (old new : W) → old.a.upper.channels.events ≡ [] → IsOn old → Shows past old → Does U V happening old new → At past old → At (past ++ entries_of happening) new
+  does_at (Tries A effort) past old new quiet on shows (station, makes, same) at =
+      at_same (past ++ []) new (record old { a = station }) same (still_at past old (record old { a = station }) refl (effort_lame effort old.a station makes) (effort_came effort old.a station quiet makes) at)
+  does_at (Tries B effort) past old new quiet on shows (station, makes, same) at =
+      at_same (past ++ []) new (record old { b = station }) same (still_at past old (record old { b = station }) refl (λ lame. lame) (came_same is_shelf (cause_in old)) at)
+  does_at (Departure A order) past old new quiet on shows (rest, first, same) at =
       let entry = Moved A Out (order_packet A order) in
-      at_same (past ++ entry ∷ []) new _ same (entry_at past entry old _ tt refl refl (λ lame. lame) (λ stood. stood_more (since_begun past) entry (cause_in old) (record { not_cancelled = refl; not_ended = refl }) stood) at)
-  does_at (Departure B order) past old new on (rest, first, same) at =
+      at_same (past ++ entry ∷ []) new _ same (entry_at past entry old _ tt refl refl (λ lame. lame) (λ stood. stood_more (since_begun past) entry (cause_in old) (record { not_cancelled = refl; not_ended = refl }) stood)
+      (λ heard. heard_same past entry (cause_in old) tt (λ outcome is. tt) heard) at)
+  does_at (Departure B order) past old new quiet on shows (rest, first, same) at =
       let entry = Moved B Out (order_packet B order) in
-      at_same (past ++ entry ∷ []) new _ same (entry_at past entry old _ tt refl refl (λ lame. lame) (λ stood. stood_more (since_begun past) entry (cause_in old) (record { not_cancelled = refl; not_ended = refl }) stood) at)
-  does_at (GivingBack side) past old new on same at = at_same (past ++ []) new _ same (still_at past old _ refl (λ lame. lame) (came_same is_any (cause_in old)) at)
-  does_at (Piecemeal A handle piece) past old new on (rest, first, here, g, same) at =
+      at_same (past ++ entry ∷ []) new _ same (entry_at past entry old _ tt refl refl (λ lame. lame) (λ stood. stood_more (since_begun past) entry (cause_in old) (record { not_cancelled = refl; not_ended = refl }) stood)
+      (λ heard. heard_same past entry (cause_in old) tt (λ outcome is. tt) heard) at)
+  does_at (GivingBack side) past old new quiet on shows same at = at_same (past ++ []) new _ same (still_at past old _ refl (λ lame. lame) (came_same is_shelf (cause_in old)) at)
+  does_at (Piecemeal A handle piece) past old new quiet on shows (rest, first, here, g, same) at =
       let entry = Moved A Into (piece_packet handle piece) in
       at_same (past ++ entry ∷ []) new _ same (entry_at past entry old _ tt refl refl (λ lame. piece_lame g handle piece old.a lame)
-      (λ stood. stood_with is_heard (since_begun past) entry (cause_in old) (hears_piece U g handle piece old.a).upper.profile.client.cause (record { not_cancelled = refl; not_ended = refl }) (piece_brings entry refl refl) (piece_came g handle piece old.a) stood) at)
-  does_at (Piecemeal B handle piece) past old new on (rest, first, here, h, same) at =
+      (λ stood. stood_with is_heard (since_begun past) entry (cause_in old) (hears_piece U g handle piece old.a).upper.profile.client.cause (record { not_cancelled = refl; not_ended = refl }) (piece_brings entry refl refl) (piece_came g handle piece old.a) stood)
+      (λ heard. heard_with is_heard past entry (cause_in old) (hears_piece U g handle piece old.a).upper.profile.client.cause tt (piece_hears past entry refl) (λ outcome is. tt) (piece_came g handle piece old.a) heard) at)
+  does_at (Piecemeal B handle piece) past old new quiet on shows (rest, first, here, h, same) at =
       let entry = Moved B Into (piece_packet handle piece) in
-      at_same (past ++ entry ∷ []) new _ same (entry_at past entry old _ tt refl refl (λ lame. lame) (λ stood. stood_more (since_begun past) entry (cause_in old) (record { not_cancelled = refl; not_ended = refl }) stood) at)
-  does_at (Answering A answer) past old new on (rest, none, first, g, same) at =
-      at_same (past ++ Moved A Into (answer_packet A answer) ∷ []) new _ same (answered_at past answer rest g old _ first on refl refl at)
-  does_at (Answering B answer) past old new on (rest, none, first, h, same) at =
+      at_same (past ++ entry ∷ []) new _ same (entry_at past entry old _ tt refl refl (λ lame. lame) (λ stood. stood_more (since_begun past) entry (cause_in old) (record { not_cancelled = refl; not_ended = refl }) stood)
+      (λ heard. heard_same past entry (cause_in old) tt (λ outcome is. tt) heard) at)
+  does_at (Answering A answer) past old new quiet on shows (rest, none, first, g, same) at =
+      at_same (past ++ Moved A Into (answer_packet A answer) ∷ []) new _ same (answered_at past answer rest g old _ quiet first on refl refl at)
+  does_at (Answering B answer) past old new quiet on shows (rest, none, first, h, same) at =
       let entry = Moved B Into (answer_packet B answer) in
-      at_same (past ++ entry ∷ []) new _ same (entry_at past entry old _ tt refl refl (λ lame. lame) (λ stood. stood_more (since_begun past) entry (cause_in old) (record { not_cancelled = refl; not_ended = refl }) stood) at)
-  does_at (Turns ordinal word) past old new on (rest, is_word, ordinal_is, mid, acts, same) at =
-      at_same (past ++ Acted ordinal word ∷ []) new (one_turned mid) same (word_at past ordinal word (found word old.radio) old mid (word_is word old.radio.served old.radio.a.waiting old.radio.b.waiting _) acts at)
-  does_at (Misses word) past old new on (rest, nothing, same) at = at_same (past ++ []) new _ same (still_at past old _ refl (λ lame. lame) (came_same is_any (cause_in old)) at)
-  does_at (Opens push name) past old new on (idle, next, push_is, g, same) at =
+      at_same (past ++ entry ∷ []) new _ same (entry_at past entry old _ tt refl refl (λ lame. lame) (λ stood. stood_more (since_begun past) entry (cause_in old) (record { not_cancelled = refl; not_ended = refl }) stood)
+      (λ heard. heard_same past entry (cause_in old) tt (λ outcome is. tt) heard) at)
+  does_at (Turns ordinal word) past old new quiet on shows (rest, is_word, ordinal_is, mid, acts, same) at =
+      at_same (past ++ Acted ordinal word ∷ []) new (one_turned mid) same (word_at past ordinal word (found word old.radio) old mid quiet (shows rest) (word_is word old.radio.served old.radio.a.waiting old.radio.b.waiting _) acts at)
+  does_at (Misses word) past old new quiet on shows (rest, nothing, same) at = at_same (past ++ []) new _ same (still_at past old _ refl (λ lame. lame) (came_same is_shelf (cause_in old)) at)
+  does_at (Opens push name) past old new quiet on shows (idle, next, push_is, g, same) at =
       let to : W = record old { pushes = one_begun old.pushes; a = told U g (Opening name) old.a } in
       at_same (past ++ Begun push ∷ []) new to same (λ well.
       let now = at (well_before (failed_in old) (failed_in to) (λ lame. lame_hear settings g (Opening name) old.a.upper lame) well) in
       record {
         each = each_after-more EndsByCause past (Begun push) now.each tt;
-        stood = λ going. subst (λ (l : List Entry). Stood l (cause_in to)) (sym (since_then past (Begun push))) (stood_still [] None (cause_in to) (opens_came settings g name old.a.upper well) tt);
+        stood = λ going. subst (λ (l : List Entry). Stood l (cause_in to)) (sym (since_then past (Begun push))) (stood_still [] None (cause_in to) (opens_shelf settings g name old.a.upper quiet well) tt);
+        heard = λ going. heard_still (past ++ Begun push ∷ []) None (cause_in to) (opens_came settings g name old.a.upper well) tt;
       })
-  does_at (Closes push outcome) past old new on (going, push_is, idle, is, apart, none_a, none_b, quiet_a, quiet_b, same) at =
+  does_at (Closes push outcome) past old new quiet on shows (going, push_is, idle, is, apart, none_a, none_b, quiet_a, quiet_b, same) at =
       let to : W = record old { pushes = one_ended outcome old.pushes } in
       at_same (past ++ Ended push outcome ∷ []) new to same (λ well.
       let now = at well in
       record {
-        each = each_after-more EndsByCause past (Ended push outcome) now.each (shown_cause outcome (since_begun past) (subst (λ (c : Option Outcome). Stood (since_begun past) c) is (now.stood going)));
+        each = each_after-more EndsByCause past (Ended push outcome) now.each (record {
+          cause = shown_cause outcome (since_begun past) (subst (λ (c : Option Outcome). Stood (since_begun past) c) is (now.stood going));
+          heard = subst (λ (c : Option Outcome). HeardSo c past) is (now.heard going);
+        });
         stood = λ on. absurd (let never : false ≡ true = on in cc);
+        heard = λ on. absurd (let never : false ≡ true = on in cc);
       })
 
   -- with the end of the push that goes on
@@ -493,11 +362,16 @@ module _ {T H : Type 0} (settings : Settings) (V : Upper T H) where
   last_cause None part stood = stood
   last_cause (Some outcome) part stood = shown_cause outcome part stood
 
+  last_heard : (cause : Option Outcome) (past : List Entry) → HeardSo cause past → HearsCause (unwrap_or cause ScriptEnded) past
+  last_heard None past heard = tt
+  last_heard (Some outcome) past heard = heard
+
   last_at : (past : List Entry) (w : W) → Stands past w → CausesAreShown (past ++ last_entries (cause_in w) w.pushes)
   last_at past w stands = by w.pushes.going refl
     where
       by : (going : Bool) → w.pushes.going ≡ going → CausesAreShown (past ++ (if going then Ended w.pushes.begun (unwrap_or (cause_in w) ScriptEnded) ∷ [] else []))
-      by true is = each_after-more EndsByCause past (Ended w.pushes.begun (unwrap_or (cause_in w) ScriptEnded)) stands.each (last_cause (cause_in w) (since_begun past) (stands.stood is))
+      by true is = each_after-more EndsByCause past (Ended w.pushes.begun (unwrap_or (cause_in w) ScriptEnded)) stands.each
+          (record { cause = last_cause (cause_in w) (since_begun past) (stands.stood is); heard = last_heard (cause_in w) past (stands.heard is) })
       by false is = subst CausesAreShown (sym (append-nil past)) stands.each
 
 -- ---- a scenario
@@ -529,14 +403,35 @@ module _ (scenario : Scenario) (content : Option Contents) where
         subst (λ (up : Bool). IsSo up w.a.upper.profile) led.0 (on_link done w happened),
       )
 
+  -- at rest host a has heard what its outcome came of
+  link_heard : (done : List Happening) (w : BothHosts) → Happened scenario content done w → IsAtRest (client_of scenario) (server_of scenario content) w → (link : Link) → link_up A (all_entries done) ≡ Some link → (outcome : Outcome) → w.a.upper.profile.client.cause ≡ Some outcome
+      → IsHeard outcome (talk link)
+  link_heard done w there rest link up Done is = rest_hears scenario content done w there rest link up Done is refl
+  link_heard done w there rest link up (Refused code) is = rest_hears scenario content done w there rest link up (Refused code) is refl
+  link_heard done w there rest link up NoService is = rest_hears scenario content done w there rest link up NoService is refl
+  link_heard done w there rest link up LinkLost is = tt
+  link_heard done w there rest link up RetryLimit is = tt
+  link_heard done w there rest link up ShelfFault is = tt
+  link_heard done w there rest link up PushCancelled is = tt
+  link_heard done w there rest link up PeerClosed is = tt
+  link_heard done w there rest link up (PeerFault layer reason) is = tt
+  link_heard done w there rest link up ScriptEnded is = tt
+
+  rest_heard : (done : List Happening) (w : BothHosts) → Happened scenario content done w → (past : List Entry) → all_entries done ≡ past → Shows scenario.settings (server_of scenario content) past w
+  rest_heard done w there past is rest outcome came = subst (λ (l : List Entry). IsHeardOn outcome (link_up A l)) is (by (link_up A (all_entries done)) refl)
+    where
+      by : (found : Option Link) → link_up A (all_entries done) ≡ found → IsHeardOn outcome found
+      by None up = tt
+      by (Some link) up = link_heard done w there rest link up outcome came
+
   keeps_at : (happenings : List Happening) → KeepsRun S R happenings (beginning scenario content) (λ past words w. At scenario.settings R past w)
-  keeps_at happenings happening ahead past words old new reached does next at = does_at scenario.settings R happening past old new (is_on reached.done old reached.runs reached.kept) does at
+  keeps_at happenings happening ahead past words old new reached does next at = does_at scenario.settings R happening past old new (none_told scenario content reached.done old reached.runs) (is_on reached.done old reached.runs reached.kept) (rest_heard reached.done old reached.runs past reached.past_is) does at
 
   arrives : (happenings : List Happening) (w : BothHosts) → Happened scenario content happenings w → At scenario.settings R (all_entries happenings) w
   arrives happenings w happened =
       let all = fits scenario content in
       (along S R happenings (beginning scenario content) (λ past words w. At scenario.settings R past w) happenings [] [] (beginning scenario content) w all.frames_a all.frames_b all.idles (keeps_at happenings) happened
-      (reached_first S R scenario.acl_length scenario.acl_count scenario.names happenings all) (λ well. record { each = tt; stood = λ going. never going })).now
+      (reached_first S R scenario.acl_length scenario.acl_count scenario.names happenings all) (λ well. record { each = tt; stood = λ going. never going; heard = λ going. never going })).now
 
 pub runs_show_causes : RunsShowCauses
 runs_show_causes = record {

@@ -1,6 +1,6 @@
 -- Why each push ended, as its part of the capture shows it: the first thing in it that ends a push (Core 5.1, Volume 2 Part D, 1.3, and Part E, 7.7.5;
 -- IrOBEX 1.5, 3.2 and 3.4).
-use Rattle.std.specs.Prelude.{ℕ, ◌≡◌, ◌==◌, ◌&&◌, Bool, true, false, List, [], ◌∷◌, ◌++◌, fold, slice_index, Option, Some, None, if◌then◌else◌}
+use Rattle.std.specs.Prelude.{ℕ, ◌≡◌, ◌==◌, ◌&&◌, ◌||◌, ◌⊎◌, Bool, true, false, List, [], ◌∷◌, ◌++◌, fold, slice_index, Option, Some, None, if◌then◌else◌}
 use Rattle.std.specs.List.{AllByRecursion}
 use Rattle.h4_framing.specs.Packets.{Packet, Command, Acl, Sync, Event}
 use Rattle.push_terms.specs.declared.outcome.Outcome.{Outcome}
@@ -13,6 +13,9 @@ use Rattle.capture.specs.declared.flow.Flow.{Flow}
 use Rattle.capture.specs.declared.flow.Flow.TheVariants.{Out, Into}
 use Rattle.capture.specs.Entries.{Entry, Moved, Acted, Begun, Ended}
 use Rattle.capture.specs.Histories.{EachAfter}
+use Rattle.capture.specs.Links.{Link, link_up}
+use Rattle.link_talk.specs.Sayings.{talk}
+use Rattle.cause_laws.specs.Said.{IsHeard}
 
 -- ---- the part of a push
 
@@ -83,6 +86,13 @@ end_reason (Acted ordinal word) = None
 end_reason (Begun push) = None
 end_reason (Ended push outcome) = None
 
+-- a word was turned, with which a timer may have fired
+abbrev pub is_turned : Entry → Bool
+is_turned (Moved side flow packet) = false
+is_turned (Acted ordinal word) = true
+is_turned (Begun push) = false
+is_turned (Ended push outcome) = false
+
 -- ---- what ends a push
 
 -- for another reason than that the peer ended it as its user
@@ -91,17 +101,18 @@ IsLoss None = ⊥
 IsLoss (Some reason) = (reason == 0x13) ≡ false
 
 -- The entry that brings an outcome about. A response, and what service discovery answers, come in a piece of a PDU; the link of host a is lost where it is
--- told so; and a push is cancelled by that word.
+-- told so; and a push is cancelled by that word. The peer closes a channel by a PDU too, or it ends the link as its user; and a limit is met, or the peer at fault,
+-- with a PDU or where a word is turned with which the timer fires.
 abbrev pub BringsAbout : Outcome → Entry → Type 0
 BringsAbout Done entry = is_piece entry ≡ true
 BringsAbout (Refused code) entry = is_piece entry ≡ true
 BringsAbout NoService entry = is_piece entry ≡ true
 BringsAbout LinkLost entry = IsLoss (end_reason entry)
 BringsAbout Cancelled entry = is_cancel entry ≡ true
-BringsAbout RetryLimit entry = ⊥
+BringsAbout RetryLimit entry = (is_piece entry || is_turned entry) ≡ true
 BringsAbout ShelfFault entry = ⊥
-BringsAbout PeerClosed entry = ⊥
-BringsAbout (PeerFault layer reason) entry = ⊥
+BringsAbout PeerClosed entry = (is_piece entry ≡ true) ⊎ (end_reason entry ≡ Some 0x13)
+BringsAbout (PeerFault layer reason) entry = (is_piece entry || is_turned entry) ≡ true
 BringsAbout ScriptEnded entry = ⊥
 
 -- it did not cancel the push, and did not end the link of host a
@@ -125,25 +136,74 @@ pub record IsBroughtAbout (outcome : Outcome) (part : List Entry) : Type 0 where
   pub brings : BringsAbout outcome entry
   pub none_after : AreNotCancelled after
 
--- What the part of a push shows where its outcome is this: the entry that brought it about; where the script ended first, no cause; and else that it was not
--- cancelled.
+-- What the part of a push shows where its outcome is this: the entry that brought it about; where the script ended first, no cause; and where the shelf failed
+-- that it was not cancelled.
 abbrev pub HasCause : Outcome → List Entry → Type 0
 HasCause Done part = IsBroughtAbout Done part
 HasCause (Refused code) part = IsBroughtAbout (Refused code) part
 HasCause NoService part = IsBroughtAbout NoService part
 HasCause LinkLost part = IsBroughtAbout LinkLost part
 HasCause Cancelled part = IsBroughtAbout Cancelled part
-HasCause RetryLimit part = AreNotCancelled part
+HasCause RetryLimit part = IsBroughtAbout RetryLimit part
 HasCause ShelfFault part = AreNotCancelled part
-HasCause PeerClosed part = AreNotCancelled part
-HasCause (PeerFault layer reason) part = AreNotCancelled part
+HasCause PeerClosed part = IsBroughtAbout PeerClosed part
+HasCause (PeerFault layer reason) part = IsBroughtAbout (PeerFault layer reason) part
 HasCause ScriptEnded part = AreNoCauses part
+
+-- ---- what was heard
+
+-- on the link that is up, if there is one
+abbrev pub IsHeardOn : Outcome → Option Link → Type 0
+IsHeardOn outcome None = Unit {0}
+IsHeardOn outcome (Some link) = IsHeard outcome (talk link)
+
+-- by the time that a word is turned host a has heard it there
+abbrev pub IsHeardBefore : Outcome → (past : List Entry) → Entry → Type 0
+IsHeardBefore outcome past (Moved side flow packet) = Unit {0}
+IsHeardBefore outcome past (Acted ordinal word) = IsHeardOn outcome (link_up A past)
+IsHeardBefore outcome past (Begun push) = Unit {0}
+IsHeardBefore outcome past (Ended push other) = Unit {0}
+
+abbrev pub IsNoBegin : Entry → Type 0
+IsNoBegin (Moved side flow packet) = Unit {0}
+IsNoBegin (Acted ordinal word) = Unit {0}
+IsNoBegin (Begun push) = ⊥
+IsNoBegin (Ended push outcome) = Unit {0}
+
+-- Since the push was begun a piece of a PDU came into host a, and at each word behind it host a has heard, on the link that is up, what brings the outcome about.
+pub record HasHeard (outcome : Outcome) (past : List Entry) : Type 0 where
+  pub before : List Entry
+  pub entry : Entry
+  pub after : List Entry
+  pub past_is : past ≡ before ++ entry ∷ after
+  pub piece : is_piece entry ≡ true
+  pub none_begun : AllByRecursion IsNoBegin after
+  pub heard : EachAfter (IsHeardBefore outcome) (before ++ entry ∷ []) after
+
+-- where an SDU brings it about
+abbrev pub HearsCause : Outcome → (past : List Entry) → Type 0
+HearsCause Done past = HasHeard Done past
+HearsCause (Refused code) past = HasHeard (Refused code) past
+HearsCause NoService past = HasHeard NoService past
+HearsCause LinkLost past = Unit {0}
+HearsCause RetryLimit past = Unit {0}
+HearsCause ShelfFault past = Unit {0}
+HearsCause Cancelled past = Unit {0}
+HearsCause PeerClosed past = Unit {0}
+HearsCause (PeerFault layer reason) past = Unit {0}
+HearsCause ScriptEnded past = Unit {0}
+
+-- ---- a capture
+
+pub record ShowsWhy (outcome : Outcome) (past : List Entry) : Type 0 where
+  pub cause : HasCause outcome (since_begun past)
+  pub heard : HearsCause outcome past
 
 abbrev pub EndsByCause : List Entry → Entry → Type 0
 EndsByCause past (Moved side flow packet) = Unit {0}
 EndsByCause past (Acted ordinal word) = Unit {0}
 EndsByCause past (Begun push) = Unit {0}
-EndsByCause past (Ended push outcome) = HasCause outcome (since_begun past)
+EndsByCause past (Ended push outcome) = ShowsWhy outcome past
 
 -- Each push of a capture that ended has the cause of its outcome in its part.
 abbrev pub CausesAreShown : List Entry → Type 0

@@ -8,3 +8,5 @@ pub mod TableValues
 pub mod RfcommWord
 pub mod RfcommValues
 pub mod RfcommChanges
+pub mod BehindValues
+pub mod Eights

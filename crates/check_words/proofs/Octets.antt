@@ -6,7 +6,7 @@ use Rattle.check_words.specs.Division.{added, remainder, zeros}
 use Rattle.check_words.specs.CheckWords.{low_bits, bits_of, l2cap_generator, l2cap_check, L2capCheckHolds}
 use Rattle.check_words.specs.Laws.{CheckWordsHold, ChangedOctetsAreSeen}
 use Rattle.check_words.proofs.Sums.{added-zero, added-self}
-use Rattle.check_words.proofs.Steps.{kept_all, remainder-kept, remainder-from, kept_all-append, length-kept_all}
+use Rattle.check_words.proofs.Steps.{kept_all, remainder-kept, kept_all-append, length-kept_all}
 use Rattle.check_words.proofs.Bursts.{bursts-seen}
 use Rattle.check_words.proofs.LowBits.{low_bits-same, low_bits-mod, low_bits-halves}
 use Rattle.check_words.proofs.CheckWord.{low_part, check_is_kept}
@@ -22,20 +22,6 @@ kept_all-octet low state octets i octet within is =
     ∙ ap (kept_all low state) (flat_map-append (low_bits 8) front (octet ∷ []))
     ∙ ap (λ (b : List Bool). kept_all low state (bits_of front ++ b)) (append-nil bits)
     ∙ kept_all-append low state (bits_of front) bits
-
--- a step over octets
-pub check_more : (octets : List ℕ) (i octet word next : ℕ) → i < length octets → octet ≡ get_or octets i 0
-    → low_bits 16 word ≡ l2cap_check (take i octets)
-    → low_bits 16 next ≡ remainder l2cap_generator (added (low_bits 16 word) (low_bits 8 octet ++ zeros 16))
-    → low_bits 16 next ≡ l2cap_check (take (i + 1) octets)
-unfolding low_bits
-check_more octets i octet word next within is before after =
-    let bits : List Bool = low_bits 8 octet in
-    after
-    ∙ remainder-from low_part (low_bits 16 word) bits refl (omega arith)
-    ∙ ap (λ (s : List Bool). kept_all low_part s bits) (before ∙ check_is_kept (take i octets))
-    ∙ sym (kept_all-octet low_part (zeros 16) octets i octet within is)
-    ∙ sym (check_is_kept (take (i + 1) octets))
 
 -- ---- the laws
 

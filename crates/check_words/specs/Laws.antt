@@ -1,6 +1,7 @@
 -- What the check words tell, and values of theirs that were worked out elsewhere.
-use Rattle.std.specs.Prelude.{ℕ, ◌≡◌, ◌≢◌, ◌<◌, ◌⊎◌, ◌↔◌, Bool, true, List, [], ◌∷◌, ◌++◌, length, slice_index}
+use Rattle.std.specs.Prelude.{ℕ, ◌+◌, ◌≡◌, ◌≢◌, ◌<◌, ◌⊎◌, ◌↔◌, Bool, true, List, [], ◌∷◌, ◌++◌, length, replicate, slice_index, slice_index_or}
 use Rattle.check_words.specs.declared.table.TheConstants.{CHECK_WORDS}
+use Rattle.check_words.specs.declared.behind.TheConstants.{CHECK_WORDS_BEHIND}
 use Rattle.check_words.specs.declared.rfcomm_table.TheConstants.{RESTS}
 use Rattle.check_words.specs.Division.{degree, remainder, zeros}
 use Rattle.check_words.specs.CheckWords.{low_bits, bits_of, l2cap_check, rfcomm_generator, rfcomm_check, L2capCheckHolds, RfcommCheckHolds}
@@ -15,6 +16,12 @@ CheckWordsHold = (octets : List ℕ) (low high : ℕ) →
 -- them, leave.
 abbrev pub TableIsRight : Type 0
 TableIsRight = (octet : ℕ) → octet < 256 → low_bits 16 (slice_index CHECK_WORDS octet) ≡ l2cap_check (octet ∷ [])
+
+-- So is each value of the tables behind: at each of them the check word of the octet with as many zero octets
+-- behind it as the table's place, and one more.
+abbrev pub TablesBehindAreRight : Type 0
+TablesBehindAreRight = (more octet : ℕ) → more < 7 → octet < 256 →
+    low_bits 16 (slice_index_or (slice_index_or CHECK_WORDS_BEHIND more []) octet 0) ≡ l2cap_check (octet ∷ replicate (more + 1) 0)
 
 -- Each value of the table of RFCOMM is what its octet's eight bits, with eight zeros behind them, leave, and it is
 -- the register's value after these eight bits.

@@ -1,9 +1,10 @@
-//! The check word of L2CAP, an octet at a time.
+//! The check word of L2CAP, eight octets at a time.
 
-ghost use Rattle.std.specs.Prelude.{◌≡◌, ◌++◌};
+ghost use Rattle.std.specs.Prelude.{◌≡◌, ◌++◌, length};
 ghost use Rattle.check_words.specs.Division.{added, remainder, zeros};
-ghost use Rattle.check_words.specs.CheckWords.{low_bits, l2cap_generator, l2cap_check};
+ghost use Rattle.check_words.specs.CheckWords.{low_bits, bits_of, l2cap_generator, l2cap_check};
 
+use crate::behind::check_word_behind;
 use crate::table::check_word_of;
 
 /// The check word of L2CAP over octets (Core 5.1, Volume 3 Part A, 3.3.5): the generator is
@@ -12,11 +13,41 @@ use crate::table::check_word_of;
 pub fn fcs16(octets: &[u8]) -> u16
     ensures { low_bits 16 result ≡ l2cap_check octets.now }
 {
+    let eights = octets.len() / 8;
     let mut word = 0;
-    for octet in octets {
-        word = with_octet(word, *octet);
+    for eight in 0..eights {
+        word = with_eight(word, &octets[8 * eight..8 * eight + 8]);
     }
-    word
+    with_octets(word, &octets[8 * eights..])
+}
+
+/// The check word with eight octets more behind those that `word` is of. The word is added to the
+/// first two, and then each octet goes in by itself, with zeros in the place of those behind it.
+fn with_eight(word: u16, octets: &[u8]) -> u16
+    requires { length octets.now ≡ 8 }
+    ensures { low_bits 16 result ≡ remainder l2cap_generator (added (low_bits 16 word) (bits_of octets.now ++ zeros 16)) }
+{
+    let first = (word % 256) as u8 ^ octets[0];
+    let second = (word / 256) as u8 ^ octets[1];
+    check_word_behind(6, first)
+        ^ check_word_behind(5, second)
+        ^ check_word_behind(4, octets[2])
+        ^ check_word_behind(3, octets[3])
+        ^ check_word_behind(2, octets[4])
+        ^ check_word_behind(1, octets[5])
+        ^ check_word_behind(0, octets[6])
+        ^ check_word_of(octets[7])
+}
+
+/// The check word with octets more behind those that `word` is of.
+fn with_octets(word: u16, octets: &[u8]) -> u16
+    ensures { low_bits 16 result ≡ remainder l2cap_generator (added (low_bits 16 word) (bits_of octets.now ++ zeros 16)) }
+{
+    let mut next = word;
+    for octet in octets {
+        next = with_octet(next, *octet);
+    }
+    next
 }
 
 /// The check word with an octet more behind those that `word` is of.

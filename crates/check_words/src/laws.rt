@@ -1,6 +1,6 @@
 //! Laws of check words, for all octets.
 
-ghost use Rattle.check_words.specs.Laws.{CheckWordsHold, TableIsRight, RfcommTableIsRight, BurstsAreSeen, ChangedOctetsAreSeen, RfcommBurstsAreSeen, RfcommChangedOctetsAreSeen, TwoChangedOctetsMayPass, AreL2capValues, AreRfcommValues};
+ghost use Rattle.check_words.specs.Laws.{CheckWordsHold, TableIsRight, TablesBehindAreRight, RfcommTableIsRight, BurstsAreSeen, ChangedOctetsAreSeen, RfcommBurstsAreSeen, RfcommChangedOctetsAreSeen, TwoChangedOctetsMayPass, AreL2capValues, AreRfcommValues};
 
 /// Octets that end in a check word leave nothing exactly where it is that of the octets before it.
 pub fn check_words_hold()
@@ -10,6 +10,12 @@ pub fn check_words_hold()
 /// Each value of the table is what the division of its octet leaves.
 pub fn table_is_right()
     ensures { TableIsRight }
+{}
+
+/// Each value of the tables for octets with zero octets behind them is what the division leaves of
+/// these.
+pub fn tables_behind_are_right()
+    ensures { TablesBehindAreRight }
 {}
 
 /// Each value of the table of RFCOMM is what the division of its octet leaves, and the value of the

@@ -1,6 +1,7 @@
 //! Check words over octets, as what a long division of their bits leaves.
 #![tactic(auto)]
 
+mod behind;
 mod fcs;
 pub mod laws;
 mod rfcomm;

@@ -11,16 +11,16 @@ fn packets_of_one_link(rt: HostRuntime) -> Result<(), Fail> {
     ledger.sent(one);
     ledger.sent(one);
     assert!(rt; !ledger.may_send());
-    assert_eq!(rt; ledger.outstanding(one), 2);
-    assert_eq!(rt; ledger.outstanding(two), 0);
-    assert_eq!(rt; ledger.completed(one, 3), Err(LedgerRefusal::TooMany));
-    assert_eq!(rt; ledger.completed(two, 1), Err(LedgerRefusal::TooMany));
-    assert_eq!(rt; ledger.completed(one, 1), Ok(()));
+    assert!(rt; ledger.outstanding(one) == 2);
+    assert!(rt; ledger.outstanding(two) == 0);
+    assert!(rt; ledger.completed(one, 3) == Err(LedgerRefusal::TooMany));
+    assert!(rt; ledger.completed(two, 1) == Err(LedgerRefusal::TooMany));
+    assert!(rt; ledger.completed(one, 1) == Ok(()));
     ledger.closed(two);
-    assert_eq!(rt; ledger.outstanding(one), 1);
+    assert!(rt; ledger.outstanding(one) == 1);
     ledger.closed(one);
-    assert_eq!(rt; ledger.outstanding(one), 0);
+    assert!(rt; ledger.outstanding(one) == 0);
     ledger.sent(two);
-    assert_eq!(rt; ledger.outstanding(two), 1);
+    assert!(rt; ledger.outstanding(two) == 1);
     Ok(())
 }

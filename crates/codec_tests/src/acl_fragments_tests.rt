@@ -1,49 +1,95 @@
+use crate::tables::rows;
 use acl_fragments::*;
 use hci_packets::Boundary;
-use std::test::*;
+use std::alloc::Global;
 
-/// A joiner of limit 672 hears a signalling PDU in two pieces.
-#[test]
-fn a_pdu_in_two_pieces(rt: HostRuntime) -> Result<(), Fail> {
-    let mut joiner = Joiner::new(rt.alloc(), 672).ok().ok_or("there is memory")?;
-    let first = joiner.take(Boundary::First, &[0x08, 0x00, 0x01, 0x00, 0x02, 0x01]);
-    assert!(rt; !first.unfinished);
-    assert_eq!(rt; first.got, Got::More);
-    let whole = joiner.take(Boundary::Continuing, &[0x04, 0x00, 0x01, 0x00, 0x40, 0x00]);
-    match whole.got {
-        Got::Pdu(channel, octets) => {
-            assert_eq!(rt; channel, 0x0001);
-            assert_eq!(rt;
-                octets,
-                [
-                    0x08, 0x00, 0x01, 0x00, 0x02, 0x01, 0x04, 0x00, 0x01, 0x00, 0x40, 0x00
-                ]
-                .as_slice()
-            );
+/// A piece, whether a PDU before it is left unfinished, and what comes of it.
+type Row = (Boundary, &'static [u8], bool, Got<'static>);
+
+/// A signalling PDU in two pieces, and a piece of none.
+const TWO_PIECES: [Row; 3] = [
+    (
+        Boundary::First,
+        &[0x08, 0x00, 0x01, 0x00, 0x02, 0x01],
+        false,
+        Got::More,
+    ),
+    (
+        Boundary::Continuing,
+        &[0x04, 0x00, 0x01, 0x00, 0x40, 0x00],
+        false,
+        Got::Pdu(
+            0x0001,
+            &[
+                0x08, 0x00, 0x01, 0x00, 0x02, 0x01, 0x04, 0x00, 0x01, 0x00, 0x40, 0x00,
+            ],
+        ),
+    ),
+    (
+        Boundary::Continuing,
+        &[],
+        false,
+        Got::Dropped(DropReason::StrayContinuation),
+    ),
+];
+
+/// Starts, each judged by itself.
+const STARTS: [Row; 5] = [
+    (
+        Boundary::FirstFromController,
+        &[0x00, 0x00, 0x01],
+        false,
+        Got::Dropped(DropReason::ShortStart),
+    ),
+    (
+        Boundary::FirstFromController,
+        &[0x05, 0x00, 0x01, 0x00],
+        false,
+        Got::Dropped(DropReason::AboveLimit),
+    ),
+    (
+        Boundary::FirstFromController,
+        &[0x04, 0x00, 0x01, 0x00],
+        false,
+        Got::More,
+    ),
+    (
+        Boundary::FirstFromController,
+        &[0x00, 0x00, 0x01, 0x00],
+        true,
+        Got::Pdu(0x0001, &[0x00, 0x00, 0x01, 0x00]),
+    ),
+    (
+        Boundary::First,
+        &[0x00, 0x00, 0x01, 0x00, 0x00],
+        false,
+        Got::Dropped(DropReason::Overrun),
+    ),
+];
+
+/// Whether these pieces come to what their rows say.
+fn joins(joiner: &mut Joiner, table: &[Row]) -> bool {
+    for (boundary, piece, unfinished, got) in table {
+        let joined = joiner.take(*boundary, *piece);
+        if joined.unfinished != *unfinished || joined.got != *got {
+            return false;
         }
-        _ => return Err(Fail::from("the PDU is whole")),
     }
-    let stray = joiner.take(Boundary::Continuing, &[]);
-    assert_eq!(rt; stray.got, Got::Dropped(DropReason::StrayContinuation));
-    Ok(())
+    true
+}
+
+/// The same of a joiner of that limit.
+fn new_joins(alloc: Global, limit: u32, table: &[Row]) -> bool {
+    match Joiner::new(alloc, limit) {
+        Ok(mut joiner) => joins(&mut joiner, table),
+        Err(_) => false,
+    }
 }
 
 #[test]
-fn starts_judged_by_themselves(rt: HostRuntime) -> Result<(), Fail> {
-    let mut joiner = Joiner::new(rt.alloc(), 8).ok().ok_or("there is memory")?;
-    let short = joiner.take(Boundary::FirstFromController, &[0x00, 0x00, 0x01]);
-    assert_eq!(rt; short.got, Got::Dropped(DropReason::ShortStart));
-    let above = joiner.take(Boundary::FirstFromController, &[0x05, 0x00, 0x01, 0x00]);
-    assert_eq!(rt; above.got, Got::Dropped(DropReason::AboveLimit));
-    let more = joiner.take(Boundary::FirstFromController, &[0x04, 0x00, 0x01, 0x00]);
-    assert_eq!(rt; more.got, Got::More);
-    let next = joiner.take(Boundary::FirstFromController, &[0x00, 0x00, 0x01, 0x00]);
-    assert!(rt; next.unfinished);
-    assert!(rt; matches!(next.got, Got::Pdu(0x0001, _)));
-    let over = joiner.take(Boundary::First, &[0x00, 0x00, 0x01, 0x00, 0x00]);
-    assert!(rt; !over.unfinished);
-    assert_eq!(rt; over.got, Got::Dropped(DropReason::Overrun));
-    Ok(())
+fn pieces_are_joined(rt: HostRuntime) {
+    assert!(rt; new_joins(rt.alloc(), 672, rows(&TWO_PIECES)));
+    assert!(rt; new_joins(rt.alloc(), 8, rows(&STARTS)));
 }
 
 #[test]

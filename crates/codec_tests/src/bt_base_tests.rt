@@ -1,4 +1,6 @@
+use crate::tables::rows;
 use bt_base::*;
+use std::alloc::Global;
 use std::test::Fail;
 
 /// The numbers at the front of what is left.
@@ -10,38 +12,46 @@ fn numbers_of(cursor: &mut Cursor<'_>) -> Option<(u8, u16, u16, u32)> {
 fn cursor_walks_octets(rt: HostRuntime) {
     let octets = [1, 2, 3, 4, 5, 6, 7, 8, 9, 10, 11];
     let mut cursor = Cursor::new(&octets);
-    assert_eq!(rt;
-        numbers_of(&mut cursor),
-        Some((1, 0x0302, 0x0405, 0x0607_0809))
-    );
-    assert_eq!(rt; numbers_of(&mut cursor), None);
-    assert_eq!(rt; cursor.left(), 1);
+    assert!(rt; numbers_of(&mut cursor) == Some((1, 0x0302, 0x0405, 0x0607_0809)));
+    assert!(rt; numbers_of(&mut cursor) == None);
+    assert!(rt; cursor.left() == 1);
+}
+
+/// Numbers, and whether they are a handle, a channel identifier and a PSM.
+const NUMBERS: [(u16, bool, bool, bool); 9] = [
+    (0x0000, true, false, false),
+    (0x0001, true, true, true),
+    (0x003F, true, false, true),
+    (0x0040, true, true, false),
+    (0x0EFF, true, true, true),
+    (0x0F00, false, true, false),
+    (0x0101, true, true, false),
+    (0x1001, false, true, true),
+    (0xFFFF, false, true, false),
+];
+
+/// Numbers, and whether they are a DLCI.
+const DLCIS: [(u8, bool); 5] = [(0, true), (1, false), (2, true), (61, true), (62, false)];
+
+/// Whether a number is a handle, a channel identifier and a PSM, as a row says.
+fn is_checked(raw: u16, handle: bool, cid: bool, psm: bool) -> bool {
+    Handle::of(raw).is_some() == handle
+        && Cid::of(raw).is_some() == cid
+        && Psm::of(raw).is_some() == psm
 }
 
 #[test]
-fn small_numbers_are_checked(rt: HostRuntime) -> Result<(), Fail> {
-    for (raw, handle, cid, psm) in [
-        (0x0000, true, false, false),
-        (0x0001, true, true, true),
-        (0x003F, true, false, true),
-        (0x0040, true, true, false),
-        (0x0EFF, true, true, true),
-        (0x0F00, false, true, false),
-        (0x0101, true, true, false),
-        (0x1001, false, true, true),
-        (0xFFFF, false, true, false),
-    ] {
-        assert_eq!(rt; Handle::of(raw).is_some(), handle, "handle {raw}");
-        assert_eq!(rt; Cid::of(raw).is_some(), cid, "cid {raw}");
-        assert_eq!(rt; Psm::of(raw).is_some(), psm, "psm {raw}");
+fn small_numbers_are_checked(rt: HostRuntime) {
+    for (raw, handle, cid, psm) in rows(&NUMBERS) {
+        assert!(rt; is_checked(*raw, *handle, *cid, *psm));
     }
-    for (raw, dlci) in [(0, true), (1, false), (2, true), (61, true), (62, false)] {
-        assert_eq!(rt; Dlci::of(raw).is_some(), dlci, "dlci {raw}");
+    for (raw, dlci) in rows(&DLCIS) {
+        assert!(rt; Dlci::of(*raw).is_some() == *dlci);
     }
-    let address = BdAddr::of(&[10, 0, 0, 0, 0, 1]).ok_or("six octets")?;
-    assert_eq!(rt; address.get(), [10, 0, 0, 0, 0, 1]);
+    assert!(rt;
+        matches!(BdAddr::of(&[10, 0, 0, 0, 0, 1]), Some(address) if address.get() == [10, 0, 0, 0, 0, 1])
+    );
     assert!(rt; BdAddr::of(&[10, 0, 0, 0, 0]).is_none());
-    Ok(())
 }
 
 /// Whether the next read into four octets gives these.
@@ -51,28 +61,62 @@ fn gives(source: &mut impl Source, piece: &[u8]) -> Result<bool, PortFault> {
     Ok(&into[..n] == piece)
 }
 
+/// What a source gives read by read, whose second call fails.
+const READS: [(&[u8], Result<bool, PortFault>); 5] = [
+    (b"he", Ok(true)),
+    (b"", Err(PortFault::Failed)),
+    (b"ll", Ok(true)),
+    (b"o", Ok(true)),
+    (b"", Ok(true)),
+];
+
+/// What a sink is given, whose second call fails.
+const WRITES: [(&[u8], Result<(), PortFault>); 3] = [
+    (b"ab", Ok(())),
+    (b"cd", Err(PortFault::Failed)),
+    (b"ef", Ok(())),
+];
+
+/// Whether a source gives what the rows say.
+fn reads_all(source: &mut MemSource) -> bool {
+    for (piece, answer) in rows(&READS) {
+        if gives(source, *piece) != *answer {
+            return false;
+        }
+    }
+    true
+}
+
+/// Whether a sink answers as the rows say, and keeps what it took.
+fn writes_all(sink: &mut MemSink) -> bool {
+    for (piece, answer) in rows(&WRITES) {
+        if sink.put(*piece) != *answer {
+            return false;
+        }
+    }
+    sink.octets() == b"abef".as_slice()
+}
+
+/// Whether a source of `hello` reads so.
+fn source_fails(alloc: Global) -> bool {
+    match MemSource::new(alloc, b"hello", 2, &[2]) {
+        Ok(mut source) => reads_all(&mut source),
+        Err(_) => false,
+    }
+}
+
+/// Whether a sink writes so.
+fn sink_fails(alloc: Global) -> bool {
+    match MemSink::new(alloc, &[2]) {
+        Ok(mut sink) => writes_all(&mut sink),
+        Err(_) => false,
+    }
+}
+
 #[test]
-fn memory_streams_fail_as_planned(rt: HostRuntime) -> Result<(), Fail> {
-    let mut source = MemSource::new(rt.alloc(), b"hello", 2, &[2])?;
-    for (piece, answer) in [
-        (b"he".as_slice(), Ok(true)),
-        (b"".as_slice(), Err(PortFault::Failed)),
-        (b"ll".as_slice(), Ok(true)),
-        (b"o".as_slice(), Ok(true)),
-        (b"".as_slice(), Ok(true)),
-    ] {
-        assert_eq!(rt; gives(&mut source, piece), answer);
-    }
-    let mut sink = MemSink::new(rt.alloc(), &[2])?;
-    for (piece, answer) in [
-        (b"ab", Ok(())),
-        (b"cd", Err(PortFault::Failed)),
-        (b"ef", Ok(())),
-    ] {
-        assert_eq!(rt; sink.put(piece), answer);
-    }
-    assert_eq!(rt; sink.octets(), b"abef".as_slice());
-    Ok(())
+fn memory_streams_fail_as_planned(rt: HostRuntime) {
+    assert!(rt; source_fails(rt.alloc()));
+    assert!(rt; sink_fails(rt.alloc()));
 }
 
 /// The two octets from that place on of the object of that name.
@@ -82,23 +126,53 @@ fn two_of(shelf: &mut impl Shelf, name: &str, at: u32) -> Result<[u8; 2], PortFa
     Ok(into)
 }
 
+/// The objects that are laid on a shelf, and what stands there where it is asked.
+const LAID: [(&str, &[u8]); 3] = [("a", b"older"), ("b", b"other"), ("a", b"newer")];
+
+const ASKED: [(&str, u32, Result<[u8; 2], PortFault>); 5] = [
+    ("a", 3, Ok([b'e', b'r'])),
+    ("a", 4, Err(PortFault::Failed)),
+    ("a", 0, Err(PortFault::Failed)),
+    ("a", 0, Ok([b'n', b'e'])),
+    ("c", 0, Err(PortFault::Failed)),
+];
+
+/// Lays an object on a shelf; whether it lies there.
+fn lays(shelf: &mut MemShelf, name: &str, octets: &[u8]) -> bool {
+    octets.len() < 100 && shelf.add(name, octets).is_ok()
+}
+
+/// Whether a shelf answers as a table says.
+fn answers(shelf: &mut impl Shelf, table: &[(&str, u32, Result<[u8; 2], PortFault>)]) -> bool {
+    for (name, at, answer) in table {
+        if two_of(shelf, *name, *at) != *answer {
+            return false;
+        }
+    }
+    true
+}
+
+/// Whether a shelf on which the objects are laid answers as the rows say.
+fn tells_objects(shelf: &mut MemShelf) -> bool {
+    for (name, octets) in rows(&LAID) {
+        if !lays(shelf, *name, *octets) {
+            return false;
+        }
+    }
+    answers(shelf, rows(&ASKED)) && shelf.size("b") == Ok(5)
+}
+
+/// The same of a shelf whose third call fails.
+fn new_shelf_tells(alloc: Global) -> bool {
+    match MemShelf::new(alloc, &[3]) {
+        Ok(mut shelf) => tells_objects(&mut shelf),
+        Err(_) => false,
+    }
+}
+
 #[test]
-fn memory_shelf_answers(rt: HostRuntime) -> Result<(), Fail> {
-    let mut shelf = MemShelf::new(rt.alloc(), &[3])?;
-    for (name, octets) in [("a", b"older"), ("b", b"other"), ("a", b"newer")] {
-        shelf.add(name, octets)?;
-    }
-    for (name, at, answer) in [
-        ("a", 3, Ok(*b"er")),
-        ("a", 4, Err(PortFault::Failed)),
-        ("a", 0, Err(PortFault::Failed)),
-        ("a", 0, Ok(*b"ne")),
-        ("c", 0, Err(PortFault::Failed)),
-    ] {
-        assert_eq!(rt; two_of(&mut shelf, name, at), answer);
-    }
-    assert_eq!(rt; shelf.size("b"), Ok(5));
-    Ok(())
+fn memory_shelf_answers(rt: HostRuntime) {
+    assert!(rt; new_shelf_tells(rt.alloc()));
 }
 
 /// Begins an object of that name, with these octets.
@@ -116,27 +190,37 @@ fn store(inbox: &mut impl Inbox, name: &[u16], octets: &[u8]) -> Result<(), Port
     inbox.commit()
 }
 
-#[test]
-fn memory_inbox_stores_at_commit_alone(rt: HostRuntime) -> Result<(), Fail> {
-    let mut inbox = MemInbox::new(rt.alloc(), &[10])?;
-    start(&mut inbox, &[97], b"hi")?;
-    assert!(rt; inbox.is_empty());
-    store(&mut inbox, &[98], b"hello")?;
-    assert_eq!(rt; store(&mut inbox, &[99], b""), Err(PortFault::Failed));
-    assert_eq!(rt; inbox.len(), 1);
-    assert_eq!(rt; inbox.name_at(0), Some([98].as_slice()));
-    assert_eq!(rt; inbox.octets_at(0), Some(b"hello".as_slice()));
-    Ok(())
+/// Whether an inbox keeps what is committed, and nothing else.
+fn keeps_committed(inbox: &mut MemInbox) -> bool {
+    start(inbox, &[97], b"hi").is_ok()
+        && inbox.is_empty()
+        && store(inbox, &[98], b"hello").is_ok()
+        && store(inbox, &[99], b"") == Err(PortFault::Failed)
+        && inbox.len() == 1
+        && inbox.name_at(0) == Some([98].as_slice())
+        && inbox.octets_at(0) == Some(b"hello".as_slice())
+}
+
+/// The same of an inbox whose tenth call fails.
+fn new_inbox_keeps(alloc: Global) -> bool {
+    match MemInbox::new(alloc, &[10]) {
+        Ok(mut inbox) => keeps_committed(&mut inbox),
+        Err(_) => false,
+    }
 }
 
 #[test]
-fn standard_streams_read_and_write(rt: HostRuntime) -> Result<(), Fail> {
+fn memory_inbox_stores_at_commit_alone(rt: HostRuntime) {
+    assert!(rt; new_inbox_keeps(rt.alloc()));
+}
+
+#[test]
+fn standard_streams_read_and_write(rt: HostRuntime) {
     let mut source = StdSource::new(b"hi".as_slice());
-    assert_eq!(rt; gives(&mut source, b"hi"), Ok(true));
-    assert_eq!(rt; gives(&mut source, b""), Ok(true));
+    assert!(rt; gives(&mut source, b"hi") == Ok(true));
+    assert!(rt; gives(&mut source, b"") == Ok(true));
     let mut sink = StdSink::new(rt.stdout());
-    sink.put(b"written to the standard output\n")?;
-    Ok(())
+    assert!(rt; sink.put(b"written to the standard output\n").is_ok());
 }
 
 /// A folder for the files of this run.
@@ -153,20 +237,26 @@ fn store_file(rt: &HostRuntime, folder: &str, name: &[u16], octets: &[u8]) -> Re
     Ok(())
 }
 
+/// What stands in a file of a folder where it is asked, and in one that is no plain name.
+const IN_FILES: [(&str, u32, Result<[u8; 2], PortFault>); 3] = [
+    ("0001-a_b", 3, Ok([b'l', b'o'])),
+    ("0001-a_b", 4, Err(PortFault::Failed)),
+    ("./0001-a_b", 0, Err(PortFault::Failed)),
+];
+
+/// Whether what is stored in a folder is read there.
+fn files_tell(rt: &HostRuntime, folder: &str) -> bool {
+    let mut shelf = FileShelf::new(rt, rt.alloc(), folder);
+    shelf.size("0001-a_b") == Ok(5) && answers(&mut shelf, rows(&IN_FILES))
+}
+
 #[test]
 fn files_are_stored_and_read(rt: HostRuntime) -> Result<(), Fail> {
     let folder = test_folder(&rt)?;
     store_file(&rt, folder.as_str(), &[97, 0xF6, 98], b"old")?;
     store_file(&rt, folder.as_str(), &[97, 47, 98], b"hello")?;
-    let mut shelf = FileShelf::new(&rt, rt.alloc(), folder.as_str());
-    assert_eq!(rt; shelf.size("0001-a_b"), Ok(5));
-    for (name, at, answer) in [
-        ("0001-a_b", 3, Ok(*b"lo")),
-        ("0001-a_b", 4, Err(PortFault::Failed)),
-        ("./0001-a_b", 0, Err(PortFault::Failed)),
-    ] {
-        assert_eq!(rt; two_of(&mut shelf, name, at), answer);
-    }
+    let is_right = files_tell(&rt, folder.as_str());
     std::fs::remove_dir_all(&rt, folder.as_str())?;
+    assert!(rt; is_right);
     Ok(())
 }

@@ -6,6 +6,6 @@ use std::test::*;
 fn the_number_one(rt: HostRuntime) {
     let mut draws = Draws::new(1);
     for expected in [16838, 5758, 10113, 17515, 31051, 5627, 23010, 7419] {
-        assert_eq!(rt; draws.draw(), expected);
+        assert!(rt; draws.draw() == expected);
     }
 }

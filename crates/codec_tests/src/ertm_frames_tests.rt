@@ -3,7 +3,6 @@ ghost use Rattle.std.specs.Prelude.{◌≡◌, ◌+◌, ◌≤◌, length};
 use crate::tables::rows;
 use bt_base::Cid;
 use ertm_frames::*;
-use std::test::Fail;
 
 /// The I-frame and the RR frame that the standard works out (Core 5.1, Volume 3 Part A, 3.3.5).
 const INFORMATION: [u8; 18] = [
@@ -12,32 +11,27 @@ const INFORMATION: [u8; 18] = [
 
 const READY: [u8; 8] = [0x04, 0x00, 0x40, 0x00, 0x01, 0x01, 0xD4, 0x14];
 
+/// What both are.
+const IN_ORDER: Frame<'static> = Frame::I {
+    tx: 1,
+    last: false,
+    req: 0,
+    sar: 0,
+    total: 0,
+    octets: &[0, 1, 2, 3, 4, 5, 6, 7, 8, 9],
+};
+
+const RECEIVER_READY: Frame<'static> = Frame::S {
+    kind: SKind::Rr,
+    poll: false,
+    last: false,
+    req: 1,
+};
+
 #[test]
 fn frames_of_the_standard(rt: HostRuntime) {
-    match frame_of(&INFORMATION, 48) {
-        Ok(
-            Frame::I {
-                tx: 1,
-                last: false,
-                req: 0,
-                sar: 0,
-                total: 0,
-                octets,
-            },
-        ) => { assert_eq!(rt; octets.len(), 10) }
-        _ => panic!(rt; "an I-frame"),
-    }
-    match frame_of(&READY, 48) {
-        Ok(
-            Frame::S {
-                kind: SKind::Rr,
-                poll: false,
-                last: false,
-                req: 1,
-            },
-        ) => {}
-        _ => panic!(rt; "an RR frame"),
-    }
+    assert!(rt; frame_of(&INFORMATION, 48) == Ok(IN_ORDER));
+    assert!(rt; frame_of(&READY, 48) == Ok(RECEIVER_READY));
 }
 
 /// PDUs, the greatest payload, and why they are no frames.
@@ -82,23 +76,33 @@ fn put_information(cid: Cid, octets: &[u8], into: &mut [u8]) -> usize
     put_frame(cid, &frame, into)
 }
 
-#[test]
-fn written_frames(rt: HostRuntime) -> Result<(), Fail> {
-    let cid = Cid::of(0x0040).ok_or("a channel")?;
+/// Whether the I-frame is written on a channel, and nothing behind it.
+fn writes_information(cid: Cid) -> bool {
     let mut into = [0xEE; 20];
-    let end = put_information(cid, &[0, 1, 2, 3, 4, 5, 6, 7, 8, 9], &mut into);
-    assert_eq!(rt; end, 18);
-    assert_eq!(rt; &into[..18], INFORMATION.as_slice());
-    assert_eq!(rt; &into[18..], [0xEE, 0xEE].as_slice());
+    put_information(cid, &[0, 1, 2, 3, 4, 5, 6, 7, 8, 9], &mut into) == 18
+        && into.starts_with(&INFORMATION)
+        && into.ends_with(&[0xEE, 0xEE])
+}
+
+/// Whether a REJ is written there.
+fn writes_reject(cid: Cid) -> bool {
+    let mut into = [0xEE; 20];
     let reject = Frame::S {
         kind: SKind::Rej,
         poll: false,
         last: false,
         req: 5,
     };
-    assert_eq!(rt; put_frame(cid, &reject, &mut into), 8);
-    assert_eq!(rt; &into[4..6], [0x05, 0x05].as_slice());
-    Ok(())
+    put_frame(cid, &reject, &mut into) == 8 && into[4..6] == [0x05, 0x05]
+}
+
+#[test]
+fn written_frames(rt: HostRuntime) {
+    let is_right = match Cid::of(0x0040) {
+        Some(cid) => writes_information(cid) && writes_reject(cid),
+        None => false,
+    };
+    assert!(rt; is_right);
 }
 
 /// Writes the start of an SDU of 100 octets, and answers how many octets the frame has.
@@ -118,24 +122,29 @@ fn put_start(cid: Cid, octets: &[u8], into: &mut [u8]) -> usize
     put_frame(cid, &frame, into)
 }
 
-#[test]
-fn start_of_an_sdu(rt: HostRuntime) -> Result<(), Fail> {
-    let cid = Cid::of(0x0040).ok_or("a channel")?;
+/// What it is.
+const START: Frame<'static> = Frame::I {
+    tx: 0,
+    last: false,
+    req: 0,
+    sar: 1,
+    total: 100,
+    octets: &[7u8; 46],
+};
+
+/// Whether it is written on a channel, and read again.
+fn starts(cid: Cid) -> bool {
     let mut into = [0u8; 56];
-    assert_eq!(rt; put_start(cid, &[7u8; 46], &mut into), 56);
-    assert_eq!(rt; &into[..8], [0x34, 0, 0x40, 0, 0, 0x40, 0x64, 0].as_slice());
-    match frame_of(&into, 46) {
-        Ok(
-            Frame::I {
-                tx: 0,
-                last: false,
-                req: 0,
-                sar: 1,
-                total: 100,
-                octets,
-            },
-        ) => { assert_eq!(rt; octets, [7u8; 46].as_slice()) }
-        _ => panic!(rt; "a start"),
-    }
-    Ok(())
+    put_start(cid, &[7u8; 46], &mut into) == 56
+        && into.starts_with(&[0x34, 0, 0x40, 0, 0, 0x40, 0x64, 0])
+        && frame_of(&into, 46) == Ok(START)
+}
+
+#[test]
+fn start_of_an_sdu(rt: HostRuntime) {
+    let is_right = match Cid::of(0x0040) {
+        Some(cid) => starts(cid),
+        None => false,
+    };
+    assert!(rt; is_right);
 }

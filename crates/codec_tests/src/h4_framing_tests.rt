@@ -1,5 +1,6 @@
 use crate::tables::rows;
 use h4_framing::*;
+use std::alloc::Global;
 use std::test::*;
 
 /// A command and the event that answers it.
@@ -72,53 +73,96 @@ fn packets_at_the_front(rt: HostRuntime) {
     );
 }
 
+/// Which packet comes with the octet at a place of `ANSWERED`: none, the command or the event.
+fn comes_at(framer: &mut Framer, octet: u8) -> u8 {
+    match framer.take(&[octet]) {
+        Taken::More => 0,
+        Taken::Whole(
+            Unit::Command {
+                opcode: 0x0C03,
+                params: [],
+            },
+            1,
+        ) => 1,
+        Taken::Whole(
+            Unit::Event {
+                code: 0x0E,
+                params: [1, 3, 0x0C, 0],
+            },
+            1,
+        ) => 2,
+        _ => 3,
+    }
+}
+
+/// Whether the packets come with their last octets.
+fn comes_octet_by_octet(framer: &mut Framer) -> bool {
+    let mut place = 0u8;
+    for octet in rows(&ANSWERED) {
+        let awaited = match place {
+            3 => 1,
+            10 => 2,
+            _ => 0,
+        };
+        if comes_at(framer, *octet) != awaited {
+            return false;
+        }
+        place = place.saturating_add(1);
+    }
+    framer.end().is_ok()
+}
+
 #[test]
 fn octet_by_octet(rt: HostRuntime) -> Result<(), Fail> {
     let mut framer = Framer::new(rt.alloc(), 1021)?;
-    let mut found = 0u8;
-    for (i, octet) in ANSWERED.iter().enumerate() {
-        match framer.take(&[*octet]) {
-            Taken::Whole(Unit::Command { opcode, params }, used) => {
-                assert!(rt; i == 3 && opcode == 0x0C03 && params.is_empty() && used == 1);
-                found |= 1;
-            }
-            Taken::Whole(Unit::Event { code, params }, used) => {
-                assert!(rt; i == 10 && code == 0x0E && used == 1);
-                assert_eq!(rt; params, [1u8, 3, 0x0C, 0].as_slice());
-                found |= 2;
-            }
-            Taken::More => assert!(rt; i != 3 && i != 10),
-            _ => assert!(rt; false, "another packet or a refusal"),
-        }
-    }
-    assert_eq!(rt; found, 3);
-    assert!(rt; framer.end().is_ok());
+    assert!(rt; comes_octet_by_octet(&mut framer));
+    Ok(())
+}
+
+/// Whether an octet that begins no packet is refused for good.
+fn refuses_an_indicator(framer: &mut Framer) -> bool {
+    matches!(framer.take(&ANSWERED[..4]), Taken::Whole(_, 4))
+        && matches!(
+            framer.take(&[5]),
+            Taken::Refused(H4Refusal::BadIndicator, 4)
+        )
+        && matches!(
+            framer.take(&ANSWERED),
+            Taken::Refused(H4Refusal::BadIndicator, 4)
+        )
+        && matches!(framer.end(), Err((H4Refusal::BadIndicator, 4)))
+}
+
+/// Whether a packet that is too long is refused at its head.
+fn refuses_a_length(framer: &mut Framer) -> bool {
+    matches!(framer.take(&[2, 1, 0x20, 0xFE]), Taken::More)
+        && matches!(framer.take(&[3]), Taken::Refused(H4Refusal::AclTooLong, 4))
+}
+
+/// Whether a packet that is not whole is refused at the end.
+fn refuses_an_end(framer: &mut Framer) -> bool {
+    matches!(framer.take(&ACL[..16]), Taken::More)
+        && matches!(framer.end(), Err((H4Refusal::Truncated, 0)))
+}
+
+#[test]
+fn indicators_are_refused(rt: HostRuntime) -> Result<(), Fail> {
+    let mut framer = Framer::new(rt.alloc(), 1021)?;
+    assert!(rt; refuses_an_indicator(&mut framer));
     Ok(())
 }
 
 #[test]
-fn refusals(rt: HostRuntime) -> Result<(), Fail> {
+fn lengths_are_refused(rt: HostRuntime) -> Result<(), Fail> {
     let mut framer = Framer::new(rt.alloc(), 1021)?;
-    assert!(rt; matches!(framer.take(&ANSWERED[..4]), Taken::Whole(_, 4)));
-    assert!(rt;
-        matches!(
-            framer.take(&[5]),
-            Taken::Refused(H4Refusal::BadIndicator, 4)
-        )
-    );
-    assert!(rt;
-        matches!(
-            framer.take(&ANSWERED),
-            Taken::Refused(H4Refusal::BadIndicator, 4)
-        )
-    );
-    assert!(rt; matches!(framer.end(), Err((H4Refusal::BadIndicator, 4))));
+    assert!(rt; refuses_a_length(&mut framer));
+    Ok(())
+}
+
+#[test]
+fn ends_are_refused(rt: HostRuntime) -> Result<(), Fail> {
     let mut framer = Framer::new(rt.alloc(), 1021)?;
-    assert!(rt; matches!(framer.take(&[2, 1, 0x20, 0xFE]), Taken::More));
-    assert!(rt; matches!(framer.take(&[3]), Taken::Refused(H4Refusal::AclTooLong, 4)));
-    let mut framer = Framer::new(rt.alloc(), 1021)?;
-    assert!(rt; matches!(framer.take(&ACL[..16]), Taken::More));
-    assert!(rt; matches!(framer.end(), Err((H4Refusal::Truncated, 0))));
+    assert!(rt; refuses_an_end(&mut framer));
     Ok(())
 }
 
@@ -138,14 +182,21 @@ const LEAST_LENGTHS: [(&[u8], usize); 12] = [
     (&[4, 0x0E, 200], 203),
 ];
 
-#[test]
-fn least_lengths(rt: HostRuntime) -> Result<(), Fail> {
-    for (held, least) in rows(&LEAST_LENGTHS) {
-        let mut framer = Framer::new(rt.alloc(), 1021)?;
-        assert!(rt; matches!(framer.take(held), Taken::More));
-        assert_eq!(rt; framer.least_length(), *least);
+/// Whether a new framer that holds this may have a packet of that length next.
+fn has_least(alloc: Global, held: &[u8], least: usize) -> bool {
+    match Framer::new(alloc, 1021) {
+        Ok(mut framer) => {
+            matches!(framer.take(held), Taken::More) && framer.least_length() == least
+        }
+        Err(_) => false,
     }
-    Ok(())
+}
+
+#[test]
+fn least_lengths(rt: HostRuntime) {
+    for (held, least) in rows(&LEAST_LENGTHS) {
+        assert!(rt; has_least(rt.alloc(), *held, *least));
+    }
 }
 
 #[test]
@@ -156,20 +207,14 @@ fn written_octets(rt: HostRuntime) {
         params: &params,
     };
     let mut into = [7u8; 8];
-    assert_eq!(rt; write_unit(&event, &mut into), 7);
-    assert_eq!(rt;
-        into.as_slice(),
-        [4u8, 0x0E, 4, 1, 3, 0x0C, 0, 7].as_slice()
-    );
+    assert!(rt; write_unit(&event, &mut into) == 7);
+    assert!(rt; into.as_slice() == [4u8, 0x0E, 4, 1, 3, 0x0C, 0, 7].as_slice());
     let octets = [0x40u8; 2];
     let acl = Unit::Acl {
         word: 0x2001,
         octets: &octets,
     };
     let mut into = [7u8; 7];
-    assert_eq!(rt; write_unit(&acl, &mut into), 7);
-    assert_eq!(rt;
-        into.as_slice(),
-        [2u8, 1, 0x20, 2, 0, 0x40, 0x40].as_slice()
-    );
+    assert!(rt; write_unit(&acl, &mut into) == 7);
+    assert!(rt; into.as_slice() == [2u8, 1, 0x20, 2, 0, 0x40, 0x40].as_slice());
 }

@@ -88,9 +88,6 @@ fn a_connection_request_is_written(rt: HostRuntime) {
         },
         &mut into,
     );
-    assert_eq!(rt; size, 8);
-    assert_eq!(rt;
-        into,
-        [0x02, 0x01, 0x04, 0x00, 0x01, 0x00, 0x40, 0x00, 0xFF]
-    );
+    assert!(rt; size == 8);
+    assert!(rt; into == [0x02, 0x01, 0x04, 0x00, 0x01, 0x00, 0x40, 0x00, 0xFF]);
 }

@@ -24,71 +24,87 @@ fn is_read(bytes: &[u8], phase: Phase) -> bool {
     packet_of(bytes, phase, 1024).is_ok()
 }
 
+/// The packets of a push, and how each is read.
+const READ: [(&[u8], Phase); 6] = [
+    (&CONNECT, Phase::Request),
+    (&PUT, Phase::Request),
+    (&PUT_NOTHING, Phase::Request),
+    (&SUCCESS, Phase::Response),
+    (
+        &[0xA0, 0x00, 0x07, 0x10, 0x00, 0x00, 0xFF],
+        Phase::ConnectResponse,
+    ),
+    (&[0x85, 0x00, 0x05, 0x02, 0x00], Phase::Request),
+];
+
 #[test]
 fn packets_of_a_push_are_read(rt: HostRuntime) {
-    assert!(rt; is_read(&CONNECT, Phase::Request));
-    assert!(rt; is_read(&PUT, Phase::Request));
-    assert!(rt; is_read(&PUT_NOTHING, Phase::Request));
-    assert!(rt; is_read(&SUCCESS, Phase::Response));
-    assert!(rt;
-        is_read(
-            &[0xA0, 0x00, 0x07, 0x10, 0x00, 0x00, 0xFF],
-            Phase::ConnectResponse
-        )
-    );
-    assert!(rt; is_read(&[0x85, 0x00, 0x05, 0x02, 0x00], Phase::Request));
+    for (bytes, phase) in rows(&READ) {
+        assert!(rt; is_read(*bytes, *phase));
+    }
+}
+
+/// Whether these are the headers of the PUT.
+fn are_of_put(headers: &mut Headers<'_>) -> bool {
+    matches!(
+        headers.next(),
+        Some(Header {
+            id: 0x01,
+            value: HeaderValue::Text([0x00, 0x61, 0x00, 0x00])
+        })
+    ) && matches!(
+        headers.next(),
+        Some(Header {
+            id: 0xC3,
+            value: HeaderValue::Four(2)
+        })
+    ) && matches!(
+        headers.next(),
+        Some(Header {
+            id: 0x49,
+            value: HeaderValue::Octets(b"hi")
+        })
+    ) && headers.next().is_none()
 }
 
 #[test]
-fn headers_of_a_put_are_given_in_order(rt: HostRuntime) -> Result<(), Fail> {
-    let packet = packet_of(&PUT, Phase::Request, 20)
-        .ok()
-        .ok_or("the octets are a packet")?;
-    assert_eq!(rt; packet.code, 0x82);
-    let mut headers = headers_of(&packet);
-    let name = headers.next().ok_or("a name")?;
-    assert!(rt;
-        name.id == 0x01 && matches!(name.value, HeaderValue::Text([0x00, 0x61, 0x00, 0x00]))
-    );
-    let length = headers.next().ok_or("a length")?;
-    assert!(rt; length.id == 0xC3 && matches!(length.value, HeaderValue::Four(2)));
-    let body = headers.next().ok_or("a body")?;
-    assert!(rt; body.id == 0x49 && matches!(body.value, HeaderValue::Octets(b"hi")));
-    assert!(rt; headers.next().is_none());
-    Ok(())
+fn headers_of_a_put_are_given_in_order(rt: HostRuntime) {
+    let is_right = match packet_of(&PUT, Phase::Request, 20) {
+        Ok(packet) => packet.code == 0x82 && are_of_put(&mut headers_of(&packet)),
+        Err(_) => false,
+    };
+    assert!(rt; is_right);
 }
+
+const NAME: Header<'static> = Header {
+    id: 0x01,
+    value: HeaderValue::Text(&[0x00, 0x61, 0x00, 0x00]),
+};
+
+const LENGTH: Header<'static> = Header {
+    id: 0xC3,
+    value: HeaderValue::Four(2),
+};
 
 #[test]
 fn a_put_is_written(rt: HostRuntime) {
     let mut into = [0u8; 24];
-    let name = Header {
-        id: 0x01,
-        value: HeaderValue::Text(&[0x00, 0x61, 0x00, 0x00]),
-    };
-    let length = Header {
-        id: 0xC3,
-        value: HeaderValue::Four(2),
-    };
     into[18] = b'h';
     into[19] = b'i';
     let at = start_packet(0x82, &[], &mut into);
-    let at = add_header(&name, at, &mut into);
-    let at = add_header(&length, at, &mut into);
+    let at = add_header(&NAME, at, &mut into);
+    let at = add_header(&LENGTH, at, &mut into);
     let at = add_placed(0x49, 2, at, &mut into);
-    assert_eq!(rt; at, 20);
-    assert_eq!(rt; &into[..20], PUT.as_slice());
+    assert!(rt; at == 20 && &into[..20] == PUT.as_slice());
 }
 
 #[test]
 fn the_units_of_a_name(rt: HostRuntime) {
     let mut units = [9u16; 3];
-    assert_eq!(rt;
-        name_units(&[0x00, 0x61, 0x20, 0xAC, 0x00, 0x00], &mut units),
-        Some(2)
-    );
-    assert_eq!(rt; units, [0x61, 0x20AC, 9]);
-    assert_eq!(rt; name_units(&[], &mut units), Some(0));
-    assert_eq!(rt; name_units(&[0x00, 0x61, 0x00, 0x00], &mut []), None);
+    let two = name_units(&[0x00, 0x61, 0x20, 0xAC, 0x00, 0x00], &mut units);
+    assert!(rt; two == Some(2) && units == [0x61, 0x20AC, 9]);
+    assert!(rt; name_units(&[], &mut units) == Some(0));
+    assert!(rt; name_units(&[0x00, 0x61, 0x00, 0x00], &mut []) == None);
 }
 
 fn refusal_of(bytes: &[u8], phase: Phase, maximum: u16) -> Option<ObexRefusal> {
@@ -187,7 +203,7 @@ const REFUSALS: [(&[u8], Phase, u16, ObexRefusal); 15] = [
 #[test]
 fn refusals_come_in_their_order(rt: HostRuntime) {
     for (bytes, phase, maximum, refusal) in rows(&REFUSALS) {
-        assert_eq!(rt; refusal_of(bytes, *phase, *maximum), Some(*refusal));
+        assert!(rt; refusal_of(bytes, *phase, *maximum) == Some(*refusal));
     }
 }
 
@@ -206,12 +222,38 @@ const BODY_FIRST: [u8; 14] = [
 
 const WRONG_LENGTH: [u8; 3] = [0x02, 0x00, 0x04];
 
-fn objects_of(alloc: Global, packets: &[&[u8]]) -> Result<Vec<SpelledObject>, Fail> {
+/// The objects that these packets spell.
+fn objects_of(alloc: Global, packets: &[&[u8]]) -> Option<Vec<SpelledObject>> {
     let mut owned = Vec::new(alloc);
     for packet in packets {
-        owned.push(Vec::from_slice(alloc, packet)?)?;
+        owned.push(Vec::from_slice(alloc, *packet).ok()?).ok()?;
     }
-    Ok(objects_in(alloc, &owned)?)
+    objects_in(alloc, &owned).ok()
+}
+
+/// Whether packets spell so many objects.
+fn spells(alloc: Global, packets: &[&[u8]], count: usize) -> bool {
+    match objects_of(alloc, packets) {
+        Some(objects) => objects.len() == count,
+        None => false,
+    }
+}
+
+/// Whether these are one object, named `a`, with these octets.
+fn is_named_a(objects: &[SpelledObject], octets: &[u8]) -> bool {
+    match objects {
+        [object] => object.name.as_slice() == [0x61].as_slice()
+            && object.octets.as_slice() == octets,
+        _ => false,
+    }
+}
+
+/// Whether packets spell that object.
+fn spells_one(alloc: Global, packets: &[&[u8]], octets: &[u8]) -> bool {
+    match objects_of(alloc, packets) {
+        Some(objects) => is_named_a(&objects, octets),
+        None => false,
+    }
 }
 
 /// Packets that spell one object, and its octets.
@@ -223,21 +265,15 @@ const OBJECTS: [(&[&[u8]], &[u8]); 4] = [
 ];
 
 #[test]
-fn packets_spell_an_object(rt: HostRuntime) -> Result<(), Fail> {
+fn packets_spell_an_object(rt: HostRuntime) {
     for (packets, octets) in rows(&OBJECTS) {
-        let objects = objects_of(rt.alloc(), packets)?;
-        assert_eq!(rt; objects.len(), 1);
-        for object in &objects {
-            assert_eq!(rt; object.name.as_slice(), [0x61].as_slice());
-            assert_eq!(rt; object.octets.as_slice(), *octets);
-        }
+        assert!(rt; spells_one(rt.alloc(), *packets, *octets));
     }
-    assert_eq!(rt; objects_of(rt.alloc(), &[&PUT, &PUT_NOTHING])?.len(), 2);
-    Ok(())
 }
 
-/// Packets that break a rule, and how many objects they spell all the same.
-const BROKEN: [(&[&[u8]], usize); 9] = [
+/// Packets, and how many objects they spell.
+const COUNTED: [(&[&[u8]], usize); 10] = [
+    (&[&PUT, &PUT_NOTHING], 2),
     // a second Name
     (&[&NAMED, &PUT], 0),
     // a body ahead of the Name, in an earlier packet and in the same one
@@ -255,110 +291,113 @@ const BROKEN: [(&[&[u8]], usize); 9] = [
 ];
 
 #[test]
-fn runs_that_break_a_rule_spell_nothing(rt: HostRuntime) -> Result<(), Fail> {
-    for (packets, count) in rows(&BROKEN) {
-        assert_eq!(rt; objects_of(rt.alloc(), packets)?.len(), *count);
+fn runs_that_break_a_rule_spell_nothing(rt: HostRuntime) {
+    for (packets, count) in rows(&COUNTED) {
+        assert!(rt; spells(rt.alloc(), *packets, *count));
     }
-    Ok(())
 }
 
-// A final PUT with a Name of that many units and an empty End of Body.
-fn named(alloc: Global, units: u16) -> Result<Vec<u8>, Fail>
-    requires { units < 1000 }
+/// Whether a final PUT with a Name of so many octets, the two of its end with them, and an empty End of Body spells so many objects.
+fn names_spell(alloc: Global, text: u16, count: usize) -> bool
+    requires { text < 1000 }
 {
-    let text = 2 * (units + 1);
-    let mut packet = Vec::new(alloc);
-    packet.push(0x82)?;
-    packet.extend_from_slice(&(9 + text).to_be_bytes())?;
-    packet.push(0x01)?;
-    packet.extend_from_slice(&(3 + text).to_be_bytes())?;
-    packet.extend_from_slice(&vec![in alloc; 0u8; text as usize]?)?;
-    packet.extend_from_slice(&[0x49, 0x00, 0x03])?;
-    Ok(packet)
+    let mut packet = [0u8; 1012];
+    let size = usize::from(text);
+    packet[0] = 0x82;
+    packet[1..3].copy_from_slice(&(9 + text).to_be_bytes());
+    packet[3] = 0x01;
+    packet[4..6].copy_from_slice(&(3 + text).to_be_bytes());
+    packet[6 + size..9 + size].copy_from_slice(&[0x49, 0x00, 0x03]);
+    spells(alloc, &[&packet[..9 + size]], count)
 }
 
 #[test]
-fn a_name_has_at_most_255_units(rt: HostRuntime) -> Result<(), Fail> {
-    assert_eq!(rt;
-        objects_of(rt.alloc(), &[&named(rt.alloc(), 255)?])?.len(),
-        1
-    );
-    assert_eq!(rt;
-        objects_of(rt.alloc(), &[&named(rt.alloc(), 256)?])?.len(),
-        0
-    );
-    Ok(())
+fn a_name_has_at_most_255_units(rt: HostRuntime) {
+    assert!(rt; names_spell(rt.alloc(), 2 * 255 + 2, 1));
+    assert!(rt; names_spell(rt.alloc(), 2 * 256 + 2, 0));
 }
 
+/// What an assembler makes of a piece: each packet that it gives is to be the next of these; whether they are, and what is refused.
 fn feed(
-    alloc: Global,
     assembler: &mut Assembler,
     piece: &[u8],
-    packets: &mut Vec<Vec<u8>>,
-) -> Result<Option<ObexRefusal>, Fail> {
+    packets: &[&[u8]],
+    given: &mut usize,
+) -> (bool, Option<ObexRefusal>) {
     let mut rest = piece;
-    while !rest.is_empty() {
+    for _ in 0..piece.len() {
         match assembler.take(rest) {
             Assembled::Packet(octets, used) => {
-                packets.push(Vec::from_slice(alloc, octets)?)?;
-                rest = &rest[used..];
+                if packets.get(*given) != Some(&octets) {
+                    return (false, None);
+                }
+                *given = given.saturating_add(1);
+                rest = rest.get(used..).unwrap_or(&[]);
             }
-            Assembled::More => return Ok(None),
-            Assembled::Refused(refusal) => return Ok(Some(refusal)),
+            Assembled::More => return (true, None),
+            Assembled::Refused(refusal) => return (true, Some(refusal)),
+        }
+        if rest.is_empty() {
+            return (true, None);
         }
     }
-    Ok(None)
+    (true, None)
+}
+
+/// Three packets, one behind the other.
+const STREAM: [u8; 30] = [
+    0x80, 0x00, 0x07, 0x10, 0x00, 0x04, 0x00, 0x82, 0x00, 0x14, 0x01, 0x00, 0x07, 0x00, 0x61, 0x00,
+    0x00, 0xC3, 0x00, 0x00, 0x00, 0x02, 0x49, 0x00, 0x05, 0x68, 0x69, 0xA0, 0x00, 0x03,
+];
+
+/// Whether the packets of the stream come out of it in pieces of that size.
+fn gives_all(assembler: &mut Assembler, size: usize) -> bool {
+    let packets: [&[u8]; 3] = [&CONNECT, &PUT, &SUCCESS];
+    let mut given = 0usize;
+    for piece in STREAM.chunks(size.max(1)) {
+        if feed(assembler, piece, &packets, &mut given) != (true, None) {
+            return false;
+        }
+    }
+    given == 3
+}
+
+/// The same of a new assembler.
+fn new_gives_all(alloc: Global, size: usize) -> bool {
+    match Assembler::new(alloc, 20) {
+        Ok(mut assembler) => gives_all(&mut assembler, size),
+        Err(_) => false,
+    }
 }
 
 #[test]
-fn any_pieces_give_the_packets_of_the_stream(rt: HostRuntime) -> Result<(), Fail> {
-    let mut stream = Vec::new(rt.alloc());
-    stream.extend_from_slice(&CONNECT)?;
-    stream.extend_from_slice(&PUT)?;
-    stream.extend_from_slice(&SUCCESS)?;
-    for size in [1usize, 2, 3, 7, 30] {
-        let mut assembler = Assembler::new(rt.alloc(), 20)?;
-        let mut packets = Vec::new(rt.alloc());
-        for piece in stream.chunks(size) {
-            assert_eq!(rt;
-                feed(rt.alloc(), &mut assembler, piece, &mut packets)?,
-                None
-            );
-        }
-        assert_eq!(rt; packets.len(), 3);
-        assert_eq!(rt; packets[0].as_slice(), CONNECT.as_slice());
-        assert_eq!(rt; packets[1].as_slice(), PUT.as_slice());
-        assert_eq!(rt; packets[2].as_slice(), SUCCESS.as_slice());
+fn any_pieces_give_the_packets_of_the_stream(rt: HostRuntime) {
+    for size in rows(&[1usize, 2, 3, 7, 30]) {
+        assert!(rt; new_gives_all(rt.alloc(), *size));
     }
-    Ok(())
+}
+
+/// What is refused of a piece in which no packet is whole.
+fn refused_of(assembler: &mut Assembler, piece: &[u8]) -> Option<ObexRefusal> {
+    let mut given = 0usize;
+    feed(assembler, piece, &[], &mut given).1
+}
+
+/// Whether an assembler refuses for good until it is reset, and gives one packet then.
+fn refuses_for_good(assembler: &mut Assembler) -> bool {
+    let is_refused = refused_of(assembler, &PUT) == Some(ObexRefusal::AboveMaximum)
+        && refused_of(assembler, &SUCCESS) == Some(ObexRefusal::AboveMaximum);
+    assembler.reset();
+    let mut given = 0usize;
+    is_refused
+        && feed(assembler, &SUCCESS, &[&SUCCESS], &mut given) == (true, None)
+        && given == 1
+        && refused_of(assembler, &[0xA0, 0x00, 0x02]) == Some(ObexRefusal::BadLength)
 }
 
 #[test]
 fn an_assembler_refuses_for_good_until_it_is_reset(rt: HostRuntime) -> Result<(), Fail> {
-    let mut packets = Vec::new(rt.alloc());
     let mut assembler = Assembler::new(rt.alloc(), 19)?;
-    assert_eq!(rt;
-        feed(rt.alloc(), &mut assembler, &PUT, &mut packets)?,
-        Some(ObexRefusal::AboveMaximum)
-    );
-    assert_eq!(rt;
-        feed(rt.alloc(), &mut assembler, &SUCCESS, &mut packets)?,
-        Some(ObexRefusal::AboveMaximum)
-    );
-    assembler.reset();
-    assert_eq!(rt;
-        feed(rt.alloc(), &mut assembler, &SUCCESS, &mut packets)?,
-        None
-    );
-    assert_eq!(rt; packets.len(), 1);
-    assert_eq!(rt;
-        feed(
-            rt.alloc(),
-            &mut assembler,
-            &[0xA0, 0x00, 0x02],
-            &mut packets
-        )?,
-        Some(ObexRefusal::BadLength)
-    );
+    assert!(rt; refuses_for_good(&mut assembler));
     Ok(())
 }

@@ -16,9 +16,9 @@ const OPENING: [u8; 4] = [0x4B, 0x3F, 0x01, 0x32];
 
 #[test]
 fn heads_and_their_check_words(rt: HostRuntime) {
-    assert_eq!(rt; fcs8(&[0x03, 0x3F, 0x01]), 0x1C);
-    assert_eq!(rt; fcs8(&[0x03, 0x73, 0x01]), 0xD7);
-    assert_eq!(rt; fcs8(&[0x03, 0xEF]), 0x70);
+    assert!(rt; fcs8(&[0x03, 0x3F, 0x01]) == 0x1C);
+    assert!(rt; fcs8(&[0x03, 0x73, 0x01]) == 0xD7);
+    assert!(rt; fcs8(&[0x03, 0xEF]) == 0x70);
 }
 
 /// Octets, and why they are no frame.
@@ -61,23 +61,39 @@ fn put_frame_again(octets: &[u8], into: &mut [u8]) -> usize
     }
 }
 
+/// Frames, and how they are written again.
+const AGAIN: [(&[u8], &[u8]); 4] = [
+    (&ASKED, &ASKED),
+    (&GRANTED, &GRANTED),
+    (&OPENING, &OPENING),
+    // A small length in two octets is read, and is written in one.
+    (
+        &[0x03, 0xEF, 0x04, 0x00, 0xAA, 0xBB, 0x70],
+        &[0x03, 0xEF, 0x05, 0xAA, 0xBB, 0x70],
+    ),
+];
+
+/// Whether these octets stand at the front of what was written to, and nothing behind them.
+fn is_written(into: &[u8], end: usize, written: &[u8]) -> bool {
+    end == written.len()
+        && into.get(..end) == Some(written)
+        && into.iter().skip(end).all(|octet| *octet == 0xEE)
+}
+
+/// Whether a frame of at most 16 octets is written again so.
+fn is_frame_again(read: &[u8], written: &[u8]) -> bool {
+    let mut into = [0xEE; 16];
+    read.len() <= 16
+        && {
+            let end = put_frame_again(read, &mut into);
+            is_written(&into, end, written)
+        }
+}
+
 #[test]
 fn frames_written_again(rt: HostRuntime) {
-    let cases: [(&[u8], &[u8]); 4] = [
-        (&ASKED, &ASKED),
-        (&GRANTED, &GRANTED),
-        (&OPENING, &OPENING),
-        // A small length in two octets is read, and is written in one.
-        (
-            &[0x03, 0xEF, 0x04, 0x00, 0xAA, 0xBB, 0x70],
-            &[0x03, 0xEF, 0x05, 0xAA, 0xBB, 0x70],
-        ),
-    ];
-    for (read, written) in cases {
-        let mut into = [0xEE; 16];
-        let end = put_frame_again(read, &mut into);
-        assert_eq!(rt; &into[..end], written);
-        assert_eq!(rt; &into[end..], &[0xEE; 16][end..]);
+    for (read, written) in rows(&AGAIN) {
+        assert!(rt; is_frame_again(*read, *written));
     }
 }
 
@@ -88,32 +104,30 @@ fn long_information(rt: HostRuntime) {
     octets[..4].copy_from_slice(&[0x03, 0xEF, 0x90, 0x01]);
     octets[204] = 0x70;
     let mut into = [0xEE; 205];
-    assert_eq!(rt; put_frame_again(&octets, &mut into), 205);
-    assert_eq!(rt; &into, &octets);
+    assert!(rt; put_frame_again(&octets, &mut into) == 205 && &into == &octets);
+}
+
+/// A frame of channel 18 that grants seven credits.
+const GRANTING: MuxFrame<'static> = MuxFrame {
+    dlci: 18,
+    cr: true,
+    kind: MuxKind::Uih,
+    pf: true,
+    credits: Some(7),
+    octets: &[0xAA],
+};
+
+/// Whether a frame of a channel that no service has is read.
+fn is_read(address: u8) -> bool {
+    frame_of(&[address, 0x2F, 0x01, fcs8(&[address, 0x2F, 0x01])]).is_ok()
 }
 
 #[test]
 fn credits_and_channels(rt: HostRuntime) {
     // A credit octet is in neither the length nor the check word.
     let granting: [u8; 6] = [0x4B, 0xFF, 0x03, 0x07, 0xAA, fcs8(&[0x4B, 0xFF])];
-    match frame_of(&granting) {
-        Ok(
-            MuxFrame {
-                dlci: 18,
-                cr: true,
-                kind: MuxKind::Uih,
-                pf: true,
-                credits: Some(7),
-                octets: [0xAA],
-            },
-        ) => {}
-        _ => panic!(rt; "a frame with credits"),
-    }
-    // Channels that no service has are read.
-    for address in [0x05, 0xF9, 0xFD] {
-        let octets = [address, 0x2F, 0x01, fcs8(&[address, 0x2F, 0x01])];
-        assert!(rt; frame_of(&octets).is_ok());
-    }
+    assert!(rt; frame_of(&granting) == Ok(GRANTING));
+    assert!(rt; is_read(0x05) && is_read(0xF9) && is_read(0xFD));
 }
 
 /// Octets of the information of the control channel, with one octet more behind them.
@@ -121,26 +135,21 @@ const PARAMETERS: [u8; 11] = [
     0x83, 0x11, 0x12, 0xF0, 0x00, 0x00, 0x7F, 0x00, 0x00, 0x07, 0xEE,
 ];
 
+/// What they are.
+const ASKED_FOR: Control<'static> = Control::Pn {
+    command: true,
+    dlci: 18,
+    flow: 0xF0,
+    priority: 0,
+    timer: 0,
+    frame: 127,
+    retransmissions: 0,
+    credits: 7,
+};
+
 #[test]
 fn parameters_of_a_channel(rt: HostRuntime) {
-    match control_of(&PARAMETERS) {
-        Ok(
-            (
-                Control::Pn {
-                    command: true,
-                    dlci: 18,
-                    flow: 0xF0,
-                    priority: 0,
-                    timer: 0,
-                    frame: 127,
-                    retransmissions: 0,
-                    credits: 7,
-                },
-                10,
-            ),
-        ) => {}
-        _ => panic!(rt; "a PN command"),
-    }
+    assert!(rt; control_of(&PARAMETERS) == Ok((ASKED_FOR, 10)));
 }
 
 /// Octets, and why no control message stands at their front.
@@ -180,25 +189,34 @@ fn put_control_again(octets: &[u8], into: &mut [u8]) -> usize
     }
 }
 
+/// Control messages that are written again as they are.
+const MESSAGES: [&[u8]; 10] = [
+    &[0x83, 0x11, 0x12, 0xF0, 0x00, 0x00, 0x7F, 0x00, 0x00, 0x07],
+    &[0x81, 0x11, 0x12, 0xE0, 0x00, 0x00, 0xFF, 0x7F, 0x00, 0x07],
+    &[0xE3, 0x05, 0x4B, 0x8D],
+    &[0xE1, 0x05, 0x4B, 0x8D],
+    &[0x23, 0x07, 1, 2, 3],
+    &[0x93, 0x03, 0x4B],
+    &[0x91, 0x11, 0x4B, 0x03, 0x03, 0, 0x11, 0x13, 0x7F, 0x3F],
+    &[0x53, 0x05, 0x4B, 0x01],
+    &[0x11, 0x03, 0x63],
+    // With the C/R bit, NSC is a type that has no meaning.
+    &[0x13, 0x03, 0x63],
+];
+
+/// Whether a message of at most 12 octets is written again as it is.
+fn is_message_again(octets: &[u8]) -> bool {
+    let mut into = [0xEE; 12];
+    octets.len() <= 12
+        && {
+            let end = put_control_again(octets, &mut into);
+            is_written(&into, end, octets)
+        }
+}
+
 #[test]
 fn control_messages_written_again(rt: HostRuntime) {
-    let cases: [&[u8]; 10] = [
-        &PARAMETERS[..10],
-        &[0x81, 0x11, 0x12, 0xE0, 0x00, 0x00, 0xFF, 0x7F, 0x00, 0x07],
-        &[0xE3, 0x05, 0x4B, 0x8D],
-        &[0xE1, 0x05, 0x4B, 0x8D],
-        &[0x23, 0x07, 1, 2, 3],
-        &[0x93, 0x03, 0x4B],
-        &[0x91, 0x11, 0x4B, 0x03, 0x03, 0, 0x11, 0x13, 0x7F, 0x3F],
-        &[0x53, 0x05, 0x4B, 0x01],
-        &[0x11, 0x03, 0x63],
-        // With the C/R bit, NSC is a type that has no meaning.
-        &[0x13, 0x03, 0x63],
-    ];
-    for octets in cases {
-        let mut into = [0xEE; 12];
-        let end = put_control_again(octets, &mut into);
-        assert_eq!(rt; &into[..end], octets);
-        assert_eq!(rt; &into[end..], &[0xEE; 12][end..]);
+    for octets in rows(&MESSAGES) {
+        assert!(rt; is_message_again(*octets));
     }
 }

@@ -53,14 +53,23 @@ const PARTS: [(&[u8], &[u8], Found); 3] = [
     ),
 ];
 
+/// Whether a query asks and finds as the rows say, and asks each thing once.
+fn is_joined(query: &mut Query) -> bool {
+    for (request, reply, found) in rows(&PARTS) {
+        if !is_asked(query, *request)
+            || is_asked(query, *request)
+            || query.on_reply(*reply) != *found
+        {
+            return false;
+        }
+    }
+    true
+}
+
 #[test]
 fn an_answer_in_parts_is_joined(rt: HostRuntime) {
     let mut query = Query::new(rt.alloc()).expect(&rt, "a query");
-    for (request, reply, found) in rows(&PARTS) {
-        assert!(rt; is_asked(&mut query, request));
-        assert!(rt; !is_asked(&mut query, request));
-        assert_eq!(rt; query.on_reply(reply), *found);
-    }
+    assert!(rt; is_joined(&mut query));
 }
 
 const WHOLE_REPLY: [u8; 40] = [
@@ -69,20 +78,30 @@ const WHOLE_REPLY: [u8; 40] = [
     0x08, 0x09, 0x02, 0x00, 0x09, 0x10, 0x01, 0x00,
 ];
 
+const WRONG: Found = Found::Refused(QueryReason::WrongTransaction);
+
+/// A reply to another request.
+const OTHER_REPLY: [u8; 7] = [0x01, 0x00, 0x02, 0x00, 0x02, 0x00, 0x04];
+
+/// Whether replies that are none to what was asked change nothing.
+fn asks_on(query: &mut Query) -> bool {
+    query.on_reply(&WHOLE_REPLY) == WRONG
+        && is_asked(query, &FIRST_REQUEST)
+        && query.on_reply(&OTHER_REPLY) == WRONG
+}
+
+/// Whether what is asked again is found, and asked no more then.
+fn finds_once(query: &mut Query) -> bool {
+    query.resend();
+    let is_found = is_asked(query, &FIRST_REQUEST) && query.on_reply(&WHOLE_REPLY) == SERVED;
+    query.resend();
+    is_found && !is_asked(query, &FIRST_REQUEST) && query.on_reply(&WHOLE_REPLY) == WRONG
+}
+
 #[test]
 fn a_reply_to_another_request_changes_nothing(rt: HostRuntime) {
-    let wrong = Found::Refused(QueryReason::WrongTransaction);
     let mut query = Query::new(rt.alloc()).expect(&rt, "a query");
-    assert_eq!(rt; query.on_reply(&WHOLE_REPLY), wrong);
-    assert!(rt; is_asked(&mut query, &FIRST_REQUEST));
-    let other = [0x01, 0x00, 0x02, 0x00, 0x02, 0x00, 0x04];
-    assert_eq!(rt; query.on_reply(&other), wrong);
-    query.resend();
-    assert!(rt; is_asked(&mut query, &FIRST_REQUEST));
-    assert_eq!(rt; query.on_reply(&WHOLE_REPLY), SERVED);
-    query.resend();
-    assert!(rt; !is_asked(&mut query, &FIRST_REQUEST));
-    assert_eq!(rt; query.on_reply(&WHOLE_REPLY), wrong);
+    assert!(rt; asks_on(&mut query) && finds_once(&mut query));
 }
 
 /// Replies that end a query.
@@ -122,28 +141,43 @@ const REFUSALS: [(&[u8], QueryReason); 8] = [
     ),
 ];
 
+/// Whether a query that begins anew ends for good with that reply.
+fn is_refused(query: &mut Query, reply: &[u8], reason: QueryReason) -> bool {
+    query.reset();
+    is_asked(query, &FIRST_REQUEST)
+        && query.on_reply(reply) == Found::Refused(reason)
+        && query.on_reply(&WHOLE_REPLY) == Found::Refused(reason)
+        && !is_asked(query, &FIRST_REQUEST)
+}
+
+/// Whether each reply of the rows ends it.
+fn all_are_refused(query: &mut Query) -> bool {
+    for (reply, reason) in rows(&REFUSALS) {
+        if !is_refused(query, *reply, *reason) {
+            return false;
+        }
+    }
+    true
+}
+
 #[test]
 fn refusals_are_for_good(rt: HostRuntime) {
     let mut query = Query::new(rt.alloc()).expect(&rt, "a query");
-    for (reply, reason) in rows(&REFUSALS) {
-        query.reset();
-        assert!(rt; is_asked(&mut query, &FIRST_REQUEST));
-        assert_eq!(rt; query.on_reply(reply), Found::Refused(*reason));
-        assert_eq!(rt; query.on_reply(&WHOLE_REPLY), Found::Refused(*reason));
-        assert!(rt; !is_asked(&mut query, &FIRST_REQUEST));
-    }
+    assert!(rt; all_are_refused(&mut query));
+}
+
+/// Whether an answer of 4097 octets is refused.
+fn finds_too_much(query: &mut Query) -> bool {
+    let mut reply = [0; 4105];
+    reply[..7].copy_from_slice(&[0x07, 0x00, 0x01, 0x10, 0x04, 0x10, 0x01]);
+    is_asked(query, &FIRST_REQUEST)
+        && query.on_reply(&reply) == Found::Refused(QueryReason::TooLong)
 }
 
 #[test]
 fn an_answer_of_4097_octets_is_too_long(rt: HostRuntime) {
     let mut query = Query::new(rt.alloc()).expect(&rt, "a query");
-    let mut reply = [0; 4105];
-    reply[..7].copy_from_slice(&[0x07, 0x00, 0x01, 0x10, 0x04, 0x10, 0x01]);
-    assert!(rt; is_asked(&mut query, &FIRST_REQUEST));
-    assert_eq!(rt;
-        query.on_reply(&reply),
-        Found::Refused(QueryReason::TooLong)
-    );
+    assert!(rt; finds_too_much(&mut query));
 }
 
 /// What a query finds in a whole answer of at most 48 octets.
@@ -217,6 +251,6 @@ const WAYS: [(&[u8], Found); 7] = [
 #[test]
 fn the_first_way_that_is_named_counts(rt: HostRuntime) {
     for (answer, found) in rows(&WAYS) {
-        assert_eq!(rt; found_of(rt.alloc(), answer), Some(*found));
+        assert!(rt; found_of(rt.alloc(), answer) == Some(*found));
     }
 }

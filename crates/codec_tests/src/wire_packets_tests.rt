@@ -1,3 +1,4 @@
+use crate::tables::rows;
 use bt_base::NoMemory;
 use std::alloc::Global;
 use std::test::*;
@@ -58,52 +59,47 @@ const ROWS: [Row; 4] = [
     },
 ];
 
+/// Whether octets are read as a packet.
+fn is_read(octets: &[u8], packet: &WirePacket<'_>) -> bool {
+    match packet_of(octets) {
+        Ok(read) => {
+            read.seq == packet.seq
+                && read.ack == packet.ack
+                && read.reliable == packet.reliable
+                && read.kind == packet.kind
+                && read.payload == packet.payload
+        }
+        Err(_) => false,
+    }
+}
+
 #[test]
 fn packets_both_ways(rt: HostRuntime) {
     let mut octets = [0u8; 16];
     let mut line = [0u8; 16];
     for row in &ROWS {
         let count = put_packet(&row.packet, &mut octets);
-        assert_eq!(rt; &octets[..count], row.octets);
-        let count = put_slip(row.octets, &mut line);
-        assert_eq!(rt; &line[..count], row.line);
-        let Ok(read) = packet_of(row.octets) else {
-            assert!(rt; false, "a packet is refused");
-            return;
-        };
-        assert!(rt; read.seq == row.packet.seq && read.ack == row.packet.ack);
-        assert!(rt; read.reliable == row.packet.reliable && read.kind == row.packet.kind);
-        assert_eq!(rt; read.payload, row.packet.payload);
+        let size = put_slip(row.octets, &mut line);
+        assert!(rt; octets.get(..count) == Some(row.octets));
+        assert!(rt; line.get(..size) == Some(row.line));
+        assert!(rt; is_read(row.octets, &row.packet));
     }
 }
 
+/// Octets that are no packet, and why.
+const REFUSALS: [(&[u8], WireRefusal); 5] = [
+    (&[0x00, 0xFF, 0x00], WireRefusal::Short),
+    (&[0x48, 0x00, 0x00, 0xF7], WireRefusal::BadChecksum),
+    (&[0x48, 0x10, 0x00, 0xA7], WireRefusal::Checked),
+    (&[0x08, 0x15, 0x00, 0xE2], WireRefusal::BadLength),
+    (&[0x08, 0x05, 0x00, 0xF2], WireRefusal::BadKind),
+];
+
 #[test]
 fn refusals(rt: HostRuntime) {
-    assert!(rt; matches!(packet_of(&[0x00, 0xFF, 0x00]), Err(WireRefusal::Short)));
-    assert!(rt;
-        matches!(
-            packet_of(&[0x48, 0x00, 0x00, 0xF7]),
-            Err(WireRefusal::BadChecksum)
-        )
-    );
-    assert!(rt;
-        matches!(
-            packet_of(&[0x48, 0x10, 0x00, 0xA7]),
-            Err(WireRefusal::Checked)
-        )
-    );
-    assert!(rt;
-        matches!(
-            packet_of(&[0x08, 0x15, 0x00, 0xE2]),
-            Err(WireRefusal::BadLength)
-        )
-    );
-    assert!(rt;
-        matches!(
-            packet_of(&[0x08, 0x05, 0x00, 0xF2]),
-            Err(WireRefusal::BadKind)
-        )
-    );
+    for (octets, refusal) in rows(&REFUSALS) {
+        assert!(rt; matches!(packet_of(*octets), Err(found) if found == *refusal));
+    }
 }
 
 /// Counts what a decoder makes of a line in pieces of so many octets: the octets of packets, wrong

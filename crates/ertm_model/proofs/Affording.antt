@@ -257,14 +257,14 @@ again_same NoPoll frame = refl
 again_same Due frame = refl
 again_same Waits frame = refl
 
-still_ready : (window : ℕ) (put : List Segment) (given reach number : ℕ) (frame : PlainFrame) (busy : Bool) → MayFly window put given reach number frame → busy ≡ false → busy_after frame busy ≡ false
+pub still_ready : (window : ℕ) (put : List Segment) (given reach number : ℕ) (frame : PlainFrame) (busy : Bool) → MayFly window put given reach number frame → busy ≡ false → busy_after frame busy ≡ false
 still_ready window put given reach number (information tx final req sar total octets) busy may is = is
 still_ready window put given reach number (supervisory Rr poll final req) busy may is = refl
 still_ready window put given reach number (supervisory Rej poll final req) busy may is = refl
 still_ready window put given reach number (supervisory Rnr poll final req) busy may is = elim may [ inl e ↦ cc | inr e ↦ cc ]
 still_ready window put given reach number (supervisory Srej poll final req) busy may is = is
 
-placed_for : (x y : End) (number : ℕ) (frame : PlainFrame) (h : Stands x y) → MayFly x.machine.agreed.send_window x.put (h.there.a + length x.machine.sender.unacked) (length y.got) number frame → IsPlaced number y.got y.machine frame
+pub placed_for : (x y : End) (number : ℕ) (frame : PlainFrame) (h : Stands x y) → MayFly x.machine.agreed.send_window x.put (h.there.a + length x.machine.sender.unacked) (length y.got) number frame → IsPlaced number y.got y.machine frame
 placed_for x y number (information tx final req sar total octets) h may = place-at x y number tx req sar total final octets h may
 placed_for x y number (supervisory kind poll final req) h may = tt
 

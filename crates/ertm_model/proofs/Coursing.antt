@@ -88,7 +88,7 @@ gives_tells m (New segment behind) frames passages up small (free, none, is, roo
 }
 
 -- what it gives changes neither what was agreed on nor whether it is closed
-giving_keeps : (m : Ertm) (g : Giving) → ((after_giving g m).agreed ≡ m.agreed) × ((after_giving g m).closed ≡ m.closed)
+pub giving_keeps : (m : Ertm) (g : Giving) → ((after_giving g m).agreed ≡ m.agreed) × ((after_giving g m).closed ≡ m.closed)
 giving_keeps m PollAnswer = (refl, refl)
 giving_keeps m Acknowledgement = (refl, refl)
 giving_keeps m Rejection = (refl, refl)
@@ -234,11 +234,11 @@ listed_is (Some octets) = refl
 brought_is : (frame : PlainFrame) (m : Ertm) → (heard frame m).closed ≡ None → brought (answer_to frame m) ≡ listed (sdu_in frame m)
 brought_is frame m open_ = ap (λ (o : Option ErtmReason). brought (answer_by o frame m)) open_ ∙ listed_is (sdu_in frame m)
 
-heard_agreed_by : (cause : Option ErtmReason) (frame : PlainFrame) (m : Ertm) → (heard_by cause frame m).agreed ≡ m.agreed
+pub heard_agreed_by : (cause : Option ErtmReason) (frame : PlainFrame) (m : Ertm) → (heard_by cause frame m).agreed ≡ m.agreed
 heard_agreed_by None frame m = refl
 heard_agreed_by (Some cause) frame m = refl
 
-heard_agreed : (shut : Option ErtmReason) (frame : PlainFrame) (m : Ertm) → (open_heard shut frame m).agreed ≡ m.agreed
+pub heard_agreed : (shut : Option ErtmReason) (frame : PlainFrame) (m : Ertm) → (open_heard shut frame m).agreed ≡ m.agreed
 heard_agreed None frame m = heard_agreed_by (fault frame m) frame m
 heard_agreed (Some shut) frame m = refl
 

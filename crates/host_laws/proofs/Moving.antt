@@ -457,3 +457,7 @@ own_talk_moves policy list calm quiet = all_moved (moved list) (run_of policy li
 -- and where nothing waits to be given, no SDU of a channel in basic mode waits
 pub quiet-none_waits : (policy : Policy) (list : List Occurrence) → IsCalm policy no_channels list → IsQuiet (run_of policy list).value → NoPlain (run_of policy list).value
 quiet-none_waits policy list calm quiet = (quiet_so (moved list) (run_of policy list).said (run_of policy list).value (all_seen policy list calm) quiet).plain
+
+-- nor has any channel something to give
+pub quiet-silent : (policy : Policy) (list : List Occurrence) → IsCalm policy no_channels list → IsQuiet (run_of policy list).value → find gives (run_of policy list).value.held ≡ None
+quiet-silent policy list calm quiet = (quiet_so (moved list) (run_of policy list).said (run_of policy list).value (all_seen policy list calm) quiet).silent

@@ -11,7 +11,6 @@ ghost use Rattle.host_link.specs.Stands.{Says};
 use crate::host_command::{HostCommand, LONGEST_COMMAND};
 use crate::host_link::{HostLink, LONGEST_PACKET, ROOM};
 use bt_base::Handle;
-use h4_framing::{Unit, write_unit};
 use hci_packets::Boundary;
 
 /// The first word of a packet on a handle, to one device (Core 5.1, Volume 2 Part E, 5.4.2).
@@ -36,13 +35,10 @@ fn write_piece(out: &mut Vec<u8>, handle: Handle, boundary: Boundary, octets: &[
     ensures handle { IsHandle handle }
     ensures capacity { vec_capacity out.old ≤ vec_capacity out.new }
 {
-    let mut packet = [0; LONGEST_PACKET];
-    let unit = Unit::Acl {
-        word: word_of(handle, boundary),
-        octets,
-    };
-    let end = write_unit(&unit, &mut packet);
-    let _room_was_reserved = out.extend_from_slice(&packet[..end]);
+    let [low, high] = word_of(handle, boundary).to_le_bytes();
+    let [short, long] = (octets.len() as u16).to_le_bytes();
+    let _room_was_reserved = out.extend_from_slice(&[2, low, high, short, long]);
+    let _room_was_reserved = out.extend_from_slice(octets);
 }
 
 /// Writes the packet of a command behind the octets of `out`.

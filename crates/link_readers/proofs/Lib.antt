@@ -6,3 +6,4 @@ pub mod Speaking
 pub mod Streaming
 pub mod Turns
 pub mod Spelling
+pub mod Quiet

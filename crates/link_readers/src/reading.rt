@@ -7,7 +7,7 @@ ghost use Rattle.link_readers.specs.Lent.{plain_saying, plain_sayings, plain_rea
 use crate::Saying;
 use crate::entries::{Entry, hear_all};
 use crate::meaning::Requests;
-use crate::sensing::sense_in;
+use crate::sensing::{Sense, sense_in};
 use bt_base::NoMemory;
 use std::alloc::Global;
 
@@ -28,11 +28,15 @@ impl<'a> Reading<'a> {
         }
     }
 
-    /// One saying more. `NoMemory` is answered for want of memory alone.
+    /// One saying more: one that is no command of channels, as nearly all are, changes nothing. `NoMemory`
+    /// is answered for want of memory alone.
     pub fn hear(&mut self, alloc: Global, saying: &Saying<'a>) -> Result<(), NoMemory>
         ensures { OnOk result (plain_reading self.new ≡ read_on (plain_reading self.old) (plain_saying saying.now)) }
     {
         let sense = sense_in(saying);
+        if let Sense::Quiet = sense {
+            return Ok(());
+        }
         let more = self.requests.meant(&sense);
         self.requests.hear(&sense)?;
         hear_all(alloc, &mut self.entries, &more)

@@ -20,11 +20,11 @@ rises_last a b c ab bc (inr most) = grind (arith, ab, bc, most)
 pub rises_none : (a b : ℕ) → a ≤ b → HasRisenBy 0 a b
 rises_none a b stays = inl (omega (arith, stays))
 
-rises_once : (a b : ℕ) → a ≤ b → HasRisen a b → HasRisenBy 1 a b
+pub rises_once : (a b : ℕ) → a ≤ b → HasRisen a b → HasRisenBy 1 a b
 rises_once a b stays (inl less) = inl (omega (arith, less))
 rises_once a b stays (inr most) = inr (omega (arith, stays, most))
 
-rises_both : (m n a b c : ℕ) → b ≤ c → HasRisenBy m a b → HasRisenBy n b c → HasRisenBy (m + n) a c
+pub rises_both : (m n a b c : ℕ) → b ≤ c → HasRisenBy m a b → HasRisenBy n b c → HasRisenBy (m + n) a c
 rises_both m n a b c stays (inl one) (inl two) = inl (omega (arith, one, two))
 rises_both m n a b c stays (inr most) two = inr (omega (arith, stays, most))
 rises_both m n a b c stays (inl one) (inr most) = inr most

@@ -95,7 +95,39 @@ fn is_alone(
     Ok(true)
 }
 
-/// The channel that alone has objects, or one of those without any. There is none where several have objects.
+/// The endpoint of the channel that most likely has the objects: the first of Object Push, or else the first of
+/// RFCOMM. There is none where there is no such channel.
+fn likely_own(entries: &[Entry]) -> Option<u16> {
+    let mut likely = None;
+    for entry in entries {
+        if entry.channel.psm == OBJECT_PUSH {
+            return Some(entry.channel.own);
+        }
+        if entry.channel.psm == RFCOMM && likely.is_none() {
+            likely = Some(entry.channel.own);
+        }
+    }
+    likely
+}
+
+/// The first channel with that endpoint, if no other has objects.
+fn alone_with<'e>(
+    alloc: Global,
+    party: &Party,
+    own: u16,
+    entries: &'e [Entry],
+    said: &[Saying<'_>],
+) -> Result<Option<&'e Entry>, NoMemory>
+    ensures { IfOk result (λ sole. IfSome sole (λ entry. IsSole party.now (plain_sayings said.now) (plain_entries entries.now) (plain_entry entry.now))) }
+{
+    if is_alone(alloc, party, own, entries, said)? {
+        return Ok(channel_with(entries, own));
+    }
+    Ok(None)
+}
+
+/// The channel that alone has objects, or one of those without any. There is none where several have objects. The
+/// likely channel comes first, so that each channel of most links is read once.
 fn sole_channel<'e>(
     alloc: Global,
     party: &Party,
@@ -104,12 +136,14 @@ fn sole_channel<'e>(
 ) -> Result<Option<&'e Entry>, NoMemory>
     ensures { IfOk result (λ sole. IfSome sole (λ entry. IsSole party.now (plain_sayings said.now) (plain_entries entries.now) (plain_entry entry.now))) }
 {
+    if let Some(own) = likely_own(entries)
+        && let Some(sole) = alone_with(alloc, party, own, entries, said)?
+    {
+        return Ok(Some(sole));
+    }
     for entry in entries {
-        let own = entry.channel.own;
-        if is_alone(alloc, party, own, entries, said)? {
-            if let Some(sole) = channel_with(entries, own) {
-                return Ok(Some(sole));
-            }
+        if let Some(sole) = alone_with(alloc, party, entry.channel.own, entries, said)? {
+            return Ok(Some(sole));
         }
     }
     Ok(None)

@@ -12,6 +12,10 @@ use Rattle.object_push.specs.Pushing.{IsShort}
 pub still : (count count' : ℕ) (answer : Type 0) → IsAnswered count count' answer → (answer → ⊥) → count' ≡ count
 still count count' answer is not = elim (cases_lt count count') [ inl lt ↦ absurd (not (is.only lt)) | inr ge ↦ omega (arith, is.stays) ]
 
+-- and so it is answered whatever comes
+pub unanswered : (count count' : ℕ) (answer other : Type 0) → IsAnswered count count' answer → (answer → ⊥) → IsAnswered count count' other
+unanswered count count' answer other is not = record { stays = is.stays; only = λ lt. absurd (not (is.only lt)) }
+
 -- the first value of a count is not the last one
 never_risen : HasRisen 0 0 → ⊥
 never_risen (inl lt) = omega (arith, lt)

@@ -55,6 +55,7 @@ broken_at_end scenario shelf before after trace trace' outcomes peaks counts cou
       happenings = ran.happenings;
       world = ran.world;
       happened = ran.happened;
+      able = played.able;
       next = ran.ends;
       few = subst (λ (es : List Entry). length es ≤ 1) (sym played.ends) (few_last ((client_of scenario).outcome ran.world.a.upper) ran.world.pushes);
       ran = record { happenings = ran.happenings; world = ran.world; happened = ran.happened; ends = ran.ends; last = ran.last; capture_is = refl };

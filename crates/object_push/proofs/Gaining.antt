@@ -34,7 +34,7 @@ counted before heard kept (Some after) gains stored =
 -- from an inbox that held that
 pub comes_from : (law : PlaysGain) (scenario : Scenario) (before : List Object) (old new : Ports) (result : Status) → old.inbox.content ≡ holding before → scenario.settings.transport ≡ L2cap → Runs scenario old new result
     → ComesTo law.asks scenario before old new result
-comes_from law scenario before old new result held direct (RanToEnd outcomes kept peaks played gains reports) =
+comes_from law scenario before old new result held direct (RanToEnd outcomes kept peaks played gains faults reports) =
     let over : IsPlayed scenario old.shelf.content (holding before) new.inbox.content old.trace.content new.trace.content outcomes peaks (counts_in old.inbox) (counts_in new.inbox) =
     subst (λ (c : Option Contents). IsPlayed scenario old.shelf.content c new.inbox.content old.trace.content new.trace.content outcomes peaks (counts_in old.inbox) (counts_in new.inbox)) held played in
     let so = law.plays scenario old.shelf.content before new.inbox.content old.trace.content new.trace.content outcomes peaks (counts_in old.inbox) (counts_in new.inbox) over direct in

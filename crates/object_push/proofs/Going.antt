@@ -4,10 +4,12 @@ use Rattle.std.specs.Prelude.{IsErrOf, is_ok, IfErr, IfOk}
 use Rattle.bt_base.specs.Counts.{HasRisen}
 use Rattle.bt_base.specs.Objects.{Contents}
 use Rattle.h4_view.specs.View.{IsAnswered}
+use Rattle.obex_session.specs.Counting.{HasRisenBy}
 use Rattle.push_script.specs.declared.scenario.Scenario.{Scenario}
 use Rattle.radio_world.specs.declared.fault.WorldFault.{WorldFault}
 use Rattle.radio_world.specs.declared.fault.WorldFault.TheVariants.{TraceFault, NoMemory}
 use Rattle.scenario_play.specs.Breaking.{IsBroken}
+use Rattle.scenario_play.specs.Failing.{shelf_faults}
 use Rattle.scenario_play.specs.Playing.{IsPlayed}
 use Rattle.watched_ports.specs.Gains.{Keeps}
 use Rattle.watched_ports.specs.Pasts.{ShelfPast, InboxPast, IsShelf, IsInbox}
@@ -23,6 +25,7 @@ pub record Watched (scenario : Scenario) (old new : Lent) (of_shelf : ShelfPast)
   pub plays : IfOk result (λ ended. IsPlayed scenario old.shelf.content old.inbox.content new.inbox.content old.trace.content new.trace.content ended.played.outcomes.items ended.played.peaks (counts_in old.inbox) (counts_in new.inbox))
   pub each : IfOk result (λ ended. length ended.played.outcomes.items ≡ length scenario.names)
   pub kept : IfOk result (λ ended. Keeps of_inbox.content ended.kept new.inbox.content)
+  pub faulted : IfOk result (λ ended. HasRisenBy (shelf_faults ended.played.outcomes.items) old.shelf.faults new.shelf.faults)
   pub breaks : IfErr result (λ fault. IsBroken scenario old.shelf.content old.inbox.content new.inbox.content old.trace.content new.trace.content (counts_in old.inbox) (counts_in new.inbox))
   pub reason : IfErr result (λ fault. HasReason fault scenario old.inbox.content new.inbox.content old.trace.content new.trace.content (HasRisen old.trace.faults new.trace.faults) (HasRisen old.trace.shortages new.trace.shortages)
       (HasRisen old.shelf.shortages new.shelf.shortages) (HasRisen old.inbox.shortages new.inbox.shortages))
@@ -46,6 +49,7 @@ goes_on scenario old new of_shelf of_inbox result shelf_name inbox_name shelf in
       plays = watched.plays;
       each = watched.each;
       gained = ok_then result watched.kept (λ ended keeps. gained_by old.inbox.content ended.kept new.inbox.content (subst (λ (past : Option Contents). From past ended.kept) (sym inbox.content_is) keeps));
+      faulted = watched.faulted;
       breaks = watched.breaks;
       reason = watched.reason;
       grows = grows_by old.inbox.content new.inbox.content (watched.grows.0, subst (λ (past : Option Contents). From past watched.grows.0) (sym inbox.content_is) watched.grows.1);

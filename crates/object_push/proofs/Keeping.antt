@@ -5,7 +5,7 @@ use Rattle.object_push.specs.Ports.{counts_in}
 use Rattle.object_push.specs.Running.{RanToEnd, RanShort}
 
 pub runs_keep : RunsKeep
-runs_keep scenario old new result (RanToEnd outcomes kept peaks played gains reports) =
+runs_keep scenario old new result (RanToEnd outcomes kept peaks played gains faults reports) =
     plays_keep.plays scenario old.shelf.content old.inbox.content new.inbox.content old.trace.content new.trace.content outcomes peaks (counts_in old.inbox) (counts_in new.inbox) played
 runs_keep scenario old new result (RanShort fault is stops broken grows silent) =
     plays_keep.breaks scenario old.shelf.content old.inbox.content new.inbox.content old.trace.content new.trace.content (counts_in old.inbox) (counts_in new.inbox) broken

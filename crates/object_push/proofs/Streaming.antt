@@ -18,7 +18,7 @@ use Rattle.object_push.proofs.Gaining.{counted}
 -- from an inbox that held that
 streams_from : (law : PlaysStream) (scenario : Scenario) (before : List Object) (old new : Ports) (result : Status) → old.inbox.content ≡ holding before → scenario.settings.transport ≡ Rfcomm → (runs : Runs scenario old new result)
     → StreamsRun law.asks scenario before old new result runs
-streams_from law scenario before old new result held muxed (RanToEnd outcomes kept peaks played gains reports) =
+streams_from law scenario before old new result held muxed (RanToEnd outcomes kept peaks played gains faults reports) =
     let over : IsPlayed scenario old.shelf.content (holding before) new.inbox.content old.trace.content new.trace.content outcomes peaks (counts_in old.inbox) (counts_in new.inbox) =
     subst (λ (c : Option Contents). IsPlayed scenario old.shelf.content c new.inbox.content old.trace.content new.trace.content outcomes peaks (counts_in old.inbox) (counts_in new.inbox)) held played in
     let so = law.plays scenario old.shelf.content before new.inbox.content old.trace.content new.trace.content outcomes peaks (counts_in old.inbox) (counts_in new.inbox) over muxed in

@@ -6,7 +6,7 @@ use Rattle.bt_base.specs.Counts.{HasRisen}
 use Rattle.bt_base.specs.Objects.{Object, Contents}
 use Rattle.capture.specs.Air.{words_of}
 use Rattle.capture.specs.Entries.{Entry}
-use Rattle.obex_session.specs.Counting.{Counts}
+use Rattle.obex_session.specs.Counting.{Counts, HasRisenBy}
 use Rattle.push_script.specs.declared.scenario.Scenario.{Scenario}
 use Rattle.push_terms.specs.declared.outcome.Outcome.{Outcome}
 use Rattle.push_terms.specs.declared.peaks.Peaks.{Peaks}
@@ -17,10 +17,12 @@ use Rattle.scenario_laws.specs.Gains.{holding}
 use Rattle.scenario_laws.proofs.Broken.{crowds_are_told}
 use Rattle.scenario_play.specs.Breaking as breaking
 use Rattle.scenario_play.specs.Breaking.{IsBroken, IsWanting}
+use Rattle.scenario_play.specs.Failing.{shelf_faults}
 use Rattle.scenario_play.specs.Losing.{LeavesOutCounted, GainsLess}
 use Rattle.scenario_play.specs.Playing.{LackedNever, IsPlayed}
 use Rattle.scenario_play.specs.Pushed.{SpellsOfShelf}
 use Rattle.scenario_play.proofs.BufferPeaks.{buffer_peaks_are_told}
+use Rattle.scenario_play.proofs.Causes.{causes_so_far, losses_so_far}
 use Rattle.scenario_play.proofs.Gained.{plays_keep}
 use Rattle.scenario_play.proofs.Lost.{none_left_out, plays_gain_less}
 use Rattle.scenario_play.proofs.Pushed.{plays_spell_pushed}
@@ -59,13 +61,10 @@ has_gained scenario (Some held) (Some now) kept counts counts' capture none gain
         let same : so.gain ≡ gains.gain = append_cancel_left held.stored so.gain gains.gain (sym (some_is now.stored (held.stored ++ so.gain) so.stored) ∙ gains.stored) in
         subst (λ (gain : List Object). LeavesOutCounted gain (spelled_in scenario capture) counts.faults counts'.faults) same so.leaves
 
--- what was pushed, where it is known of ports that tell what they hold
-has_pushed : (scenario : Scenario) (content : Option (List Object)) (before : Option Contents) (capture : List Entry) → IfSome before (λ held. held.pending ≡ None)
-    → ((shelf stored : List Object) → content ≡ Some shelf → before ≡ holding stored → SpellsOfShelf scenario shelf capture)
-    → IfSome content (λ shelf. IfSome before (λ held. SpellsOfShelf scenario shelf capture))
-has_pushed scenario None before capture none known = tt
-has_pushed scenario (Some shelf) None capture none known = tt
-has_pushed scenario (Some shelf) (Some held) capture none known = known shelf held.stored refl (held_is held none)
+-- what was pushed, where it is known of a shelf that tells what it holds
+has_pushed : (scenario : Scenario) (content : Option (List Object)) (capture : List Entry) → ((shelf : List Object) → content ≡ Some shelf → SpellsOfShelf scenario shelf capture) → IfSome content (λ shelf. SpellsOfShelf scenario shelf capture)
+has_pushed scenario None capture known = tt
+has_pushed scenario (Some shelf) capture known = known shelf refl
 
 -- ---- to its end
 
@@ -84,25 +83,24 @@ module _ (scenario : Scenario) (old new : Ports) where
           subst (λ (c : Option Contents). (played : Played c outcomes peaks) → Less stored played.capture) (sym is)
           (λ played enough. plays_gain_less.plays scenario old.shelf.content stored new.inbox.content old.trace.content new.trace.content outcomes peaks (counts_in old.inbox) (counts_in new.inbox) played enough)
 
-  abbrev PlayedOf : Option (List Object) → Option Contents → List Outcome → Peaks → Type 0
-  PlayedOf content before outcomes peaks = IsPlayed scenario content before new.inbox.content old.trace.content new.trace.content outcomes peaks (counts_in old.inbox) (counts_in new.inbox)
+  abbrev PlayedOf : Option (List Object) → List Outcome → Peaks → Type 0
+  PlayedOf content outcomes peaks = IsPlayed scenario content old.inbox.content new.inbox.content old.trace.content new.trace.content outcomes peaks (counts_in old.inbox) (counts_in new.inbox)
 
-  pushed_played : (content : Option (List Object)) (before : Option Contents) (outcomes : List Outcome) (peaks : Peaks) (shelf stored : List Object) → content ≡ Some shelf → before ≡ holding stored
-      → (played : PlayedOf content before outcomes peaks) → SpellsOfShelf scenario shelf played.capture
-  pushed_played content before outcomes peaks shelf stored of is =
-      subst (λ (c : Option (List Object)). (played : PlayedOf c before outcomes peaks) → SpellsOfShelf scenario shelf played.capture) (sym of)
-      (subst (λ (b : Option Contents). (played : PlayedOf (Some shelf) b outcomes peaks) → SpellsOfShelf scenario shelf played.capture) (sym is)
-      (λ played. plays_spell_pushed.plays scenario shelf stored new.inbox.content old.trace.content new.trace.content outcomes peaks (counts_in old.inbox) (counts_in new.inbox) played))
+  pushed_played : (content : Option (List Object)) (outcomes : List Outcome) (peaks : Peaks) (shelf : List Object) → content ≡ Some shelf → (played : PlayedOf content outcomes peaks) → SpellsOfShelf scenario shelf played.capture
+  pushed_played content outcomes peaks shelf of =
+      subst (λ (c : Option (List Object)). (played : PlayedOf c outcomes peaks) → SpellsOfShelf scenario shelf played.capture) (sym of)
+      (λ played. plays_spell_pushed.plays scenario shelf old.inbox.content new.inbox.content old.trace.content new.trace.content outcomes peaks (counts_in old.inbox) (counts_in new.inbox) played)
 
   ends_so : (outcomes : List Outcome) (kept : ℕ) (peaks : Peaks) (played : Played old.inbox.content outcomes peaks) → IfSome old.inbox.content (λ before. before.pending ≡ None) → Gains old.inbox.content kept new.inbox.content
-      → EndsSo scenario old new outcomes kept peaks played.capture
-  ends_so outcomes kept peaks played none gains =
+      → HasRisenBy (shelf_faults outcomes) old.shelf.faults new.shelf.faults → EndsSo scenario old new outcomes kept peaks played.capture
+  ends_so outcomes kept peaks played none gains faults =
       record {
         captured = record { each = played.entries_are; written = played.written };
         keeps = plays_keep.plays scenario old.shelf.content old.inbox.content new.inbox.content old.trace.content new.trace.content outcomes peaks (counts_in old.inbox) (counts_in new.inbox) played;
-        pushed = has_pushed scenario old.shelf.content old.inbox.content played.capture none (λ shelf stored of is. pushed_played old.shelf.content old.inbox.content outcomes peaks shelf stored of is played);
+        pushed = has_pushed scenario old.shelf.content played.capture (λ shelf of. pushed_played old.shelf.content outcomes peaks shelf of played);
         gains = has_gained scenario old.inbox.content new.inbox.content kept (counts_in old.inbox) (counts_in new.inbox) played.capture none gains (less_played old.inbox.content outcomes peaks played);
         counted = gains;
+        faulted = faults;
         credits = plays_stay_solvent.plays scenario old.shelf.content old.inbox.content new.inbox.content old.trace.content new.trace.content outcomes peaks (counts_in old.inbox) (counts_in new.inbox) played;
         service = plays_keep_service.plays scenario old.shelf.content old.inbox.content new.inbox.content old.trace.content new.trace.content outcomes peaks (counts_in old.inbox) (counts_in new.inbox) played;
         peaks_are = record {
@@ -124,15 +122,13 @@ module _ (scenario : Scenario) (old new : Ports) where
           subst (λ (c : Option Contents). (broken : Broke c) → Less stored (all_entries broken.happenings)) (sym is)
           (λ broken enough. plays_gain_less.breaks scenario old.shelf.content stored new.inbox.content old.trace.content new.trace.content (counts_in old.inbox) (counts_in new.inbox) broken enough)
 
-  abbrev BrokeOf : Option (List Object) → Option Contents → Type 0
-  BrokeOf content before = IsBroken scenario content before new.inbox.content old.trace.content new.trace.content (counts_in old.inbox) (counts_in new.inbox)
+  abbrev BrokeOf : Option (List Object) → Type 0
+  BrokeOf content = IsBroken scenario content old.inbox.content new.inbox.content old.trace.content new.trace.content (counts_in old.inbox) (counts_in new.inbox)
 
-  pushed_broken : (content : Option (List Object)) (before : Option Contents) (shelf stored : List Object) → content ≡ Some shelf → before ≡ holding stored
-      → (broken : BrokeOf content before) → SpellsOfShelf scenario shelf (all_entries broken.happenings)
-  pushed_broken content before shelf stored of is =
-      subst (λ (c : Option (List Object)). (broken : BrokeOf c before) → SpellsOfShelf scenario shelf (all_entries broken.happenings)) (sym of)
-      (subst (λ (b : Option Contents). (broken : BrokeOf (Some shelf) b) → SpellsOfShelf scenario shelf (all_entries broken.happenings)) (sym is)
-      (λ broken. plays_spell_pushed.breaks scenario shelf stored new.inbox.content old.trace.content new.trace.content (counts_in old.inbox) (counts_in new.inbox) broken))
+  pushed_broken : (content : Option (List Object)) (shelf : List Object) → content ≡ Some shelf → (broken : BrokeOf content) → SpellsOfShelf scenario shelf (all_entries broken.happenings)
+  pushed_broken content shelf of =
+      subst (λ (c : Option (List Object)). (broken : BrokeOf c) → SpellsOfShelf scenario shelf (all_entries broken.happenings)) (sym of)
+      (λ broken. plays_spell_pushed.breaks scenario shelf old.inbox.content new.inbox.content old.trace.content new.trace.content (counts_in old.inbox) (counts_in new.inbox) broken)
 
   stops_so : (broken : Broke old.inbox.content) → IfSome old.inbox.content (λ before. before.pending ≡ None) → Grows old.inbox.content new.inbox.content → StopsSo scenario old new (all_entries broken.happenings) broken.next
   stops_so broken none (kept, gains) = record {
@@ -140,7 +136,9 @@ module _ (scenario : Scenario) (old new : Ports) where
     each = broken.entries_are;
     written = broken.written;
     keeps = plays_keep.breaks scenario old.shelf.content old.inbox.content new.inbox.content old.trace.content new.trace.content (counts_in old.inbox) (counts_in new.inbox) broken;
-    pushed = has_pushed scenario old.shelf.content old.inbox.content (all_entries broken.happenings) none (λ shelf stored of is. pushed_broken old.shelf.content old.inbox.content shelf stored of is broken);
+    causes = causes_so_far scenario old.shelf.content old.inbox.content new.inbox.content old.trace.content new.trace.content (counts_in old.inbox) (counts_in new.inbox) broken;
+    drops = losses_so_far scenario old.shelf.content old.inbox.content new.inbox.content old.trace.content new.trace.content (counts_in old.inbox) (counts_in new.inbox) broken;
+    pushed = has_pushed scenario old.shelf.content (all_entries broken.happenings) (λ shelf of. pushed_broken old.shelf.content shelf of broken);
     gains = has_gained scenario old.inbox.content new.inbox.content kept (counts_in old.inbox) (counts_in new.inbox) (all_entries broken.happenings) none gains (less_broken old.inbox.content broken);
     credits = plays_stay_solvent.breaks scenario old.shelf.content old.inbox.content new.inbox.content old.trace.content new.trace.content (counts_in old.inbox) (counts_in new.inbox) broken;
     service = plays_keep_service.breaks scenario old.shelf.content old.inbox.content new.inbox.content old.trace.content new.trace.content (counts_in old.inbox) (counts_in new.inbox) broken;
@@ -161,6 +159,6 @@ module _ (scenario : Scenario) (old new : Ports) where
   has_why few NoMemory (inr wants) = wanting few wants
 
 pub runs_tell : RunsTell
-runs_tell scenario old new result none few (RanToEnd outcomes kept peaks played gains reports) = ToTheEnd outcomes kept peaks played.capture (ends_so scenario old new outcomes kept peaks played none gains) reports
+runs_tell scenario old new result none few (RanToEnd outcomes kept peaks played gains faults reports) = ToTheEnd outcomes kept peaks played.capture (ends_so scenario old new outcomes kept peaks played none gains faults) reports
 runs_tell scenario old new result none few (RanShort fault is stops broken grows silent) =
     NotToTheEnd fault (all_entries broken.happenings) broken.next is (has_why scenario old new few fault stops) (stops_so scenario old new broken none grows) silent

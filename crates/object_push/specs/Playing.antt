@@ -3,10 +3,12 @@ use Rattle.std.specs.Prelude.{ℕ, ◌≡◌, ◌≤◌, false, List, length, Op
 use Rattle.bt_base.specs.Counts.{HasRisen}
 use Rattle.bt_base.specs.Objects.{Object, Contents}
 use Rattle.h4_view.specs.View.{IsAnswered}
+use Rattle.obex_session.specs.Counting.{HasRisenBy}
 use Rattle.push_script.specs.declared.scenario.Scenario.{Scenario}
 use Rattle.radio_world.specs.declared.fault.WorldFault.{WorldFault}
 use Rattle.radio_world.specs.declared.fault.WorldFault.TheVariants.{TraceFault, NoMemory}
 use Rattle.scenario_play.specs.Breaking.{IsBroken}
+use Rattle.scenario_play.specs.Failing.{shelf_faults}
 use Rattle.scenario_play.specs.Playing.{IsPlayed}
 use Rattle.object_push.specs.declared.halting.Ended.{Ended}
 use Rattle.btpush_forms.specs.Ports.{Written}
@@ -38,6 +40,7 @@ pub record GoesOn (scenario : Scenario) (old new : Lent) (result : Result Ended 
   pub plays : IfOk result (λ ended. IsPlayed scenario old.shelf.content old.inbox.content new.inbox.content old.trace.content new.trace.content ended.played.outcomes.items ended.played.peaks (counts_in old.inbox) (counts_in new.inbox))
   pub each : IfOk result (λ ended. length ended.played.outcomes.items ≡ length scenario.names)
   pub gained : IfOk result (λ ended. Gains old.inbox.content ended.kept new.inbox.content)
+  pub faulted : IfOk result (λ ended. HasRisenBy (shelf_faults ended.played.outcomes.items) old.shelf.faults new.shelf.faults)
   pub breaks : IfErr result (λ fault. IsBroken scenario old.shelf.content old.inbox.content new.inbox.content old.trace.content new.trace.content (counts_in old.inbox) (counts_in new.inbox))
   pub reason : IfErr result (λ fault. HasReason fault scenario old.inbox.content new.inbox.content old.trace.content new.trace.content (HasRisen old.trace.faults new.trace.faults) (HasRisen old.trace.shortages new.trace.shortages)
       (HasRisen old.shelf.shortages new.shelf.shortages) (HasRisen old.inbox.shortages new.inbox.shortages))

@@ -3,6 +3,7 @@ use Rattle.std.specs.Prelude.{ℕ, ◌≡◌, Bool, true, false, List, Option}
 use Rattle.std.specs.List.{list_all}
 use Rattle.bt_base.specs.Counts.{HasRisen}
 use Rattle.bt_base.specs.Streams.{gained, GainedFront}
+use Rattle.obex_session.specs.Counting.{HasRisenBy}
 use Rattle.push_terms.specs.declared.outcome.Outcome.{Outcome}
 use Rattle.push_terms.specs.declared.outcome.Outcome.TheVariants as outcomes
 use Rattle.push_terms.specs.declared.peaks.Peaks.{Peaks}
@@ -12,6 +13,7 @@ use Rattle.radio_world.specs.declared.fault.WorldFault.{WorldFault}
 use Rattle.radio_world.specs.declared.fault.WorldFault.TheVariants as world
 use Rattle.scenario_play.specs.Playing.{IsPlayed}
 use Rattle.scenario_play.specs.Breaking.{IsBroken}
+use Rattle.scenario_play.specs.Failing.{shelf_faults}
 use Rattle.btpush_forms.specs.declared.status.Status.{Status}
 use Rattle.btpush_forms.specs.declared.status.Status.TheVariants as status
 use Rattle.object_push.specs.Ports.{Ports, counts_in}
@@ -48,8 +50,9 @@ Stops fault scenario old new =
 -- What becomes of a scenario, over ports that were `old` and are `new`.
 pub data Runs (scenario : Scenario) (old new : Ports) (result : Status) : Type 0 where
   -- It is played to its end, as the trace has it, and reported: what came of its pushes, how many objects the inbox gained, and what the hosts
-  -- held at most.
+  -- held at most. The shelf failed as often at least as pushes ended for that.
   RanToEnd : (outcomes : List Outcome) (kept : ℕ) (peaks : Peaks) → IsPlayed scenario old.shelf.content old.inbox.content new.inbox.content old.trace.content new.trace.content outcomes peaks (counts_in old.inbox) (counts_in new.inbox) → Gains old.inbox.content kept new.inbox.content
+      → HasRisenBy (shelf_faults outcomes) old.shelf.faults new.shelf.faults
       → Reports (report_text scenario.names outcomes kept peaks) outcomes old.sink.content new.sink.content (HasRisen old.sink.shortages new.sink.shortages) result → Runs scenario old new result
   -- It stops short: the trace has the capture of a run so far, and a front of its next entry. Nothing is reported.
   RanShort : (fault : WorldFault) → result ≡ status_of fault → Stops fault scenario old new

@@ -30,7 +30,7 @@ pub record StreamsShort (asks : HostsAsk) (scenario : Scenario) (before : List O
   pub streams : StreamsBroken asks scenario old.shelf.content before new.inbox.content old.trace.content new.trace.content (counts_in old.inbox) (counts_in new.inbox) broken
 
 abbrev pub StreamsRun : (asks : HostsAsk) (scenario : Scenario) (before : List Object) (old new : Ports) (result : Status) → Runs scenario old new result → Type 0
-StreamsRun asks scenario before old new result (RanToEnd outcomes kept peaks played gains reports) = StreamsToEnd asks scenario before old new outcomes kept peaks
+StreamsRun asks scenario before old new result (RanToEnd outcomes kept peaks played gains faults reports) = StreamsToEnd asks scenario before old new outcomes kept peaks
 StreamsRun asks scenario before old new result (RanShort fault is stops broken grows silent) = StreamsShort asks scenario before old new
 
 -- So it is of each run of a scenario over RFCOMM with an inbox that tells what it holds.

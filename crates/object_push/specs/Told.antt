@@ -9,7 +9,7 @@ use Rattle.capture.specs.Entries.{Entry, IsEntry, capture_octets}
 use Rattle.air_laws.specs.Crowded.{IsCrowded}
 use Rattle.link_talk.specs.Captures.{objects_heard}
 use Rattle.push_laws.specs.Spelled.{ArePushed}
-use Rattle.obex_session.specs.Counting.{Counts}
+use Rattle.obex_session.specs.Counting.{Counts, HasRisenBy}
 use Rattle.push_script.specs.declared.scenario.Scenario.{Scenario}
 use Rattle.push_script.specs.Reports.{report_text}
 use Rattle.push_terms.specs.declared.outcome.Outcome.{Outcome}
@@ -20,8 +20,11 @@ use Rattle.radio_world.specs.declared.fault.WorldFault.{WorldFault}
 use Rattle.radio_world.specs.declared.fault.WorldFault.TheVariants as world
 use Rattle.scenario_laws.specs.Air.{hosts_of}
 use Rattle.scenario_laws.specs.Parties.{party_of}
+use Rattle.cause_laws.specs.FirstCauses.{CausesAreShown}
+use Rattle.drop_laws.specs.Dropped.{LossesAreDrops}
 use Rattle.credit_laws.specs.Kept.{StaysSolvent}
 use Rattle.scenario_play.specs.BufferPeaks.{AreBufferPeaks}
+use Rattle.scenario_play.specs.Failing.{shelf_faults}
 use Rattle.scenario_play.specs.Gaining.{KeepsPlayed, KeepsBroken}
 use Rattle.scenario_play.specs.Losing.{LeavesOutCounted}
 use Rattle.scenario_play.specs.Playing.{LackedNever, RoseNever}
@@ -53,9 +56,9 @@ HasGained scenario old new capture = IfSome old.inbox.content (λ before. IfSome
 -- ---- what is pushed
 
 -- Each object that the capture spells is one push's of the scenario: what the shelf holds under its name, with that name in UTF-16 units and all its octets.
--- They come in the order of the pushes, of each push one at most. So it is where shelf and inbox tell what they hold.
+-- They come in the order of the pushes, of each push one at most. So it is where the shelf tells what it holds.
 abbrev pub HasPushed : (scenario : Scenario) (old : Ports) (capture : List Entry) → Type 0
-HasPushed scenario old capture = IfSome old.shelf.content (λ shelf. IfSome old.inbox.content (λ before. ArePushed shelf scenario.names (spelled_in scenario capture)))
+HasPushed scenario old capture = IfSome old.shelf.content (λ shelf. ArePushed shelf scenario.names (spelled_in scenario capture))
 
 -- ---- credits
 
@@ -76,14 +79,15 @@ pub record ArePeaks (scenario : Scenario) (capture : List Entry) (peaks : Peaks)
   pub buffers : AreBufferPeaks capture peaks
   pub windows : AreWindowPeaks scenario capture peaks
 
--- It was played to its end: what its hosts kept to, what was pushed, what the inbox gained and how much of that was counted, the credits, the service, and what
--- was held at most.
+-- It was played to its end: what its hosts kept to, what was pushed, what the inbox gained and how much of that was counted, that the shelf's count of faults rose
+-- with each push that ended for one, the credits, the service, and what was held at most.
 pub record EndsSo (scenario : Scenario) (old new : Ports) (outcomes : List Outcome) (kept : ℕ) (peaks : Peaks) (capture : List Entry) : Type 0 where
   pub captured : HasCapture old.trace.content new.trace.content capture
   pub keeps : KeepsPlayed scenario outcomes capture
   pub pushed : HasPushed scenario old capture
   pub gains : HasGained scenario old new capture
   pub counted : Gains old.inbox.content kept new.inbox.content
+  pub faulted : HasRisenBy (shelf_faults outcomes) old.shelf.faults new.shelf.faults
   pub credits : HoldsCredits scenario capture
   pub service : KeepsService scenario.settings capture
   pub peaks_are : ArePeaks scenario capture peaks
@@ -91,12 +95,14 @@ pub record EndsSo (scenario : Scenario) (old new : Ports) (outcomes : List Outco
 -- ---- short of it
 
 -- The trace gained the capture of what happened, and a front of its next entry, if one was begun. The inbox gained what that capture spells, by the same
--- rule; and the credits are so behind that entry as well, and the service too.
+-- rule; each push that ended has the cause of its outcome in its part of it; and the credits are so behind that entry as well, and the service too.
 pub record StopsSo (scenario : Scenario) (old new : Ports) (past next : List Entry) : Type 0 where
   pub few : length next ≤ 1
   pub each : AllByRecursion IsEntry (past ++ next)
   pub written : GainedFront (gained old.trace.content (capture_octets past)) new.trace.content (capture_octets next)
   pub keeps : KeepsBroken scenario (past ++ next)
+  pub causes : CausesAreShown past
+  pub drops : LossesAreDrops past
   pub pushed : HasPushed scenario old past
   pub gains : HasGained scenario old new past
   pub credits : HoldsCredits scenario (past ++ next)

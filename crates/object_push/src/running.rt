@@ -5,8 +5,9 @@ ghost use Rattle.bt_base.specs.Counts.{HasRisen};
 ghost use Rattle.h4_view.specs.View.{IsAnswered};
 ghost use Rattle.watched_ports.specs.Gains.{Keeps};
 ghost use Rattle.watched_ports.specs.Pasts.{IsSink, IsShelf, IsInbox};
-ghost use Rattle.obex_session.specs.Counting.{counts_of};
+ghost use Rattle.obex_session.specs.Counting.{counts_of, HasRisenBy};
 ghost use Rattle.scenario_play.specs.Breaking.{IsBroken};
+ghost use Rattle.scenario_play.specs.Failing.{shelf_faults};
 ghost use Rattle.scenario_play.specs.Playing.{IsPlayed};
 ghost use Rattle.object_push.specs.Halting.{HasReason};
 ghost use Rattle.object_push.specs.Playing.{lent_by, trace_by, shelf_by, inbox_by, GoesOn};
@@ -44,6 +45,7 @@ fn play_watched<PF: Past, PB: Past, PT: Past, F: LentShelf, B: LentInbox, T: Len
     ensures plays { IfOk result.0 (λ ended. IsPlayed scenario.now (F.content shelf) (B.content inbox) (B.content result.2) (T.content trace) (T.content result.3) ended.played.outcomes.items ended.played.peaks (counts_of B.faults B.shortages inbox) (counts_of B.faults B.shortages result.2)) }
     ensures each { IfOk result.0 (λ ended. length ended.played.outcomes.items ≡ length scenario.now.names) }
     ensures kept { IfOk result.0 (λ ended. Keeps PB.inbox.content ended.kept (B.content result.2)) }
+    ensures faulted { IfOk result.0 (λ ended. HasRisenBy (shelf_faults ended.played.outcomes.items) (F.faults shelf) (F.faults result.1)) }
     ensures breaks { IfErr result.0 (λ fault. IsBroken scenario.now (F.content shelf) (B.content inbox) (B.content result.2) (T.content trace) (T.content result.3) (counts_of B.faults B.shortages inbox) (counts_of B.faults B.shortages result.2)) }
     ensures reason { IfErr result.0 (λ fault. HasReason fault scenario.now (B.content inbox) (B.content result.2) (T.content trace) (T.content result.3) (HasRisen PT.sink.faults (T.faults result.3)) (HasRisen PT.sink.shortages (T.shortages result.3)) (HasRisen (F.shortages shelf) (F.shortages result.1)) (HasRisen (B.shortages inbox) (B.shortages result.2))) }
     ensures grows { (kept : ℕ) × Keeps PB.inbox.content kept (B.content result.2) }

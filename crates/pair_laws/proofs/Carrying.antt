@@ -61,8 +61,9 @@ use Rattle.pair_laws.proofs.Facing.{View, NearBy, FarBy, whole_of, most_of, with
 use Rattle.pair_laws.proofs.Meeting.{IsRight, IsRightDeed, fate_cost, deed_cost, word-right, word-cost, meets-it, IsGentle, adverse-both}
 use Rattle.pair_laws.proofs.Numbered.{part_at, part-now, coming_at, coming_none, Links, turned-links, owes-both, richer-links, comes-over}
 use Rattle.pair_laws.proofs.Openings.{same_names}
-use Rattle.pair_laws.proofs.Hosting.{marks_of, HostAt, Held, IsWord, says-held, moves-held, told-held, held-silent, fired-silent, fires-held, hears-held, turns-held, besides}
+use Rattle.pair_laws.proofs.Hosting.{marks_of, HostAt, Held, IsWord, says-held, moves-held, told-held, held-silent, held-clear, fired-silent, fired-clear, fires-held, hears-held, turns-held, besides}
 use Rattle.pair_laws.proofs.Silence.{no-answer}
+use Rattle.recovered_laws.specs.Calm.{owes}
 
 -- ---- one host
 
@@ -323,25 +324,32 @@ module _ {P Q : Type 0} (whole : Bool) (most m : ℕ) (A : Profile P) (asks_a : 
       ap (λ (l : List Occurrence). list_any is_answer (run_of C.policy l).value.queue) here
       ∙ (ap (λ (v : Channels). list_any is_answer v.queue) (sym lives.channels_run) ∙ no-answer f.upper.channels.queue silent)
 
-  fires_a : (free : Bool) (e : carriages.End (Host P)) (f : carriages.End (Host Q)) (g : List Circumstance) → F (Gifts g) → IsCalmNews A.policy TimerFired e.upper.channels → CanFire free e f → (free ≡ true → answers_of f.upper.channels.queue ≡ []) → Before e f → Behind (told (upper A) g TimerFired e) f
-  fires_a free e f g given calm can silent both =
+  clear_now : {R : Type 0} (C : Profile R) (asks_c : Asks C) (W : R → Type 0) (X : Feed → Type 0) (Z : List Occurrence → Type 0) (f : carriages.End (Host R)) (host : HostAt C asks_c W X Z f) (i : ℕ) → i ≡ length host.so.lives.spans → owes f.upper.channels ≡ false
+      → owes (run_of C.policy (part_at i host.so.lives.spans host.so.lives.now)).value ≡ false
+  clear_now C asks_c W X Z f host i same clear =
+      let lives = host.so.lives in
+      let here : part_at i lives.spans lives.now ≡ lives.now = ap (λ (n : ℕ). part_at n lives.spans lives.now) same ∙ part-now lives.spans lives.now in
+      ap (λ (l : List Occurrence). owes (run_of C.policy l).value) here ∙ (ap owes (sym lives.channels_run) ∙ clear)
+
+  fires_a : (free : Bool) (e : carriages.End (Host P)) (f : carriages.End (Host Q)) (g : List Circumstance) → F (Gifts g) → IsCalmNews A.policy TimerFired e.upper.channels → CanFire free e f → (free ≡ true → answers_of f.upper.channels.queue ≡ []) → owes f.upper.channels ≡ false → Before e f → Behind (told (upper A) g TimerFired e) f
+  fires_a free e f g given calm can silent clear both =
       let a = both.a.so.lives in
       let b = both.b.so.lives in
       let held : Held (NearBy whole most) A asks_a (Wants A) F H B.policy both.number e (λ k. part_at k b.spans b.now) (length b.spans) f = record { host = both.a; level = both.level_a; links = both.links } in
       let level : length a.spans ≡ length b.spans = same_number whole most A asks_a B asks_b to_a F allows_a to_b G allows_b H J e f both can.owed can.far_owed in
       let after = fires-held A asks_a (Wants A) F allows_a.silent H (NearBy whole most) m B.policy both.number e (λ k. part_at k b.spans b.now) (length b.spans) f g free calm given can.waits can.coming can.owed can.far_owed can.far_coming can.enough held level
-      (λ on. let still = can.still on in (still.0, still.1, silent_now B asks_b Always G J f both.b (length a.spans) level (silent on))) in
+      (λ on. let still = can.still on in (still.0, still.1, silent_now B asks_b Always G J f both.b (length a.spans) level (silent on))) (clear_now B asks_b Always G J f both.b (length a.spans) level clear) in
       record { number = both.number; a = after.host; b = both.b; level_a = after.level; level_b = both.level_b; links = after.links }
 
-  fires_b : (free : Bool) (e : carriages.End (Host P)) (f : carriages.End (Host Q)) (g : List Circumstance) → G (Gifts g) → IsCalmNews B.policy TimerFired f.upper.channels → CanFire free f e → (free ≡ true → answers_of e.upper.channels.queue ≡ []) → Before e f → Behind e (told (upper B) g TimerFired f)
-  fires_b free e f g allowed calm can silent both =
+  fires_b : (free : Bool) (e : carriages.End (Host P)) (f : carriages.End (Host Q)) (g : List Circumstance) → G (Gifts g) → IsCalmNews B.policy TimerFired f.upper.channels → CanFire free f e → (free ≡ true → answers_of e.upper.channels.queue ≡ []) → owes e.upper.channels ≡ false → Before e f → Behind e (told (upper B) g TimerFired f)
+  fires_b free e f g allowed calm can silent clear both =
       let a = both.a.so.lives in
       let b = both.b.so.lives in
       let held : Held (FarBy whole most) B asks_b Always G J A.policy both.number f (λ k. part_at k a.spans a.now) (length a.spans) e =
       record { host = both.b; level = both.level_b; links = turned-links (NearBy whole most) A.policy B.policy a.spans b.spans a.now b.now e f both.links } in
       let level : length b.spans ≡ length a.spans = sym (same_number whole most A asks_a B asks_b to_a F allows_a to_b G allows_b H J e f both can.far_owed can.owed) in
       let after = fires-held B asks_b Always G allows_b.silent J (FarBy whole most) m A.policy both.number f (λ k. part_at k a.spans a.now) (length a.spans) e g free calm allowed can.waits can.coming can.owed can.far_owed can.far_coming can.enough held level
-      (λ on. let still = can.still on in (still.0, still.1, silent_now A asks_a (Wants A) F H e both.a (length b.spans) level (silent on))) in
+      (λ on. let still = can.still on in (still.0, still.1, silent_now A asks_a (Wants A) F H e both.a (length b.spans) level (silent on))) (clear_now A asks_a (Wants A) F H e both.a (length b.spans) level clear) in
       let later = after.host.so.lives in
       record { number = both.number; a = both.a; b = after.host; level_a = both.level_a; level_b = after.level; links = turned-links (FarBy whole m) B.policy A.policy later.spans a.spans later.now a.now (told (upper B) g TimerFired f) e after.links }
 
@@ -444,18 +452,25 @@ module _ {P Q : Type 0} (whole : Bool) (A : Profile P) (asks_a : Asks A) (B : Pr
   calm_b : (most : ℕ) (c : Carriage (Host P) (Host Q)) → IsIdle (upper B) c.b → Ready c → Sane most c → (upper B).armed c.b.upper ≡ true → IsCalmNews B.policy TimerFired c.b.upper.channels
   calm_b most c idle ready sane armed = calm_firing B asks_b L S keeps_b away_b c.link c.b (fine_b most c sane) idle (λ on. (ready.0.1 on).1 armed)
 
+  -- at rest neither owes the other a reply
+  clear_a : (most : ℕ) (c : Carriage (Host P) (Host Q)) → IsAtRest (upper A) (upper B) c → Ready c → Sane most c → owes c.a.upper.channels ≡ false
+  clear_a most c rest ready sane = held-clear A asks_a (Wants A) E allows_a.silent H c.a sane.pairs.a (quiet_resting A asks_a K R keeps_a away_a c.link c.a (fine_a most c sane) rest.idle_a (λ on. (ready.0.0 on).0))
+
+  clear_b : (most : ℕ) (c : Carriage (Host P) (Host Q)) → IsAtRest (upper A) (upper B) c → Ready c → Sane most c → owes c.b.upper.channels ≡ false
+  clear_b most c rest ready sane = held-clear B asks_b Always G allows_b.silent J c.b sane.pairs.b (quiet_resting B asks_b L S keeps_b away_b c.link c.b (fine_b most c sane) rest.idle_b (λ on. (ready.0.1 on).0))
+
   -- alone
   fires_one_a : (most m : ℕ) (c : Carriage (Host P) (Host Q)) (g : List Circumstance) → 1 + most ≤ m → (upper A).armed c.a.upper ≡ true → IsAtRest (upper A) (upper B) c → Ready c → Sane most c → PairsOf whole m A asks_a B asks_b to_a E allows_a to_b G allows_b H J (told U g TimerFired c.a) c.b
   fires_one_a most m c g enough armed rest ready sane =
       fires_a whole most m A asks_a B asks_b to_a E allows_a to_b G allows_b H J false c.a c.b (to_a TimerFired g) (allows_a.given TimerFired g) (calm_a most c rest.idle_a ready sane armed)
       (record { waits = waits_none A asks_a K R keeps_a away_a c.link c.a (fine_a most c sane) rest.idle_a; coming = rest.idle_a.none_comes; owed = rest.idle_a.none_owed; far_coming = rest.idle_b.none_comes; far_owed = rest.idle_b.none_owed; enough = enough; still = λ on. cc })
-      (λ on. cc) sane.pairs
+      (λ on. cc) (clear_b most c rest ready sane) sane.pairs
 
   fires_one_b : (most m : ℕ) (c : Carriage (Host P) (Host Q)) (h : List Circumstance) → 1 + most ≤ m → (upper B).armed c.b.upper ≡ true → IsAtRest (upper A) (upper B) c → Ready c → Sane most c → PairsOf whole m A asks_a B asks_b to_a E allows_a to_b G allows_b H J c.a (told V h TimerFired c.b)
   fires_one_b most m c h enough armed rest ready sane =
       fires_b whole most m A asks_a B asks_b to_a E allows_a to_b G allows_b H J false c.a c.b (to_b TimerFired h) (allows_b.given TimerFired h) (calm_b most c rest.idle_b ready sane armed)
       (record { waits = waits_none B asks_b L S keeps_b away_b c.link c.b (fine_b most c sane) rest.idle_b; coming = rest.idle_b.none_comes; owed = rest.idle_b.none_owed; far_coming = rest.idle_a.none_comes; far_owed = rest.idle_a.none_owed; enough = enough; still = λ on. cc })
-      (λ on. cc) sane.pairs
+      (λ on. cc) (clear_a most c rest ready sane) sane.pairs
 
   -- what the first that fires leaves
   record Left (most : ℕ) (e : carriages.End (Host P)) (f : carriages.End (Host Q)) : Type 0 where
@@ -464,6 +479,7 @@ module _ {P Q : Type 0} (whole : Bool) (A : Profile P) (asks_a : Asks A) (B : Pr
     owed : e.owed ≡ []
     way : e.queue ++ e.waiting ≡ []
     silent : answers_of e.upper.channels.queue ≡ []
+    clear : owes e.upper.channels ≡ false
 
   -- both, one behind the other, where nothing is in the air
   fires_two : (most : ℕ) (c : Carriage (Host P) (Host Q)) (g h : List Circumstance) (one other : Bool) → (upper A).armed c.a.upper ≡ one → (upper B).armed c.b.upper ≡ other → IsAtRest (upper A) (upper B) c → Ready c → c.a.queue ≡ [] → c.b.queue ≡ [] → Sane most c
@@ -486,17 +502,18 @@ module _ {P Q : Type 0} (whole : Bool) (A : Profile P) (asks_a : Asks A) (B : Pr
       way_a = ap (λ (l : List (List ℕ)). l ++ c.a.waiting) none_a ∙ waits_a
 
       first : (fires : Bool) → (upper A).armed c.a.upper ≡ fires → Left most (if fires then told U g TimerFired c.a else c.a) c.b
-      first false armed = record { pairs = sane.pairs; coming = rest.idle_a.none_comes; owed = rest.idle_a.none_owed; way = way_a; silent = silent_a }
+      first false armed = record { pairs = sane.pairs; coming = rest.idle_a.none_comes; owed = rest.idle_a.none_owed; way = way_a; silent = silent_a; clear = clear_a most c rest ready sane }
       first true armed =
           let calm = calm_a most c rest.idle_a ready sane armed in
           record {
             pairs = fires_a whole most most A asks_a B asks_b to_a E allows_a to_b G allows_b H J true c.a c.b (to_a TimerFired g) (allows_a.given TimerFired g) calm
                 (record { waits = waits_a; coming = rest.idle_a.none_comes; owed = rest.idle_a.none_owed; far_coming = rest.idle_b.none_comes; far_owed = rest.idle_b.none_owed; enough = omega arith; still = λ on. (none_a, ap (λ (l : List (List ℕ)). l ++ c.b.waiting) none_b ∙ waits_b) })
-                (λ on. silent_b) sane.pairs;
+                (λ on. silent_b) (clear_b most c rest ready sane) sane.pairs;
             coming = rest.idle_a.none_comes;
             owed = rest.idle_a.none_owed;
             way = way_a;
             silent = fired-silent A asks_a (Wants A) E allows_a.silent H (to_a TimerFired g) c.a.upper calm silent_a;
+            clear = fired-clear A asks_a (Wants A) E allows_a.silent H (to_a TimerFired g) c.a sane.pairs.a calm (clear_a most c rest ready sane);
           }
 
       second : {e : carriages.End (Host P)} (fires : Bool) → (upper B).armed c.b.upper ≡ fires → Left most e c.b → PairsOf whole most A asks_a B asks_b to_a E allows_a to_b G allows_b H J e (if fires then told V h TimerFired c.b else c.b)
@@ -504,7 +521,7 @@ module _ {P Q : Type 0} (whole : Bool) (A : Profile P) (asks_a : Asks A) (B : Pr
       second {e} true armed left =
           fires_b whole most most A asks_a B asks_b to_a E allows_a to_b G allows_b H J true e c.b (to_b TimerFired h) (allows_b.given TimerFired h) (calm_b most c rest.idle_b ready sane armed)
           (record { waits = waits_b; coming = rest.idle_b.none_comes; owed = rest.idle_b.none_owed; far_coming = left.coming; far_owed = left.owed; enough = omega arith; still = λ on. (none_b, left.way) })
-          (λ on. left.silent) left.pairs
+          (λ on. left.silent) left.clear left.pairs
 
   -- ---- deeds
 

@@ -6,12 +6,15 @@ use Rattle.std.proofs.lemmas.List.Concat.{flat_map-append}
 use Rattle.acl_fragments.specs.Pieces.{channel_of}
 use Rattle.capture.specs.Histories.{EachAfter}
 use Rattle.capture.proofs.HistoryLaws.{each_after-both}
+use Rattle.std.proofs.lemmas.List.Sums.{fold-append}
+use Rattle.recovered_laws.specs.Calm.{owes}
+use Rattle.channel_model.specs.Giving.{gives}
 use Rattle.channel_model.specs.Carrying.{Up as Handed, Nothing, Received}
 use Rattle.channel_model.specs.Changing.{is_answer, has_room}
 use Rattle.channel_model.specs.Hearing as channels
 use Rattle.channel_model.specs.Policies.{Policy}
 use Rattle.channel_model.specs.Value.{Channels, no_channels}
-use Rattle.channel_laws.specs.Runs.{Occurrence, Comes, Connects, AsksFeatures, Disconnects, Sends, Gives, Fires, Tells, new_link, run_of}
+use Rattle.channel_laws.specs.Runs.{Occurrence, Comes, Connects, AsksFeatures, Disconnects, Sends, Gives, Fires, Tells, Run, new_link, run_on, run_of}
 use Rattle.channel_laws.specs.Tries.{one_if}
 use Rattle.channel_laws.proofs.Lasting.{answers_of}
 use Rattle.world_model.specs.Machines.{LinkEvent, News, Linked, Failed, Heard, TimerFired, Cancelled, Opening}
@@ -45,7 +48,7 @@ use Rattle.pair_laws.proofs.Openings.{names_talked, same_names, news_names, no_n
 use Rattle.pair_laws.proofs.Facing.{View, most_of, with_most, PairFrom, each_split, comes-in, fires-it}
 use Rattle.pair_laws.proofs.Walking.{AreMeant, calm-meant, ComesNot, gives_in, outer-gives, outer-comes_not, all_on}
 use Rattle.pair_laws.proofs.Numbered.{ended, Links, DoesMore, does-more, turns-to, fires-over}
-use Rattle.pair_laws.proofs.Silence.{no-answer, silent-room, calm-silent, PassesNone, all-silent, run-silent, outer-passes_none, fires-once}
+use Rattle.pair_laws.proofs.Silence.{no-answer, silent-room, calm-silent, PassesNone, all-silent, run-silent, outer-passes_none, fires-once, calm-gives_none, calm-owes_none, run-owes_none, calm-parts}
 
 -- ---- marks
 
@@ -183,11 +186,13 @@ module _ {P : Type 0} (A : Profile P) (asks : Asks A) (W : P → Type 0) (G : Fe
 
   -- ---- what happens is meant
 
-  grown_meant : (marks : List Mark) (acted : List Occurrence) (old new : Host P) (so : Calmly A asks marks old) (grows : Grows A asks Calm acted old new) → AreMeant A.policy so.lives.now grows.list
-  grown_meant marks acted old new so grows =
+  grown_calm : (marks : List Mark) (acted : List Occurrence) (old new : Host P) (so : Calmly A asks marks old) (grows : Grows A asks Calm acted old new) → IsCalm A.policy no_channels (so.lives.now ++ grows.list)
+  grown_calm marks acted old new so grows =
       let value : old.channels ≡ values_after A.policy no_channels so.lives.now = so.lives.channels_run ∙ value_run A.policy so.lives.now new_link in
-      let calm : IsCalm A.policy no_channels (so.lives.now ++ grows.list) = calm-both A.policy no_channels so.lives.now grows.list so.now_calm (subst (λ (v : Channels). IsCalm A.policy v grows.list) value (grows.calm tt)) in
-      (each_split _ [] so.lives.now grows.list (calm-meant A.policy (so.lives.now ++ grows.list) calm)).1
+      calm-both A.policy no_channels so.lives.now grows.list so.now_calm (subst (λ (v : Channels). IsCalm A.policy v grows.list) value (grows.calm tt))
+
+  grown_meant : (marks : List Mark) (acted : List Occurrence) (old new : Host P) (so : Calmly A asks marks old) (grows : Grows A asks Calm acted old new) → AreMeant A.policy so.lives.now grows.list
+  grown_meant marks acted old new so grows = (each_split _ [] so.lives.now grows.list (calm-meant A.policy (so.lives.now ++ grows.list) (grown_calm marks acted old new so grows))).1
 
   -- nothing comes in
   walks : (side : View) (theirs : Policy) (there : List Occurrence) (marks : List Mark) (acted : List Occurrence) (e e' : carriages.End (Host P)) (so : Calmly A asks marks e.upper) (grows : Grows A asks Calm acted e.upper e'.upper) → AllByRecursion ComesNot acted → e.coming ≡ [] → e'.coming ≡ []
@@ -377,6 +382,21 @@ module _ {P : Type 0} (A : Profile P) (asks : Asks A) (W : P → Type 0) (G : Fe
       ap (λ (v : Channels). answers_of v.queue) lives.channels_run
       ∙ calm-silent A.policy lives.now host.so.now_calm (subst (λ (v : Channels). IsQuiet v) lives.channels_run quiet)
 
+  -- and it owes nothing
+  pub held-clear : (e : carriages.End (Host P)) → HostAt A asks W G H e → IsQuiet e.upper.channels → owes e.upper.channels ≡ false
+  held-clear e host quiet =
+      let lives = host.so.lives in
+      ap owes lives.channels_run ∙ calm-owes_none A.policy lives.now host.so.now_calm (subst (λ (v : Channels). IsQuiet v) lives.channels_run quiet)
+
+  pub fired-clear : (gifts : List Circumstance) (e : carriages.End (Host P)) → HostAt A asks W G H e → IsCalmNews A.policy TimerFired e.upper.channels → owes e.upper.channels ≡ false → owes (hear A gifts TimerFired e.upper).channels ≡ false
+  fired-clear gifts e host calm clear =
+      let lives = host.so.lives in
+      let grows = (act_plain A asks Calm (Hears gifts TimerFired) e.upper (hear A gifts TimerFired e.upper) tt (λ c. calm) refl).grows in
+      let run_is : (run_of A.policy (lives.now ++ grows.list)).value ≡ values_after A.policy (run_of A.policy lives.now).value grows.list =
+      ap (λ (run : Run). run.value) (fold-append (run_on A.policy) new_link lives.now grows.list) ∙ value_run A.policy grows.list (run_of A.policy lives.now) in
+      ap owes (grows.channels_are ∙ (ap (λ (v : Channels). values_after A.policy v grows.list) lives.channels_run ∙ sym run_is))
+      ∙ run-owes_none A.policy lives.now grows.list (outer-passes_none grows.list (subst (AllByRecursion PassesNone) (sym grows.acted_is) (tt, tt))) (ap owes (sym lives.channels_run) ∙ clear)
+
   -- nor does one behind that
   pub fired-silent : (gifts : List Circumstance) (host : Host P) → IsCalmNews A.policy TimerFired host.channels → answers_of host.channels.queue ≡ [] → answers_of (hear A gifts TimerFired host).channels.queue ≡ []
   fired-silent gifts host calm silent =
@@ -393,8 +413,8 @@ module _ {P : Type 0} (A : Profile P) (asks : Asks A) (W : P → Type 0) (G : Fe
 
   pub fires-held : {T : Type 0} (side : View) (m : ℕ) (theirs : Policy) (number : ℕ) (e : carriages.End (Host P)) (other : ℕ → List Occurrence) (j : ℕ) (f : carriages.End T) (gifts : List Circumstance) (free : Bool) → IsCalmNews A.policy TimerFired e.upper.channels → G (Gifts gifts) → e.waiting ≡ [] → e.coming ≡ [] → e.owed ≡ [] → f.owed ≡ [] → f.coming ≡ []
       → one_if (not free) + most_of side ≤ m → (held : Held side A asks W G H theirs number e other j f) → length held.host.so.lives.spans ≡ j
-      → (free ≡ true → (e.queue ≡ []) × (f.queue ++ f.waiting ≡ []) × (list_any is_answer (run_of theirs (other (length held.host.so.lives.spans))).value.queue ≡ false)) → Held (with_most m side) A asks W G H theirs number (told (upper A) gifts TimerFired e) other j f
-  fires-held side m theirs number e other j f gifts free calm allowed waits coming owed far_owed far_coming more held level still =
+      → (free ≡ true → (e.queue ≡ []) × (f.queue ++ f.waiting ≡ []) × (list_any is_answer (run_of theirs (other (length held.host.so.lives.spans))).value.queue ≡ false)) → owes (run_of theirs (other (length held.host.so.lives.spans))).value ≡ false → Held (with_most m side) A asks W G H theirs number (told (upper A) gifts TimerFired e) other j f
+  fires-held side m theirs number e other j f gifts free calm allowed waits coming owed far_owed far_coming more held level still clear =
       let e' = told (upper A) gifts TimerFired e in
       let so = held.host.so in
       let now = so.lives.now in
@@ -410,11 +430,16 @@ module _ {P : Type 0} (A : Profile P) (asks : Asks A) (W : P → Type 0) (G : Fe
       let front = now ++ once.front in
       let silent : list_any is_answer (run_of A.policy front).value.queue ≡ false = no-answer (run_of A.policy front).value.queue (run-silent A.policy now once.front (outer-passes_none once.front (subst (AllByRecursion PassesNone) (sym once.none_front) tt))
       (ap (λ (v : Channels). answers_of v.queue) (sym so.lives.channels_run) ∙ held-silent e held.host calm.0)) in
+      let calm_all : IsCalm A.policy no_channels (front ++ Fires ∷ once.behind) =
+      subst (λ (l : List Occurrence). IsCalm A.policy no_channels l) (ap (λ (l : List Occurrence). now ++ l) once.is ∙ sym (append_assoc now once.front (Fires ∷ once.behind))) (grown_calm held.host.marks (Fires ∷ []) e.upper e'.upper so grows) in
+      let calm_here = calm-parts A.policy no_channels front Fires once.behind calm_all in
+      let gives_none : list_any gives (run_of A.policy front).value.held ≡ false =
+      calm-gives_none A.policy front calm_here.0 (subst (λ (v : Channels). IsQuiet v) (sym (value_run A.policy front new_link)) calm_here.1.0) in
       let all_fires : PairFrom side A.policy theirs now there [] rest [] put → PairFrom (with_most m side) A.policy theirs (now ++ grows.list) there [] rest [] put
       = λ p. subst (λ (l : List Occurrence). PairFrom (with_most m side) A.policy theirs l there [] rest [] put) (append_assoc front (Fires ∷ []) once.behind ∙ (append_assoc now once.front (Fires ∷ once.behind) ∙ ap (λ (l : List Occurrence). now ++ l) (sym once.is)))
       (walks_still (with_most m side) theirs there (front ++ Fires ∷ []) once.behind rest put once.none_behind parts.1.1
       (fires-it side A.policy theirs front there [] put free m rest more
-      (λ on. let so_still = still on in (so_still.1, refl, ap (λ (l : List (List ℕ)). l ++ e.waiting) so_still.0 ∙ waits, silent, so_still.2))
+      (λ on. let so_still = still on in (so_still.1, refl, ap (λ (l : List (List ℕ)). l ++ e.waiting) so_still.0 ∙ waits, silent, so_still.2)) (gives_none, clear)
       (walks_still side theirs there now once.front rest put once.none_front parts.0 p))) in
       let enough : most_of side ≤ m = omega (arith, more) in
       grows_to side (with_most m side) theirs number e e' other j f (Fires ∷ []) held grows (act_told A act e.upper e'.upper refl so.lives.all_told) (λ on. plain.begins) (gives_only (Fires ∷ []) (gifts ∷ []) e.upper e'.upper grows plain.begins plain.gifts_are (allowed, tt)) refl refl

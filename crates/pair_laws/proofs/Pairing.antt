@@ -16,6 +16,7 @@ use Rattle.capture.specs.Moves.{moves}
 use Rattle.channel_model.specs.Policies.{Policy, policy}
 use Rattle.channel_model.specs.Value.{no_channels}
 use Rattle.channel_laws.specs.Adverse.{disturbances, AreRoomy}
+use Rattle.recovered_laws.specs.Calm.{AreSettled}
 use Rattle.channel_laws.specs.Belonging.{AreRead}
 use Rattle.channel_laws.specs.Ends.{DoesSo, end_at, AreFair}
 use Rattle.channel_laws.specs.Frames.{AreUttered}
@@ -234,6 +235,7 @@ module _ (whole : Bool) (asks : HostsAsk) (scenario : Scenario) (content : Optio
     kept : (number : ℕ) → AllKept whole (turns.pairs.pairs number).turns
     cost : (number : ℕ) → disturbances (Pairs.new_pair A.policy B.policy) (turns.pairs.pairs number).turns ≤ adverse_in (all_words ran.happenings)
     room : (number : ℕ) → AreRoomy A.policy B.policy (turns.pairs.pairs number).turns
+    settled : (number : ℕ) → AreSettled A.policy B.policy (turns.pairs.pairs number).turns
     heard_a : AllByRecursion (HearsSo GaveNothing_a) (on_links A asks_a (flat_map talk_marks turns.pairs.a.came.talk) ran.world.a.upper turns.pairs.a.fed.so.lives)
     heard_b : AllByRecursion (HearsSo GaveNothing_b) (on_links B asks_b (flat_map talk_marks turns.pairs.b.came.talk) ran.world.b.upper turns.pairs.b.fed.so.lives)
 
@@ -289,6 +291,7 @@ module _ (whole : Bool) (asks : HostsAsk) (scenario : Scenario) (content : Optio
         kept = λ number. (sane.pairs.links number).pair.kept;
         cost = λ number. let spent = (sane.pairs.links number).pair.spent in omega (arith, spent, most_is);
         room = λ number. let pair = (sane.pairs.links number).pair in all_roomy A.policy B.policy pair.turns pair.goes;
+        settled = λ number. (sane.pairs.links number).pair.settled;
         heard_a = let lives = sane.pairs.a.so.lives in heard-on_links GaveNothing_a lives.spans lives.now sane.pairs.a.heard;
         heard_b = let lives = sane.pairs.b.so.lives in heard-on_links GaveNothing_b lives.spans lives.now sane.pairs.b.heard;
       }
@@ -404,7 +407,7 @@ served-take_turns asks scenario shelf content capture ran happened =
 pub disturbances-cost_words : DisturbancesCostWords
 disturbances-cost_words asks scenario content capture ran =
     let so = takes_turns false asks scenario content as_it_is Always any_allowed as_it_is Always any_allowed capture ran ran.happened (λ on. cc) in
-    record { turns = so.turns; cost = so.cost; room = so.room }
+    record { turns = so.turns; cost = so.cost; room = so.room; settled = so.settled }
 
 pub hosts-are_pairs : HostsArePairs
 hosts-are_pairs asks scenario content capture ran = (hosts-take_turns asks scenario content capture ran).pairs

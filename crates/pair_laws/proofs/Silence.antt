@@ -1,21 +1,25 @@
 -- Where a calm host has nothing to give, no answer waits, and none does behind what happens without a PDU.
-use Rattle.std.proofs.Common.{◌≡◌, ℕ, Bool, true, false, cond, List, [], ◌∷◌, ◌++◌, map, length, Option, Some, None, refl, sym, ap, ◌∙◌}
-use Rattle.std.specs.Prelude.{filter, is_some, nat_lt}
+use Rattle.std.proofs.Common.{◌≡◌, ℕ, Bool, true, false, cond, ◌||◌, List, [], ◌∷◌, ◌++◌, map, length, Option, Some, None, refl, sym, ap, subst, ◌∙◌, append_assoc, append-nil}
+use Rattle.std.specs.Prelude.{filter, find, is_some, nat_lt}
 use Rattle.std.specs.List.{AllByRecursion, list_any, filter_map}
 use Rattle.std.proofs.lemmas.List.Sums.{fold-append}
 use Rattle.channel_model.specs.declared.errand.Errand.TheVariants as errands
 use Rattle.channel_model.specs.Asking.{asks, new_request, Fired, StillDue, OnceMore, Spent, fired}
 use Rattle.channel_model.specs.Calls.{asks_features}
 use Rattle.channel_model.specs.Changing.{held_at, is_answer, has_room}
+use Rattle.channel_model.specs.Giving.{gives}
 use Rattle.channel_model.specs.Policies.{Policy}
 use Rattle.channel_model.specs.Timing.{fires, loses_features, times_held, times_end, times_features, times_channels, timed_out}
 use Rattle.channel_model.specs.Value.{Request, Queued, Answer, Ask, Held, Channels, no_channels}
+use Rattle.channel_laws.specs.Pairs.{is_alone}
 use Rattle.channel_laws.specs.Runs.{Occurrence, Comes, Connects, AsksFeatures, Disconnects, Sends, Gives, Fires, Tells, value_after, Run, new_link, run_on, run_of}
 use Rattle.channel_laws.proofs.Lasting.{answers_of, answers-asked, asked-with, connects-lasts, disconnects-last, sends-last, times-last, ends-last}
 use Rattle.host_laws.specs.Calls.{values_after, outer}
-use Rattle.host_laws.specs.Seen.{IsQuiet, moved, IsCalm, queued_said, waiting_in}
+use Rattle.host_laws.specs.Seen.{IsQuiet, moved, IsCalmAt, IsCalm, queued_said, waiting_in}
 use Rattle.host_laws.proofs.Links.{value_run}
-use Rattle.host_laws.proofs.Moving.{pending, talk-waits, own_talk_moves}
+use Rattle.host_laws.proofs.Moving.{pending, talk-waits, own_talk_moves, quiet-silent}
+use Rattle.recovered_laws.specs.Calm.{owes}
+use Rattle.recovered_laws.proofs.Owing.{owes-only_what_it_heard}
 
 -- ---- the answers that wait
 
@@ -169,3 +173,44 @@ fires-once (Sends own sdu ∷ list) is = later (Sends own sdu) list refl (fires-
 fires-once (Gives pdu ∷ list) is = cc
 fires-once (Fires ∷ list) is = record { front = []; behind = list; is = refl; none_front = refl; none_behind = let rest : filter_map outer list ≡ [] = cc in rest }
 fires-once (Tells ∷ list) is = later Tells list refl (fires-once list is)
+
+-- ---- what is owed
+
+pub none-gives : (hs : List Held) → find gives hs ≡ None → list_any gives hs ≡ false
+none-gives [] none = refl
+none-gives (held ∷ hs) none = by (gives held) none (none-gives hs)
+  where
+    by : (b : Bool) → cond b (Some held) (find gives hs) ≡ None → (find gives hs ≡ None → list_any gives hs ≡ false) → (b || list_any gives hs) ≡ false
+    by true none later = let never : Some held ≡ None = none in cc
+    by false none later = later none
+
+-- where a calm host has nothing to give, no channel of it has
+pub calm-gives_none : (policy : Policy) (list : List Occurrence) → IsCalm policy no_channels list → IsQuiet (run_of policy list).value → list_any gives (run_of policy list).value.held ≡ false
+calm-gives_none policy list calm quiet = none-gives (run_of policy list).value.held (quiet-silent policy list calm quiet)
+
+-- and it owes nothing
+pub calm-owes_none : (policy : Policy) (list : List Occurrence) → IsCalm policy no_channels list → IsQuiet (run_of policy list).value → owes (run_of policy list).value ≡ false
+calm-owes_none policy list calm quiet = owes-only_what_it_heard.silent policy list (calm-gives_none policy list calm quiet)
+
+alone_so : (one : Occurrence) → PassesNone one → is_alone one ≡ true
+alone_so (Comes pdu) none = absurd none
+alone_so (Connects psm) none = refl
+alone_so AsksFeatures none = refl
+alone_so (Disconnects own) none = refl
+alone_so (Sends own sdu) none = refl
+alone_so (Gives pdu) none = absurd none
+alone_so Fires none = refl
+alone_so Tells none = refl
+
+-- nor does it behind what happens without a PDU
+pub run-owes_none : (policy : Policy) (past more : List Occurrence) → AllByRecursion PassesNone more → owes (run_of policy past).value ≡ false → owes (run_of policy (past ++ more)).value ≡ false
+run-owes_none policy past [] all none = subst (λ (l : List Occurrence). owes (run_of policy l).value ≡ false) (sym (append-nil past)) none
+run-owes_none policy past (one ∷ more) all none =
+    subst (λ (l : List Occurrence). owes (run_of policy l).value ≡ false) (append_assoc past (one ∷ []) more)
+    (run-owes_none policy (past ++ one ∷ []) more all.1
+    (ap (λ (run : Run). owes run.value) (fold-append (run_on policy) new_link past (one ∷ [])) ∙ owes-only_what_it_heard.alone policy past one (alone_so one all.0) none))
+
+-- what is calm up to a moment
+pub calm-parts : (policy : Policy) (v : Channels) (front : List Occurrence) (one : Occurrence) (behind : List Occurrence) → IsCalm policy v (front ++ one ∷ behind) → IsCalm policy v front × IsCalmAt policy one (values_after policy v front)
+calm-parts policy v [] one behind calm = (tt, calm.0)
+calm-parts policy v (first ∷ front) one behind calm = let parts = calm-parts policy (value_after policy first v) front one behind calm.1 in ((calm.0, parts.0), parts.1)

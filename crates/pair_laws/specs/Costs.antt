@@ -14,6 +14,7 @@ use Rattle.channel_model.specs.Policies.{Policy}
 use Rattle.channel_model.specs.Value.{Request}
 use Rattle.channel_laws.specs.Adverse.{disturbances, AreRoomy}
 use Rattle.channel_laws.specs.Heeded.{AreMet}
+use Rattle.recovered_laws.specs.Calm.{AreSettled}
 use Rattle.channel_laws.specs.Pairs.{Near, Far, new_pair}
 use Rattle.channel_laws.specs.Runs.{Occurrence, run_of}
 use Rattle.channel_laws.specs.Tries.{request_of, one_if, copies}
@@ -47,12 +48,14 @@ adverse_in (word ∷ words) = one_if (is_adverse word) + adverse_in words
 -- ---- turns
 
 -- Both hosts' channels are pairs whose links go side by side. On each link at most so many turns disturb as words of the run are adverse: a
--- `pass` that finds nothing in the air fires both timers while the link is quiet. And when something comes in, an answer has room.
+-- `pass` that finds nothing in the air fires both timers while the link is quiet. And when something comes in, an answer has room. When a timer fires,
+-- no channel of its host has anything to give, and no machine of the other owes it a reply.
 pub record PairsCost (asks : HostsAsk) (scenario : Scenario) (content : Option Contents) (capture : List Entry) (ran : Ran scenario content capture) : Type 0 where
   pub turns : PairsInTurn asks scenario content capture ran
   pub cost : (number : ℕ) → (let near : Policy = (client_profile scenario.settings).policy in let far : Policy = (server_profile scenario.settings content).policy in
       disturbances (new_pair near far) (turns.pairs.pairs number).turns ≤ adverse_in (all_words ran.happenings))
   pub room : (number : ℕ) → AreRoomy (client_profile scenario.settings).policy (server_profile scenario.settings content).policy (turns.pairs.pairs number).turns
+  pub settled : (number : ℕ) → AreSettled (client_profile scenario.settings).policy (server_profile scenario.settings content).policy (turns.pairs.pairs number).turns
 
 -- So it is at each moment of each run, wherever it broke off.
 abbrev pub DisturbancesCostWords : Type 0

@@ -20,6 +20,7 @@ use Rattle.bt_host.specs.NotedHosts.{noted_server}
 use Rattle.bt_host.specs.Refusals.{acl_limit}
 use Rattle.bt_host.specs.Stacks.{Standing}
 use Rattle.unit_laws.specs.Calls.{gifts_of, gifts_in, IsWritable}
+use Rattle.unit_laws.specs.Laws.{FiresNone}
 use Rattle.unit_laws.specs.Units.{Occasion, Waits, units_of, units, Runs, ComesInTurn}
 use Rattle.unit_laws.proofs.Doing.{runs_then}
 use Rattle.receiving.specs.Turns.{Stand, Posture, Turn, HearsIn, HasTurn, HasTurns, emptied, packets_in}
@@ -58,6 +59,7 @@ module _ (settings : Settings) (content : Option Contents) where
     pub runs : Runs U (ComesInTurn U) occasions (lined old.line there) (lined new.line after)
     pub moves : IsMoves (units occasions)
     pub granting : StaysGranting (gifts_in occasions) old.host new.host
+    pub untimed : AllByRecursion FiresNone occasions
     pub writable : IsWritable new.line
     pub taken : new.line.out ≡ []
 
@@ -84,6 +86,7 @@ module _ (settings : Settings) (content : Option Contents) where
           moves_are = units_waiting by.occasions ∙ by.units_are;
         };
         granting = λ all. let both = granting all in (subst (AllByRecursion IsGrant) (sym (gifts_waiting by.occasions ∙ by.given)) both.0, both.1);
+        untimed = all_append FiresNone by.occasions (Waits ∷ []) by.untimed (tt, tt);
         writable = writable_emptied new.line by.writable;
         taken = refl;
       }
@@ -126,6 +129,7 @@ module _ (settings : Settings) (content : Option Contents) where
         let one = first.granting all in
         let two = second.granting one.1 in
         (subst (AllByRecursion IsGrant) (sym (flat_map-append gifts_of first.occasions second.occasions)) (all_append IsGrant (gifts_in first.occasions) (gifts_in second.occasions) one.0 two.0), two.1);
+    untimed = all_append FiresNone first.occasions second.occasions first.untimed second.untimed;
     writable = second.writable;
     taken = second.taken;
   }
@@ -134,7 +138,7 @@ module _ (settings : Settings) (content : Option Contents) where
       → From (MoveInTurns turns) old.stands (used_in (noted_server settings) turns old new runs ++ rest) (new.stands rest)
   turns_run [] old new runs each turn rest = λ there alike writable none.
       subst (λ (p : Posture (Noted ServerProfile)). RunsTo (MoveInTurns []) (old.stands rest) there (p.stands rest)) (sym runs)
-      (record { occasions = []; after = there; alike = alike; runs = refl; moves = refl; granting = λ all. (tt, all); writable = writable; taken = none })
+      (record { occasions = []; after = there; alike = alike; runs = refl; moves = refl; granting = λ all. (tt, all); untimed = tt; writable = writable; taken = none })
   turns_run (turn ∷ turns) old new (mid, one, more) each (off, takes, behind) rest =
       let parts = split_all (IsPacket acl_limit) turn.packet (packets_in turns) each in
       let later = used_in (noted_server settings) turns mid new more in

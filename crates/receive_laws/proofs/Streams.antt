@@ -1,9 +1,10 @@
 -- A stream is a run of the server that hears it, and its inbox gains what its packets spell.
-use Rattle.std.proofs.Common.{◌≡◌, ◌≢◌, ℕ, List, [], ◌++◌, Option, inr, refl, sym, ap, subst, ◌∙◌}
+use Rattle.std.proofs.Common.{◌≡◌, ◌≢◌, ℕ, List, [], ◌∷◌, ◌++◌, Option, inr, refl, sym, ap, subst, ◌∙◌}
 use Rattle.std.specs.Prelude.{Result, Ok, Err}
 use Rattle.std.proofs.lemmas.List.{append-nil}
 use Rattle.bt_base.specs.declared.settings.Settings.{Settings}
-use Rattle.bt_base.specs.Objects.{Object}
+use Rattle.bt_base.specs.declared.settings.Transport.TheVariants.{L2cap}
+use Rattle.bt_base.specs.Objects.{Object, Contents}
 use Rattle.btpush_forms.specs.declared.status.Status.{Status}
 use Rattle.btpush_forms.specs.declared.status.Status.TheVariants as status
 use Rattle.host_link.specs.declared.role.Role.TheVariants.{Server}
@@ -19,15 +20,16 @@ use Rattle.bt_host.specs.Noting.{Noted}
 use Rattle.bt_host.specs.NotedHosts.{noted_server}
 use Rattle.bt_host.specs.Stacks.{Standing}
 use Rattle.unit_laws.proofs.Doing.{calls_are_runs}
-use Rattle.unit_laws.proofs.Gaining.{servers_gain}
+use Rattle.unit_laws.specs.Units.{units}
+use Rattle.orderly_laws.proofs.Gaining.{servers_gain_asked}
 use Rattle.receiving.specs.declared.fault.ListenFault.{ListenFault}
 use Rattle.receiving.specs.declared.fault.ListenFault.TheVariants.{Refused, ReadFault, WriteFault, NoMemory}
 use Rattle.receiving.specs.Coming.{Unless}
 use Rattle.receiving.specs.Receiving.{Tells, new_server_host, stored_by}
-use Rattle.receiving.specs.Turns.{emptied}
+use Rattle.receiving.specs.Turns.{Posture, Turn, HasTurns, emptied}
 use Rattle.receive_laws.specs.Answers.{used_in}
-use Rattle.receive_laws.specs.Streams.{new_server, StreamsAreRuns, ReceivesSpelled}
-use Rattle.receive_laws.specs.Moving.{opening, MovesWith}
+use Rattle.receive_laws.specs.Streams.{new_server, IsRunOverUnits, StreamsAreRuns, IsOrderlyStream, GainsSpelled, ReceivesSpelled}
+use Rattle.receive_laws.specs.Moving.{opening, MovesWith, MoveInTurns}
 use Rattle.receive_laws.proofs.Alike.{IsAlike, holds_alike}
 use Rattle.receive_laws.proofs.Deeds.{lined, calls_at}
 use Rattle.receive_laws.proofs.Following.{RunsTo, taken_behind, then_runs, turns_run}
@@ -55,20 +57,26 @@ module _ (settings : Settings) (before : List Object) where
       (record { there = first_there; alike = new_alike rest; goes = (calls_at settings (holding before) (fresh Server) first_there ((calls_are_runs U).fresh Server)).commands })
       (λ all. (tt, all)) refl refl
 
+  -- the whole run, from before its first command
+  ends_in : (turns : List Turn) (last : Posture (Noted ServerProfile)) (runs : HasTurns (noted_server settings) turns (new_server settings before).posture last)
+      → RunsTo settings (holding before) (MoveInTurns (opening (new_server settings before).said ∷ turns)) (fresh_at (used_in (noted_server settings) turns (new_server settings before).posture last runs ++ [])) first_there (last.stands []) → IsRunOverUnits settings before turns last runs
+  ends_in turns last runs whole = record {
+    occasions = whole.occasions;
+    now = lined (last.stands []).line whole.after;
+    did = whole.runs;
+    moves = whole.moves;
+    inbox_is = holds_alike settings (holding before) (last.stands []).host whole.after whole.alike;
+    untimed = whole.untimed;
+    granted = λ granting. (whole.granting (subst (λ (used : List Circumstance). AllGranted (answers_in used)) (sym (append-nil (used_in (noted_server settings) turns (new_server settings before).posture last runs))) granting)).0;
+  }
+
 pub streams_are_runs : StreamsAreRuns
 streams_are_runs settings before turns last runs each turn =
     let all = used_in (noted_server settings) turns (new_server settings before).posture last runs ++ [] in
     let first = opens settings before all in
     let behind = turns_run settings (holding before) turns (new_server settings before).posture last runs each turn [] first.after first.alike first.writable first.taken in
-    let whole = then_runs settings (holding before) (opening (new_server settings before).said) turns (fresh_at settings before all) (first_there settings before) (emptied (new_server_host settings (holding before) all)) (last.stands []) first behind in
-    record {
-      occasions = whole.occasions;
-      now = lined (last.stands []).line whole.after;
-      did = whole.runs;
-      moves = whole.moves;
-      inbox_is = holds_alike settings (holding before) (last.stands []).host whole.after whole.alike;
-      granted = λ granting. (whole.granting (subst (λ (used : List Circumstance). AllGranted (answers_in used)) (sym (append-nil (used_in (noted_server settings) turns (new_server settings before).posture last runs))) granting)).0;
-    }
+    ends_in settings before turns last runs
+    (then_runs settings (holding before) (opening (new_server settings before).said) turns (fresh_at settings before all) (first_there settings before) (emptied (new_server_host settings (holding before) all)) (last.stands []) first behind)
 
 -- ---- what its inbox gains
 
@@ -80,15 +88,21 @@ stored_there (Err ReadFault) trace trace' result told tells not is = is
 stored_there (Err WriteFault) trace trace' result told tells not is = is
 stored_there (Err NoMemory) trace trace' result told tells not is = absurd (not tells.0)
 
+module _ (settings : Settings) (before : List Object) (turns : List Turn) (last : Posture (Noted ServerProfile)) (runs : HasTurns (noted_server settings) turns (new_server settings before).posture last) where
+  gains_spelled : (inbox' : Option Contents) (run : IsRunOverUnits settings before turns last runs) → settings.transport ≡ L2cap → IsOrderlyStream settings before turns last runs
+      → inbox' ≡ stored_by last.stands → GainsSpelled settings before turns inbox'
+  gains_spelled inbox' run transport orderly is = record {
+    moves = units run.occasions;
+    move = run.moves;
+    gains = ap stored_in (is ∙ sym run.inbox_is)
+        ∙ servers_gain_asked settings before run.occasions run.now transport run.did (record { untimed = run.untimed; granted = run.granted orderly.granted }) (orderly.orderly (units run.occasions) run.moves);
+  }
+
 pub receives_spelled : ReceivesSpelled
-receives_spelled = record {
-  asks = servers_gain.asks;
-  receives = λ source source' sink sink' trace trace' before inbox' result received not orderly.
-      let settings = received.settings in
-      let halts = received.comes.halts in
-      let run = streams_are_runs settings before halts.turns halts.last halts.runs halts.each orderly.in_turn in
-      let stands_are = stored_there received.end trace trace' result _ received.tells not halts.there in
-      let stored = stored_there received.end trace trace' result _ received.tells not received.stored in
-      let held : inbox' ≡ run.now.upper.profile.inbox.content = stored ∙ (ap stored_by stands_are ∙ sym run.inbox_is) in
-      record { run = run; gains = ap stored_in held ∙ servers_gain.gains settings before run.occasions run.now received.plain.transport run.did (orderly.orderly run) };
-}
+receives_spelled source source' sink sink' trace trace' before inbox' result received not orderly =
+    let settings = received.settings in
+    let halts = received.comes.halts in
+    let run = streams_are_runs settings before halts.turns halts.last halts.runs halts.each orderly.in_turn in
+    let stands_are = stored_there received.end trace trace' result _ received.tells not halts.there in
+    let stored = stored_there received.end trace trace' result _ received.tells not received.stored in
+    gains_spelled settings before halts.turns halts.last halts.runs inbox' run received.plain.transport orderly (stored ∙ ap stored_by stands_are)

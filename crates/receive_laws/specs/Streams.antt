@@ -6,6 +6,7 @@ use Rattle.bt_base.specs.Objects.{Object, Contents}
 use Rattle.btpush_forms.specs.declared.status.Status.{Status}
 use Rattle.btpush_forms.specs.declared.status.Status.TheVariants as status
 use Rattle.h4_framing.specs.Packets.{IsPacket}
+use Rattle.capture.specs.Moves.{Move}
 use Rattle.push_terms.specs.declared.word.Side.TheVariants as sides
 use Rattle.link_talk.specs.Captures.{objects_heard}
 use Rattle.host_link.specs.declared.role.Role.TheVariants.{Server}
@@ -14,7 +15,6 @@ use Rattle.push_laws.specs.Premises.{AllGranted}
 use Rattle.host_model.specs.Circumstances.{Circumstance, answers_in}
 use Rattle.host_model.specs.Hosts.{Host}
 use Rattle.host_model.specs.Servers.{ServerProfile}
-use Rattle.host_laws.specs.Calls.{HostsAsk}
 use Rattle.scenario_laws.specs.Gains.{holding, serving}
 use Rattle.scenario_laws.specs.Parties.{party_of}
 use Rattle.bt_host.specs.Noting.{Noted}
@@ -23,7 +23,8 @@ use Rattle.bt_host.specs.Refusals.{acl_limit}
 use Rattle.unit_laws.specs.Units.{Lined, Occasion, units, lone_capture}
 use Rattle.unit_laws.specs.Calls.{gifts_in}
 use Rattle.unit_laws.specs.Living.{Did}
-use Rattle.unit_laws.specs.Gaining.{IsOrderlyInput}
+use Rattle.unit_laws.specs.Laws.{FiresNone}
+use Rattle.orderly_laws.specs.Orderly.{IsOrderlyInput}
 use Rattle.receiving.specs.Turns.{Begun, begun, Posture, Turn, HasTurns, packets_in}
 use Rattle.receiving.specs.Receiving.{new_server_host, stored_by, Receives}
 use Rattle.receive_laws.specs.Answers.{GrantsAllAsked}
@@ -41,6 +42,7 @@ pub record IsRunOverUnits (settings : Settings) (before : List Object) (turns : 
   pub did : Did (serving settings before) Server occasions now
   pub moves : MoveFromStart (new_server settings before).said turns (units occasions)
   pub inbox_is : now.upper.profile.inbox.content ≡ stored_by last.stands
+  pub untimed : AllByRecursion FiresNone occasions
   -- where no call of its inbox failed, none of those fails that the inbox is to answer
   pub granted : GrantsAllAsked (noted_server settings) turns (new_server settings before).posture last runs → AllByRecursion (λ (gift : List Circumstance). AllGranted (answers_in gift)) (gifts_in occasions)
 
@@ -49,19 +51,19 @@ abbrev pub StreamsAreRuns : Type 0
 StreamsAreRuns = (settings : Settings) (before : List Object) (turns : List Turn) (last : Posture (Noted ServerProfile)) (runs : HasTurns (noted_server settings) turns (new_server settings before).posture last)
     → AllByRecursion (IsPacket acl_limit) (packets_in turns) → AreInTurn (noted_server settings) turns (new_server settings before).posture last runs → IsRunOverUnits settings before turns last runs
 
--- What `receive` heard comes in turn, and as units it is orderly.
-pub record IsOrderlyStream (asks : HostsAsk) (settings : Settings) (before : List Object) (turns : List Turn) (last : Posture (Noted ServerProfile)) (runs : HasTurns (noted_server settings) turns (new_server settings before).posture last) : Type 0 where
+-- What `receive` heard comes in turn, no call of its inbox fails, and the packets that move, those that it heard and behind each those that it put out, are
+-- orderly input.
+pub record IsOrderlyStream (settings : Settings) (before : List Object) (turns : List Turn) (last : Posture (Noted ServerProfile)) (runs : HasTurns (noted_server settings) turns (new_server settings before).posture last) : Type 0 where
   pub in_turn : AreInTurn (noted_server settings) turns (new_server settings before).posture last runs
-  pub orderly : (run : IsRunOverUnits settings before turns last runs) → IsOrderlyInput asks settings before (lone_capture sides.B (units run.occasions)) run.now.upper
+  pub granted : GrantsAllAsked (noted_server settings) turns (new_server settings before).posture last runs
+  pub orderly : (moves : List Move) → MoveFromStart (new_server settings before).said turns moves → IsOrderlyInput settings (lone_capture sides.B moves)
 
--- Then its inbox gains exactly the objects that the packets spell which it heard, in the order of their last packets, over L2CAP. The packets are
--- those of its run over units.
-pub record GainsSpelled (settings : Settings) (before : List Object) (turns : List Turn) (last : Posture (Noted ServerProfile)) (runs : HasTurns (noted_server settings) turns (new_server settings before).posture last) (inbox' : Option Contents) : Type 0 where
-  pub run : IsRunOverUnits settings before turns last runs
-  pub gains : stored_in inbox' ≡ Some (before ++ objects_heard (party_of settings sides.B) sides.B (lone_capture sides.B (units run.occasions)))
+-- Then its inbox gains exactly the objects that these packets spell, in the order of their last packets, over L2CAP.
+pub record GainsSpelled (settings : Settings) (before : List Object) (turns : List Turn) (inbox' : Option Contents) : Type 0 where
+  pub moves : List Move
+  pub move : MoveFromStart (new_server settings before).said turns moves
+  pub gains : stored_in inbox' ≡ Some (before ++ objects_heard (party_of settings sides.B) sides.B (lone_capture sides.B moves))
 
-pub record ReceivesSpelled : Type 0 where
-  pub asks : HostsAsk
-  pub receives : (source source' sink sink' trace trace' : Option (List ℕ)) (before : List Object) (inbox' : Option Contents) (result : Status) (received : Receives source source' sink sink' trace trace' (holding before) inbox' result)
-      → result ≢ status.NoMemory → IsOrderlyStream asks received.settings before received.comes.halts.turns received.comes.halts.last received.comes.halts.runs
-      → GainsSpelled received.settings before received.comes.halts.turns received.comes.halts.last received.comes.halts.runs inbox'
+abbrev pub ReceivesSpelled : Type 0
+ReceivesSpelled = (source source' sink sink' trace trace' : Option (List ℕ)) (before : List Object) (inbox' : Option Contents) (result : Status) (received : Receives source source' sink sink' trace trace' (holding before) inbox' result) → result ≢ status.NoMemory
+    → IsOrderlyStream received.settings before received.comes.halts.turns received.comes.halts.last received.comes.halts.runs → GainsSpelled received.settings before received.comes.halts.turns inbox'

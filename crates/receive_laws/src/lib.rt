@@ -14,7 +14,7 @@ pub fn streams_are_runs()
     ensures { StreamsAreRuns }
 {}
 
-/// What `receive` stores is exactly what the packets of its stream spell, on orderly input over L2CAP.
+/// What `receive` stores is exactly what the packets of its stream spell, on input that is orderly by these packets alone, over L2CAP.
 pub fn receives_spelled()
     ensures { ReceivesSpelled }
 {}

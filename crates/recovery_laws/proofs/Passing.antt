@@ -1,20 +1,19 @@
 -- A frame that is handed over lowers the number of passes.
-use Rattle.std.proofs.Common.{ℕ, ◌≡◌, ◌+◌, ◌≤◌, inl, inr, Bool, true, false, cond, List, [], ◌∷◌, ◌++◌, length, None, refl, ap, sym, ◌∙◌, subst, arith, append-nil}
+use Rattle.std.proofs.Common.{ℕ, ◌≡◌, ◌+◌, ◌≤◌, Bool, true, false, cond, List, [], ◌∷◌, ◌++◌, length, None, refl, ap, sym, ◌∙◌, subst, arith, append-nil}
 use Rattle.std.specs.List.{AllByRecursion}
 use Rattle.std.proofs.lemmas.List.{append_assoc}
-use Rattle.ertm_frames.specs.declared.frame.SKind.TheVariants.{Rr, Rej, Rnr, Srej}
 use Rattle.ertm_frames.specs.Frames.{PlainFrame, information, supervisory}
 use Rattle.ertm_frames.specs.Segments.{Segment}
 use Rattle.ertm_frames.specs.Picking.{is_final}
 use Rattle.ertm_model.specs.Value.{Poll, NoPoll}
-use Rattle.ertm_model.specs.Hearing.{acknowledged, busy_after, poll_after, sender_after}
+use Rattle.ertm_model.specs.Hearing.{acknowledged, poll_after, sender_after}
 use Rattle.ertm_model.specs.Pair.{Sent, End, acknowledged_by, given_by, hearing_by}
 use Rattle.ertm_model.specs.Order.{IsBelow, MayFly, WayBy, Stands}
 use Rattle.ertm_model.proofs.Lists.{dropped}
 use Rattle.ertm_model.proofs.Sending.{put-length}
 use Rattle.ertm_model.proofs.Acknowledging.{acknowledges}
-use Rattle.ertm_model.proofs.Ordering.{place-at, front-flies}
-use Rattle.ertm_model.proofs.Spending.{IsPlaced}
+use Rattle.ertm_model.proofs.Affording.{placed_for, still_ready}
+use Rattle.ertm_model.proofs.Ordering.{front-flies}
 use Rattle.ertm_model.proofs.Resting.{at_rest, silent}
 use Rattle.recovery_laws.specs.Number.{Direction, is_waiting, weight, weights, number_in, work_left}
 use Rattle.recovery_laws.specs.Facts.{IsSound, IsFit, IsSettled}
@@ -63,17 +62,6 @@ sender_goes sent rest y later poll d (afresh k asks numbers_are many weigh waits
 below_given : (x y : End) (number : ℕ) (frame : PlainFrame) (h : Stands x y) → MayFly x.machine.agreed.send_window x.put (h.there.a + length x.machine.sender.unacked) (length y.got) number frame → IsBelow (given_by x) number frame
 below_given x y number (information tx final req sar total octets) h may = let put = put-length h.there.sends in let less = may.1 in omega arith
 below_given x y number (supervisory kind poll final req) h may = tt
-
-placed_at : (x y : End) (number : ℕ) (frame : PlainFrame) (h : Stands x y) → MayFly x.machine.agreed.send_window x.put (h.there.a + length x.machine.sender.unacked) (length y.got) number frame → IsPlaced number y.got y.machine frame
-placed_at x y number (information tx final req sar total octets) h may = place-at x y number tx req sar total final octets h may
-placed_at x y number (supervisory kind poll final req) h may = tt
-
-still_ready : (window : ℕ) (put : List Segment) (given reach number : ℕ) (frame : PlainFrame) (busy : Bool) → MayFly window put given reach number frame → busy ≡ false → busy_after frame busy ≡ false
-still_ready window put given reach number (information tx final req sar total octets) busy may is = is
-still_ready window put given reach number (supervisory Rr poll final req) busy may is = refl
-still_ready window put given reach number (supervisory Rej poll final req) busy may is = refl
-still_ready window put given reach number (supervisory Rnr poll final req) busy may is = elim may [ inl e ↦ cc | inr e ↦ cc ]
-still_ready window put given reach number (supervisory Srej poll final req) busy may is = is
 
 counts_none : (final : Bool) (poll : Poll) (polls : ℕ) → (poll ≡ NoPoll → polls ≡ 0) → cond final NoPoll poll ≡ NoPoll → cond final 0 polls ≡ 0
 counts_none true poll polls none is = refl
@@ -128,7 +116,7 @@ passes planned_x planned_y x y sent behind rest is settled_x settled_y h stands 
     let after : End = hearing_by None None sent.frame y in
     let may = front-flies x y sent behind h.stands is in
     let at_ = at_rest y.machine settled_y.is_open (silent y.machine settled_y.is_silent) in
-    let r = receives planned_x x y sent.frame sent.number sent.asks rest (placed_at x y sent.number sent.frame h.stands may) (below_given x y sent.number sent.frame h.stands may) at_.quiet.unpolled at_.quiet.unreplied sound_x in
+    let r = receives planned_x x y sent.frame sent.number sent.asks rest (placed_for x y sent.number sent.frame h.stands may) (below_given x y sent.number sent.frame h.stands may) at_.quiet.unpolled at_.quiet.unreplied sound_x in
     let c = counts x y sent behind is h.stands in
     let later = is_later y r.later sent c r.sender_is r.put_is in
     let poll : Poll = poll_after sent.frame y.machine.sender.poll in

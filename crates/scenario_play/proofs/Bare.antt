@@ -28,7 +28,7 @@ use Rattle.inbox_laws.specs.Owned.{own_machine}
 use Rattle.inbox_laws.proofs.Keeping.{KeepsSo, hear_kept, next_kept}
 use Rattle.inbox_laws.proofs.Owning.{own_orderly}
 use Rattle.pair_laws.specs.Served.{holding_on}
-use Rattle.bt_host.specs.Shelving.{Shelved, shelf_profile}
+use Rattle.bt_host.specs.Shelving.{Shelved, in_memory, shelf_profile}
 use Rattle.scenario_play.specs.Shelving.{bare_host, bare_set}
 
 -- whether a host goes on or not
@@ -81,7 +81,7 @@ module _ (settings : Settings) where
   handed_bare (Received own psm sdu) shelved = refl
 
   -- what its shelf holds it tells as a push begins
-  news_bare : (circumstances : List Circumstance) (news : News) (host : Host Shelved) → bare_host (hears_news N circumstances news host) ≡ hears_news A (held_by host.profile.shelf news circumstances) news (bare_host host)
+  news_bare : (circumstances : List Circumstance) (news : News) (host : Host Shelved) → bare_host (hears_news N circumstances news host) ≡ hears_news A (held_by host.profile.shelf news (map in_memory circumstances)) news (bare_host host)
   news_bare circumstances (Linked Up) host = refl
   news_bare circumstances (Linked (Down reason)) host = ap (λ h. told A circumstances (Linked (Down reason)) h) (events_bare (with_channels (link_down host.channels) host))
   news_bare circumstances (Failed status) host = refl
@@ -98,11 +98,12 @@ module _ (settings : Settings) where
   ready_bare shelf news circumstances host =
       ap (λ (parts : List Excerpt). let h : Host ClientProfile = record host { profile = record host.profile { parts = parts }; may_say = most_said } in h) (sym (parts_held shelf news circumstances))
 
-  hear_bare : (circumstances : List Circumstance) (news : News) (host : Host Shelved) → bare_host (hear N circumstances news host) ≡ hear A (held_by host.profile.shelf news circumstances) news (bare_host host)
+  hear_bare : (circumstances : List Circumstance) (news : News) (host : Host Shelved) → bare_host (hear N circumstances news host) ≡ hear A (held_by host.profile.shelf news (map in_memory circumstances)) news (bare_host host)
   hear_bare circumstances news host =
-      let held = held_by host.profile.shelf news circumstances in
+      let found = map in_memory circumstances in
+      let held = held_by host.profile.shelf news found in
       drives_bare most_steps (hears_news N circumstances news (ready N circumstances host))
-      ∙ (ap (λ h. driven A h) (news_bare circumstances news (ready N circumstances host)) ∙ ap (λ h. driven A (hears_news A held news h)) (ready_bare host.profile.shelf news circumstances (bare_host host)))
+      ∙ (ap (λ h. driven A h) (news_bare circumstances news (ready N circumstances host)) ∙ ap (λ h. driven A (hears_news A held news h)) (ready_bare host.profile.shelf news found (bare_host host)))
 
   says_bare : (given : Option Given) (count : ℕ) (host : Host Shelved) → says A given count (bare_host host) ≡ said_as bare_host (says N given count host)
   says_bare None count host = refl
@@ -130,7 +131,7 @@ module _ (settings : Settings) where
 abbrev pub shelf_machine : Upper (SetHost Shelved) Circumstance
 shelf_machine = with_settings shelf_profile
 
-set_hears : (answers : List Circumstance) (news : News) (s : SetHost Shelved) → client_machine.hear (held_by s.host.profile.shelf news answers) news (bare_set s) ≡ bare_set (shelf_machine.hear answers news s)
+set_hears : (answers : List Circumstance) (news : News) (s : SetHost Shelved) → client_machine.hear (held_by s.host.profile.shelf news (map in_memory answers)) news (bare_set s) ≡ bare_set (shelf_machine.hear answers news s)
 set_hears answers news s = ap (set_to s.settings) (sym (hear_bare s.settings answers news s.host))
 
 set_says : (s : SetHost Shelved) → client_machine.next (bare_set s) ≡ said_as bare_set (shelf_machine.next s)
@@ -142,7 +143,7 @@ said_there s pdu after is = set_says s ∙ ap (said_as bare_set) is
 -- it is that client, whose shelf answers otherwise as a push begins
 pub bare_alike : AreAlike (λ s t. t ≡ bare_set s) shelf_machine client_machine
 bare_alike = record {
-  hear = λ answers news s t is. (held_by s.host.profile.shelf news answers, ap (client_machine.hear (held_by s.host.profile.shelf news answers) news) is ∙ set_hears answers news s);
+  hear = λ answers news s t is. (held_by s.host.profile.shelf news (map in_memory answers), ap (client_machine.hear (held_by s.host.profile.shelf news (map in_memory answers)) news) is ∙ set_hears answers news s);
   says = λ s t is pdu after same. (bare_set after, refl, ap client_machine.next is ∙ said_there s pdu after same);
   silent = λ s t is none. ap client_machine.next is ∙ (set_says s ∙ ap (said_as bare_set) none);
   wants_link = λ s t is. ap client_machine.wants_link is;
@@ -166,9 +167,9 @@ shelf_on shelf s pdu after is holds =
 pub held_alike : (shelf : Option (List Object)) → AreAlike (λ s t. (t ≡ bare_set s) × HoldsShelf shelf s) shelf_machine (holding_on shelf client_machine)
 held_alike shelf = record {
   hear = λ answers news s t so. (
-    answers,
+    map in_memory answers,
     (
-      ap (client_machine.hear (held_by shelf news answers) news) so.0 ∙ (ap (λ (held : Option (List Object)). client_machine.hear (held_by held news answers) news (bare_set s)) (sym so.1) ∙ set_hears answers news s),
+      ap (client_machine.hear (held_by shelf news (map in_memory answers)) news) so.0 ∙ (ap (λ (held : Option (List Object)). client_machine.hear (held_by held news (map in_memory answers)) news (bare_set s)) (sym so.1) ∙ set_hears answers news s),
       hear_kept (shelf_profile s.settings) (λ (shelved : Shelved). shelved.shelf ≡ shelf) (shelf_kept s.settings shelf) answers news s.host so.1,
     ),
   );
@@ -188,14 +189,14 @@ idles_bare : Idles client_machine → Idles shelf_machine
 idles_bare idles = record {
   first = refl;
   wants_none = λ s is. idles.wants_none (bare_set s) is;
-  hears = λ answers news s aside is. sym (ap client_machine.is_idle (set_hears answers news s)) ∙ idles.hears (held_by s.host.profile.shelf news answers) news (bare_set s) aside is;
+  hears = λ answers news s aside is. sym (ap client_machine.is_idle (set_hears answers news s)) ∙ idles.hears (held_by s.host.profile.shelf news (map in_memory answers)) news (bare_set s) aside is;
   says = λ s pdu after same is. idles.says (bare_set s) pdu (bare_set after) (said_there s pdu after same) is;
 }
 
 once_bare : AsksOnce client_machine → AsksOnce shelf_machine
 once_bare once = record {
-  comes = λ answers s. sym (ap client_machine.wants_link (set_hears answers (Linked Up) s)) ∙ once.comes (held_by s.host.profile.shelf (Linked Up) answers) (bare_set s);
-  hears = λ answers news s aside none. sym (ap client_machine.wants_link (set_hears answers news s)) ∙ once.hears (held_by s.host.profile.shelf news answers) news (bare_set s) aside none;
+  comes = λ answers s. sym (ap client_machine.wants_link (set_hears answers (Linked Up) s)) ∙ once.comes (held_by s.host.profile.shelf (Linked Up) (map in_memory answers)) (bare_set s);
+  hears = λ answers news s aside none. sym (ap client_machine.wants_link (set_hears answers news s)) ∙ once.hears (held_by s.host.profile.shelf news (map in_memory answers)) news (bare_set s) aside none;
   says = λ s pdu after same none. once.says (bare_set s) pdu (bare_set after) (said_there s pdu after same) none;
 }
 

@@ -28,6 +28,7 @@ use Rattle.radio_world.proofs.Advancing.{plays_then}
 use Rattle.radio_world.proofs.Spelled.{AreEntries, each_of_both}
 use Rattle.radio_world.proofs.Standing.{runs_of}
 use Rattle.host_model.specs.Circumstances.{Circumstance, answers_in}
+use Rattle.host_model.specs.Clients.{ClientProfile}
 use Rattle.host_model.specs.Servers.{ServerProfile}
 use Rattle.host_model.specs.Settings.{SetHost, set_to, client_machine, server_machine}
 use Rattle.bt_host.specs.Noting.{Noted}
@@ -54,7 +55,9 @@ use Rattle.scenario_play.proofs.Plainness.{PlainWorld, plain_world, plain_runs, 
 use Rattle.scenario_play.proofs.Counting.{Says, rose_or_not, asked_once, left_says}
 use Rattle.scenario_play.proofs.Course.{Hosts, shelf_kept}
 use Rattle.scenario_play.proofs.OwnServers.{ran_answered}
-use Rattle.scenario_play.proofs.Alikeness.{IsLikeServed, like_served, IsLike, like_runs, told_b}
+use Rattle.scenario_play.proofs.Alikeness.{IsLikeServed, like_served, IsLike, like_runs, told_a, told_b}
+use Rattle.scenario_play.proofs.Able.{able_along}
+use Rattle.scenario_play.proofs.Shelves.{parts_found}
 
 -- one entry at most ends the last push
 few_last : (came : Option Outcome) (pushes : Pushes) → length (last_entries came pushes) ≤ 1
@@ -107,6 +110,7 @@ untouched scenario shelf content content' trace trace' counts counts' stay store
   happenings = [];
   world = first_world scenario content;
   happened = refl;
+  able = refl;
   next = [];
   few = omega arith;
   ran = record { happenings = []; world = first_world scenario content; happened = refl; ends = []; last = tt; capture_is = refl };
@@ -224,6 +228,18 @@ module _ {P Q : Type 0} (holds : P → Option (List Object)) (content : Q → Op
   pushes_are : (shelf : P) (inbox : Q) (for_a for_b : List Circumstance) (happenings : List Happening) (at : PlainWorld) (run : Like shelf inbox for_a for_b happenings at) → run.world.pushes ≡ at.pushes
   pushes_are shelf inbox for_a for_b happenings at run = ap (λ (w : PlainWorld). w.pushes) run.alike.same
 
+  -- host a lacked no memory in it
+  able : (shelf : P) (inbox : Q) (for_a for_b : List Circumstance) (happenings : List Happening) (at : At)
+      → Plays noted_client_machine noted_server_machine happenings (first_moment (starting (new_client holds shelf scenario.settings for_a) noted_client_machine) (starting (new_server content inbox scenario.settings for_b) noted_server_machine) scenario.acl_length scenario.acl_count scenario.names) at
+      → (run : Like shelf inbox for_a for_b happenings (plain_at at)) → run.world.a.upper.profile.client.failed ≡ false
+  able shelf inbox for_a for_b happenings at plays run =
+      let settings = scenario.settings in
+      let new_a = new_client holds shelf settings for_a in
+      let begun = first_moment (starting new_a noted_client_machine) (starting (new_server content inbox settings for_b) noted_server_machine) scenario.acl_length scenario.acl_count scenario.names in
+      told_a client_machine server_machine scenario (content inbox) (set_to settings) (set_to settings) (set_hosts_are_hosts scenario (content inbox)) (plain_client new_a) (plain_set (new_server content inbox settings for_b))
+      (client_twins holds shelf settings for_a) (server_twins content inbox settings for_b) happenings (plain_at at) run (λ (x : SetHost ClientProfile). x.host.profile.client.failed) refl
+      ∙ able_along happenings (world_at begun) (world_at at) (record { works = refl; found = parts_found (holds shelf) for_a }) (runs_of noted_client_machine noted_server_machine happenings begun at plays)
+
   -- ---- to where it broke off
 
   own_holds : (own : Shelled (Noted Served)) (inbox : Q) (host : Asking (SetHost (Noted ServerProfile)) Circumstance) → host.upper ≡ (server_at own inbox).upper → (host.upper []).host.profile.end.inbox.content ≡ content inbox
@@ -262,6 +278,7 @@ module _ {P Q : Type 0} (holds : P → Option (List Object)) (content : Q → Op
         happenings = run.happenings;
         world = past.world;
         happened = past.happened;
+        able = able shelf inbox run.for_a run.for_b run.happenings (moment_of mid [] []) run.plays past;
         next = all_entries broken.next;
         few = broken.few;
         ran = record {
@@ -299,6 +316,7 @@ module _ {P Q : Type 0} (holds : P → Option (List Object)) (content : Q → Op
         happenings = run.happenings;
         world = past.world;
         happened = past.happened;
+        able = able shelf inbox run.for_a run.for_b run.happenings (moment_of mid [] []) run.plays past;
         next = ends;
         few = few_last (noted_client_machine.outcome (mid.a.upper [])) mid.scene.pushes;
         ran = record {

@@ -9,6 +9,9 @@ use Rattle.capture.specs.Entries.{Entry}
 use Rattle.world_model.specs.Worlds.{all_entries}
 use Rattle.cause_laws.specs.FirstCauses.{CausesAreShown}
 use Rattle.cause_laws.proofs.Runs.{runs_show_causes}
+use Rattle.drop_laws.specs.Dropped.{LossesAreDrops}
+use Rattle.drop_laws.proofs.Runs.{runs_lose_by_drops}
+use Rattle.scenario_play.specs.Breaking.{IsBroken}
 use Rattle.scenario_play.specs.Playing.{IsPlayed}
 
 pub causes_shown : (scenario : Scenario) (shelf : Option (List Object)) (before after : Option Contents) (trace trace' : Option (List ℕ)) (outcomes : List Outcome) (peaks : Peaks) (counts counts' : Counts) (played : IsPlayed scenario shelf before after trace trace' outcomes peaks counts counts')
@@ -16,3 +19,17 @@ pub causes_shown : (scenario : Scenario) (shelf : Option (List Object)) (before 
 causes_shown scenario shelf before after trace trace' outcomes peaks counts counts' played =
     let ran = played.finished.ran in
     subst CausesAreShown (sym (ran.capture_is ∙ ap (λ (ends : List Entry). all_entries ran.happenings ++ ends) played.ends)) (runs_show_causes.ends scenario before ran.happenings ran.world ran.happened played.able)
+
+-- as far as it came
+pub causes_so_far : (scenario : Scenario) (shelf : Option (List Object)) (before after : Option Contents) (trace trace' : Option (List ℕ)) (counts counts' : Counts) (broken : IsBroken scenario shelf before after trace trace' counts counts') → CausesAreShown (all_entries broken.happenings)
+causes_so_far scenario shelf before after trace trace' counts counts' broken = runs_show_causes.moments scenario before broken.happenings broken.world broken.happened broken.able
+
+-- and that a link is lost only where `drop` broke it
+pub losses_shown : (scenario : Scenario) (shelf : Option (List Object)) (before after : Option Contents) (trace trace' : Option (List ℕ)) (outcomes : List Outcome) (peaks : Peaks) (counts counts' : Counts) (played : IsPlayed scenario shelf before after trace trace' outcomes peaks counts counts')
+    → LossesAreDrops played.capture
+losses_shown scenario shelf before after trace trace' outcomes peaks counts counts' played =
+    let ran = played.finished.ran in
+    subst LossesAreDrops (sym (ran.capture_is ∙ ap (λ (ends : List Entry). all_entries ran.happenings ++ ends) played.ends)) (runs_lose_by_drops.ends scenario before ran.happenings ran.world ran.happened played.able)
+
+pub losses_so_far : (scenario : Scenario) (shelf : Option (List Object)) (before after : Option Contents) (trace trace' : Option (List ℕ)) (counts counts' : Counts) (broken : IsBroken scenario shelf before after trace trace' counts counts') → LossesAreDrops (all_entries broken.happenings)
+losses_so_far scenario shelf before after trace trace' counts counts' broken = runs_lose_by_drops.moments scenario before broken.happenings broken.world broken.happened broken.able

@@ -57,19 +57,19 @@ abbrev pub Hosts : Type 0
 Hosts = Both (Shelled (Noted ClientProfile)) (Shelled (Noted Served))
 
 module _ {P Q : Type 0} (holds : P → Option (List Object)) (content : Q → Option Contents) (AnswersA : P → List Circumstance → P → Type 0) (faults shortages : Q → ℕ) (scenario : Scenario) where
-  abbrev client_at : Hosts → P → Asking (SetHost (Noted Shelved)) Circumstance
+  abbrev pub client_at : Hosts → P → Asking (SetHost (Noted Shelved)) Circumstance
   client_at world shelf = playing (client_noting holds) shelf world.a.stack
 
-  abbrev server_at : Hosts → Q → Asking (SetHost (Noted ServerProfile)) Circumstance
+  abbrev pub server_at : Hosts → Q → Asking (SetHost (Noted ServerProfile)) Circumstance
   server_at world inbox = playing (server_noting content) inbox world.b.stack
 
   abbrev staged : Hosts → P → Q → Option (List ℕ) → Stage (SetHost (Noted Shelved)) (SetHost (Noted ServerProfile)) Circumstance Circumstance P Q
   staged world shelf inbox trace = stage world.scene (client_at world shelf) (server_at world inbox) shelf inbox trace
 
-  abbrev at_moment : Hosts → P → Q → List Circumstance → List Circumstance → Moment (SetHost (Noted Shelved)) (SetHost (Noted ServerProfile))
+  abbrev pub at_moment : Hosts → P → Q → List Circumstance → List Circumstance → Moment (SetHost (Noted Shelved)) (SetHost (Noted ServerProfile))
   at_moment world shelf inbox rest_a rest_b = moment world.scene (answering rest_a (client_at world shelf)) (answering rest_b (server_at world inbox))
 
-  abbrev Through : Hosts → Hosts → P → P → Q → Q → Option (List ℕ) → Option (List ℕ) → Type 0
+  abbrev pub Through : Hosts → Hosts → P → P → Q → Q → Option (List ℕ) → Option (List ℕ) → Type 0
   Through first end shelf shelf' inbox inbox' trace trace' =
       RunsThrough noted_client_machine noted_server_machine AnswersA (Asks faults shortages) (words_of scenario.script) (staged first shelf inbox trace) (staged end shelf' inbox' trace')
 

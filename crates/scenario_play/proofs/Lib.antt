@@ -6,7 +6,12 @@ mod Plainness
 mod Newness
 mod Alikeness
 mod OwnServers
+mod Unfailing
+mod Shelves
+mod Along
+mod Able
 mod Course
+mod Failing
 mod Breaking
 mod Names
 mod Ended
@@ -16,7 +21,6 @@ pub mod Lost
 mod Unacknowledged
 mod Stepping
 mod NotedWindows
-mod Along
 pub mod PeakBounds
 pub mod BufferPeaks
 pub mod WindowPeaks

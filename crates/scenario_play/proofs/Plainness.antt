@@ -46,7 +46,7 @@ PlainWorld = World (SetHost ClientProfile) (SetHost ServerProfile)
 abbrev ShelfWorld : Type 0
 ShelfWorld = World (SetHost Shelved) (SetHost ServerProfile)
 
-abbrev shelf_world : NotedWorld → ShelfWorld
+abbrev pub shelf_world : NotedWorld → ShelfWorld
 shelf_world w = world_with (plain_set w.a.upper) (plain_set w.b.upper) w
 
 abbrev pub plain_world : NotedWorld → PlainWorld
@@ -68,7 +68,7 @@ abbrev IsHolding : Option (List Object) → SetHost Shelved → SetHost ClientPr
 IsHolding shelf s t = (t ≡ bare_set s) × HoldsShelf shelf s
 
 -- what happens to hosts that note what they hold happens to those that do not
-unnoted_runs : (happenings : List Happening) (old new : NotedWorld) → Runs noted_client_machine noted_server_machine happenings old new
+pub unnoted_runs : (happenings : List Happening) (old new : NotedWorld) → Runs noted_client_machine noted_server_machine happenings old new
     → Runs shelf_machine own_machine happenings (shelf_world old) (shelf_world new)
 unnoted_runs happenings old new runs =
     let (there, alike, ran) = runs_on IsPlain IsPlain noted_client_machine shelf_machine noted_server_machine own_machine (alike_of plain_set noted_client_machine shelf_machine more_a)

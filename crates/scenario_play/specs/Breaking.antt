@@ -1,5 +1,5 @@
 -- A scenario that broke off (this project's own).
-use Rattle.std.specs.Prelude.{ℕ, ◌≡◌, ◌≤◌, ◌⊎◌, ◌||◌, ◌^◌, true, List, [], ◌++◌, length, Option}
+use Rattle.std.specs.Prelude.{ℕ, ◌≡◌, ◌≤◌, ◌⊎◌, ◌||◌, ◌^◌, true, false, List, [], ◌++◌, length, Option}
 use Rattle.std.specs.List.{AllByRecursion}
 use Rattle.bt_base.specs.Counts.{HasRisen}
 use Rattle.bt_base.specs.Objects.{Object, Contents}
@@ -44,12 +44,13 @@ MayWant U V AnswersA AnswersB LackedA LackedB words old shelf inbox trace = IsUn
 
 -- So much happened, from an inbox that held `before`, and the trace gained its entries. Behind them it gained a front of the next entry, if
 -- one was begun; the capture with that entry is one of a run as well, which goes on from there and whose words are the first of the script. The inbox holds what host b
--- made of what happened, unless it lacked memory as that entry was heard. In both runs the shelf told what it holds, and the inbox lacked no memory:
+-- made of what happened, unless it lacked memory as that entry was heard; host a had lacked none by then. In both runs the shelf told what it holds, and the inbox lacked no memory:
 -- it did not by then, and what it answered as that entry was heard is left open. What it answered by then its counts say, as where a scenario is played to its end.
 pub record IsBroken (scenario : Scenario) (shelf : Option (List Object)) (before after : Option Contents) (trace trace' : Option (List ℕ)) (counts counts' : Counts) : Type 0 where
   pub happenings : List Happening
   pub world : BothHosts
   pub happened : Happened scenario before happenings world
+  pub able : world.a.upper.profile.client.failed ≡ false
   pub next : List Entry
   pub few : length next ≤ 1
   pub ran : Ran scenario before (all_entries happenings ++ next)

@@ -33,6 +33,7 @@ use Rattle.scenario_laws.specs.PushEnds.{AllHaveEnded}
 use Rattle.pair_laws.specs.InTurn.{PairsInTurn}
 use Rattle.pair_laws.specs.Served.{HeldInTurn}
 use Rattle.cause_laws.specs.FirstCauses.{CausesAreShown}
+use Rattle.drop_laws.specs.Dropped.{LossesAreDrops}
 use Rattle.request_laws.specs.AllSizes.{InboxGrants}
 use Rattle.request_laws.specs.BothFed.{most_octets, GrantsAll}
 use Rattle.request_laws.specs.Together.{PortsAnswer}
@@ -92,6 +93,7 @@ pub record KeepsPlayed (scenario : Scenario) (outcomes : List Outcome) (capture 
   pub outcomes_are : outcomes ≡ outcomes_of scenario capture
   pub outcomes_are_all : length outcomes ≡ length scenario.names
   pub causes : CausesAreShown capture
+  pub drops : LossesAreDrops capture
   pub obeys : Obeys (hosts_of scenario.settings) scenario.acl_length (words_of scenario.script) capture
 
 -- A scenario that broke off: its accounts, and each entry keeps to the script, whatever ports answer.

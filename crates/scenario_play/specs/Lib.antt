@@ -7,6 +7,7 @@ pub mod Breaking
 pub mod Gaining
 pub mod Streaming
 pub mod Losing
+pub mod Failing
 pub mod PeakBounds
 pub mod BufferPeaks
 pub mod WindowPeaks

@@ -10,7 +10,6 @@ use Rattle.capture.specs.Entries.{Entry}
 use Rattle.link_talk.specs.Captures.{objects_heard}
 use Rattle.push_laws.specs.Spelled.{ArePushed}
 use Rattle.world_model.specs.Worlds.{all_entries}
-use Rattle.scenario_laws.specs.Gains.{holding}
 use Rattle.scenario_laws.specs.Parties.{party_of}
 use Rattle.scenario_play.specs.Breaking.{IsBroken}
 use Rattle.scenario_play.specs.Playing.{IsPlayed}
@@ -20,9 +19,9 @@ abbrev pub SpellsOfShelf : Scenario → (shelf : List Object) → List Entry →
 SpellsOfShelf scenario shelf capture = ArePushed shelf scenario.names (objects_heard (party_of scenario.settings B) B capture)
 
 -- So it is of every scenario that was played with a shelf that tells what it holds: over either transport, to its end or as far as it came, whatever its
--- script says and its ports answer.
+-- script says and its ports answer, and whatever the inbox tells.
 pub record PlaysSpellPushed : Type 0 where
-  pub plays : (scenario : Scenario) (shelf before : List Object) (after : Option Contents) (trace trace' : Option (List ℕ)) (outcomes : List Outcome) (peaks : Peaks) (counts counts' : Counts)
-      (played : IsPlayed scenario (Some shelf) (holding before) after trace trace' outcomes peaks counts counts') → SpellsOfShelf scenario shelf played.capture
-  pub breaks : (scenario : Scenario) (shelf before : List Object) (after : Option Contents) (trace trace' : Option (List ℕ)) (counts counts' : Counts)
-      (broken : IsBroken scenario (Some shelf) (holding before) after trace trace' counts counts') → SpellsOfShelf scenario shelf (all_entries broken.happenings)
+  pub plays : (scenario : Scenario) (shelf : List Object) (before after : Option Contents) (trace trace' : Option (List ℕ)) (outcomes : List Outcome) (peaks : Peaks) (counts counts' : Counts)
+      (played : IsPlayed scenario (Some shelf) before after trace trace' outcomes peaks counts counts') → SpellsOfShelf scenario shelf played.capture
+  pub breaks : (scenario : Scenario) (shelf : List Object) (before after : Option Contents) (trace trace' : Option (List ℕ)) (counts counts' : Counts)
+      (broken : IsBroken scenario (Some shelf) before after trace trace' counts counts') → SpellsOfShelf scenario shelf (all_entries broken.happenings)

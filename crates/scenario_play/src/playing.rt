@@ -2,10 +2,11 @@
 
 ghost use Rattle.std.specs.Prelude.{◌≡◌, ◌≤◌, ◌⊎◌, false, length, IfOk, OnErr, OnOk};
 ghost use Rattle.bt_base.specs.Counts.{HasRisen};
-ghost use Rattle.obex_session.specs.Counting.{counts_of};
+ghost use Rattle.obex_session.specs.Counting.{counts_of, HasRisenBy};
 ghost use Rattle.radio_world.specs.Causes.{Blames};
 ghost use Rattle.radio_world.specs.Shortages.{Lacks};
 ghost use Rattle.scenario_play.specs.Breaking.{IsBroken, IsWanting};
+ghost use Rattle.scenario_play.specs.Failing.{shelf_faults};
 ghost use Rattle.scenario_play.specs.Playing.{fresh_world, KeepsShelf, IsPlayed};
 
 use crate::running::{peaks_of, play_out};
@@ -49,6 +50,7 @@ fn play_in<F: Shelf, I: Inbox, T: Sink>(
     requires fresh { world ≡ fresh_world scenario.now }
     requires none_pending { I.is_pending inbox.old ≡ false }
     ensures plays { IfOk result (λ played. IsPlayed scenario.now (F.content shelf.old) (I.content inbox.old) (I.content inbox.new) (T.content trace.old) (T.content trace.new) played.outcomes.items played.peaks (counts_of I.faults I.shortages inbox.old) (counts_of I.faults I.shortages inbox.new)) }
+    ensures faulted { IfOk result (λ played. HasRisenBy (shelf_faults played.outcomes.items) (F.faults shelf.old) (F.faults shelf.new)) }
     ensures each { IfOk result (λ played. length played.outcomes.items ≡ length scenario.now.names) }
     ensures shelf { OnOk result (KeepsShelf (F.content shelf.old) (F.content shelf.new) (F.faults shelf.old) (F.faults shelf.new) (F.shortages shelf.old) (F.shortages shelf.new)) }
     ensures breaks { OnErr result (IsBroken scenario.now (F.content shelf.old) (I.content inbox.old) (I.content inbox.new) (T.content trace.old) (T.content trace.new) (counts_of I.faults I.shortages inbox.old) (counts_of I.faults I.shortages inbox.new)) }
@@ -66,6 +68,8 @@ fn play_in<F: Shelf, I: Inbox, T: Sink>(
 /// Plays a scenario: host a pushes its objects, which lie on the shelf, and host b stores in the inbox what arrives, while the
 /// words of the script are turned. What happens stands in the trace.
 ///
+/// At most so many pushes end since the shelf failed as its count of faults rose by (`faulted`).
+///
 /// The inbox may have no object pending. `TraceFault` where the trace fails, and `NoMemory` where none could be had: `lacks` says why.
 /// Then `breaks` says how far it came: what the trace gained is the capture of a run so far, and a front of its next entry.
 pub fn play<F: Shelf, I: Inbox, T: Sink>(
@@ -77,6 +81,7 @@ pub fn play<F: Shelf, I: Inbox, T: Sink>(
 ) -> Result<Played, WorldFault>
     requires none_pending { I.is_pending inbox.old ≡ false }
     ensures plays { IfOk result (λ played. IsPlayed scenario.now (F.content shelf.old) (I.content inbox.old) (I.content inbox.new) (T.content trace.old) (T.content trace.new) played.outcomes.items played.peaks (counts_of I.faults I.shortages inbox.old) (counts_of I.faults I.shortages inbox.new)) }
+    ensures faulted { IfOk result (λ played. HasRisenBy (shelf_faults played.outcomes.items) (F.faults shelf.old) (F.faults shelf.new)) }
     ensures each { IfOk result (λ played. length played.outcomes.items ≡ length scenario.now.names) }
     ensures shelf { OnOk result (KeepsShelf (F.content shelf.old) (F.content shelf.new) (F.faults shelf.old) (F.faults shelf.new) (F.shortages shelf.old) (F.shortages shelf.new)) }
     ensures breaks { OnErr result (IsBroken scenario.now (F.content shelf.old) (I.content inbox.old) (I.content inbox.new) (T.content trace.old) (T.content trace.new) (counts_of I.faults I.shortages inbox.old) (counts_of I.faults I.shortages inbox.new)) }

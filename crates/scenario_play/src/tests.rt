@@ -221,7 +221,7 @@ fn fault_at(alloc: Global, call: u32) -> Result<Option<WorldFault>, Fail> {
 #[test]
 fn a_trace_that_fails_is_told(rt: HostRuntime) -> Result<(), Fail> {
     for call in [1, 20, 60] {
-        assert_eq!(rt; fault_at(rt.alloc(), call)?, Some(WorldFault::TraceFault));
+        assert!(rt; fault_at(rt.alloc(), call)? == Some(WorldFault::TraceFault));
     }
     Ok(())
 }
@@ -250,7 +250,7 @@ fn little_is_held_where_nothing_is_answered(rt: HostRuntime) -> Result<(), Fail>
         "transport l2cap\nobject a\nradio\n1 drop\n1216 pass\n",
         "transport l2cap\ntries 2\nobject a\nradio\n2 timer a\n2000 pass\n",
     ] {
-        assert_eq!(rt; peaks_of(rt.alloc(), text)?, Some(one_packet));
+        assert!(rt; peaks_of(rt.alloc(), text)? == Some(one_packet));
     }
     Ok(())
 }

@@ -5,7 +5,6 @@ use ertm_frames::{Frame, FrameRefusal, SKind, frame_of};
 use ertm_machine::{Ertm, ErtmReason, Heard, Submit};
 use l2cap_config::{Agreed, Mode};
 use std::alloc::Global;
-use std::test::Fail;
 
 const AGREED: Agreed = Agreed {
     mode: Mode::Enhanced,
@@ -130,14 +129,18 @@ fn has_segment(pdu: &[u8], segment: Segment) -> bool {
 }
 
 /// Whether the next frame of a machine has this segment.
-fn gives_segment(
-    ertm: &mut Ertm,
-    cid: Cid,
-    into: &mut [u8; 1020],
-    segment: Segment,
-) -> Result<bool, &'static str> {
-    let count = next(ertm, cid, into)?;
-    Ok(has_segment(&into[..count], segment))
+fn gives_segment(ertm: &mut Ertm, cid: Cid, segment: Segment) -> bool {
+    let mut into = [0u8; 1020];
+    match next(ertm, cid, &mut into) {
+        Ok(count) => has_segment(&into[..count], segment),
+        Err(_none) => false,
+    }
+}
+
+/// Whether the next frame of a machine begins with these octets.
+fn gives_front(ertm: &mut Ertm, cid: Cid, front: &[u8]) -> bool {
+    let mut into = [0u8; 1020];
+    next(ertm, cid, &mut into).is_ok() && into.starts_with(front)
 }
 
 /// Whether a machine has given three frames, and awaits what they come to.
@@ -145,81 +148,105 @@ fn awaits_three(ertm: &mut Ertm, cid: Cid) -> bool {
     is_silent(ertm, cid) && ertm.window_used() == 3 && ertm.armed()
 }
 
-#[test]
-fn an_sdu_in_three_segments(rt: HostRuntime) -> Result<(), Fail> {
-    let cid = Cid::of(0x0040).ok_or("a channel")?;
-    let mut ertm = sending(rt.alloc(), &[7; 100])?;
-    let mut into = [0u8; 1020];
-    for segment in [(0, 1, 100, 46), (1, 3, 0, 48), (2, 2, 0, 6)] {
-        assert!(rt; gives_segment(&mut ertm, cid, &mut into, segment)?);
+/// Whether an SDU of 100 octets is given in three segments.
+fn gives_three(ertm: &mut Ertm, cid: Cid) -> bool {
+    gives_segment(ertm, cid, (0, 1, 100, 46))
+        && gives_segment(ertm, cid, (1, 3, 0, 48))
+        && gives_segment(ertm, cid, (2, 2, 0, 6))
+        && awaits_three(ertm, cid)
+}
+
+/// Receive windows, the number that a machine hears which expects number 0, and whether it asks for those that are missing.
+const NUMBERS: [(u8, u8, bool); 9] = [
+    (62, 1, true),
+    (62, 2, false),
+    (63, 1, false),
+    (10, 9, true),
+    (10, 10, false),
+    (10, 20, false),
+    (10, 63, false),
+    (32, 31, true),
+    (32, 32, false),
+];
+
+/// Whether a machine rejects a number, or drops it without a word.
+fn hears_number(ertm: &mut Ertm, cid: Cid, tx: u8, rejects: bool) -> bool {
+    if tx >= 64 {
+        return false;
     }
-    assert!(rt; awaits_three(&mut ertm, cid));
-    Ok(())
+    hand_number(ertm, tx);
+    (!rejects || gives_front(ertm, cid, &[4, 0, 0x40, 0, 0x05, 0x00]))
+        && is_silent(ertm, cid)
+        && ertm.closed().is_none()
 }
 
-#[test]
-fn a_first_segment_has_the_length_of_its_sdu(rt: HostRuntime) -> Result<(), Fail> {
-    let cid = Cid::of(0x0040).ok_or("a channel")?;
-    let mut ertm = sending(rt.alloc(), &[7; 100])?;
-    let mut into = [0u8; 1020];
-    next(&mut ertm, cid, &mut into)?;
-    assert_eq!(rt; &into[..8], [0x34, 0, 0x40, 0, 0, 0x40, 0x64, 0].as_slice());
-    Ok(())
-}
-
-/// A machine that expects number 0 hears a number, under a receive window.
-#[test]
-fn numbers_past_the_expected_one(rt: HostRuntime) -> Result<(), Fail> {
-    let cid = Cid::of(0x0040).ok_or("a channel")?;
-    let mut into = [0u8; 1020];
-    for (receive_window, tx, rejects) in [
-        (62, 1, true),
-        (62, 2, false),
-        (63, 1, false),
-        (10, 9, true),
-        (10, 10, false),
-        (10, 20, false),
-        (10, 63, false),
-        (32, 31, true),
-        (32, 32, false),
-    ] {
-        assert!(rt; receive_window >= 1 && receive_window <= 63 && tx < 64);
-        let mut ertm = machine(rt.alloc(), receive_window)?;
-        hand_number(&mut ertm, tx);
-        if rejects {
-            next(&mut ertm, cid, &mut into)?;
-            assert_eq!(rt; &into[..6], [4, 0, 0x40, 0, 0x05, 0x00].as_slice());
-        }
-        assert!(rt; is_silent(&mut ertm, cid));
-        assert!(rt; ertm.closed().is_none());
+/// The same of a new machine with that receive window.
+fn new_hears_number(alloc: Global, cid: Cid, window: u8, tx: u8, rejects: bool) -> bool {
+    if window < 1 || window > 63 {
+        return false;
     }
-    Ok(())
+    match machine(alloc, window) {
+        Ok(mut ertm) => hears_number(&mut ertm, cid, tx, rejects),
+        Err(_none) => false,
+    }
 }
 
-/// The control fields of what is given while numbers come, of which some are missing.
-#[test]
-fn rejects_and_acknowledgements(rt: HostRuntime) -> Result<(), Fail> {
-    let cid = Cid::of(0x0040).ok_or("a channel")?;
-    let mut into = [0u8; 1020];
-    let mut ertm = machine(rt.alloc(), 10)?;
+/// Numbers that come while some are missing, and how the frame begins that is given then.
+const MISSING: [(u8, &[u8]); 4] = [
+    (6, &[4, 0, 0x40, 0, 0x05, 0x05]),
+    (7, &[]),
+    (5, &[4, 0, 0x40, 0, 0x01, 0x06]),
+    (7, &[4, 0, 0x40, 0, 0x05, 0x06]),
+];
+
+/// Whether a number is heard, and that is all that is said then.
+fn answers_number(ertm: &mut Ertm, cid: Cid, tx: u8, front: &[u8]) -> bool {
+    if tx >= 64 {
+        return false;
+    }
+    hand_number(ertm, tx);
+    (front.is_empty() || gives_front(ertm, cid, front)) && is_silent(ertm, cid)
+}
+
+/// Whether a machine that heard the numbers 0 to 4 answers the others so.
+fn answers_missing(ertm: &mut Ertm, cid: Cid) -> bool {
     for tx in 0..5 {
-        hand_number(&mut ertm, tx);
+        hand_number(ertm, tx);
     }
-    for (tx, control) in [
-        (6, Some([0x05, 0x05])),
-        (7, None),
-        (5, Some([0x01, 0x06])),
-        (7, Some([0x05, 0x06])),
-    ] {
-        assert!(rt; tx < 64);
-        hand_number(&mut ertm, tx);
-        if let Some(control) = control {
-            next(&mut ertm, cid, &mut into)?;
-            assert_eq!(rt; [into[4], into[5]], control);
+    for (tx, front) in MISSING.iter() {
+        if !answers_number(ertm, cid, *tx, *front) {
+            return false;
         }
-        assert!(rt; is_silent(&mut ertm, cid));
     }
-    Ok(())
+    true
+}
+
+/// The same of a new machine.
+fn new_answers_missing(alloc: Global, cid: Cid) -> bool {
+    match machine(alloc, 10) {
+        Ok(mut ertm) => answers_missing(&mut ertm, cid),
+        Err(_none) => false,
+    }
+}
+
+/// Whether the numbers of the rows are answered so, each by a new machine.
+fn all_numbers_are_heard(alloc: Global, cid: Cid) -> bool {
+    for (window, tx, rejects) in NUMBERS.iter() {
+        if !new_hears_number(alloc, cid, *window, *tx, *rejects) {
+            return false;
+        }
+    }
+    true
+}
+
+#[test]
+fn numbers_past_the_expected_one(rt: HostRuntime) {
+    assert!(rt; matches!(Cid::of(0x0040), Some(cid) if all_numbers_are_heard(rt.alloc(), cid)));
+}
+
+#[test]
+fn rejects_and_acknowledgements(rt: HostRuntime) {
+    assert!(rt; matches!(Cid::of(0x0040), Some(cid) if new_answers_missing(rt.alloc(), cid)));
 }
 
 /// How many octets the next frame of a machine has, where its control field is this.
@@ -312,65 +339,123 @@ fn give_again(
 }
 
 /// Of five I-frames the second is lost, and so is the REJ that follows: the timer finds it.
-#[test]
-fn a_poll_recovers(rt: HostRuntime) -> Result<(), Fail> {
-    let cid = Cid::of(0x0040).ok_or("a channel")?;
-    let sdu = [7u8; 200];
+fn recovers(a: &mut Ertm, b: &mut Ertm, cid: Cid, sdu: &[u8]) -> Result<(), &'static str> {
     let mut answer = [0u8; 1020];
-    let mut a = sending(rt.alloc(), &sdu)?;
-    let mut b = machine(rt.alloc(), 10)?;
-    lose_the_second(&mut a, &mut b, cid)?;
-    let size = poll(&mut a, &mut b, cid, &mut answer)?;
-    give_again(&mut a, &mut b, cid, &answer[..size], &sdu)?;
-    pass(&mut b, &mut a, cid, [0x01, 0x05])?;
-    assert!(rt; !a.armed() && a.window_used() == 0);
-    Ok(())
+    lose_the_second(a, b, cid)?;
+    let size = poll(a, b, cid, &mut answer)?;
+    give_again(a, b, cid, &answer[..size], sdu)?;
+    pass(b, a, cid, [0x01, 0x05])?;
+    (!a.armed() && a.window_used() == 0)
+        .then_some(())
+        .ok_or("nothing on its way")
 }
 
-/// A poll is given `tries` times. Then the machine is closed.
-#[test]
-fn polls_come_to_an_end(rt: HostRuntime) -> Result<(), Fail> {
-    let cid = Cid::of(0x0040).ok_or("a channel")?;
+/// Whether the timer fires twice before a poll is given, of eight octets.
+fn polls(ertm: &mut Ertm, cid: Cid) -> bool {
     let mut into = [0u8; 1020];
-    let mut ertm = sending(rt.alloc(), &[])?;
-    assert!(rt; fire(&mut ertm).is_none());
-    next(&mut ertm, cid, &mut into)?;
-    for _poll in 0..3 {
-        assert!(rt; fire(&mut ertm).is_none() && fire(&mut ertm).is_none());
-        assert_eq!(rt; next(&mut ertm, cid, &mut into)?, 8);
-    }
-    for _firing in 0..2 {
-        assert_eq!(rt; fire(&mut ertm), Some(ErtmReason::RetryLimit));
-    }
-    hand_number(&mut ertm, 0);
-    assert!(rt; is_silent(&mut ertm, cid));
-    Ok(())
+    fire(ertm).is_none() && fire(ertm).is_none() && next(ertm, cid, &mut into) == Ok(8)
 }
 
-/// What closes, and what does not.
-#[test]
-fn causes(rt: HostRuntime) -> Result<(), Fail> {
-    for (kind, req, cause) in [
-        (SKind::Rr, 1, Some(ErtmReason::BadReqSeq)),
-        (SKind::Srej, 1, Some(ErtmReason::BadReqSeq)),
-        (SKind::Srej, 0, Some(ErtmReason::Srej)),
-        (SKind::Rej, 0, None),
-        (SKind::Rnr, 0, None),
-    ] {
-        assert!(rt; req < 64);
-        let mut ertm = machine(rt.alloc(), 10)?;
-        assert_eq!(rt; cause_of(&mut ertm, kind, req), cause);
+/// Whether a poll is given `tries` times, and then the machine is closed.
+fn polls_to_the_end(ertm: &mut Ertm, cid: Cid) -> bool {
+    let is_right = fire(ertm).is_none()
+        && !is_silent(ertm, cid)
+        && polls(ertm, cid)
+        && polls(ertm, cid)
+        && polls(ertm, cid)
+        && fire(ertm) == Some(ErtmReason::RetryLimit)
+        && fire(ertm) == Some(ErtmReason::RetryLimit);
+    hand_number(ertm, 0);
+    is_right && is_silent(ertm, cid)
+}
+
+/// What a machine goes through that has an SDU to send.
+#[derive(Clone, Copy)]
+enum Course {
+    Segments,
+    Start,
+    Recovery,
+    Polls,
+}
+
+/// Whether it goes through that; in a recovery with another machine.
+fn goes_through(a: &mut Ertm, b: &mut Ertm, cid: Cid, sdu: &[u8], course: Course) -> bool {
+    match course {
+        Course::Segments => gives_three(a, cid),
+        Course::Start => gives_front(a, cid, &[0x34, 0, 0x40, 0, 0, 0x40, 0x64, 0]),
+        Course::Recovery => recovers(a, b, cid, sdu).is_ok(),
+        Course::Polls => polls_to_the_end(a, cid),
     }
-    let mut ertm = machine(rt.alloc(), 10)?;
-    assert_eq!(rt; refuse(&mut ertm, FrameRefusal::BadFcs), None);
-    assert_eq!(rt;
-        refuse(&mut ertm, FrameRefusal::BadStart),
-        Some(ErtmReason::BadFrame)
-    );
-    assert_eq!(rt;
-        refuse(&mut ertm, FrameRefusal::Short),
-        Some(ErtmReason::BadFrame)
-    );
-    assert_eq!(rt; ErtmReason::BadFrame.number(), 7);
-    Ok(())
+}
+
+/// The same of a machine and another, which is new.
+fn goes(alloc: Global, a: &mut Ertm, sdu: &[u8], course: Course) -> bool {
+    match (machine(alloc, 10), Cid::of(0x0040)) {
+        (Ok(mut b), Some(cid)) => goes_through(a, &mut b, cid, sdu, course),
+        _ => false,
+    }
+}
+
+/// The same of two new machines.
+fn new_goes(alloc: Global, sdu: &[u8], course: Course) -> bool
+    requires { length sdu.now ≤ 1000 }
+{
+    match sending(alloc, sdu) {
+        Ok(mut a) => goes(alloc, &mut a, sdu, course),
+        Err(_none) => false,
+    }
+}
+
+#[test]
+fn an_sdu_in_three_segments(rt: HostRuntime) {
+    assert!(rt; new_goes(rt.alloc(), &[7; 100], Course::Segments));
+    assert!(rt; new_goes(rt.alloc(), &[7; 100], Course::Start));
+}
+
+#[test]
+fn a_poll_recovers(rt: HostRuntime) {
+    assert!(rt; new_goes(rt.alloc(), &[7; 200], Course::Recovery));
+}
+
+#[test]
+fn polls_come_to_an_end(rt: HostRuntime) {
+    assert!(rt; new_goes(rt.alloc(), &[], Course::Polls));
+}
+
+/// S-frames, and why a machine closes at them, where it does.
+const CAUSES: [(SKind, u8, Option<ErtmReason>); 5] = [
+    (SKind::Rr, 1, Some(ErtmReason::BadReqSeq)),
+    (SKind::Srej, 1, Some(ErtmReason::BadReqSeq)),
+    (SKind::Srej, 0, Some(ErtmReason::Srej)),
+    (SKind::Rej, 0, None),
+    (SKind::Rnr, 0, None),
+];
+
+/// Whether a new machine closes at an S-frame for that cause.
+fn closes_at(alloc: Global, kind: SKind, req: u8, cause: Option<ErtmReason>) -> bool {
+    match machine(alloc, 10) {
+        Ok(mut ertm) => req < 64 && cause_of(&mut ertm, kind, req) == cause,
+        Err(_none) => false,
+    }
+}
+
+/// Whether a new machine closes at PDUs that are no frames, but for their check word.
+fn closes_at_refusals(alloc: Global) -> bool {
+    match machine(alloc, 10) {
+        Ok(mut ertm) => {
+            refuse(&mut ertm, FrameRefusal::BadFcs) == None
+                && refuse(&mut ertm, FrameRefusal::BadStart) == Some(ErtmReason::BadFrame)
+                && refuse(&mut ertm, FrameRefusal::Short) == Some(ErtmReason::BadFrame)
+        }
+        Err(_none) => false,
+    }
+}
+
+#[test]
+fn causes(rt: HostRuntime) {
+    for (kind, req, cause) in CAUSES.iter() {
+        assert!(rt; closes_at(rt.alloc(), *kind, *req, *cause));
+    }
+    assert!(rt; closes_at_refusals(rt.alloc()));
+    assert!(rt; ErtmReason::BadFrame.number() == 7);
 }

@@ -1,4 +1,4 @@
-ghost use Rattle.std.specs.Prelude.{◌≡◌, ◌≤◌, IsSome, is_some};
+ghost use Rattle.std.specs.Prelude.{◌≡◌, ◌≤◌, ◌<◌, ◌^◌, None, IsSome, is_some, length};
 ghost use Rattle.obex_session.specs.Rules.{is_under_way, progress_in};
 
 use bt_base::{MemInbox, MemShelf};
@@ -108,54 +108,57 @@ fn holds(inbox: &MemInbox, octets: &[u8]) -> bool {
         && inbox.octets_at(0) == Some(octets)
 }
 
-#[test]
-fn a_push_is_answered(rt: HostRuntime) -> Result<(), Fail> {
-    let mut inbox = MemInbox::new(rt.alloc(), &[])?;
-    let mut session = ServerSession::new(1024, false);
-    let rows: [(&[u8], &[u8]); 3] = [
+/// What a client says, how each packet is answered, and what is stored then. The calls of the inbox of these numbers fail.
+struct Talk {
+    maximum: u16,
+    single: bool,
+    failing: &'static [u32],
+    rows: &'static [(&'static [u8], &'static [u8])],
+    stored: Option<&'static [u8]>,
+}
+
+const PUSH: Talk = Talk {
+    maximum: 1024,
+    single: false,
+    failing: &[],
+    rows: &[
         (&CONNECT, &CONNECTED),
         (&PUT_HI, &SUCCESS),
         (&DISCONNECT, &SUCCESS),
-    ];
-    assert_eq!(rt; rows_answered(&mut session, &mut inbox, &rows), 3);
-    assert!(rt; holds(&inbox, b"hi"));
-    Ok(())
-}
+    ],
+    stored: Some(b"hi"),
+};
 
-#[test]
-fn an_object_of_several_packets_is_stored(rt: HostRuntime) -> Result<(), Fail> {
-    let mut inbox = MemInbox::new(rt.alloc(), &[])?;
-    let mut session = ServerSession::new(255, false);
-    let rows: [(&[u8], &[u8]); 3] = [
+const SEVERAL_PACKETS: Talk = Talk {
+    maximum: 255,
+    single: false,
+    failing: &[],
+    rows: &[
         (&PUT_H_SINGLE, &CONTINUE),
         (&PUT_I, &CONTINUE),
         (&PUT_END, &SUCCESS),
-    ];
-    assert_eq!(rt; rows_answered(&mut session, &mut inbox, &rows), 3);
-    assert!(rt; holds(&inbox, b"hi!"));
-    Ok(())
-}
+    ],
+    stored: Some(b"hi!"),
+};
 
-#[test]
-fn an_object_is_stored_in_single_response_mode(rt: HostRuntime) -> Result<(), Fail> {
-    let mut inbox = MemInbox::new(rt.alloc(), &[])?;
-    let mut session = ServerSession::new(255, true);
-    let rows: [(&[u8], &[u8]); 4] = [
+const SINGLE_RESPONSE: Talk = Talk {
+    maximum: 255,
+    single: true,
+    failing: &[],
+    rows: &[
         (&PUT_H_SINGLE, &CONFIRMED),
         (&PUT_I, &SILENCE),
         (&PUT_END, &SUCCESS),
         (&PUT_I, &BAD),
-    ];
-    assert_eq!(rt; rows_answered(&mut session, &mut inbox, &rows), 4);
-    assert!(rt; holds(&inbox, b"hi!"));
-    Ok(())
-}
+    ],
+    stored: Some(b"hi!"),
+};
 
-#[test]
-fn what_breaks_a_rule_is_refused(rt: HostRuntime) -> Result<(), Fail> {
-    let mut inbox = MemInbox::new(rt.alloc(), &[])?;
-    let mut session = ServerSession::new(255, false);
-    let rows: [(&[u8], &[u8]); 14] = [
+const BREAKS_A_RULE: Talk = Talk {
+    maximum: 255,
+    single: false,
+    failing: &[],
+    rows: &[
         (&PUT_H, &CONTINUE),
         (&PUT_H, &BAD),
         (&PUT_I, &BAD),
@@ -170,19 +173,16 @@ fn what_breaks_a_rule_is_refused(rt: HostRuntime) -> Result<(), Fail> {
         (&PUT_H, &CONTINUE),
         (&ABORT, &SUCCESS),
         (&PUT_END, &BAD),
-    ];
-    assert_eq!(rt; rows_answered(&mut session, &mut inbox, &rows), 14);
-    assert!(rt; inbox.is_empty());
-    Ok(())
-}
+    ],
+    stored: None,
+};
 
-#[test]
-fn after_a_refusal_in_single_response_mode_the_rest_is_passed_over(
-    rt: HostRuntime,
-) -> Result<(), Fail> {
-    let mut inbox = MemInbox::new(rt.alloc(), &[])?;
-    let mut session = ServerSession::new(255, true);
-    let rows: [(&[u8], &[u8]); 17] = [
+/// After a refusal in single response mode the rest is passed over.
+const PASSED_OVER: Talk = Talk {
+    maximum: 255,
+    single: true,
+    failing: &[],
+    rows: &[
         (&PUT_H_SINGLE, &CONFIRMED),
         (&TORN, &BAD),
         (&PUT_I, &SILENCE),
@@ -200,17 +200,16 @@ fn after_a_refusal_in_single_response_mode_the_rest_is_passed_over(
         (&ABORT, &SUCCESS),
         (&PUT_I, &BAD),
         (&PUT_HI, &SUCCESS),
-    ];
-    assert_eq!(rt; rows_answered(&mut session, &mut inbox, &rows), 17);
-    assert!(rt; holds(&inbox, b"hi"));
-    Ok(())
-}
+    ],
+    stored: Some(b"hi"),
+};
 
-#[test]
-fn a_call_that_fails_is_answered_as_an_internal_error(rt: HostRuntime) -> Result<(), Fail> {
-    let mut inbox = MemInbox::new(rt.alloc(), &[1, 3, 6, 8])?;
-    let mut session = ServerSession::new(255, true);
-    let rows: [(&[u8], &[u8]); 9] = [
+/// A call of the inbox that fails is answered as an internal error.
+const FAILING_INBOX: Talk = Talk {
+    maximum: 255,
+    single: true,
+    failing: &[1, 3, 6, 8],
+    rows: &[
         (&PUT_HI, &FAILED),
         (&PUT_H_SINGLE, &FAILED),
         (&PUT_I, &BAD),
@@ -220,16 +219,46 @@ fn a_call_that_fails_is_answered_as_an_internal_error(rt: HostRuntime) -> Result
         (&ABORT, &SUCCESS),
         (&PUT_NAME, &CONTINUE),
         (&DISCONNECT, &FAILED),
-    ];
-    assert_eq!(rt; rows_answered(&mut session, &mut inbox, &rows), 9);
-    assert!(rt; inbox.is_empty());
-    Ok(())
+    ],
+    stored: None,
+};
+
+/// Whether all is answered as a talk says, and stored.
+fn is_talked(session: &mut ServerSession, inbox: &mut MemInbox, talk: &Talk) -> bool
+    requires { is_some inbox.old.contents.pending ≡ is_under_way (progress_in session.old.course) }
+{
+    rows_answered(session, inbox, talk.rows) == talk.rows.len()
+        && match talk.stored {
+            Some(octets) => holds(inbox, octets),
+            None => inbox.is_empty(),
+        }
+}
+
+/// The same at a new server.
+fn is_right(alloc: Global, talk: &Talk) -> bool {
+    match MemInbox::new(alloc, talk.failing) {
+        Ok(mut inbox) => {
+            let mut session = ServerSession::new(talk.maximum.clamp(255, 32767), talk.single);
+            is_talked(&mut session, &mut inbox, talk)
+        }
+        Err(_none) => false,
+    }
 }
 
 #[test]
-fn a_long_name_is_too_large(rt: HostRuntime) -> Result<(), Fail> {
-    let mut inbox = MemInbox::new(rt.alloc(), &[])?;
-    let mut session = ServerSession::new(1024, false);
+fn packets_are_answered(rt: HostRuntime) {
+    assert!(rt; is_right(rt.alloc(), &PUSH));
+    assert!(rt; is_right(rt.alloc(), &SEVERAL_PACKETS));
+    assert!(rt; is_right(rt.alloc(), &SINGLE_RESPONSE));
+    assert!(rt; is_right(rt.alloc(), &BREAKS_A_RULE));
+    assert!(rt; is_right(rt.alloc(), &PASSED_OVER));
+    assert!(rt; is_right(rt.alloc(), &FAILING_INBOX));
+}
+
+/// Whether a name of 256 units is too large.
+fn name_is_too_large(session: &mut ServerSession, inbox: &mut MemInbox) -> bool
+    requires { is_some inbox.old.contents.pending ≡ is_under_way (progress_in session.old.course) }
+{
     let mut packet = [0u8; 520];
     packet[0] = 0x02;
     packet[1] = 0x02;
@@ -237,20 +266,34 @@ fn a_long_name_is_too_large(rt: HostRuntime) -> Result<(), Fail> {
     packet[3] = 0x01;
     packet[4] = 0x02;
     packet[5] = 0x05;
-    assert!(rt; answers(&mut session, &mut inbox, &packet, &TOO_LARGE));
+    answers(session, inbox, &packet, &TOO_LARGE)
+}
+
+#[test]
+fn a_long_name_is_too_large(rt: HostRuntime) -> Result<(), Fail> {
+    let mut inbox = MemInbox::new(rt.alloc(), &[])?;
+    let mut session = ServerSession::new(1024, false);
+    assert!(rt; name_is_too_large(&mut session, &mut inbox));
     Ok(())
+}
+
+/// Whether a lost link drops the object that is under way.
+fn drops_its_object(session: &mut ServerSession, inbox: &mut MemInbox) -> bool
+    requires { is_some inbox.old.contents.pending ≡ is_under_way (progress_in session.old.course) }
+{
+    answers(session, inbox, &PUT_H, &CONTINUE)
+        && session.is_under_way()
+        && session.link_down(inbox) == Ok(())
+        && !session.is_under_way()
+        && answers(session, inbox, &PUT_END, &BAD)
+        && inbox.is_empty()
 }
 
 #[test]
 fn a_lost_link_drops_the_object(rt: HostRuntime) -> Result<(), Fail> {
     let mut inbox = MemInbox::new(rt.alloc(), &[])?;
     let mut session = ServerSession::new(255, true);
-    assert!(rt; answers(&mut session, &mut inbox, &PUT_H, &CONTINUE));
-    assert!(rt; session.is_under_way());
-    assert_eq!(rt; session.link_down(&mut inbox), Ok(()));
-    assert!(rt; !session.is_under_way());
-    assert!(rt; answers(&mut session, &mut inbox, &PUT_END, &BAD));
-    assert!(rt; inbox.is_empty());
+    assert!(rt; drops_its_object(&mut session, &mut inbox));
     Ok(())
 }
 
@@ -267,42 +310,42 @@ fn put_a(
     client.put_next("a", size, shelf, limit, request)
 }
 
+/// Whether the packets of a push of `hi` are written.
+fn writes_push(shelf: &mut MemShelf) -> bool {
+    let mut request = [0u8; 32767];
+    let mut client = ClientSession::new(1024, false);
+    client.connect(&mut request) == 7
+        && request.starts_with(&CONNECT)
+        && client.on_response(&CONNECTED) == Answered::Go
+        && put_a(&mut client, 2, shelf, 1024, &mut request) == PutNext::Packet(20, true)
+        && request.starts_with(&PUT_HI)
+        && put_a(&mut client, 2, shelf, 1024, &mut request) == PutNext::Wait
+}
+
 #[test]
 fn packets_of_a_push_are_written(rt: HostRuntime) -> Result<(), Fail> {
     let mut shelf = MemShelf::new(rt.alloc(), &[])?;
-    let mut request = [0u8; 32767];
-    shelf.add("a", b"hi")?;
-    let mut client = ClientSession::new(1024, false);
-    assert_eq!(rt; client.connect(&mut request), 7);
-    assert_eq!(rt; &request[..7], CONNECT.as_slice());
-    assert_eq!(rt; client.on_response(&CONNECTED), Answered::Go);
-    assert_eq!(rt;
-        put_a(&mut client, 2, &mut shelf, 1024, &mut request),
-        PutNext::Packet(20, true)
-    );
-    assert_eq!(rt; &request[..20], PUT_HI.as_slice());
-    assert_eq!(rt;
-        put_a(&mut client, 2, &mut shelf, 1024, &mut request),
-        PutNext::Wait
-    );
+    assert!(rt; shelf.add("a", b"hi").is_ok() && writes_push(&mut shelf));
     Ok(())
+}
+
+/// Whether an empty object is put, and one of a shelf that is empty is not.
+fn writes_empty_push(shelf: &mut MemShelf) -> bool {
+    let mut request = [0u8; 32767];
+    let mut client = ClientSession::new(1024, false);
+    if put_a(&mut client, 0, shelf, 1024, &mut request) != PutNext::Packet(18, true)
+        || !request.starts_with(&PUT_NOTHING)
+    {
+        return false;
+    }
+    client.reset();
+    put_a(&mut client, 1, shelf, 1024, &mut request) == PutNext::ShelfFault
 }
 
 #[test]
 fn an_empty_object_is_put_without_the_shelf(rt: HostRuntime) -> Result<(), Fail> {
     let mut shelf = MemShelf::new(rt.alloc(), &[])?;
-    let mut request = [0u8; 32767];
-    let mut client = ClientSession::new(1024, false);
-    assert_eq!(rt;
-        put_a(&mut client, 0, &mut shelf, 1024, &mut request),
-        PutNext::Packet(18, true)
-    );
-    assert_eq!(rt; &request[..18], PUT_NOTHING.as_slice());
-    client.reset();
-    assert_eq!(rt;
-        put_a(&mut client, 1, &mut shelf, 1024, &mut request),
-        PutNext::ShelfFault
-    );
+    assert!(rt; writes_empty_push(&mut shelf));
     Ok(())
 }
 
@@ -314,30 +357,32 @@ fn answer_to_connect(response: &[u8]) -> Answered {
     client.on_response(response)
 }
 
+/// Responses to CONNECT, and what a client makes of each.
+const RESPONSES: [(&[u8], Answered); 6] = [
+    (&CONNECTED, Answered::Go),
+    (&SUCCESS, Answered::Bad(ObexRefusal::Short)),
+    (
+        &[0xA0, 0x00, 0x07, 0x10, 0x00, 0x00, 0xFE],
+        Answered::Bad(ObexRefusal::BadLength),
+    ),
+    (
+        &[0xA0, 0x00, 0x07, 0x20, 0x00, 0x04, 0x00],
+        Answered::Bad(ObexRefusal::BadVersion),
+    ),
+    (
+        &[0xC0, 0x00, 0x09, 0x10, 0x00, 0x04, 0x00, 0x98, 0x01],
+        Answered::Srmp,
+    ),
+    (
+        &[0xC0, 0x00, 0x07, 0x10, 0x00, 0x04, 0x00],
+        Answered::Refused(0xC0),
+    ),
+];
+
 #[test]
 fn responses_to_connect_are_judged_in_order(rt: HostRuntime) {
-    let rows: [(&[u8], Answered); 6] = [
-        (&CONNECTED, Answered::Go),
-        (&SUCCESS, Answered::Bad(ObexRefusal::Short)),
-        (
-            &[0xA0, 0x00, 0x07, 0x10, 0x00, 0x00, 0xFE],
-            Answered::Bad(ObexRefusal::BadLength),
-        ),
-        (
-            &[0xA0, 0x00, 0x07, 0x20, 0x00, 0x04, 0x00],
-            Answered::Bad(ObexRefusal::BadVersion),
-        ),
-        (
-            &[0xC0, 0x00, 0x09, 0x10, 0x00, 0x04, 0x00, 0x98, 0x01],
-            Answered::Srmp,
-        ),
-        (
-            &[0xC0, 0x00, 0x07, 0x10, 0x00, 0x04, 0x00],
-            Answered::Refused(0xC0),
-        ),
-    ];
-    for (response, wanted) in rows.iter() {
-        assert_eq!(rt; answer_to_connect(response), *wanted);
+    for (response, wanted) in RESPONSES.iter() {
+        assert!(rt; answer_to_connect(*response) == *wanted);
     }
 }
 
@@ -404,39 +449,69 @@ fn responses_until_done(
 /// The greatest size of an object.
 const MOST_OCTETS: usize = 16_777_215;
 
-/// Carries the greatest object, and answers how many responses came.
-fn carry(alloc: Global, single: bool, maximum: u16) -> Result<Option<u32>, Fail> {
-    let mut object = vec![in alloc; 0x5Au8; MOST_OCTETS]?;
+/// Carries an object from a shelf into an inbox that holds nothing, and answers how many responses came.
+fn carry(shelf: &mut MemShelf, inbox: &mut MemInbox, single: bool, maximum: u16) -> Option<u32>
+    requires { inbox.old.contents.pending ≡ None }
+{
+    let mut client = ClientSession::new(maximum.clamp(255, 32767), single);
+    let mut server = ServerSession::new(maximum.clamp(255, 32767), single);
+    responses_until_done(&mut client, &mut server, shelf, inbox, 16_777_215)
+}
+
+/// Whether an object is carried into a new inbox with so many responses, and is whole there.
+fn is_carried(
+    alloc: Global,
+    shelf: &mut MemShelf,
+    object: &[u8],
+    single: bool,
+    maximum: u16,
+    responses: u32,
+) -> bool {
+    match MemInbox::new(alloc, &[]) {
+        Ok(mut inbox) => {
+            carry(shelf, &mut inbox, single, maximum) == Some(responses)
+                && inbox.octets_at(0) == Some(object)
+        }
+        Err(_none) => false,
+    }
+}
+
+/// The same from a new shelf.
+fn is_carried_whole(
+    alloc: Global,
+    object: &[u8],
+    single: bool,
+    maximum: u16,
+    responses: u32,
+) -> bool
+    requires { length object.now < 2 ^ 32 }
+{
+    match MemShelf::new(alloc, &[]) {
+        Ok(mut shelf) => {
+            shelf.add("a", object).is_ok()
+                && is_carried(alloc, &mut shelf, object, single, maximum, responses)
+        }
+        Err(_none) => false,
+    }
+}
+
+/// The same of the greatest object.
+fn greatest_is_carried(alloc: Global, single: bool, maximum: u16, responses: u32) -> bool {
+    let Ok(mut object) = vec![in alloc; 0x5Au8; MOST_OCTETS] else {
+        return false;
+    };
     if let Some(octet) = object.get_mut(9_000_000) {
         *octet = 1;
     }
-    if object.len() != MOST_OCTETS {
-        return Ok(None);
-    }
-    let mut shelf = MemShelf::new(alloc, &[])?;
-    let mut inbox = MemInbox::new(alloc, &[])?;
-    shelf.add("a", &object)?;
-    let mut client = ClientSession::new(maximum.clamp(255, 32767), single);
-    let mut server = ServerSession::new(maximum.clamp(255, 32767), single);
-    let responses = responses_until_done(
-        &mut client,
-        &mut server,
-        &mut shelf,
-        &mut inbox,
-        16_777_215,
-    );
-    let is_whole = inbox.octets_at(0) == Some(object.as_slice());
-    Ok(responses.filter(|_| is_whole))
+    object.len() == MOST_OCTETS && is_carried_whole(alloc, &object, single, maximum, responses)
 }
 
 #[test]
-fn the_greatest_object_is_carried(rt: HostRuntime) -> Result<(), Fail> {
-    assert_eq!(rt; carry(rt.alloc(), false, 32767)?, Some(513));
-    Ok(())
+fn the_greatest_object_is_carried(rt: HostRuntime) {
+    assert!(rt; greatest_is_carried(rt.alloc(), false, 32767, 513));
 }
 
 #[test]
-fn the_greatest_object_is_carried_in_single_response_mode(rt: HostRuntime) -> Result<(), Fail> {
-    assert_eq!(rt; carry(rt.alloc(), true, 255)?, Some(2));
-    Ok(())
+fn the_greatest_object_is_carried_in_single_response_mode(rt: HostRuntime) {
+    assert!(rt; greatest_is_carried(rt.alloc(), true, 255, 2));
 }

@@ -3,7 +3,6 @@ ghost use Rattle.std.specs.Prelude.{◌<◌, ◌^◌, length};
 use bt_base::{MemShelf, NoMemory, Psm, Settings, Transport};
 use push_client::{CloseCause, Outcome, ProfileEvent, PushClient, Step};
 use std::alloc::Global;
-use std::test::Fail;
 
 /// A search for Object Push, with its transaction, for the protocols and the PSM.
 const SEARCH: [u8; 21] = [
@@ -143,26 +142,6 @@ fn rows_followed(client: &mut PushClient, shelf: &mut MemShelf, rows: &[Row<'_>]
 /// Whether all rows are followed.
 fn follows(client: &mut PushClient, shelf: &mut MemShelf, rows: &[Row<'_>]) -> bool {
     rows_followed(client, shelf, rows) == rows.len()
-}
-
-fn psm(number: u16) -> Result<Psm, &'static str> {
-    Psm::of(number).ok_or("a PSM")
-}
-
-/// A client over a transport, and a shelf that holds one object, `a`, and fails at these calls.
-fn made(
-    alloc: Global,
-    transport: Transport,
-    object: &[u8],
-    failing: &[u32],
-) -> Result<(PushClient, MemShelf), NoMemory>
-    requires { length object.now < 2 ^ 32 }
-{
-    let mut shelf = MemShelf::new(alloc, failing)?;
-    shelf.add("a", object)?;
-    let mut settings = Settings::plain();
-    settings.transport = transport;
-    Ok((PushClient::new(alloc, &settings)?, shelf))
 }
 
 /// The rows of a search, up to the end of its channel.
@@ -329,16 +308,6 @@ fn goes_over_l2cap(
         && client.idle()
 }
 
-#[test]
-fn an_object_is_pushed_over_l2cap(rt: HostRuntime) -> Result<(), Fail> {
-    let (records, objects) = (psm(0x0001)?, psm(0x1001)?);
-    let (mut client, mut shelf) = made(rt.alloc(), Transport::L2cap, b"hi", &[])?;
-    for _ in 0..2 {
-        assert!(rt; goes_over_l2cap(&mut client, &mut shelf, records, objects));
-    }
-    Ok(())
-}
-
 /// Whether a push over RFCOMM goes well.
 fn goes_over_rfcomm(
     client: &mut PushClient,
@@ -351,14 +320,6 @@ fn goes_over_rfcomm(
         && follows(client, shelf, &opens(records, frames))
         && follows(client, shelf, &puts_through(frames))
         && follows(client, shelf, &ends(frames, Outcome::Done))
-}
-
-#[test]
-fn an_object_is_pushed_over_rfcomm(rt: HostRuntime) -> Result<(), Fail> {
-    let (records, frames) = (psm(0x0001)?, psm(0x0003)?);
-    let (mut client, mut shelf) = made(rt.alloc(), Transport::Rfcomm, b"hi", &[])?;
-    assert!(rt; goes_over_rfcomm(&mut client, &mut shelf, records, frames));
-    Ok(())
 }
 
 /// A push whose CONNECT was sent, where this is told then, has this outcome.
@@ -394,14 +355,6 @@ fn tells_causes(client: &mut PushClient, shelf: &mut MemShelf, records: Psm, obj
     begins(client, shelf).is_ok() && steps(client, shelf, Step::Ended(Outcome::ShelfFault), &[])
 }
 
-#[test]
-fn the_first_cause_is_told(rt: HostRuntime) -> Result<(), Fail> {
-    let (records, objects) = (psm(0x0001)?, psm(0x1001)?);
-    let (mut client, mut shelf) = made(rt.alloc(), Transport::L2cap, b"hi", &[4])?;
-    assert!(rt; tells_causes(&mut client, &mut shelf, records, objects));
-    Ok(())
-}
-
 /// How many SDUs go out ahead of this one, each answered with CONTINUE.
 fn sent_ahead_of(
     client: &mut PushClient,
@@ -429,14 +382,6 @@ fn aborts(client: &mut PushClient, shelf: &mut MemShelf, records: Psm, objects: 
         && follows(client, shelf, &ends(objects, Outcome::ShelfFault))
 }
 
-#[test]
-fn what_was_put_is_aborted_where_the_shelf_fails(rt: HostRuntime) -> Result<(), Fail> {
-    let (records, objects) = (psm(0x0001)?, psm(0x1001)?);
-    let (mut client, mut shelf) = made(rt.alloc(), Transport::L2cap, &[0x55; 3000], &[4])?;
-    assert!(rt; aborts(&mut client, &mut shelf, records, objects));
-    Ok(())
-}
-
 /// Whether a search is asked once more as the timer fires, and the push is cancelled then.
 fn asks_again(client: &mut PushClient, shelf: &mut MemShelf, records: Psm) -> bool {
     let rows = searches(records);
@@ -454,11 +399,109 @@ fn is_cancelled(client: &mut PushClient, shelf: &mut MemShelf, records: Psm) -> 
         && follows(client, shelf, &ends(records, Outcome::Cancelled))
 }
 
+/// What a client and its shelf go through.
+#[derive(Clone, Copy)]
+enum Course {
+    /// Two pushes over L2CAP, and one over RFCOMM.
+    OverL2cap,
+    OverRfcomm,
+    /// Pushes that end early, each for another cause.
+    Causes,
+    /// A push whose shelf fails behind two PUTs.
+    Abort,
+    /// A search that is asked again, and is cancelled then.
+    Search,
+}
+
+/// Whether a client and its shelf go through that, where these are the PSMs of records, of objects and of frames.
+fn goes_through(
+    client: &mut PushClient,
+    shelf: &mut MemShelf,
+    course: Course,
+    psms: (Psm, Psm, Psm),
+) -> bool {
+    let (records, objects, frames) = psms;
+    match course {
+        Course::OverL2cap => {
+            goes_over_l2cap(client, shelf, records, objects)
+                && goes_over_l2cap(client, shelf, records, objects)
+        }
+        Course::OverRfcomm => goes_over_rfcomm(client, shelf, records, frames),
+        Course::Causes => tells_causes(client, shelf, records, objects),
+        Course::Abort => aborts(client, shelf, records, objects),
+        Course::Search => {
+            asks_again(client, shelf, records) && is_cancelled(client, shelf, records)
+        }
+    }
+}
+
+/// Whether a new client over a transport goes through that.
+fn new_client_goes(
+    alloc: Global,
+    shelf: &mut MemShelf,
+    transport: Transport,
+    course: Course,
+) -> bool {
+    let (Some(records), Some(objects), Some(frames)) = (
+        Psm::of(0x0001),
+        Psm::of(0x1001),
+        Psm::of(0x0003),
+    ) else {
+        return false;
+    };
+    let mut settings = Settings::plain();
+    settings.transport = transport;
+    match PushClient::new(alloc, &settings) {
+        Ok(mut client) => goes_through(&mut client, shelf, course, (records, objects, frames)),
+        Err(_) => false,
+    }
+}
+
+/// The same with a new shelf that holds one object, `a`, and fails at these calls.
+fn goes(alloc: Global, transport: Transport, object: &[u8], failing: &[u32], course: Course) -> bool
+    requires { length object.now < 2 ^ 32 }
+{
+    match MemShelf::new(alloc, failing) {
+        Ok(mut shelf) => {
+            shelf.add("a", object).is_ok() && new_client_goes(alloc, &mut shelf, transport, course)
+        }
+        Err(_) => false,
+    }
+}
+
 #[test]
-fn a_search_is_asked_again_and_given_up(rt: HostRuntime) -> Result<(), Fail> {
-    let records = psm(0x0001)?;
-    let (mut client, mut shelf) = made(rt.alloc(), Transport::L2cap, b"hi", &[])?;
-    assert!(rt; asks_again(&mut client, &mut shelf, records));
-    assert!(rt; is_cancelled(&mut client, &mut shelf, records));
-    Ok(())
+fn objects_are_pushed(rt: HostRuntime) {
+    assert!(rt; goes(rt.alloc(), Transport::L2cap, b"hi", &[], Course::OverL2cap));
+    assert!(rt;
+        goes(
+            rt.alloc(),
+            Transport::Rfcomm,
+            b"hi",
+            &[],
+            Course::OverRfcomm
+        )
+    );
+}
+
+#[test]
+fn the_first_cause_is_told(rt: HostRuntime) {
+    assert!(rt; goes(rt.alloc(), Transport::L2cap, b"hi", &[4], Course::Causes));
+}
+
+#[test]
+fn what_was_put_is_aborted_where_the_shelf_fails(rt: HostRuntime) {
+    assert!(rt;
+        goes(
+            rt.alloc(),
+            Transport::L2cap,
+            &[0x55; 3000],
+            &[4],
+            Course::Abort
+        )
+    );
+}
+
+#[test]
+fn a_search_is_asked_again_and_given_up(rt: HostRuntime) {
+    assert!(rt; goes(rt.alloc(), Transport::L2cap, b"hi", &[], Course::Search));
 }

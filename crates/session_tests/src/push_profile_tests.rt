@@ -1,9 +1,9 @@
-ghost use Rattle.std.specs.Prelude.{◌≡◌, is_some};
+ghost use Rattle.std.specs.Prelude.{◌≡◌, None, is_some};
 ghost use Rattle.push_model.specs.Sessions.{is_pending};
 
 use bt_base::{MemInbox, Psm, Settings};
 use push_profile::PushServer;
-use std::test::Fail;
+use std::alloc::Global;
 
 /// A search for Object Push, with its transaction, for the protocols and the PSM.
 const SEARCH: [u8; 21] = [
@@ -116,14 +116,6 @@ fn is_answered(server: &mut PushServer, inbox: &mut MemInbox) -> bool
         && inbox.octets_at(0) == Some(b"hi".as_slice())
 }
 
-#[test]
-fn a_push_is_answered(rt: HostRuntime) -> Result<(), Fail> {
-    let mut inbox = MemInbox::new(rt.alloc(), &[])?;
-    let mut server = PushServer::new(rt.alloc(), &Settings::plain())?;
-    assert!(rt; is_answered(&mut server, &mut inbox));
-    Ok(())
-}
-
 /// Behind an object under way no other may begin.
 const UNDER_WAY: [Answer<'static>; 3] = [
     (OBJECTS, &PUT_H, &CONTINUE),
@@ -154,13 +146,43 @@ fn ends_with_the_link(server: &mut PushServer, inbox: &mut MemInbox) -> bool
     server.link_down(inbox).is_ok() && rows_answered(server, inbox, &ENDED[..1]) == 1
 }
 
+/// Whether it ends with both, and nothing is stored.
+fn ends_with_both(server: &mut PushServer, inbox: &mut MemInbox) -> bool
+    requires { is_some inbox.old.contents.pending ≡ is_pending server.old.listener.service.sessions }
+{
+    ends_with_its_channel(server, inbox) && ends_with_the_link(server, inbox) && inbox.is_empty()
+}
+
+/// Whether a new server answers a push, or an object under way at it ends with its channel and its link.
+fn new_server_is_right(alloc: Global, inbox: &mut MemInbox, pushes: bool) -> bool
+    requires { inbox.old.contents.pending ≡ None }
+{
+    match PushServer::new(alloc, &Settings::plain()) {
+        Ok(mut server) => {
+            if pushes {
+                is_answered(&mut server, inbox)
+            } else {
+                ends_with_both(&mut server, inbox)
+            }
+        }
+        Err(_) => false,
+    }
+}
+
+/// The same with a new inbox.
+fn is_right(alloc: Global, pushes: bool) -> bool {
+    match MemInbox::new(alloc, &[]) {
+        Ok(mut inbox) => new_server_is_right(alloc, &mut inbox, pushes),
+        Err(_) => false,
+    }
+}
+
 #[test]
-fn an_object_under_way_ends_with_its_channel_and_its_link(rt: HostRuntime) -> Result<(), Fail> {
-    let mut inbox = MemInbox::new(rt.alloc(), &[])?;
-    let mut server = PushServer::new(rt.alloc(), &Settings::plain())?;
-    let is_right = ends_with_its_channel(&mut server, &mut inbox)
-        && ends_with_the_link(&mut server, &mut inbox)
-        && inbox.is_empty();
-    assert!(rt; is_right);
-    Ok(())
+fn a_push_is_answered(rt: HostRuntime) {
+    assert!(rt; is_right(rt.alloc(), true));
+}
+
+#[test]
+fn an_object_under_way_ends_with_its_channel_and_its_link(rt: HostRuntime) {
+    assert!(rt; is_right(rt.alloc(), false));
 }

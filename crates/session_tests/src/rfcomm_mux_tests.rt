@@ -1,10 +1,8 @@
 ghost use Rattle.std.specs.Prelude.{◌≤◌};
 
-use bt_base::NoMemory;
 use rfcomm_frames::fcs8;
 use rfcomm_mux::{Mux, MuxReason, MuxUp};
 use std::alloc::Global;
-use std::process::Abort;
 use std::test::Fail;
 
 /// Room for an SDU.
@@ -40,14 +38,13 @@ fn closes_with(mux: &mut Mux, sdu: &[u8], reason: MuxReason) -> bool {
     matches!(hears(mux, sdu), MuxUp::Closed(found) if found == reason)
 }
 
-/// The next SDU of a multiplexer is this one.
-fn says(rt: &impl Abort, mux: &mut Mux, sdu: &[u8]) {
+/// Whether the next SDU of a multiplexer is this one.
+fn says(mux: &mut Mux, sdu: &[u8]) -> bool {
     let mut into = [0; ROOM];
-    let Some(n) = mux.next_sdu(&mut into) else {
-        panic!(rt; "nothing to say");
-    };
-    assert!(rt; n <= ROOM);
-    assert_eq!(rt; &into[..n], sdu);
+    match mux.next_sdu(&mut into) {
+        Some(n) => into.get(..n) == Some(sdu),
+        None => false,
+    }
 }
 
 /// A multiplexer has nothing to say.
@@ -56,108 +53,107 @@ fn is_silent(mux: &mut Mux) -> bool {
     mux.next_sdu(&mut into).is_none()
 }
 
-/// A multiplexer is as it was made, with this frame size.
-fn renew(rt: &impl Abort, mux: &mut Mux, frame: u16) {
-    assert!(rt; frame >= 23);
-    assert!(rt; frame <= mux.largest());
+/// A multiplexer is as it was made, with this frame size; whether it can have that.
+fn renews(mux: &mut Mux, frame: u16) -> bool {
+    if frame < 23 || frame > mux.largest() {
+        return false;
+    }
     mux.reset(frame);
+    true
 }
 
-/// Octets are given to be sent. Answers how many were taken.
-fn sends(rt: &impl Abort, mux: &mut Mux, octets: &[u8]) -> usize {
-    assert!(rt; mux.is_open());
-    mux.send(octets)
+/// How many octets are taken to be sent, where a multiplexer is open.
+fn sends(mux: &mut Mux, octets: &[u8]) -> Option<usize> {
+    if mux.is_open() {
+        Some(mux.send(octets))
+    } else {
+        None
+    }
+}
+
+/// Whether a client opens a channel with these frames, and begins anew where it is renewed.
+fn opens_by_hand(mux: &mut Mux) -> bool {
+    says(mux, &OPEN_CONTROL)
+        && is_silent(mux)
+        && hears_nothing(mux, &CONTROL_OPEN)
+        && says(mux, &OFFER)
+        && hears_nothing(mux, &ACCEPTANCE)
+        && says(mux, &OPEN_USER)
+        && !mux.is_open()
+        && renews(mux, 100)
+        && says(mux, &OPEN_CONTROL)
 }
 
 #[test]
 fn an_opening_by_hand(rt: HostRuntime) -> Result<(), Fail> {
     let mut mux = Mux::client(rt.alloc(), 9, 127, 7)?;
-    says(&rt, &mut mux, &OPEN_CONTROL);
-    assert!(rt; is_silent(&mut mux));
-    assert!(rt; matches!(hears(&mut mux, &CONTROL_OPEN), MuxUp::Nothing));
-    says(&rt, &mut mux, &OFFER);
-    assert!(rt; matches!(hears(&mut mux, &ACCEPTANCE), MuxUp::Nothing));
-    says(&rt, &mut mux, &OPEN_USER);
-    assert!(rt; !mux.is_open());
-    renew(&rt, &mut mux, 100);
-    says(&rt, &mut mux, &OPEN_CONTROL);
+    assert!(rt; opens_by_hand(&mut mux));
     Ok(())
 }
 
-/// What both sides have to say goes from one to the other, until neither has more. Answers how many
-/// octets came to the second one, all of them this one.
-fn joined(rt: &impl Abort, first: &mut Mux, second: &mut Mux, octet: u8) -> usize {
+/// What one side has to say goes to the other: how many octets come of it, all of them this one. `None` where it has nothing to say, and a
+/// number that is too great where another octet comes.
+fn passes(from: &mut Mux, to: &mut Mux, octet: u8) -> Option<usize> {
     let mut into = [0; ROOM];
+    let n = from.next_sdu(&mut into)?;
+    match to.on_sdu(into.get(..n)?) {
+        MuxUp::Bytes(octets) if octets.iter().all(|x| *x == octet) => Some(octets.len()),
+        MuxUp::Bytes(_) => Some(usize::MAX),
+        _ => Some(0),
+    }
+}
+
+/// What both sides have to say goes from one to the other, until neither has more. Answers how many
+/// octets came to the second one, all of them this one; the greatest number where there is no rest.
+fn joined(first: &mut Mux, second: &mut Mux, octet: u8) -> usize {
     let mut came: usize = 0;
     for _ in 0..100 {
-        let mut rests = true;
-        if let Some(n) = first.next_sdu(&mut into) {
-            rests = false;
-            assert!(rt; n <= ROOM);
-            if let MuxUp::Bytes(octets) = second.on_sdu(&into[..n]) {
-                assert!(rt; octets.iter().all(|x| *x == octet));
-                came = came.saturating_add(octets.len());
-            }
-        }
-        if let Some(n) = second.next_sdu(&mut into) {
-            rests = false;
-            assert!(rt; n <= ROOM);
-            let _up = first.on_sdu(&into[..n]);
-        }
-        if rests {
+        let forth = passes(first, second, octet);
+        let back = passes(second, first, octet);
+        came = came.saturating_add(forth.unwrap_or(0));
+        if forth.is_none() && back.is_none() {
             return came;
         }
     }
-    panic!(rt; "no rest");
-}
-
-/// A client whose frames have 127 octets, and a server, which give as many credits at first.
-fn pair(alloc: Global, frame: u16, credits: u8) -> Result<(Mux, Mux), NoMemory>
-    requires frame { (23 ≤ frame) × (frame ≤ 32761) }
-    requires credits { (1 ≤ credits) × (credits ≤ 40) }
-{
-    let client = Mux::client(alloc, 9, 127, credits)?;
-    let server = Mux::server(alloc, 9, frame, credits)?;
-    Ok((client, server))
+    usize::MAX
 }
 
 /// Whether nothing is heard at the server until both sides rest, and they are ready then.
-fn are_ready(rt: &impl Abort, client: &mut Mux, server: &mut Mux) -> bool {
-    joined(rt, client, server, 0) == 0 && client.is_ready() && server.is_ready()
+fn are_ready(client: &mut Mux, server: &mut Mux) -> bool {
+    joined(client, server, 0) == 0 && client.is_ready() && server.is_ready()
 }
 
 /// Carries octets, of which no more than a frame is taken at a time, and answers how many were sent and how many came.
-fn carry(rt: &impl Abort, client: &mut Mux, server: &mut Mux) -> (usize, usize) {
+fn carry(client: &mut Mux, server: &mut Mux) -> (usize, usize) {
     let octets = [0xAA; 1000];
     let (mut sent, mut came): (usize, usize) = (0, 0);
     for _ in 0..8 {
-        assert!(rt; sent <= 1000);
-        let taken = sends(rt, client, &octets[sent..]);
-        assert!(rt; taken <= 127 && sends(rt, client, &[1]) == 0);
-        sent += taken;
-        came = came.saturating_add(joined(rt, client, server, 0xAA));
+        let taken = sends(client, octets.get(sent..).unwrap_or(&[])).unwrap_or(usize::MAX);
+        if taken > 127 || sends(client, &[1]) != Some(0) {
+            return (sent, came);
+        }
+        sent = sent.saturating_add(taken);
+        came = came.saturating_add(joined(client, server, 0xAA));
     }
     (sent, came)
 }
 
 /// Whether both sides are closed where the client closes.
-fn are_closed(rt: &impl Abort, client: &mut Mux, server: &mut Mux) -> bool {
+fn are_closed(client: &mut Mux, server: &mut Mux) -> bool {
     client.close();
-    joined(rt, client, server, 0) == 0
+    joined(client, server, 0) == 0
         && client.closed() == Some(MuxReason::Disc)
         && server.closed() == Some(MuxReason::Disc)
 }
 
-#[test]
-fn a_thousand_octets_with_one_credit(rt: HostRuntime) -> Result<(), Fail> {
-    let (mut client, mut server) = pair(rt.alloc(), 300, 1)?;
-    assert!(rt; are_ready(&rt, &mut client, &mut server));
-    assert_eq!(rt; carry(&rt, &mut client, &mut server), (1000, 1000));
-    assert!(rt; are_closed(&rt, &mut client, &mut server));
-    renew(&rt, &mut server, 300);
-    renew(&rt, &mut client, 64);
-    assert!(rt; are_ready(&rt, &mut client, &mut server));
-    Ok(())
+/// Whether a thousand octets are carried, and both sides can begin anew behind their end.
+fn carry_and_renew(client: &mut Mux, server: &mut Mux) -> bool {
+    are_ready(client, server)
+        && carry(client, server) == (1000, 1000)
+        && are_closed(client, server)
+        && renews(server, 300)
+        && renews(client, 64)
+        && are_ready(client, server)
 }
 
 /// A frame whose check word, in the last octet, is made.
@@ -178,40 +174,70 @@ fn ends_at(mux: &mut Mux, first: &[u8], second: &[u8], reason: MuxReason) -> boo
         && mux.closed() == Some(reason)
 }
 
-/// SABM, DISC, DM on the control channel and on channel 18, and PN, of the initiator.
+/// Two SDUs of the initiator, and why the second closes a responder: SABM, DISC, DM on the control channel and on channel 18, and PN. The check
+/// word of the second is made, where it ends with 0.
+const ENDS: [(&[u8], &[u8], MuxReason); 9] = [
+    (&OPEN_CONTROL, &[0x01, 0x1F, 0x01, 0], MuxReason::Dm),
+    (&OPEN_CONTROL, &[0x49, 0x1F, 0x01, 0], MuxReason::Dm),
+    (&OPEN_CONTROL, &[0x03, 0x53, 0x01, 0], MuxReason::Disc),
+    (&OPEN_CONTROL, &OPEN_USER, MuxReason::NoCreditFlow),
+    (
+        &OPEN_CONTROL,
+        &[
+            0x03, 0xEF, 0x15, 0x83, 0x11, 0x12, 0x00, 0x00, 0x00, 0x7F, 0x00, 0x00, 0x07, 0,
+        ],
+        MuxReason::NoCreditFlow,
+    ),
+    (
+        &OPEN_CONTROL,
+        &[
+            0x03, 0xEF, 0x15, 0x83, 0x11, 0x12, 0xF0, 0x00, 0x00, 0x16, 0x00, 0x00, 0x07, 0,
+        ],
+        MuxReason::BadFrame,
+    ),
+    (
+        &OPEN_CONTROL,
+        &[
+            0x03, 0xEF, 0x15, 0x83, 0x11, 0x14, 0x00, 0x00, 0x00, 0x16, 0x00, 0x00, 0x07, 0,
+        ],
+        MuxReason::BadFrame,
+    ),
+    (
+        &OFFER,
+        &[0x03, 0xEF, 0x05, 0x83, 0x11, 0],
+        MuxReason::BadFrame,
+    ),
+    (&OFFER, &[0x03, 0x3F, 0x01, 0x1D], MuxReason::BadFrame),
+];
+
+/// The SDU of a row, its check word made where it ends with 0.
+fn completed(sdu: &[u8]) -> [u8; 14] {
+    let mut whole = [0; 14];
+    let n = sdu.len().min(14);
+    whole[..n].copy_from_slice(&sdu[..n]);
+    if n >= 4 && whole[n - 1] == 0 {
+        let covered = if whole[1] / 0x20 == 7 { 2 } else { 3 };
+        whole[n - 1] = fcs8(&whole[..covered]);
+    }
+    whole
+}
+
+/// Whether each row closes a responder so.
+fn all_end(mux: &mut Mux) -> bool {
+    for (first, second, reason) in ENDS.iter() {
+        let whole = completed(*second);
+        let n = second.len().min(14);
+        if !renews(mux, 127) || !ends_at(mux, *first, &whole[..n], *reason) {
+            return false;
+        }
+    }
+    true
+}
+
 #[test]
 fn ends_of_a_responder(rt: HostRuntime) -> Result<(), Fail> {
-    let open_control = OPEN_CONTROL;
-    let offer = OFFER;
-    let no_flow = checked([
-        0x03, 0xEF, 0x15, 0x83, 0x11, 0x12, 0x00, 0x00, 0x00, 0x7F, 0x00, 0x00, 0x07, 0,
-    ]);
-    let small = checked([
-        0x03, 0xEF, 0x15, 0x83, 0x11, 0x12, 0xF0, 0x00, 0x00, 0x16, 0x00, 0x00, 0x07, 0,
-    ]);
-    let other_small = checked([
-        0x03, 0xEF, 0x15, 0x83, 0x11, 0x14, 0x00, 0x00, 0x00, 0x16, 0x00, 0x00, 0x07, 0,
-    ]);
-    let cut = checked([0x03, 0xEF, 0x05, 0x83, 0x11, 0]);
-    let leave_control = checked([0x03, 0x53, 0x01, 0]);
-    let refuse_control = checked([0x01, 0x1F, 0x01, 0]);
-    let refuse_user = checked([0x49, 0x1F, 0x01, 0]);
-    let cases: [(&[u8], &[u8], MuxReason); 9] = [
-        (&open_control, &refuse_control, MuxReason::Dm),
-        (&open_control, &refuse_user, MuxReason::Dm),
-        (&open_control, &leave_control, MuxReason::Disc),
-        (&open_control, &OPEN_USER, MuxReason::NoCreditFlow),
-        (&open_control, &no_flow, MuxReason::NoCreditFlow),
-        (&open_control, &small, MuxReason::BadFrame),
-        (&open_control, &other_small, MuxReason::BadFrame),
-        (&offer, &cut, MuxReason::BadFrame),
-        (&offer, &[0x03, 0x3F, 0x01, 0x1D], MuxReason::BadFrame),
-    ];
     let mut mux = Mux::server(rt.alloc(), 9, 127, 7)?;
-    for (first, second, reason) in cases {
-        renew(&rt, &mut mux, 127);
-        assert!(rt; ends_at(&mut mux, first, second, reason));
-    }
+    assert!(rt; all_end(&mut mux));
     Ok(())
 }
 
@@ -251,58 +277,99 @@ fn is_left(server: &mut Mux) -> bool {
         && hears_nothing(server, &checked([0x03, 0x53, 0x01, 0]))
 }
 
-#[test]
-fn credits(rt: HostRuntime) -> Result<(), Fail> {
-    let (mut client, mut server) = pair(rt.alloc(), 127, 7)?;
-    assert!(rt; are_ready(&rt, &mut client, &mut server));
-    assert!(rt; overdraws(&mut server));
-    renew(&rt, &mut server, 127);
-    renew(&rt, &mut client, 127);
-    assert!(rt; are_ready(&rt, &mut client, &mut server) && overflows(&mut server));
-    Ok(())
+/// Whether credits are counted at a server.
+fn counts_credits(client: &mut Mux, server: &mut Mux) -> bool {
+    are_ready(client, server)
+        && overdraws(server)
+        && renews(server, 127)
+        && renews(client, 127)
+        && are_ready(client, server)
+        && overflows(server)
 }
 
-/// DISC of an open channel is answered by UA, and the next one there by DM; SABM by DM.
-#[test]
-fn last_answers(rt: HostRuntime) -> Result<(), Fail> {
-    let (mut client, mut server) = pair(rt.alloc(), 127, 7)?;
-    assert!(rt; are_ready(&rt, &mut client, &mut server) && is_left(&mut server));
-    for answer in [
-        [0x4B, 0x73, 0x01, 0],
-        [0x4B, 0x1F, 0x01, 0],
-        [0x03, 0x1F, 0x01, 0],
-        [0x03, 0x73, 0x01, 0],
-    ] {
-        says(&rt, &mut server, &checked(answer));
+/// Whether DISC of an open channel is answered by UA, and the next one there by DM; SABM by DM.
+fn has_last_answers(client: &mut Mux, server: &mut Mux) -> bool {
+    are_ready(client, server)
+        && is_left(server)
+        && says(server, &checked([0x4B, 0x73, 0x01, 0]))
+        && says(server, &checked([0x4B, 0x1F, 0x01, 0]))
+        && says(server, &checked([0x03, 0x1F, 0x01, 0]))
+        && says(server, &checked([0x03, 0x73, 0x01, 0]))
+        && is_silent(server)
+}
+
+/// What a client and a server go through together.
+#[derive(Clone, Copy)]
+enum Course {
+    Carriage,
+    Credits,
+    Answers,
+}
+
+/// Whether a new client, whose frames have 127 octets, goes through that with a server.
+fn client_goes(alloc: Global, server: &mut Mux, credits: u8, course: Course) -> bool
+    requires credits { (1 ≤ credits) × (credits ≤ 40) }
+{
+    match Mux::client(alloc, 9, 127, credits) {
+        Ok(mut client) => match course {
+            Course::Carriage => carry_and_renew(&mut client, server),
+            Course::Credits => counts_credits(&mut client, server),
+            Course::Answers => has_last_answers(&mut client, server),
+        },
+        Err(_none) => false,
     }
-    assert!(rt; is_silent(&mut server));
-    Ok(())
+}
+
+/// The same with a new server; both give as many credits at first.
+fn goes(alloc: Global, frame: u16, credits: u8, course: Course) -> bool
+    requires frame { (23 ≤ frame) × (frame ≤ 32761) }
+    requires credits { (1 ≤ credits) × (credits ≤ 40) }
+{
+    match Mux::server(alloc, 9, frame, credits) {
+        Ok(mut server) => client_goes(alloc, &mut server, credits, course),
+        Err(_none) => false,
+    }
+}
+
+#[test]
+fn a_thousand_octets_with_one_credit(rt: HostRuntime) {
+    assert!(rt; goes(rt.alloc(), 300, 1, Course::Carriage));
+}
+
+#[test]
+fn credits(rt: HostRuntime) {
+    assert!(rt; goes(rt.alloc(), 127, 7, Course::Credits));
+}
+
+#[test]
+fn last_answers(rt: HostRuntime) {
+    assert!(rt; goes(rt.alloc(), 127, 7, Course::Answers));
+}
+
+/// TEST, a question for settings, a command that is not understood, PN for another channel.
+const QUESTIONS: [u8; 25] = [
+    0x03, 0xEF, 0x2B, 0x23, 0x05, 1, 2, 0x93, 0x03, 0x4B, 0x63, 0x01, 0x83, 0x11, 0x14, 0xF0, 0, 0,
+    0x7F, 0, 0, 7, 0x21, 0x01, 0,
+];
+
+/// The settings that answer the question for them.
+const SETTINGS: [u8; 14] = [
+    0x01, 0xEF, 0x15, 0x91, 0x11, 0x4B, 0x03, 0x03, 0, 0x11, 0x13, 0x7F, 0x3F, 0,
+];
+
+/// Whether a server answers each.
+fn answers_questions(mux: &mut Mux) -> bool {
+    hears_nothing(mux, &checked(QUESTIONS))
+        && says(mux, &checked([0x01, 0xEF, 0x09, 0x21, 0x05, 1, 2, 0]))
+        && says(mux, &checked(SETTINGS))
+        && says(mux, &checked([0x01, 0xEF, 0x07, 0x11, 0x03, 0x63, 0]))
+        && says(mux, &checked([0x53, 0x1F, 0x01, 0]))
+        && is_silent(mux)
 }
 
 #[test]
 fn answers_to_control_messages(rt: HostRuntime) -> Result<(), Fail> {
     let mut mux = Mux::server(rt.alloc(), 9, 127, 7)?;
-    // TEST, a question for settings, a command that is not understood, PN for another channel.
-    let asked = checked([
-        0x03, 0xEF, 0x2B, 0x23, 0x05, 1, 2, 0x93, 0x03, 0x4B, 0x63, 0x01, 0x83, 0x11, 0x14, 0xF0,
-        0, 0, 0x7F, 0, 0, 7, 0x21, 0x01, 0,
-    ]);
-    assert!(rt; matches!(hears(&mut mux, &asked), MuxUp::Nothing));
-    says(
-        &rt,
-        &mut mux,
-        &checked([0x01, 0xEF, 0x09, 0x21, 0x05, 1, 2, 0]),
-    );
-    let settings = [
-        0x01, 0xEF, 0x15, 0x91, 0x11, 0x4B, 0x03, 0x03, 0, 0x11, 0x13, 0x7F, 0x3F, 0,
-    ];
-    says(&rt, &mut mux, &checked(settings));
-    says(
-        &rt,
-        &mut mux,
-        &checked([0x01, 0xEF, 0x07, 0x11, 0x03, 0x63, 0]),
-    );
-    says(&rt, &mut mux, &checked([0x53, 0x1F, 0x01, 0]));
-    assert!(rt; is_silent(&mut mux));
+    assert!(rt; answers_questions(&mut mux));
     Ok(())
 }

@@ -1,4 +1,3 @@
-use bt_base::NoMemory;
 use btsnoop::*;
 use codec_tests::tables::rows;
 use std::alloc::Global;
@@ -65,13 +64,20 @@ const FAULTS: [(&[u8], SnoopRefusal, u64); 12] = [
     ),
 ];
 
-/// What the end of a file means to a reader that was fed octet by octet.
-fn end_of(alloc: Global, file: &[u8]) -> Result<Result<(), (SnoopRefusal, u64)>, NoMemory> {
-    let mut reader = Reader::new(alloc)?;
+/// What the end of a file means to a reader that is fed octet by octet.
+fn end_at(reader: &mut Reader, file: &[u8]) -> Result<(), (SnoopRefusal, u64)> {
     for octet in file {
         let _taken = reader.take(&[*octet]);
     }
-    Ok(reader.end())
+    reader.end()
+}
+
+/// Whether the end of a file means that to a new reader.
+fn ends(alloc: Global, file: &[u8], end: Result<(), (SnoopRefusal, u64)>) -> bool {
+    match Reader::new(alloc) {
+        Ok(mut reader) => end_at(&mut reader, file) == end,
+        Err(_) => false,
+    }
 }
 
 /// Whether the answer is a record with these numbers and octets.
@@ -92,28 +98,35 @@ fn is_record(
 }
 
 #[test]
-fn refusals(rt: HostRuntime) -> Result<(), Fail> {
+fn refusals(rt: HostRuntime) {
     for (file, refusal, place) in rows(&FAULTS) {
-        assert!(rt; end_of(rt.alloc(), file)? == Err((*refusal, *place)));
+        assert!(rt; ends(rt.alloc(), *file, Err((*refusal, *place))));
     }
-    assert!(rt; end_of(rt.alloc(), &RESET)?.is_ok());
-    assert!(rt; end_of(rt.alloc(), &PHONE)?.is_ok());
-    assert!(rt; end_of(rt.alloc(), &RESET[..43])? == Err((SnoopRefusal::Truncated, 16)));
-    assert!(rt; end_of(rt.alloc(), &PHONE[..68])? == Err((SnoopRefusal::Truncated, 45)));
-    Ok(())
+    assert!(rt; ends(rt.alloc(), &RESET, Ok(())));
+    assert!(rt; ends(rt.alloc(), &PHONE, Ok(())));
+    assert!(rt; ends(rt.alloc(), &RESET[..43], Err((SnoopRefusal::Truncated, 16))));
+    assert!(rt; ends(rt.alloc(), &PHONE[..68], Err((SnoopRefusal::Truncated, 45))));
+}
+
+/// The numbers of both records of the phone.
+const CUT: (u32, u32, u32, u64) = (300, 0x8000_0011, 7, 0x00E2_5B01_0203_0405);
+
+const EMPTY: (u32, u32, u32, u64) = (255, 3, 8, 0x00E2_5B01_0203_0406);
+
+/// Whether a reader finds both.
+fn reads_phone(reader: &mut Reader) -> bool {
+    matches!(reader.take(&PHONE), SnoopTaken::Header(16))
+        && is_record(&reader.take(&PHONE[16..]), CUT, &[2, 1, 0x20, 0x27, 1], 29)
+        && reader.place() == 45
+        && matches!(reader.take(&PHONE[45..60]), SnoopTaken::More)
+        && is_record(&reader.take(&PHONE[60..]), EMPTY, &[], 9)
+        && reader.place() == 69
 }
 
 #[test]
 fn records_of_a_phone(rt: HostRuntime) -> Result<(), Fail> {
-    let cut = (300, 0x8000_0011, 7, 0x00E2_5B01_0203_0405);
-    let empty = (255, 3, 8, 0x00E2_5B01_0203_0406);
     let mut reader = Reader::new(rt.alloc())?;
-    assert!(rt; matches!(reader.take(&PHONE), SnoopTaken::Header(16)));
-    assert!(rt; is_record(&reader.take(&PHONE[16..]), cut, &[2, 1, 0x20, 0x27, 1], 29));
-    assert_eq!(rt; reader.place(), 45);
-    assert!(rt; matches!(reader.take(&PHONE[45..60]), SnoopTaken::More));
-    assert!(rt; is_record(&reader.take(&PHONE[60..]), empty, &[], 9));
-    assert_eq!(rt; reader.place(), 69);
+    assert!(rt; reads_phone(&mut reader));
     Ok(())
 }
 
@@ -121,13 +134,13 @@ fn records_of_a_phone(rt: HostRuntime) -> Result<(), Fail> {
 #[tactic(auto, using(btsnoop::proofs::Items::header_size))]
 fn written_header(rt: HostRuntime) {
     let mut into = [7u8; 17];
-    assert_eq!(rt; put_header(&mut into), 16);
-    assert_eq!(rt;
-        into.as_slice(),
-        [
-            0x62u8, 0x74, 0x73, 0x6E, 0x6F, 0x6F, 0x70, 0, 0, 0, 0, 1, 0, 0, 0x03, 0xEA, 7,
-        ]
-        .as_slice()
+    assert!(rt; put_header(&mut into) == 16);
+    assert!(rt;
+        into.as_slice()
+            == [
+                0x62u8, 0x74, 0x73, 0x6E, 0x6F, 0x6F, 0x70, 0, 0, 0, 0, 1, 0, 0, 0x03, 0xEA, 7,
+            ]
+            .as_slice()
     );
 }
 
@@ -142,13 +155,13 @@ fn written_record(rt: HostRuntime) {
         octets: &[1, 3, 0x0C, 0],
     };
     let mut into = [7u8; 29];
-    assert_eq!(rt; put_record(&reset, &mut into), 28);
-    assert_eq!(rt;
-        into.as_slice(),
-        [
-            0u8, 0, 0, 4, 0, 0, 0, 4, 0, 0, 0, 2, 0, 0, 0, 0, 0, 0xE0, 0x3A, 0xB4, 0x4A, 0x67,
-            0x60, 0, 1, 3, 0x0C, 0, 7,
-        ]
-        .as_slice()
+    assert!(rt; put_record(&reset, &mut into) == 28);
+    assert!(rt;
+        into.as_slice()
+            == [
+                0u8, 0, 0, 4, 0, 0, 0, 4, 0, 0, 0, 2, 0, 0, 0, 0, 0, 0xE0, 0x3A, 0xB4, 0x4A, 0x67,
+                0x60, 0, 1, 3, 0x0C, 0, 7,
+            ]
+            .as_slice()
     );
 }

@@ -1,24 +1,24 @@
 use crate::capture_samples::{OPENING, PUSH, START};
-use capture::entries_of;
+use bt_base::NoMemory;
 use capture::readers::*;
+use capture::{Entry, entries_of};
 use codec_tests::tables::rows;
 use push_script::Side;
 use std::alloc::Global;
-use std::test::*;
 
 /// Adds the octets of entries, each given by its tag and its payload.
-fn push_entries(octets: &mut Vec<u8>, entries: &[(u8, &[u8])]) -> Result<(), Fail> {
+fn push_entries(octets: &mut Vec<u8>, entries: &[(u8, &[u8])]) -> Result<(), NoMemory> {
     for (tag, payload) in entries {
-        let length = u16::try_from(payload.len()).ok().ok_or("a short payload")?;
+        let length = u16::try_from(payload.len()).unwrap_or(0);
         octets.push(*tag)?;
         octets.extend_from_slice(&length.to_be_bytes())?;
-        octets.extend_from_slice(payload)?;
+        octets.extend_from_slice(*payload)?;
     }
     Ok(())
 }
 
 /// The octets of a capture: the start of both hosts, the opening of a channel, and what follows.
-pub(crate) fn octets_of(alloc: Global, follows: &[(u8, &[u8])]) -> Result<Vec<u8>, Fail> {
+pub(crate) fn octets_of(alloc: Global, follows: &[(u8, &[u8])]) -> Result<Vec<u8>, NoMemory> {
     let mut octets = Vec::new(alloc);
     push_entries(&mut octets, START)?;
     push_entries(&mut octets, OPENING)?;
@@ -35,22 +35,71 @@ const OUTSTANDING: [(usize, usize, usize); 5] = [
     (15, 0, 0),
 ];
 
-#[test]
-fn links_packets_and_pdus_of_a_push(rt: HostRuntime) -> Result<(), Fail> {
-    let octets = octets_of(rt.alloc(), PUSH)?;
-    let entries = entries_of(rt.alloc(), &octets).ok().ok_or("a capture")?;
+/// Whether so many packets of each host are outstanding at the end of these entries.
+fn are_outstanding(alloc: Global, front: &[Entry<'_>], a: usize, b: usize) -> bool {
+    all_outstanding(alloc, front, Side::A) == Ok(a)
+        && outstanding(alloc, front, Side::B, 1) == Ok(b)
+}
+
+/// Whether the rows say how many are outstanding in the course of a push.
+fn outstand_in_turn(alloc: Global, entries: &[Entry<'_>]) -> bool {
     for (count, a, b) in rows(&OUTSTANDING) {
-        let front = entries
-            .get(..START.len().saturating_add(*count))
-            .ok_or("so many entries")?;
-        assert_eq!(rt; all_outstanding(rt.alloc(), front, Side::A)?, *a);
-        assert_eq!(rt; outstanding(rt.alloc(), front, Side::B, 1)?, *b);
+        let right = match entries.get(..START.len().saturating_add(*count)) {
+            Some(front) => are_outstanding(alloc, front, *a, *b),
+            None => false,
+        };
+        if !right {
+            return false;
+        }
     }
-    assert_eq!(rt; moves(rt.alloc(), &entries, Side::A)?.len(), 33);
-    assert!(rt; link_up(rt.alloc(), &entries, Side::A)?.is_none());
-    let links = links(rt.alloc(), &entries, Side::B)?;
-    assert_eq!(rt; links.len(), 1);
-    let pdus = pdus(rt.alloc(), links.first().ok_or("a link")?)?;
-    assert_eq!(rt; pdus.len(), 14);
-    Ok(())
+    true
+}
+
+/// Whether so many packets moved at host a, whose link was given up.
+fn has_moves(alloc: Global, entries: &[Entry<'_>], count: usize) -> bool {
+    let is_right = match moves(alloc, entries, Side::A) {
+        Ok(moved) => moved.len() == count,
+        Err(_) => false,
+    };
+    is_right && matches!(link_up(alloc, entries, Side::A), Ok(None))
+}
+
+/// Whether so many PDUs came on a link.
+fn has_pdus(alloc: Global, link: &Link<'_>, count: usize) -> bool {
+    match pdus(alloc, link) {
+        Ok(heard) => heard.len() == count,
+        Err(_) => false,
+    }
+}
+
+/// Whether host b had one link, on which so many PDUs came.
+fn has_link(alloc: Global, entries: &[Entry<'_>], count: usize) -> bool {
+    match links(alloc, entries, Side::B) {
+        Ok(found) => match found.as_slice() {
+            [link] => has_pdus(alloc, link, count),
+            _ => false,
+        },
+        Err(_) => false,
+    }
+}
+
+/// Whether a push is read off its capture.
+fn is_read(alloc: Global, octets: &[u8]) -> bool {
+    match entries_of(alloc, octets) {
+        Ok(entries) => {
+            outstand_in_turn(alloc, &entries)
+                && has_moves(alloc, &entries, 33)
+                && has_link(alloc, &entries, 14)
+        }
+        Err(_) => false,
+    }
+}
+
+#[test]
+fn links_packets_and_pdus_of_a_push(rt: HostRuntime) {
+    let is_right = match octets_of(rt.alloc(), PUSH) {
+        Ok(octets) => is_read(rt.alloc(), &octets),
+        Err(_) => false,
+    };
+    assert!(rt; is_right);
 }

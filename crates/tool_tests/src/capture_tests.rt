@@ -7,7 +7,7 @@ use capture::*;
 use codec_tests::tables::rows;
 use h4_framing::Unit;
 use push_script::{Outcome, Side, Way, Word};
-use std::test::*;
+use std::alloc::Global;
 
 /// The command Reset out of host a.
 const RESET: [u8; 7] = [0x01, 0x00, 0x04, 0x01, 0x03, 0x0C, 0x00];
@@ -139,46 +139,73 @@ fn no_entries(rt: HostRuntime) {
     }
 }
 
-#[test]
-fn whole_captures(rt: HostRuntime) -> Result<(), Fail> {
-    let begin_reset = b"\x06\x00\x02\x00\x01\x01\x00\x04\x01\x03\x0C\x00";
-    let entries = entries_of(rt.alloc(), begin_reset)
-        .ok()
-        .ok_or("two entries")?;
-    assert!(rt;
-        matches!(
-            entries.as_slice(),
-            [
-                Entry::Begun(1),
-                Entry::Moved {
-                    side: Side::A,
-                    flow: Flow::Out,
-                    unit: Unit::Command {
-                        opcode: 0x0C03,
-                        params: []
-                    }
+/// A capture of two entries.
+const BEGIN_RESET: [u8; 12] = [
+    0x06, 0x00, 0x02, 0x00, 0x01, 0x01, 0x00, 0x04, 0x01, 0x03, 0x0C, 0x00,
+];
+
+/// Whether these are its entries.
+fn are_begin_and_reset(entries: &[Entry<'_>]) -> bool {
+    matches!(
+        entries,
+        [
+            Entry::Begun(1),
+            Entry::Moved {
+                side: Side::A,
+                flow: Flow::Out,
+                unit: Unit::Command {
+                    opcode: 0x0C03,
+                    params: []
                 }
-            ]
-        )
-    );
-    let none = entries_of(rt.alloc(), b"").ok().ok_or("no entries")?;
-    assert_eq!(rt; none.len(), 0);
-    let table: [(&[u8], EntryRefusal, usize); 3] = [
-        (b"\x06\x00\x02\x00\x01\x09\x00\x00", EntryRefusal::BadTag, 5),
-        (&begin_reset[..8], EntryRefusal::Truncated, 5),
-        (
-            b"\x01\x00\x04\x01\x03\x0C\x00\x06\x00\x00",
-            EntryRefusal::BadRecord,
-            7,
-        ),
-    ];
-    for (octets, refusal, place) in &table {
-        assert!(rt;
-            matches!(
-                entries_of(rt.alloc(), *octets),
-                Err(fault) if fault == CaptureFault::Refused(*refusal, *place)
-            )
-        );
+            }
+        ]
+    )
+}
+
+/// Whether they are read.
+fn are_read(alloc: Global) -> bool {
+    match entries_of(alloc, &BEGIN_RESET) {
+        Ok(entries) => are_begin_and_reset(&entries),
+        Err(_) => false,
     }
-    Ok(())
+}
+
+/// Whether no octets are a capture without entries.
+fn nothing_is_read(alloc: Global) -> bool {
+    match entries_of(alloc, b"") {
+        Ok(entries) => entries.is_empty(),
+        Err(_) => false,
+    }
+}
+
+/// Inputs that are no captures, and where they stop to be.
+const NO_CAPTURES: [(&[u8], EntryRefusal, usize); 3] = [
+    (b"\x06\x00\x02\x00\x01\x09\x00\x00", EntryRefusal::BadTag, 5),
+    (
+        b"\x06\x00\x02\x00\x01\x01\x00\x04",
+        EntryRefusal::Truncated,
+        5,
+    ),
+    (
+        b"\x01\x00\x04\x01\x03\x0C\x00\x06\x00\x00",
+        EntryRefusal::BadRecord,
+        7,
+    ),
+];
+
+/// Whether an input stops to be a capture there.
+fn is_none_at(alloc: Global, octets: &[u8], refusal: EntryRefusal, place: usize) -> bool {
+    match entries_of(alloc, octets) {
+        Ok(_) => false,
+        Err(fault) => fault == CaptureFault::Refused(refusal, place),
+    }
+}
+
+#[test]
+fn whole_captures(rt: HostRuntime) {
+    assert!(rt; are_read(rt.alloc()));
+    assert!(rt; nothing_is_read(rt.alloc()));
+    for (octets, refusal, place) in rows(&NO_CAPTURES) {
+        assert!(rt; is_none_at(rt.alloc(), *octets, *refusal, *place));
+    }
 }

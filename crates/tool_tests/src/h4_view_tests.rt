@@ -1,7 +1,5 @@
-use bt_base::{MemSink, MemSource, NoMemory};
-use h4_view::*;
-use std::alloc::Global;
-use std::test::*;
+use crate::showing::{View, parts_are_shown};
+use codec_tests::tables::rows;
 
 /// Units of a stream and the lines of each: channels of all kinds are made, told their modes and
 /// forgotten.
@@ -181,52 +179,12 @@ const RESET: [(&[u8], &str); 2] = [
     ),
 ];
 
-/// The octets of units and all their lines.
-fn joined(alloc: Global, rows: &[(&[u8], &str)]) -> Result<(Vec<u8>, Vec<u8>), NoMemory> {
-    let mut octets = Vec::new(alloc);
-    let mut lines = Vec::new(alloc);
-    for (unit, text) in rows {
-        octets.extend_from_slice(unit)?;
-        lines.extend_from_slice(text.as_bytes())?;
-    }
-    Ok((octets, lines))
-}
-
-/// What is written of a stream that is read in pieces of so many octets, one at least.
-fn view_of(alloc: Global, octets: &[u8], step: usize) -> Result<MemSink, ViewFault> {
-    let mut source = MemSource::new(alloc, octets, step.max(1), &[])?;
-    let mut sink = MemSink::new(alloc, &[])?;
-    view_raw(alloc, &mut source, &mut sink)?;
-    Ok(sink)
-}
-
-/// Whether the view of a stream is its lines, all at once, in pieces and octet by octet.
-fn is_shown(alloc: Global, rows: &[(&[u8], &str)]) -> Result<bool, ViewFault> {
-    let (octets, lines) = joined(alloc, rows)?;
-    let whole = view_of(alloc, &octets, 65_536)?;
-    let pieces = view_of(alloc, &octets, 7)?;
-    let single = view_of(alloc, &octets, 1)?;
-    Ok(
-        whole.octets() == lines.as_slice()
-            && pieces.octets() == lines.as_slice()
-            && single.octets() == lines.as_slice(),
-    )
+#[test]
+fn packets_are_shown_in_whatever_pieces(rt: HostRuntime) {
+    assert!(rt; parts_are_shown(rt.alloc(), View::Raw, rows(&RESET)));
 }
 
 #[test]
-fn packets_are_shown_in_whatever_pieces(rt: HostRuntime) -> Result<(), Fail> {
-    let Ok(shown) = is_shown(rt.alloc(), &RESET) else {
-        return Err(Fail::from("the stream is whole"));
-    };
-    assert!(rt; shown);
-    Ok(())
-}
-
-#[test]
-fn channels_are_learnt_told_and_forgotten(rt: HostRuntime) -> Result<(), Fail> {
-    let Ok(shown) = is_shown(rt.alloc(), &STREAM) else {
-        return Err(Fail::from("the stream is whole"));
-    };
-    assert!(rt; shown);
-    Ok(())
+fn channels_are_learnt_told_and_forgotten(rt: HostRuntime) {
+    assert!(rt; parts_are_shown(rt.alloc(), View::Raw, rows(&STREAM)));
 }

@@ -19,6 +19,8 @@ mod h4_view_tests;
 #[cfg(test)]
 mod push_script_tests;
 #[cfg(test)]
+mod showing;
+#[cfg(test)]
 mod snoop_tests;
 #[cfg(test)]
 mod tagged_entries_tests;

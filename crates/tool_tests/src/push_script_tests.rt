@@ -2,7 +2,6 @@ use bt_base::{MemShelf, MemSink, Shelf};
 use codec_tests::tables::rows;
 use push_script::*;
 use std::alloc::Global;
-use std::test::*;
 
 fn refusal_of(alloc: Global, text: &[u8]) -> Option<(u32, ScriptRefusal)> {
     match scenario_of(alloc, text) {
@@ -59,42 +58,67 @@ fn refusals_with_their_lines(rt: HostRuntime) {
     }
 }
 
+/// Whether a scenario is written as that text.
+fn is_text(alloc: Global, scenario: &Scenario, whole: &[u8]) -> bool {
+    match put_scenario(alloc, scenario) {
+        Ok(text) => text.as_slice() == whole,
+        Err(_) => false,
+    }
+}
+
+/// Whether a text is a scenario of that whole text.
+fn is_read_as(alloc: Global, text: &[u8], whole: &[u8]) -> bool {
+    match scenario_of(alloc, text) {
+        Ok(scenario) => is_text(alloc, &scenario, whole),
+        Err(_) => false,
+    }
+}
+
+const SHORT: &[u8] =
+    b"object gr\xC3\xB6\xC3\x9Fe.txt\ntransport l2cap\nacl 27 1\nchunk 1\nradio\n60 pass\n1 drop";
+
+const WHOLE: &[u8] =
+    b"transport l2cap\nserves both\nacl 27 1\nchunk 1\nmtu 1024\nmps 1010\nwindow 10\ntries 4\ncredits 7\nobex 1024\nsrm off\nobject gr\xC3\xB6\xC3\x9Fe.txt\nradio\n60 pass\n1 drop\n";
+
+const REPORT: &[u8] =
+    b"1 refused D0 gr\xC3\xB6\xC3\x9Fe.txt\nkept 0\nbuffers 8 2\nwindow 10 0\ncredits 0 0\n";
+
+const PEAKS: Peaks = Peaks {
+    buffers_a: 8,
+    buffers_b: 2,
+    window_a: 10,
+    window_b: 0,
+    credits_a: 0,
+    credits_b: 0,
+};
+
+/// Whether the report of a scenario is that text.
+fn reports(alloc: Global, scenario: &Scenario) -> bool {
+    match MemSink::new(alloc, &[]) {
+        Ok(mut sink) => {
+            scenario.names.len() == 1
+                && put_report(scenario, &[Outcome::Refused(0xD0)], 0, &PEAKS, &mut sink).is_ok()
+                && sink.octets() == REPORT
+        }
+        Err(_) => false,
+    }
+}
+
+/// Whether the short text is read, and its report written.
+fn short_is_reported(alloc: Global) -> bool {
+    match scenario_of(alloc, SHORT) {
+        Ok(scenario) => {
+            scenario.script.at(1) == Some((1, Word::Drop)) && reports(alloc, &scenario)
+        }
+        Err(_) => false,
+    }
+}
+
 #[test]
-fn written_again(rt: HostRuntime) -> Result<(), Fail> {
-    let short =
-        b"object gr\xC3\xB6\xC3\x9Fe.txt\ntransport l2cap\nacl 27 1\nchunk 1\nradio\n60 pass\n1 drop";
-    let whole =
-        b"transport l2cap\nserves both\nacl 27 1\nchunk 1\nmtu 1024\nmps 1010\nwindow 10\ntries 4\ncredits 7\nobex 1024\nsrm off\nobject gr\xC3\xB6\xC3\x9Fe.txt\nradio\n60 pass\n1 drop\n";
-    let scenario = scenario_of(rt.alloc(), short).ok().ok_or("a scenario")?;
-    assert_eq!(rt; scenario.script.at(1), Some((1, Word::Drop)));
-    let text = put_scenario(rt.alloc(), &scenario)
-        .ok()
-        .ok_or("room for the text")?;
-    assert_eq!(rt; text.as_slice(), whole.as_slice());
-    let again = scenario_of(rt.alloc(), &text)
-        .ok()
-        .ok_or("a scenario again")?;
-    let text = put_scenario(rt.alloc(), &again)
-        .ok()
-        .ok_or("room for the text again")?;
-    assert_eq!(rt; text.as_slice(), whole.as_slice());
-    assert_eq!(rt; again.names.len(), 1);
-    let peaks = Peaks {
-        buffers_a: 8,
-        buffers_b: 2,
-        window_a: 10,
-        window_b: 0,
-        credits_a: 0,
-        credits_b: 0,
-    };
-    let mut sink = MemSink::new(rt.alloc(), &[]).ok().ok_or("a sink")?;
-    let put = put_report(&again, &[Outcome::Refused(0xD0)], 0, &peaks, &mut sink);
-    assert!(rt; put.is_ok());
-    assert_eq!(rt;
-        sink.octets(),
-        b"1 refused D0 gr\xC3\xB6\xC3\x9Fe.txt\nkept 0\nbuffers 8 2\nwindow 10 0\ncredits 0 0\n".as_slice()
-    );
-    Ok(())
+fn written_again(rt: HostRuntime) {
+    assert!(rt; is_read_as(rt.alloc(), SHORT, WHOLE));
+    assert!(rt; is_read_as(rt.alloc(), WHOLE, WHOLE));
+    assert!(rt; short_is_reported(rt.alloc()));
 }
 
 #[test]
@@ -106,11 +130,11 @@ fn words_and_outcomes(rt: HostRuntime) {
         mask: 0x0A1F,
     };
     let n = put_word(&word, &mut into);
-    assert_eq!(rt; into[..n], b"damage ba 65534 0A1F"[..]);
+    assert!(rt; into[..n] == b"damage ba 65534 0A1F"[..]);
     let n = put_outcome(&Outcome::PeerFault(3, 12), &mut into);
-    assert_eq!(rt; into[..n], b"peer-fault 3 12"[..]);
+    assert!(rt; into[..n] == b"peer-fault 3 12"[..]);
     let n = put_word(&Word::Timer(Side::B), &mut into);
-    assert_eq!(rt; into[..n], b"timer b"[..]);
+    assert!(rt; into[..n] == b"timer b"[..]);
 }
 
 /// Texts, and the whole texts of the scenarios that they are.
@@ -130,46 +154,64 @@ const READ: [(&[u8], &[u8]); 3] = [
 ];
 
 #[test]
-fn every_key_and_word_is_read(rt: HostRuntime) -> Result<(), Fail> {
+fn every_key_and_word_is_read(rt: HostRuntime) {
     for (text, whole) in rows(&READ) {
-        let scenario = scenario_of(rt.alloc(), *text).ok().ok_or("a scenario")?;
-        let text = put_scenario(rt.alloc(), &scenario)
-            .ok()
-            .ok_or("room for the text")?;
-        assert_eq!(rt; text.as_slice(), *whole);
+        assert!(rt; is_read_as(rt.alloc(), *text, *whole));
     }
-    Ok(())
+}
+
+const LOSING: &[u8] =
+    b"transport l2cap\nsrm on\nwindow 32\nobject card.vcf\nobject photo.jpg\nobject gr\xC3\xB6\xC3\x9Fe.txt\nradio\n60 pass\n1 lose ab\n200 pass\n1 lose ba\n1 repeat ab\n6455000 pass";
+
+const LOSING_WHOLE: &[u8] =
+    b"transport l2cap\nserves both\nacl 1021 8\nchunk 1024\nmtu 1024\nmps 1010\nwindow 32\ntries 4\ncredits 7\nobex 1024\nsrm on\nobject card.vcf\nobject photo.jpg\nobject gr\xC3\xB6\xC3\x9Fe.txt\nradio\n60 pass\n1 lose ab\n200 pass\n1 lose ba\n1 repeat ab\n6455000 pass\n";
+
+/// Whether two scenarios have the same settings.
+fn are_set_alike(a: &Scenario, b: &Scenario) -> bool {
+    a.settings == b.settings
+        && a.acl_length == b.acl_length
+        && a.acl_count == b.acl_count
+        && a.chunk == b.chunk
+}
+
+/// Whether they have the same three names and the same six words.
+fn are_alike(a: &Scenario, b: &Scenario) -> bool {
+    let mut alike = a.names.len() == 3 && a.script.len() == 6;
+    for i in 0..3 {
+        alike = alike && a.names.at(i) == b.names.at(i);
+    }
+    for i in 0..6 {
+        alike = alike && a.script.at(i) == b.script.at(i);
+    }
+    alike
+}
+
+/// Whether a scenario that is read of the whole text is the same as this.
+fn is_again(alloc: Global, scenario: &Scenario) -> bool {
+    match scenario_of(alloc, LOSING_WHOLE) {
+        Ok(again) => {
+            are_set_alike(&again, scenario)
+                && are_alike(&again, scenario)
+                && again.settings.window == 32
+                && again.settings.srm
+                && again.script.at(4) == Some((1, Word::Repeat(Way::Ab)))
+        }
+        Err(_) => false,
+    }
+}
+
+/// Whether the losing text and its whole text are one scenario.
+fn losing_is_again(alloc: Global) -> bool {
+    match scenario_of(alloc, LOSING) {
+        Ok(scenario) => is_again(alloc, &scenario),
+        Err(_) => false,
+    }
 }
 
 #[test]
-fn three_objects_with_losses(rt: HostRuntime) -> Result<(), Fail> {
-    let short =
-        b"transport l2cap\nsrm on\nwindow 32\nobject card.vcf\nobject photo.jpg\nobject gr\xC3\xB6\xC3\x9Fe.txt\nradio\n60 pass\n1 lose ab\n200 pass\n1 lose ba\n1 repeat ab\n6455000 pass";
-    let whole =
-        b"transport l2cap\nserves both\nacl 1021 8\nchunk 1024\nmtu 1024\nmps 1010\nwindow 32\ntries 4\ncredits 7\nobex 1024\nsrm on\nobject card.vcf\nobject photo.jpg\nobject gr\xC3\xB6\xC3\x9Fe.txt\nradio\n60 pass\n1 lose ab\n200 pass\n1 lose ba\n1 repeat ab\n6455000 pass\n";
-    let scenario = scenario_of(rt.alloc(), short).ok().ok_or("a scenario")?;
-    let text = put_scenario(rt.alloc(), &scenario)
-        .ok()
-        .ok_or("room for the text")?;
-    assert_eq!(rt; text.as_slice(), whole.as_slice());
-    let again = scenario_of(rt.alloc(), &text)
-        .ok()
-        .ok_or("a scenario again")?;
-    assert!(rt; again.settings == scenario.settings);
-    assert_eq!(rt; again.settings.window, 32);
-    assert!(rt; again.settings.srm);
-    assert!(rt; again.acl_length == scenario.acl_length && again.acl_count == scenario.acl_count);
-    assert_eq!(rt; again.chunk, scenario.chunk);
-    assert_eq!(rt; again.names.len(), 3);
-    for i in 0..3 {
-        assert_eq!(rt; again.names.at(i), scenario.names.at(i));
-    }
-    assert_eq!(rt; again.script.len(), 6);
-    for i in 0..6 {
-        assert_eq!(rt; again.script.at(i), scenario.script.at(i));
-    }
-    assert_eq!(rt; again.script.at(4), Some((1, Word::Repeat(Way::Ab))));
-    Ok(())
+fn three_objects_with_losses(rt: HostRuntime) {
+    assert!(rt; is_read_as(rt.alloc(), LOSING, LOSING_WHOLE));
+    assert!(rt; losing_is_again(rt.alloc()));
 }
 
 /// Numbers, and of what they make: the size and the front of the first object, and the text.
@@ -188,25 +230,48 @@ const MADE: [(u32, u32, [u8; 4], &[u8]); 2] = [
     ),
 ];
 
-#[test]
-fn made_of_two_numbers(rt: HostRuntime) -> Result<(), Fail> {
-    for (number, size, octets, text) in rows(&MADE) {
-        let mut shelf = MemShelf::new(rt.alloc(), &[]).ok().ok_or("a shelf")?;
-        let made = make_scenario(rt.alloc(), *number, &mut shelf)
-            .ok()
-            .ok_or("a scenario")?;
-        assert_eq!(rt; shelf.size("m1"), Ok(*size));
-        let mut front = [0; 4];
-        assert!(rt; shelf.fill("m1", 0, &mut front).is_ok());
-        assert_eq!(rt; front, *octets);
-        let stated = scenario_of(rt.alloc(), *text)
-            .ok()
-            .ok_or("the scenario that is stated")?;
-        let stated = put_scenario(rt.alloc(), &stated).ok().ok_or("a text")?;
-        let made = put_scenario(rt.alloc(), &made).ok().ok_or("a text")?;
-        assert_eq!(rt; made.as_slice(), stated.as_slice());
+/// The front of an object on a shelf.
+fn front_of(shelf: &mut MemShelf, name: &str) -> [u8; 4] {
+    let mut front = [0; 4];
+    match shelf.fill(name, 0, &mut front) {
+        Ok(()) => front,
+        Err(_) => [0; 4],
     }
-    Ok(())
+}
+
+/// Whether a scenario is written as the one is that a text states.
+fn is_stated(alloc: Global, scenario: &Scenario, text: &[u8]) -> bool {
+    match put_scenario(alloc, scenario) {
+        Ok(whole) => is_read_as(alloc, text, whole.as_slice()),
+        Err(_) => false,
+    }
+}
+
+/// Whether the scenario that is made of a number is the one that a text states.
+fn is_made(alloc: Global, shelf: &mut MemShelf, number: u32, text: &[u8]) -> bool {
+    match make_scenario(alloc, number, shelf) {
+        Ok(made) => is_stated(alloc, &made, text),
+        Err(_) => false,
+    }
+}
+
+/// Whether it is made so on a new shelf, with a first object of that size and front.
+fn is_made_with(alloc: Global, number: u32, size: u32, front: &[u8; 4], text: &[u8]) -> bool {
+    match MemShelf::new(alloc, &[]) {
+        Ok(mut shelf) => {
+            is_made(alloc, &mut shelf, number, text)
+                && shelf.size("m1") == Ok(size)
+                && front_of(&mut shelf, "m1") == *front
+        }
+        Err(_) => false,
+    }
+}
+
+#[test]
+fn made_of_two_numbers(rt: HostRuntime) {
+    for (number, size, octets, text) in rows(&MADE) {
+        assert!(rt; is_made_with(rt.alloc(), *number, *size, octets, *text));
+    }
 }
 
 /// Texts, and the words that they are.
@@ -243,7 +308,7 @@ const WORDS: [(&[u8], Option<Word>); 14] = [
 #[test]
 fn words_from_their_texts(rt: HostRuntime) {
     for (text, word) in rows(&WORDS) {
-        assert_eq!(rt; word_of(*text), *word);
+        assert!(rt; word_of(*text) == *word);
     }
 }
 
@@ -269,6 +334,6 @@ const OUTCOMES: [(&[u8], Option<Outcome>); 15] = [
 #[test]
 fn outcomes_from_their_texts(rt: HostRuntime) {
     for (text, outcome) in rows(&OUTCOMES) {
-        assert_eq!(rt; outcome_of(*text), *outcome);
+        assert!(rt; outcome_of(*text) == *outcome);
     }
 }

@@ -1,8 +1,5 @@
-use bt_base::{MemSink, MemSource, NoMemory};
+use crate::showing::{View, is_shown, parts_are_shown};
 use codec_tests::tables::rows;
-use h4_view::*;
-use std::alloc::Global;
-use std::test::*;
 
 /// A file as a phone writes it, and the lines of each part: further bits of the flags are set, packets
 /// were lost, times differ, a channel is told by both directions, records are cut or are no packets.
@@ -94,45 +91,14 @@ const FAULTS: [(&[u8], &str); 9] = [
     ),
 ];
 
-/// What is written of a file that is read in pieces of so many octets, one at least.
-fn snoop_view_of(alloc: Global, octets: &[u8], step: usize) -> Result<MemSink, NoMemory> {
-    let mut source = MemSource::new(alloc, octets, step.max(1), &[])?;
-    let mut sink = MemSink::new(alloc, &[])?;
-    match view_snoop(alloc, &mut source, &mut sink) {
-        Err(ViewFault::NoMemory) => Err(NoMemory),
-        _ => Ok(sink),
-    }
-}
-
-/// The octets of a file and all its lines.
-fn joined(alloc: Global) -> Result<(Vec<u8>, Vec<u8>), NoMemory> {
-    let mut octets = Vec::new(alloc);
-    let mut lines = Vec::new(alloc);
-    for (part, text) in rows(&FILE) {
-        octets.extend_from_slice(part)?;
-        lines.extend_from_slice(text.as_bytes())?;
-    }
-    Ok((octets, lines))
-}
-
-/// Whether the view of a file is that text, in whatever pieces it is read.
-fn is_shown(alloc: Global, octets: &[u8], text: &[u8]) -> Result<bool, NoMemory> {
-    let whole = snoop_view_of(alloc, octets, 65_536)?;
-    let pieces = snoop_view_of(alloc, octets, 1)?;
-    Ok(whole.octets() == text && pieces.octets() == text)
+#[test]
+fn files_are_shown(rt: HostRuntime) {
+    assert!(rt; parts_are_shown(rt.alloc(), View::Snoop, rows(&FILE)));
 }
 
 #[test]
-fn files_are_shown(rt: HostRuntime) -> Result<(), Fail> {
-    let (octets, lines) = joined(rt.alloc())?;
-    assert!(rt; is_shown(rt.alloc(), &octets, &lines)?);
-    Ok(())
-}
-
-#[test]
-fn first_faults_of_files(rt: HostRuntime) -> Result<(), Fail> {
+fn first_faults_of_files(rt: HostRuntime) {
     for (octets, text) in rows(&FAULTS) {
-        assert!(rt; is_shown(rt.alloc(), octets, text.as_bytes())?);
+        assert!(rt; is_shown(rt.alloc(), View::Snoop, *octets, text.as_bytes()));
     }
-    Ok(())
 }

@@ -1,5 +1,5 @@
 use codec_tests::tables::rows;
-use std::test::*;
+use std::alloc::Global;
 use tagged_entries::{FirstRecord, first_record};
 
 /// Octets and what stands at their front, as text.
@@ -14,11 +14,17 @@ const FRONTS: [(&[u8], &str); 8] = [
     (b"\x08", "BadTag"),
 ];
 
-#[test]
-fn fronts_are_told(rt: HostRuntime) -> Result<(), Fail> {
-    for (octets, front) in rows(&FRONTS) {
-        let told = format!(in rt.alloc(); "{:?}", first_record(octets))?;
-        assert_eq!(rt; told.as_str(), *front);
+/// Whether what stands at the front of octets is told so.
+fn is_told(alloc: Global, octets: &[u8], front: &str) -> bool {
+    match format!(in alloc; "{:?}", first_record(octets)) {
+        Ok(told) => told.as_str() == front,
+        Err(_) => false,
     }
-    Ok(())
+}
+
+#[test]
+fn fronts_are_told(rt: HostRuntime) {
+    for (octets, front) in rows(&FRONTS) {
+        assert!(rt; is_told(rt.alloc(), *octets, *front));
+    }
 }

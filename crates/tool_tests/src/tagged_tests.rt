@@ -1,11 +1,9 @@
 use crate::capture_reader_tests::octets_of;
 use crate::capture_samples::{CUT_OFF, NAMELESS, PUSH, REFUSED, TWO_CHANNELS};
-use bt_base::{MemSink, MemSource, NoMemory};
+use crate::showing::{View, is_shown, is_written_of, parts_are_shown, shows};
+use bt_base::MemSink;
 use codec_tests::tables::rows;
-use h4_view::*;
-use object_lines::view_tagged;
 use std::alloc::Global;
-use std::test::*;
 
 /// Entries of a capture and the lines of each: pieces of one handle at two hosts and in two directions,
 /// a channel that both directions of host a tell, words, and the begin and end of a push.
@@ -58,56 +56,15 @@ const FAULTS: [(&[u8], &str); 6] = [
     ),
 ];
 
-/// What is written of a capture that is read in pieces of so many octets, one at least.
-fn tagged_view_of(alloc: Global, octets: &[u8], step: usize) -> Result<MemSink, NoMemory> {
-    let mut source = MemSource::new(alloc, octets, step.max(1), &[])?;
-    let mut sink = MemSink::new(alloc, &[])?;
-    match view_tagged(alloc, &mut source, &mut sink) {
-        Err(ViewFault::NoMemory) => Err(NoMemory),
-        _ => Ok(sink),
-    }
-}
-
-/// The octets of entries and all their lines.
-fn joined(alloc: Global) -> Result<(Vec<u8>, Vec<u8>), NoMemory> {
-    let mut octets = Vec::new(alloc);
-    let mut lines = Vec::new(alloc);
-    for (entry, text) in rows(&CAPTURE) {
-        octets.extend_from_slice(entry)?;
-        lines.extend_from_slice(text.as_bytes())?;
-    }
-    Ok((octets, lines))
-}
-
-/// Whether the view of a capture is that text, in whatever pieces it is read.
-fn is_shown(alloc: Global, octets: &[u8], text: &[u8]) -> Result<bool, NoMemory> {
-    let whole = tagged_view_of(alloc, octets, 65_536)?;
-    let pieces = tagged_view_of(alloc, octets, 1)?;
-    Ok(whole.octets() == text && pieces.octets() == text)
+#[test]
+fn captures_are_shown(rt: HostRuntime) {
+    assert!(rt; parts_are_shown(rt.alloc(), View::Tagged, rows(&CAPTURE)));
 }
 
 #[test]
-fn captures_are_shown(rt: HostRuntime) -> Result<(), Fail> {
-    let (octets, lines) = joined(rt.alloc())?;
-    assert!(rt; is_shown(rt.alloc(), &octets, &lines)?);
-    Ok(())
-}
-
-#[test]
-fn first_faults_of_captures(rt: HostRuntime) -> Result<(), Fail> {
+fn first_faults_of_captures(rt: HostRuntime) {
     for (octets, text) in rows(&FAULTS) {
-        assert!(rt; is_shown(rt.alloc(), octets, text.as_bytes())?);
-    }
-    Ok(())
-}
-
-/// The lines of the entries of a capture alone.
-fn entries_shown(alloc: Global, octets: &[u8]) -> Result<MemSink, NoMemory> {
-    let mut source = MemSource::new(alloc, octets, 65_536, &[])?;
-    let mut sink = MemSink::new(alloc, &[])?;
-    match view_entries(alloc, &mut source, &mut sink) {
-        Err(ViewFault::NoMemory) => Err(NoMemory),
-        _ => Ok(sink),
+        assert!(rt; is_shown(rt.alloc(), View::Tagged, *octets, text.as_bytes()));
     }
 }
 
@@ -120,23 +77,50 @@ const PUSHES: [(&[(u8, &[u8])], &str); 5] = [
     (NAMELESS, ""),
 ];
 
-#[test]
-fn objects_stand_behind_the_entries(rt: HostRuntime) -> Result<(), Fail> {
-    for (follows, lines) in rows(&PUSHES) {
-        let octets = octets_of(rt.alloc(), follows)?;
-        let mut text = Vec::from_slice(rt.alloc(), entries_shown(rt.alloc(), &octets)?.octets())?;
-        text.extend_from_slice(lines.as_bytes())?;
-        assert!(rt; is_shown(rt.alloc(), &octets, &text)?);
+/// Whether the view of a capture is that of its entries, and these lines behind it, in whatever pieces it is read.
+fn ends_with(alloc: Global, octets: &[u8], lines: &[u8], entries: &[u8]) -> bool {
+    shows(alloc, View::Tagged, octets, 65_536, entries, lines)
+        && shows(alloc, View::Tagged, octets, 1, entries, lines)
+}
+
+/// Whether the view of the entries alone ends so, and that of the capture is the same with these lines behind it.
+fn has_objects(alloc: Global, octets: &[u8], end: &[u8], lines: &[u8]) -> bool {
+    match MemSink::new(alloc, &[]) {
+        Ok(mut sink) => {
+            is_written_of(alloc, View::Entries, octets, 65_536, &mut sink)
+                && sink.octets().ends_with(end)
+                && ends_with(alloc, octets, lines, sink.octets())
+        }
+        Err(_) => false,
     }
-    Ok(())
+}
+
+/// The same of a capture that goes on so behind its opening.
+fn push_has_objects(alloc: Global, follows: &[(u8, &[u8])], lines: &[u8]) -> bool {
+    match octets_of(alloc, follows) {
+        Ok(octets) => has_objects(alloc, &octets, b"\n", lines),
+        Err(_) => false,
+    }
 }
 
 #[test]
-fn cut_captures_have_no_objects(rt: HostRuntime) -> Result<(), Fail> {
-    let mut octets = octets_of(rt.alloc(), PUSH)?;
-    octets.push(0x09)?;
-    let text = entries_shown(rt.alloc(), &octets)?;
-    assert!(rt; text.octets().ends_with(b" BadTag\n"));
-    assert!(rt; is_shown(rt.alloc(), &octets, text.octets())?);
-    Ok(())
+fn objects_stand_behind_the_entries(rt: HostRuntime) {
+    for (follows, lines) in rows(&PUSHES) {
+        assert!(rt; push_has_objects(rt.alloc(), *follows, lines.as_bytes()));
+    }
+}
+
+/// Whether a capture behind whose push stands no entry has no objects.
+fn has_none_where_cut(alloc: Global) -> bool {
+    match octets_of(alloc, PUSH) {
+        Ok(mut octets) => {
+            octets.push(0x09).is_ok() && has_objects(alloc, &octets, b" BadTag\n", b"")
+        }
+        Err(_) => false,
+    }
+}
+
+#[test]
+fn cut_captures_have_no_objects(rt: HostRuntime) {
+    assert!(rt; has_none_where_cut(rt.alloc()));
 }

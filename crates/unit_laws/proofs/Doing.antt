@@ -24,6 +24,7 @@ use Rattle.host_link.specs.PuttingOut.{has_room, has_buffer, can_take_pdu, take_
 use Rattle.host_link.specs.Stands.{into, out_of}
 use Rattle.world_model.specs.Machines.{Upper}
 use Rattle.unit_laws.specs.Units.{Lined, Occasion, Comes, Says, Puts, Commands, Waits, units_of, units, after_unit, Happens, Runs, IsToldInTurn, ComesInTurn}
+use Rattle.unit_laws.specs.Laws.{FiresNone}
 use Rattle.unit_laws.specs.Calls.{FitsPacket, CanGo, gifts_of, gifts_in, IsWritable, GoesBy, SaysInOctets, CallsGo, CallsAreRuns}
 use Rattle.unit_laws.proofs.Written.{starts_go, ends_go, call_goes, flow_more, cut_short, heard_writes}
 
@@ -39,15 +40,20 @@ units_both xs ys came one two first second =
     flat_map-append units_of xs ys
     ∙ (ap₂ (λ (x y : List Move). x ++ y) first second ∙ (append_assoc (map into came) (map out_of one) (map out_of two) ∙ ap (λ (more : List Move). map into came ++ more) (sym (map-append out_of one two))))
 
+both_untimed : {G : Type 0} (one two : List (Occasion G)) → AllByRecursion FiresNone one → AllByRecursion FiresNone two → AllByRecursion FiresNone (one ++ two)
+both_untimed [] two first second = second
+both_untimed (occasion ∷ one) two first second = (first.0, both_untimed one two first.1 second)
+
 module _ {S G : Type 0} (U : Upper S G) where
   pub goes_none : (now : Lined S) → IsWritable now.line → GoesBy U [] [] now now
-  goes_none now writable = record { occasions = []; runs = refl; given = refl; went = []; each = tt; units_are = refl; out = sym (append-nil now.line.out); writable = writable }
+  goes_none now writable = record { occasions = []; runs = refl; given = refl; untimed = tt; went = []; each = tt; units_are = refl; out = sym (append-nil now.line.out); writable = writable }
 
   goes_then : (gifts : List (List G)) (came : List Packet) (old mid new : Lined S) → GoesBy U gifts came old mid → GoesBy U [] [] mid new → GoesBy U gifts came old new
   goes_then gifts came old mid new first second = record {
     occasions = first.occasions ++ second.occasions;
     runs = runs_then U (ComesInTurn U) first.occasions second.occasions old mid new first.runs second.runs;
     given = flat_map-append gifts_of first.occasions second.occasions ∙ (ap₂ (λ (x y : List (List G)). x ++ y) first.given second.given ∙ append-nil gifts);
+    untimed = both_untimed first.occasions second.occasions first.untimed second.untimed;
     went = first.went ++ second.went;
     each = all_append (IsPacket 1021) first.went second.went first.each second.each;
     units_are = units_both first.occasions second.occasions came first.went second.went first.units_are second.units_are;
@@ -58,11 +64,12 @@ module _ {S G : Type 0} (U : Upper S G) where
   }
 
   -- nothing moves; or a packet goes out
-  goes_aside : (occasion : Occasion G) (old new : Lined S) → units (occasion ∷ []) ≡ [] → gifts_in (occasion ∷ []) ≡ [] → ComesInTurn U occasion old → Happens U occasion old new → new.line.out ≡ old.line.out → IsWritable new.line → GoesBy U [] [] old new
-  goes_aside occasion old new none asks turn happens out writable = record {
+  goes_aside : (occasion : Occasion G) (old new : Lined S) → units (occasion ∷ []) ≡ [] → gifts_in (occasion ∷ []) ≡ [] → FiresNone occasion → ComesInTurn U occasion old → Happens U occasion old new → new.line.out ≡ old.line.out → IsWritable new.line → GoesBy U [] [] old new
+  goes_aside occasion old new none asks untimed turn happens out writable = record {
     occasions = occasion ∷ [];
     runs = (new, turn, happens, refl);
     given = asks;
+    untimed = (untimed, tt);
     went = [];
     each = tt;
     units_are = none;
@@ -70,11 +77,12 @@ module _ {S G : Type 0} (U : Upper S G) where
     writable = writable;
   }
 
-  goes_out : (occasion : Occasion G) (packet : Packet) (old new : Lined S) → IsPacket 1021 packet → units (occasion ∷ []) ≡ out_of packet ∷ [] → gifts_in (occasion ∷ []) ≡ [] → ComesInTurn U occasion old → Happens U occasion old new → new.line.out ≡ old.line.out ++ spelling packet → IsWritable new.line → GoesBy U [] [] old new
-  goes_out occasion packet old new is one asks turn happens out writable = record {
+  goes_out : (occasion : Occasion G) (packet : Packet) (old new : Lined S) → IsPacket 1021 packet → units (occasion ∷ []) ≡ out_of packet ∷ [] → gifts_in (occasion ∷ []) ≡ [] → FiresNone occasion → ComesInTurn U occasion old → Happens U occasion old new → new.line.out ≡ old.line.out ++ spelling packet → IsWritable new.line → GoesBy U [] [] old new
+  goes_out occasion packet old new is one asks untimed turn happens out writable = record {
     occasions = occasion ∷ [];
     runs = (new, turn, happens, refl);
     given = asks;
+    untimed = (untimed, tt);
     went = packet ∷ [];
     each = (is, tt);
     units_are = one;
@@ -96,7 +104,7 @@ module _ {S G : Type 0} (U : Upper S G) where
   puts_one handle piece rest now link first writable =
       let short = subst (AllByRecursion FitsPacket) first writable.pieces in
       let packet = piece_goes handle piece (writable.low handle link) short.0 in
-      goes_out (Puts handle piece) (piece_packet handle piece) now (record now { line = with_piece handle piece rest now.line }) packet refl refl tt
+      goes_out (Puts handle piece) (piece_packet handle piece) now (record now { line = with_piece handle piece rest now.line }) packet refl refl tt tt
       (record { link = link; rest = rest; first = first; packet = packet; upper_is = refl; line_is = refl })
       refl
       (record { long = writable.long; off = λ none. let never : None ≡ Some handle = sym none ∙ link in absurd cc; low = writable.low; size = writable.size; pieces = short.1; commands = writable.commands })
@@ -135,7 +143,7 @@ module _ {S G : Type 0} (U : Upper S G) where
 
   says_one : SaysInOctets U → (pdu : List ℕ) (after : S) (now : Lined S) → IsFree now.line → U.next now.upper ≡ Some (pdu, after) → IsWritable now.line → GoesBy U [] [] now (record { line = with_pdu pdu now.line; upper = after })
   says_one octets pdu after now free next writable =
-      goes_aside (Says pdu) now (record { line = with_pdu pdu now.line; upper = after }) refl refl tt
+      goes_aside (Says pdu) now (record { line = with_pdu pdu now.line; upper = after }) refl refl tt tt
       (record { handle = free.handle; link = free.link; none_waits = free.pieces; next_is = next; line_is = refl })
       refl
       (record {
@@ -158,7 +166,7 @@ module _ {S G : Type 0} (U : Upper S G) where
 
   waits_more : (command : HostCommand) (ending : Bool) (now : Lined S) → CanGo command → IsWritable now.line → GoesBy U [] [] now (record now { line = record now.line { commands = with_command command now.line.commands; ending = ending } })
   waits_more command ending now go writable =
-      goes_aside Waits now (record now { line = record now.line { commands = with_command command now.line.commands; ending = ending } }) refl refl tt (record { upper_is = refl; line_is = refl }) refl
+      goes_aside Waits now (record now { line = record now.line { commands = with_command command now.line.commands; ending = ending } }) refl refl tt tt (record { upper_is = refl; line_is = refl }) refl
       (record { long = writable.long; off = writable.off; low = writable.low; size = writable.size; pieces = writable.pieces; commands = flow_more now.line.commands command writable.commands go })
 
   ends_by : (link : Option ℕ) (now : Lined S) → now.line.link ≡ link → IsWritable now.line → GoesBy U [] [] now (record now { line = leaving link now.line })
@@ -186,7 +194,7 @@ module _ {S G : Type 0} (U : Upper S G) where
   commands_by true None now is writable = goes_none now writable
   commands_by true (Some command) now is writable =
       let go = first_goes (is_none now.line.commands.awaited && nat_lt 0 now.line.commands.number) now.line.commands.waiting command is writable.commands in
-      goes_out (Commands command) (command_packet command) now (record now { line = with_next (Some command) now.line }) go.packet refl refl tt
+      goes_out (Commands command) (command_packet command) now (record now { line = with_next (Some command) now.line }) go.packet refl refl tt tt
       (record { first = is; whole = go.whole; packet = go.packet; upper_is = refl; line_is = refl })
       refl
       (record { long = writable.long; off = writable.off; low = writable.low; size = writable.size; pieces = writable.pieces; commands = all_behind now.line.commands.waiting writable.commands })
@@ -200,6 +208,7 @@ module _ {S G : Type 0} (U : Upper S G) where
         occasions = Comes gifts unit ∷ [];
         runs = (after_unit U gifts unit now, turn, (none, refl), refl);
         given = refl;
+        untimed = (tt, tt);
         went = [];
         each = tt;
         units_are = refl;

@@ -1,5 +1,6 @@
 -- Both hosts live through what their units say.
-use Rattle.std.proofs.Common.{List, [], ◌∷◌, map, Option}
+use Rattle.std.proofs.Common.{false, List, [], ◌∷◌, map, Option}
+use Rattle.capture.specs.Entries.{Entry}
 use Rattle.std.specs.List.{AllByRecursion}
 use Rattle.bt_base.specs.declared.settings.Settings.{Settings}
 use Rattle.bt_base.specs.Objects.{Contents}
@@ -19,6 +20,7 @@ use Rattle.host_model.proofs.Orderly.{says_frames}
 use Rattle.host_laws.specs.Acts.{Act, Acting}
 use Rattle.host_laws.specs.Calls.{Asks}
 use Rattle.host_laws.specs.Free.{HoldsBackNothing}
+use Rattle.host_laws.specs.OverLinks.{AreGentleUp}
 use Rattle.host_laws.specs.Read.{IsActSo, IsSoberPdu}
 use Rattle.host_laws.specs.Seen.{IsOneCommand, FiresPlainly}
 use Rattle.host_laws.proofs.Fitting.{IsProper, KeepsFit, AnyServer, IsLowClient}
@@ -44,14 +46,19 @@ tame_links [] all = tt
 tame_links (link ∷ list) all = (tame_pdus (pdus link) all.0, tame_links list all.1)
 
 module _ {P : Type 0} (A : Profile P) (Q R : P → Type 0) (keeps : KeepsFit A IsSoberPdu (IsProper A.policy) Q) (away : Keeps A R) (back : HoldsBackNothing A) (fires : (acts : List (Act Circumstance)) (now : Host P) → AllByRecursion (IsActSo IsOneCommand) acts → Acting (upper A) acts (first_host A) now → FiresPlainly A.policy now.channels) where
+  -- nothing waits where it hears something
+  gently : (side : Side) (capture : List Entry) (now : Host P) → HaveCommands side capture → (came : CameOver A side capture now) → AreGentleUp A false came.over.acts (first_host A)
+  gently side capture now have came =
+      let tame = tame_links (links side capture) have in
+      let free = always-free A back fires came.over.acts (all_one came.over.acts (heard_tame A side capture now came tame)) in
+      comes_gently A Q R keeps away side capture now tame came free
+
   lived : (asks : Asks A) (side : Side) (role : Role) (occasions : List (Occasion Circumstance)) (now : Lined (Host P)) → Did A role occasions now → HaveCommands side (lone_capture side (units occasions)) → LivesBy A asks side (lone_capture side (units occasions)) now.upper
   lived asks side role occasions now did have =
       let capture = lone_capture side (units occasions) in
       let talks = units_are_talk (upper A) side role occasions now (says_frames A) did in
       let came : CameOver A side capture now.upper = record { talk = talks.talk; over = talks.over; fall = talks.fall; last = talks.up } in
-      let tame = tame_links (links side capture) have in
-      let free = always-free A back fires came.over.acts (all_one came.over.acts (heard_tame A side capture now.upper came tame)) in
-      record { came = came; so = hosts_talk_over_links A asks came.talk now.upper came.over (comes_gently A Q R keeps away side capture now.upper tame came free) }
+      record { came = came; so = hosts_talk_over_links A asks came.talk now.upper came.over (gently side capture now.upper have came) }
 
 pub clients_lived : (settings : Settings) (asks : Asks (client_profile settings)) (occasions : List (Occasion Circumstance)) (now : Lined (Host ClientProfile)) → Did (client_profile settings) Client occasions now → HaveCommands sides.A (lone_capture sides.A (units occasions))
     → LivesBy (client_profile settings) asks sides.A (lone_capture sides.A (units occasions)) now.upper
@@ -62,6 +69,12 @@ pub servers_lived : (settings : Settings) (content : Option Contents) (asks : As
     → LivesBy (server_profile settings content) asks sides.B (lone_capture sides.B (units occasions)) now.upper
 servers_lived settings content asks occasions now did have =
     lived (server_profile settings content) AnyServer KnowsNone (server-keeps settings content) (servers_keep settings content) (hosts_hold_back_nothing.servers settings content) (λ acts host heard acting. servers_fire_plainly settings content acts host heard acting) asks sides.B Server occasions now did have
+
+pub servers-gently : (settings : Settings) (content : Option Contents) (capture : List Entry) (now : Host ServerProfile) → HaveCommands sides.B capture → (came : CameOver (server_profile settings content) sides.B capture now)
+    → AreGentleUp (server_profile settings content) false came.over.acts (first_host (server_profile settings content))
+servers-gently settings content capture now have came =
+    gently (server_profile settings content) AnyServer KnowsNone (server-keeps settings content) (servers_keep settings content) (hosts_hold_back_nothing.servers settings content)
+    (λ acts host heard acting. servers_fire_plainly settings content acts host heard acting) sides.B capture now have came
 
 pub hosts_live_by_units : HostsLiveByUnits
 hosts_live_by_units = record {

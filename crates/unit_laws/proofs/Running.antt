@@ -51,7 +51,7 @@ use Rattle.scenario_laws.proofs.Acting.{Anyhow, Acted, IsAside, IsNewsSo, first_
 use Rattle.scenario_laws.proofs.Coming.{captured_links, up_last}
 use Rattle.scenario_laws.proofs.Parting.{all_links, all_fall, past_from, now_from, parts_are, now_more, unsent_aside, unsent_pdus}
 use Rattle.unit_laws.specs.Units.{Lined, Occasion, Comes, Learns, Says, Puts, Commands, Waits, units_of, units, lone_capture, hears_line, IsOwnNews, SaysNext, PutsPiece, PutsCommand, OnlyWaits, Happens, Runs, Whatever, starting, HasSaidAll, IsToldInTurn, ComesInTurn}
-use Rattle.unit_laws.specs.Laws.{LinesAreRead, UnitsAreTalk}
+use Rattle.unit_laws.specs.Laws.{LinesAreRead, IsUntimed, IsUnfired, FiresNone, UnitsAreTalk}
 use Rattle.unit_laws.proofs.Shown.{shown, begun_on, OnUp, always_up, Completes, completes_none, completes_one, goes_on, begun_stays, begun_more}
 use Rattle.unit_laws.proofs.Hearing.{ShownBy, heard_shown}
 use Rattle.unit_laws.proofs.Lining.{IsFit, LineAs, heard_line}
@@ -169,20 +169,22 @@ lines_are_read U role occasions now runs = (run_lines U Whatever [] occasions (s
 -- ---- what it was told and said
 
 -- by its units; what it said and has not put out waits in pieces
-pub record TalksAt {S G : Type 0} (U : Upper S G) (past : List Move) (now : Lined S) : Type 0 where
+pub record TalksAt {S G : Type 0} (U : Upper S G) (F : Type 0) (past : List Move) (now : Lined S) : Type 0 where
   pub line : LineAt past now.line
   pub waiting : List (List ℕ)
   pub talk : List Talk
   pub acted : Acted U (is_some now.line.link) now.upper waiting talk
   pub known : linkage talk ≡ shown (linking past)
   pub under_way : completions (pdu_limit Out) (begun_on (linking past).up) now.line.pieces ≡ waiting
+  -- where no timer fired, none is told
+  pub unfired : F → AllByRecursion IsUnfired talk
 
 -- where no piece waits, nothing does
 none_waits : (begun : List ℕ) (pieces : List Piece) (waiting : List (List ℕ)) → pieces ≡ [] → completions (pdu_limit Out) begun pieces ≡ waiting → waiting ≡ []
 none_waits begun pieces waiting none is = sym is ∙ ap (completions (pdu_limit Out) begun) none
 
-quiet_acted : {S G : Type 0} (U : Upper S G) (past : List Move) (now : Lined S) (at : TalksAt U past now) → now.line.pieces ≡ [] → Acted U (is_some now.line.link) now.upper [] at.talk
-quiet_acted U past now at none = subst (λ (w : List (List ℕ)). Acted U (is_some now.line.link) now.upper w at.talk) (none_waits (begun_on (linking past).up) now.line.pieces at.waiting none at.under_way) at.acted
+quiet_acted : {S G : Type 0} (U : Upper S G) (F : Type 0) (past : List Move) (now : Lined S) (at : TalksAt U F past now) → now.line.pieces ≡ [] → Acted U (is_some now.line.link) now.upper [] at.talk
+quiet_acted U F past now at none = subst (λ (w : List (List ℕ)). Acted U (is_some now.line.link) now.upper w at.talk) (none_waits (begun_on (linking past).up) now.line.pieces at.waiting none at.under_way) at.acted
 
 so_anyhow : {S : Type 0} (news : News) (now : S) → IsNewsSo Anyhow news now
 so_anyhow (Linked event) now = tt
@@ -192,6 +194,18 @@ so_anyhow TimerFired now = tt
 so_anyhow Cancelled now = tt
 so_anyhow (Opening name) now = tt
 
+-- talk in which no timer fired
+both_unfired : (one two : List Talk) → AllByRecursion IsUnfired one → AllByRecursion IsUnfired two → AllByRecursion IsUnfired (one ++ two)
+both_unfired [] two first second = second
+both_unfired (told ∷ one) two first second = (first.0, both_unfired one two first.1 second)
+
+none_sent : (waiting : List (List ℕ)) → AllByRecursion IsUnfired (map Unsent waiting)
+none_sent [] = tt
+none_sent (pdu ∷ waiting) = (tt, none_sent waiting)
+
+untimed_told : (news : News) → IsUntimed news → IsUnfired (Told news)
+untimed_told news untimed = untimed
+
 abbrev act_of : {G : Type 0} → List G → News → Act G
 act_of gifts news = Hears gifts news
 
@@ -199,26 +213,27 @@ act_of gifts news = Hears gifts news
 nothing_begun : (begun : List ℕ) (pieces : List Piece) → pieces ≡ [] → completions (pdu_limit Out) begun pieces ≡ []
 nothing_begun begun pieces none = ap (completions (pdu_limit Out) begun) none
 
-module _ {S G : Type 0} (U : Upper S G) where
+module _ {S G : Type 0} (U : Upper S G) (F : Type 0) where
   -- it hears something but of its link, where no piece waits
-  hears_at : (past past' : List Move) (line : Line) (gifts : List G) (news : News) (old : Lined S) → TalksAt U past old → LineAt past' line → line.link ≡ old.line.link → line.pieces ≡ old.line.pieces → old.line.pieces ≡ []
-      → IsAside news → IsTimely (is_some old.line.link) (act_of gifts news) → (is_some old.line.link ≡ true → IsHeardInQuiet U news old.upper)
+  hears_at : (past past' : List Move) (line : Line) (gifts : List G) (news : News) (old : Lined S) → TalksAt U F past old → LineAt past' line → line.link ≡ old.line.link → line.pieces ≡ old.line.pieces → old.line.pieces ≡ []
+      → IsAside news → (F → IsUntimed news) → IsTimely (is_some old.line.link) (act_of gifts news) → (is_some old.line.link ≡ true → IsHeardInQuiet U news old.upper)
       → linkage_after (shown (linking past)) (Told news) ≡ shown (linking past')
-      → TalksAt U past' (record old { line = line; upper = U.hear gifts news old.upper })
-  hears_at past past' line gifts news old at line_at link pieces none aside timely quiet adds = record {
+      → TalksAt U F past' (record old { line = line; upper = U.hear gifts news old.upper })
+  hears_at past past' line gifts news old at line_at link pieces none aside untimed timely quiet adds = record {
     line = line_at;
     waiting = [];
     talk = at.talk ++ Told news ∷ [];
     acted = subst (λ (l : Option ℕ). Acted U (is_some l) (U.hear gifts news old.upper) [] (at.talk ++ Told news ∷ [])) (sym link)
-        (hears_acted U Anyhow (is_some old.line.link) gifts news old.upper at.talk aside timely quiet (λ on. so_anyhow news old.upper) (quiet_acted U past old at none));
+        (hears_acted U Anyhow (is_some old.line.link) gifts news old.upper at.talk aside timely quiet (λ on. so_anyhow news old.upper) (quiet_acted U F past old at none));
     known = linkage_one at.talk (Told news) ∙ (ap (λ (l : Linkage). linkage_after l (Told news)) at.known ∙ adds);
     under_way = nothing_begun (begun_on (linking past').up) line.pieces (pieces ∙ none);
+    unfired = λ still. both_unfired at.talk (Told news ∷ []) (at.unfired still) (untimed_told news (untimed still), tt);
   }
 
   -- its link comes up or goes down
-  turns_at : (past past' : List Move) (line : Line) (gifts : List G) (event : LinkEvent) (old : Lined S) → TalksAt U past old → LineAt past' line → is_some line.link ≡ linked_by event → line.pieces ≡ []
+  turns_at : (past past' : List Move) (line : Line) (gifts : List G) (event : LinkEvent) (old : Lined S) → TalksAt U F past old → LineAt past' line → is_some line.link ≡ linked_by event → line.pieces ≡ []
       → (event ≡ Up → is_some old.line.link ≡ false) → (event ≢ Up → is_some old.line.link ≡ true) → linkage_after (shown (linking past)) (Told (Linked event)) ≡ shown (linking past')
-      → TalksAt U past' (record old { line = line; upper = U.hear gifts (Linked event) old.upper })
+      → TalksAt U F past' (record old { line = line; upper = U.hear gifts (Linked event) old.upper })
   turns_at past past' line gifts event old at line_at link none fresh held adds = record {
     line = line_at;
     waiting = [];
@@ -227,11 +242,12 @@ module _ {S G : Type 0} (U : Upper S G) where
         (tells_acted U Anyhow (is_some old.line.link) gifts event old.upper at.waiting at.talk fresh held at.acted);
     known = linkage_ended at.talk at.waiting (Told (Linked event)) ∙ (ap (λ (l : Linkage). linkage_after l (Told (Linked event))) at.known ∙ adds);
     under_way = nothing_begun (begun_on (linking past').up) line.pieces none;
+    unfired = λ still. both_unfired at.talk (map Unsent at.waiting ++ Told (Linked event) ∷ []) (at.unfired still) (both_unfired (map Unsent at.waiting) (Told (Linked event) ∷ []) (none_sent at.waiting) (tt, tt));
   }
 
   -- a unit says nothing
-  silent_at : (past past' : List Move) (line : Line) (old : Lined S) → TalksAt U past old → LineAt past' line → line.link ≡ old.line.link → line.pieces ≡ old.line.pieces → shown (linking past') ≡ shown (linking past)
-      → begun_on (linking past').up ≡ begun_on (linking past).up → TalksAt U past' (record old { line = line })
+  silent_at : (past past' : List Move) (line : Line) (old : Lined S) → TalksAt U F past old → LineAt past' line → line.link ≡ old.line.link → line.pieces ≡ old.line.pieces → shown (linking past') ≡ shown (linking past)
+      → begun_on (linking past').up ≡ begun_on (linking past).up → TalksAt U F past' (record old { line = line })
   silent_at past past' line old at line_at link pieces adds begun = record {
     line = line_at;
     waiting = at.waiting;
@@ -239,42 +255,43 @@ module _ {S G : Type 0} (U : Upper S G) where
     acted = subst (λ (l : Option ℕ). Acted U (is_some l) old.upper at.waiting at.talk) (sym link) at.acted;
     known = at.known ∙ sym adds;
     under_way = ap₂ (λ (b : List ℕ) (ps : List Piece). completions (pdu_limit Out) b ps) begun pieces ∙ at.under_way;
+    unfired = at.unfired;
   }
 
-  comes_by : (news : PlainNews) (past past' : List Move) (line : Line) (gifts : List G) (old : Lined S) → ShownBy news (linking past) (linking past') → LineAs news old.line line → LineAt past' line → IsToldInTurn U old news → TalksAt U past old
-      → TalksAt U past' (record old { line = line; upper = hears_line U gifts news old.upper })
+  comes_by : (news : PlainNews) (past past' : List Move) (line : Line) (gifts : List G) (old : Lined S) → ShownBy news (linking past) (linking past') → LineAs news old.line line → LineAt past' line → IsToldInTurn U old news → TalksAt U F past old
+      → TalksAt U F past' (record old { line = line; upper = hears_line U gifts news old.upper })
   comes_by Nothing past past' line gifts old by shape line_at turn at = silent_at past past' line old at line_at shape.link.link shape.link.pieces by.adds (by.begun tt)
   comes_by LinkUp past past' line gifts old by shape line_at turn at =
       turns_at past past' line gifts Up old at line_at (ap is_some shape.link.link) (shape.link.pieces ∙ at.line.fit.off shape.link.off) (λ up. ap is_some shape.link.off) (λ not. absurd (not refl)) (sym by.adds)
   comes_by (LinkFailed status) past past' line gifts old by shape line_at turn at =
-      hears_at past past' line gifts (Failed status) old at line_at shape.link.link shape.link.pieces turn.pieces tt tt (λ on. tt) (sym by.adds)
+      hears_at past past' line gifts (Failed status) old at line_at shape.link.link shape.link.pieces turn.pieces tt (λ still. tt) tt (λ on. tt) (sym by.adds)
   comes_by (LinkDown reason) past past' line gifts old by shape line_at turn at =
       turns_at past past' line gifts (Down reason) old at line_at (ap is_some shape.link.link) shape.link.pieces (λ up. cc) (λ not. ap is_some shape.link.on) (sym by.adds)
   comes_by (Pdu channel octets) past past' line gifts old by shape line_at turn at =
-      hears_at past past' line gifts (Heard octets) old at line_at shape.link.stays.link shape.link.stays.pieces turn.pieces tt (ap is_some shape.link.on) (λ on. turn.none_next) (sym by.adds)
+      hears_at past past' line gifts (Heard octets) old at line_at shape.link.stays.link shape.link.stays.pieces turn.pieces tt (λ still. tt) (ap is_some shape.link.on) (λ on. turn.none_next) (sym by.adds)
 
-  comes_talk : (past : List Move) (gifts : List G) (unit : Packet) (old new : Lined S) → ComesInTurn U (Comes gifts unit) old → Happens U (Comes gifts unit) old new → TalksAt U past old → TalksAt U (past ++ into unit ∷ []) new
+  comes_talk : (past : List Move) (gifts : List G) (unit : Packet) (old new : Lined S) → ComesInTurn U (Comes gifts unit) old → Happens U (Comes gifts unit) old new → TalksAt U F past old → TalksAt U F (past ++ into unit ∷ []) new
   comes_talk past gifts unit old new turn happens at =
       let line_at = comes_line U past gifts unit old new happens at.line in
-      subst (λ (s : Lined S). TalksAt U (past ++ into unit ∷ []) s) (sym happens.1)
+      subst (λ (s : Lined S). TalksAt U F (past ++ into unit ∷ []) s) (sym happens.1)
       (comes_by (news_of unit old.line) past (past ++ into unit ∷ []) (heard unit old.line) gifts old (heard_shown past old.line unit at.line.stands) (heard_line unit old.line happens.0 at.line.fit)
       (subst (λ (s : Lined S). LineAt (past ++ into unit ∷ []) s.line) happens.1 line_at) turn at)
 
-  learns_by : (past : List Move) (gifts : List G) (news : News) (old : Lined S) → IsOwnNews news → HasSaidAll U old → TalksAt U past old → TalksAt U past (record old { upper = U.hear gifts news old.upper })
-  learns_by past gifts (Linked event) old own turn at = absurd own
-  learns_by past gifts (Failed status) old own turn at = absurd own
-  learns_by past gifts (Heard pdu) old own turn at = absurd own
-  learns_by past gifts TimerFired old own turn at = hears_at past past old.line gifts TimerFired old at at.line refl refl turn.pieces tt tt (λ on. turn.none_next) refl
-  learns_by past gifts Cancelled old own turn at = hears_at past past old.line gifts Cancelled old at at.line refl refl turn.pieces tt tt (λ on. tt) refl
-  learns_by past gifts (Opening name) old own turn at = hears_at past past old.line gifts (Opening name) old at at.line refl refl turn.pieces tt tt (λ on. tt) refl
+  learns_by : (past : List Move) (gifts : List G) (news : News) (old : Lined S) → IsOwnNews news → (F → IsUntimed news) → HasSaidAll U old → TalksAt U F past old → TalksAt U F past (record old { upper = U.hear gifts news old.upper })
+  learns_by past gifts (Linked event) old own untimed turn at = absurd own
+  learns_by past gifts (Failed status) old own untimed turn at = absurd own
+  learns_by past gifts (Heard pdu) old own untimed turn at = absurd own
+  learns_by past gifts TimerFired old own untimed turn at = hears_at past past old.line gifts TimerFired old at at.line refl refl turn.pieces tt untimed tt (λ on. turn.none_next) refl
+  learns_by past gifts Cancelled old own untimed turn at = hears_at past past old.line gifts Cancelled old at at.line refl refl turn.pieces tt untimed tt (λ on. tt) refl
+  learns_by past gifts (Opening name) old own untimed turn at = hears_at past past old.line gifts (Opening name) old at at.line refl refl turn.pieces tt untimed tt (λ on. tt) refl
 
   -- ---- it goes on by itself
 
-  says_talk : SaysFrames U → (past : List Move) (pdu : List ℕ) (old new : Lined S) → SaysNext U pdu old new → TalksAt U past old → TalksAt U past new
+  says_talk : SaysFrames U → (past : List Move) (pdu : List ℕ) (old new : Lined S) → SaysNext U pdu old new → TalksAt U F past old → TalksAt U F past new
   says_talk frames past pdu old new says at =
       let frame = frames old.upper pdu new.upper says.next_is in
       let on : is_some old.line.link ≡ true = ap is_some says.link in
-      let acted = says_acted U Anyhow old.upper new.upper pdu [] at.talk says.next_is (subst (λ (b : Bool). Acted U b old.upper [] at.talk) on (quiet_acted U past old at says.none_waits)) in
+      let acted = says_acted U Anyhow old.upper new.upper pdu [] at.talk says.next_is (subst (λ (b : Bool). Acted U b old.upper [] at.talk) on (quiet_acted U F past old at says.none_waits)) in
       let linked : is_some new.line.link ≡ true = ap (λ (l : Line). is_some l.link) says.line_is ∙ on in
       record {
         line = says_line U past pdu old new says at.line;
@@ -284,6 +301,7 @@ module _ {S G : Type 0} (U : Upper S G) where
         known = at.known;
         under_way = ap (λ (l : Line). completions (pdu_limit Out) (begun_on (linking past).up) l.pieces) says.line_is
             ∙ (cut_comes (pdu_limit Out) old.line.size First (begun_on (linking past).up) pdu at.line.fit.long refl frame.pdu (omega (arith, frame.short))).completes;
+        unfired = at.unfired;
       }
 
   -- the word of a piece's packet
@@ -317,8 +335,8 @@ module _ {S G : Type 0} (U : Upper S G) where
 
   -- its PDU moves with its last piece
   moves_by : (past past' : List Move) (new : Lined S) (judged : Answer) (left : List (List ℕ)) (waiting : List (List ℕ)) (talk : List Talk) → LineAt past' new.line → Acted U (is_some new.line.link) new.upper waiting talk → is_some new.line.link ≡ true → linkage talk ≡ shown (linking past)
-      → whole_in judged ++ left ≡ waiting → shown (linking past') ≡ with_moved Out (whole_in judged) (shown (linking past)) → completions (pdu_limit Out) (begun_on (linking past').up) new.line.pieces ≡ left → TalksAt U past' new
-  moves_by past past' new (Whole channel octets) left waiting talk line acted on known is adds under = record {
+      → whole_in judged ++ left ≡ waiting → shown (linking past') ≡ with_moved Out (whole_in judged) (shown (linking past)) → completions (pdu_limit Out) (begun_on (linking past').up) new.line.pieces ≡ left → (F → AllByRecursion IsUnfired talk) → TalksAt U F past' new
+  moves_by past past' new (Whole channel octets) left waiting talk line acted on known is adds under unfired = record {
     line = line;
     waiting = left;
     talk = talk ++ Said octets ∷ [];
@@ -326,25 +344,28 @@ module _ {S G : Type 0} (U : Upper S G) where
         (moves_acted U Anyhow new.upper octets left talk (subst (λ (b : Bool). Acted U b new.upper (octets ∷ left) talk) on (subst (λ (w : List (List ℕ)). Acted U (is_some new.line.link) new.upper w talk) (sym is) acted)));
     known = linkage_one talk (Said octets) ∙ (ap (λ (l : Linkage). linkage_after l (Said octets)) known ∙ sym adds);
     under_way = under;
+    unfired = λ still. both_unfired talk (Said octets ∷ []) (unfired still) (tt, tt);
   }
-  moves_by past past' new More left waiting talk line acted on known is adds under = record {
+  moves_by past past' new More left waiting talk line acted on known is adds under unfired = record {
     line = line;
     waiting = left;
     talk = talk;
     acted = subst (λ (w : List (List ℕ)). Acted U (is_some new.line.link) new.upper w talk) (sym is) acted;
     known = known ∙ sym (adds ∙ moved_none Out (shown (linking past)));
     under_way = under;
+    unfired = unfired;
   }
-  moves_by past past' new (Dropped reason) left waiting talk line acted on known is adds under = record {
+  moves_by past past' new (Dropped reason) left waiting talk line acted on known is adds under unfired = record {
     line = line;
     waiting = left;
     talk = talk;
     acted = subst (λ (w : List (List ℕ)). Acted U (is_some new.line.link) new.upper w talk) (sym is) acted;
     known = known ∙ sym (adds ∙ moved_none Out (shown (linking past)));
     under_way = under;
+    unfired = unfired;
   }
 
-  puts_talk : (past : List Move) (handle : ℕ) (piece : Piece) (old new : Lined S) → PutsPiece handle piece old new → TalksAt U past old → TalksAt U (past ++ out_of (piece_packet handle piece) ∷ []) new
+  puts_talk : (past : List Move) (handle : ℕ) (piece : Piece) (old new : Lined S) → PutsPiece handle piece old new → TalksAt U F past old → TalksAt U F (past ++ out_of (piece_packet handle piece) ∷ []) new
   puts_talk past handle piece old new puts at =
       let past' = past ++ out_of (piece_packet handle piece) ∷ [] in
       let begun = begun_on (linking past).up in
@@ -355,10 +376,10 @@ module _ {S G : Type 0} (U : Upper S G) where
       moves_by past past' new judged left at.waiting at.talk (puts_line past handle piece old new puts at.line)
       (subst (λ (h : S). Acted U (is_some new.line.link) h at.waiting at.talk) (sym puts.upper_is) (subst (λ (l : Option ℕ). Acted U (is_some l) old.upper at.waiting at.talk) (sym link) at.acted))
       (ap is_some (link ∙ puts.link)) at.known (sym (ap (completions (pdu_limit Out) begun) puts.first) ∙ at.under_way) by.adds
-      (ap₂ (λ (b : List ℕ) (ps : List Piece). completions (pdu_limit Out) b ps) by.begun (ap (λ (l : Line). l.pieces) puts.line_is))
+      (ap₂ (λ (b : List ℕ) (ps : List Piece). completions (pdu_limit Out) b ps) by.begun (ap (λ (l : Line). l.pieces) puts.line_is)) at.unfired
 
   -- what stands above stays as it was
-  same_upper : (list : List Move) (old new : Lined S) → new.upper ≡ old.upper → TalksAt U list (record old { line = new.line }) → TalksAt U list new
+  same_upper : (list : List Move) (old new : Lined S) → new.upper ≡ old.upper → TalksAt U F list (record old { line = new.line }) → TalksAt U F list new
   same_upper list old new is at = record {
     line = at.line;
     waiting = at.waiting;
@@ -366,6 +387,7 @@ module _ {S G : Type 0} (U : Upper S G) where
     acted = subst (λ (h : S). Acted U (is_some new.line.link) h at.waiting at.talk) (sym is) at.acted;
     known = at.known;
     under_way = at.under_way;
+    unfired = at.unfired;
   }
 
   -- a command says nothing
@@ -373,7 +395,7 @@ module _ {S G : Type 0} (U : Upper S G) where
   either_news true move known = (refl, refl)
   either_news false move known = (refl, refl)
 
-  commands_talk : (past : List Move) (command : HostCommand) (old new : Lined S) → PutsCommand command old new → TalksAt U past old → TalksAt U (past ++ out_of (command_packet command) ∷ []) new
+  commands_talk : (past : List Move) (command : HostCommand) (old new : Lined S) → PutsCommand command old new → TalksAt U F past old → TalksAt U F (past ++ out_of (command_packet command) ∷ []) new
   commands_talk past command old new puts at =
       let move = out_of (command_packet command) in
       let known = linking past in
@@ -384,34 +406,34 @@ module _ {S G : Type 0} (U : Upper S G) where
       let begun : begun_on (linking (past ++ move ∷ [])).up ≡ begun_on known.up = ap (λ (k : Linking). begun_on k.up) next ∙ (news.1 ∙ begun_stays known.up move (λ handle. refl)) in
       same_upper (past ++ move ∷ []) old new puts.upper_is (silent_at past (past ++ move ∷ []) new.line old at (commands_line past command old new puts at.line) (ap (λ (l : Line). l.link) puts.line_is) (ap (λ (l : Line). l.pieces) puts.line_is) adds begun)
 
-  waits_talk : (past : List Move) (old new : Lined S) → OnlyWaits old new → TalksAt U past old → TalksAt U past new
+  waits_talk : (past : List Move) (old new : Lined S) → OnlyWaits old new → TalksAt U F past old → TalksAt U F past new
   waits_talk past old new waits at =
       same_upper past old new waits.upper_is (silent_at past past new.line old at (alike_line past old.line new.line waits.line_is at.line) (ap (λ (l : Line). l.link) waits.line_is) (ap (λ (l : Line). l.pieces) waits.line_is) refl refl)
 
   -- ---- all of it
 
-  still_talk : (past : List Move) (now : Lined S) → TalksAt U past now → TalksAt U (past ++ []) now
-  still_talk past now at = subst (λ (l : List Move). TalksAt U l now) (sym (append-nil past)) at
+  still_talk : (past : List Move) (now : Lined S) → TalksAt U F past now → TalksAt U F (past ++ []) now
+  still_talk past now at = subst (λ (l : List Move). TalksAt U F l now) (sym (append-nil past)) at
 
-  happens_talk : SaysFrames U → (past : List Move) (occasion : Occasion G) (old new : Lined S) → ComesInTurn U occasion old → Happens U occasion old new → TalksAt U past old → TalksAt U (past ++ units_of occasion) new
-  happens_talk frames past (Comes gifts unit) old new turn happens at = comes_talk past gifts unit old new turn happens at
-  happens_talk frames past (Learns gifts news) old new turn (own, is) at = still_talk past new (subst (TalksAt U past) (sym is) (learns_by past gifts news old own turn at))
-  happens_talk frames past (Says pdu) old new turn says at = still_talk past new (says_talk frames past pdu old new says at)
-  happens_talk frames past (Puts handle piece) old new turn puts at = puts_talk past handle piece old new puts at
-  happens_talk frames past (Commands command) old new turn puts at = commands_talk past command old new puts at
-  happens_talk frames past Waits old new turn waits at = still_talk past new (waits_talk past old new waits at)
+  happens_talk : SaysFrames U → (past : List Move) (occasion : Occasion G) (old new : Lined S) → (F → FiresNone occasion) → ComesInTurn U occasion old → Happens U occasion old new → TalksAt U F past old → TalksAt U F (past ++ units_of occasion) new
+  happens_talk frames past (Comes gifts unit) old new untimed turn happens at = comes_talk past gifts unit old new turn happens at
+  happens_talk frames past (Learns gifts news) old new untimed turn (own, is) at = still_talk past new (subst (TalksAt U F past) (sym is) (learns_by past gifts news old own untimed turn at))
+  happens_talk frames past (Says pdu) old new untimed turn says at = still_talk past new (says_talk frames past pdu old new says at)
+  happens_talk frames past (Puts handle piece) old new untimed turn puts at = puts_talk past handle piece old new puts at
+  happens_talk frames past (Commands command) old new untimed turn puts at = commands_talk past command old new puts at
+  happens_talk frames past Waits old new untimed turn waits at = still_talk past new (waits_talk past old new waits at)
 
-  run_talks : SaysFrames U → (past : List Move) (occasions : List (Occasion G)) (old new : Lined S) → Runs U (ComesInTurn U) occasions old new → TalksAt U past old → TalksAt U (past ++ units occasions) new
-  run_talks frames past [] old new is at = still_talk past new (subst (TalksAt U past) (sym is) at)
-  run_talks frames past (occasion ∷ occasions) old new (mid, turn, happens, rest) at =
-      subst (λ (l : List Move). TalksAt U l new) (append_assoc past (units_of occasion) (units occasions))
-      (run_talks frames (past ++ units_of occasion) occasions mid new rest (happens_talk frames past occasion old mid turn happens at))
+  run_talks : SaysFrames U → (past : List Move) (occasions : List (Occasion G)) (old new : Lined S) → (F → AllByRecursion FiresNone occasions) → Runs U (ComesInTurn U) occasions old new → TalksAt U F past old → TalksAt U F (past ++ units occasions) new
+  run_talks frames past [] old new untimed is at = still_talk past new (subst (TalksAt U F past) (sym is) at)
+  run_talks frames past (occasion ∷ occasions) old new untimed (mid, turn, happens, rest) at =
+      subst (λ (l : List Move). TalksAt U F l new) (append_assoc past (units_of occasion) (units occasions))
+      (run_talks frames (past ++ units_of occasion) occasions mid new (λ still. (untimed still).1) rest (happens_talk frames past occasion old mid (λ still. (untimed still).0) turn happens at))
 
-  pub first_talk : (role : Role) → TalksAt U [] (starting U role)
-  first_talk role = record { line = first_line role; waiting = []; talk = []; acted = first_acted U Anyhow; known = refl; under_way = refl }
+  pub first_talk : (role : Role) → TalksAt U F [] (starting U role)
+  first_talk role = record { line = first_line role; waiting = []; talk = []; acted = first_acted U Anyhow; known = refl; under_way = refl; unfired = λ still. tt }
 
-  pub all_talks : SaysFrames U → (role : Role) (occasions : List (Occasion G)) (now : Lined S) → Runs U (ComesInTurn U) occasions (starting U role) now → TalksAt U (units occasions) now
-  all_talks frames role occasions now runs = run_talks frames [] occasions (starting U role) now runs (first_talk role)
+  pub all_talks : SaysFrames U → (role : Role) (occasions : List (Occasion G)) (now : Lined S) → (F → AllByRecursion FiresNone occasions) → Runs U (ComesInTurn U) occasions (starting U role) now → TalksAt U F (units occasions) now
+  all_talks frames role occasions now untimed runs = run_talks frames [] occasions (starting U role) now untimed runs (first_talk role)
 
 -- ---- as a capture of this host alone
 
@@ -426,7 +448,7 @@ lone_captured side list = ap (λ (l : List Move). shown (linking l)) (sym (lone_
 
 pub units_are_talk : {S G : Type 0} (U : Upper S G) → UnitsAreTalk U
 units_are_talk U side role occasions now frames runs =
-    let at = all_talks U frames role occasions now runs in
+    let at = all_talks U (AllByRecursion FiresNone occasions) frames role occasions now (λ still. still) runs in
     let capture = lone_capture side (units occasions) in
     let gone = at.talk ++ map Unsent at.waiting in
     let known = at.known ∙ lone_captured side (units occasions) in
@@ -438,4 +460,5 @@ units_are_talk U side role occasions now frames runs =
       fall = subst (FallTo (parts gone)) links_are (all_fall (is_some now.line.link) at.talk at.waiting at.acted.down at.acted.parted);
       up = subst (λ (list : List Move). LastIsUp (parts gone) (linking list).up) (sym (lone_moves side (units occasions)))
           (up_last (is_some now.line.link) at.talk at.waiting (linking (units occasions)).up at.acted.parted (ap (λ (l : Linkage). l.up) at.known));
+      unfired = λ still. both_unfired at.talk (map Unsent at.waiting) (at.unfired still) (none_sent at.waiting);
     }

@@ -14,6 +14,7 @@ use Rattle.host_link.specs.Lines.{Line}
 use Rattle.host_link.specs.PuttingOut.{can_take_pdu, take_pdu, put_pieces, put_command, connecting, leaving}
 use Rattle.host_link.specs.Stands.{into, out_of}
 use Rattle.world_model.specs.Machines.{Upper}
+use Rattle.unit_laws.specs.Laws.{FiresNone}
 use Rattle.unit_laws.specs.Units.{Lined, starting, Occasion, Comes, Learns, Says, Puts, Commands, Waits, units, after_unit, Runs, IsToldInTurn, ComesInTurn}
 
 -- ---- what waits can be written
@@ -50,11 +51,12 @@ abbrev pub gifts_in : {G : Type 0} → List (Occasion G) → List (List G)
 gifts_in occasions = flat_map gifts_of occasions
 
 -- From the one to the other, one thing at a time: these units came in, and behind them units went out, whose octets `out` gained. The ports were to
--- answer so.
+-- answer so, and no timer fired.
 pub record GoesBy {S G : Type 0} (U : Upper S G) (gifts : List (List G)) (came : List Packet) (old new : Lined S) : Type 0 where
   pub occasions : List (Occasion G)
   pub runs : Runs U (ComesInTurn U) occasions old new
   pub given : gifts_in occasions ≡ gifts
+  pub untimed : AllByRecursion FiresNone occasions
   pub went : List Packet
   pub each : AllByRecursion (IsPacket 1021) went
   pub units_are : units occasions ≡ map into came ++ map out_of went

@@ -24,22 +24,22 @@ use Rattle.scenario_laws.specs.Parties.{party_of}
 use Rattle.unit_laws.specs.Units.{Lined, Occasion, units, lone_capture}
 use Rattle.unit_laws.specs.Living.{Did, HaveCommands, LivesBy}
 
--- ---- orderly input
+-- ---- what is served
 
--- What comes to a server is orderly. On each link its client asks for one channel that may carry packets, besides that of service discovery; a PDU
+-- A server is served so that nothing is lost, however it came to that. On each link its client asks for one channel that may carry packets, besides that of service discovery; a PDU
 -- on the signalling channel has one command; and however the host came to this and lived through it, no octets close a channel, no packet but one
 -- is ended by what comes in, none comes where an answer waits, and no call of its inbox fails.
-pub record IsOrderlyInput (asks : HostsAsk) (settings : Settings) (before : List Object) (capture : List Entry) (now : Host ServerProfile) : Type 0 where
+pub record IsServedAnyhow (asks : HostsAsk) (settings : Settings) (before : List Object) (capture : List Entry) (now : Host ServerProfile) : Type 0 where
   pub commands : HaveCommands sides.B capture
   pub one_channel : AllByRecursion (AsksForOneObject L2cap) (talks sides.B capture)
   pub serves : ServesAnyhow asks settings before capture now
 
--- On orderly input the inbox of a server gains exactly the objects that the packets spell which its host heard, as its own units have them, in the
+-- Then the inbox of a server gains exactly the objects that the packets spell which its host heard, as its own units have them, in the
 -- order of their last packets, over L2CAP.
 pub record ServersGain : Type 0 where
   pub asks : HostsAsk
   pub gains : (settings : Settings) (before : List Object) (occasions : List (Occasion Circumstance)) (now : Lined (Host ServerProfile)) → settings.transport ≡ L2cap → Did (serving settings before) Server occasions now
-      → IsOrderlyInput asks settings before (lone_capture sides.B (units occasions)) now.upper
+      → IsServedAnyhow asks settings before (lone_capture sides.B (units occasions)) now.upper
       → stored_in now.upper.profile.inbox.content ≡ Some (before ++ objects_heard (party_of settings sides.B) sides.B (lone_capture sides.B (units occasions)))
 
 -- ---- a client

@@ -37,7 +37,7 @@ pub fn channels_are_seen()
     ensures { ChannelsAreSeen }
 {}
 
-/// On orderly input the inbox of a server gains exactly the objects that its own units spell, over L2CAP.
+/// Where nothing that comes to a server is lost, its inbox gains exactly the objects that its own units spell, over L2CAP.
 pub fn servers_gain()
     ensures { ServersGain }
 {}

@@ -45,3 +45,8 @@ pub returns-clause-plays : goal.returns-clause-plays
 returns-clause-plays g c =
     ok_then c.end_of-end.result c.end_of-end.ensures.follows
     (λ ended follows. ok_is _ c.play-played.result ended.played follows.is (rw (c.new-shelf.ensures.shelf, c.new-inbox.ensures.inbox, c.new-trace.ensures.sink) at c.play-played.ensures.plays))
+
+pub returns-clause-faulted : goal.returns-clause-faulted
+returns-clause-faulted g c =
+    ok_then c.end_of-end.result c.end_of-end.ensures.follows
+    (λ ended follows. ok_is _ c.play-played.result ended.played follows.is (rw (c.new-shelf.ensures.shelf) at c.play-played.ensures.faulted))

@@ -18,6 +18,7 @@ use Rattle.scenario_play.specs.Peaks.{NotedMoment, AreNoted}
 use Rattle.scenario_play.proofs.Breaking.{broke, wanting, shelf_left, inbox_left}
 use Rattle.scenario_play.proofs.Plainness.{orderly}
 use Rattle.scenario_play.proofs.Course.{played, shelf_kept}
+use Rattle.scenario_play.proofs.Failing.{shelf_counted}
 use Rattle.scenario_play.proofs.playing.play_in.Goals as goal
 
 pub play_out-requires-clause-orderly : goal.play_out-requires-clause-orderly
@@ -66,6 +67,13 @@ returns-clause-plays g c =
     let noted : AreNoted c.in_ok-outcomes.world.scene.medium last c.peaks_of-peaks.result = record { buffers = c.peaks_of-peaks.ensures.buffers; windows = c.peaks_of-peaks.ensures.windows; credits = c.peaks_of-peaks.ensures.credits } in
     played g.F.Shelf.content g.I.Inbox.content (Answers g.F.Shelf.content g.F.Shelf.faults g.F.Shelf.shortages) g.I.Inbox.faults g.I.Inbox.shortages c.args.scenario.now c.args.world c.in_ok-outcomes.world
     c.args.shelf.now shelf c.args.inbox.now inbox (traced c.args.trace.now) (traced c.play_out.new.trace) c.in_ok-outcomes.outcomes.items c.peaks_of-peaks.result c.requires.fresh c.in_ok-outcomes.ensures.runs c.in_ok-outcomes.ensures.sound.1.0.works c.in_ok-outcomes.ensures.outcomes noted
+
+pub returns-clause-faulted : goal.returns-clause-faulted
+returns-clause-faulted g c =
+    let shelf = g.F.Shelf in
+    let traced = g.T.Sink.content in
+    shelf_counted shelf.content shelf.faults shelf.shortages g.I.Inbox.content g.I.Inbox.faults g.I.Inbox.shortages c.args.scenario.now c.args.world c.in_ok-outcomes.world c.args.shelf.now c.play_out.new.shelf c.args.inbox.now c.play_out.new.inbox
+    (traced c.args.trace.now) (traced c.play_out.new.trace) c.in_ok-outcomes.outcomes.items c.requires.fresh c.in_ok-outcomes.ensures.runs c.in_ok-outcomes.ensures.outcomes
 
 pub returns-clause-each : goal.returns-clause-each
 returns-clause-each g c = c.in_ok-outcomes.ensures.each ∙ ap (λ (w : Both (Shelled (Noted ClientProfile)) (Shelled (Noted Served))). length w.scene.pushes.names) c.requires.fresh

@@ -1,0 +1,343 @@
+-- On the link that is up where a run is at rest: host a heard what brought the outcome of its push about, where an SDU does so.
+use Rattle.std.proofs.Common.{◌≡◌, ℕ, Bool, true, false, eqb, List, [], ◌∷◌, ◌++◌, map, fold, Option, Some, None, refl, sym, ap, subst, ◌∙◌, ◌⊎◌, inl, inr, append_assoc, append-nil, if◌then◌else◌}
+use Rattle.std.specs.Prelude.{drop, is_some}
+use Rattle.std.specs.List.{AllByRecursion, AllZip, filter_map, flat_map}
+use Rattle.std.proofs.lemmas.List.Concat.{flat_map-append}
+use Rattle.std.proofs.lemmas.List.Sums.{fold-append}
+use Rattle.bt_base.specs.Objects.{Contents}
+use Rattle.bt_base.specs.declared.settings.Settings.{Settings}
+use Rattle.acl_fragments.specs.Pieces.{channel_of}
+use Rattle.push_script.specs.declared.scenario.Scenario.{Scenario}
+use Rattle.push_terms.specs.declared.outcome.Outcome.{Outcome}
+use Rattle.push_terms.specs.declared.word.Side.TheVariants as sides
+use Rattle.capture.specs.declared.flow.Flow.TheVariants.{Out, Into}
+use Rattle.capture.specs.Links.{Link, link_up}
+use Rattle.capture.specs.Pdus.{Pdu, pdus}
+use Rattle.l2cap_signal.specs.Reading.{Answer, answers}
+use Rattle.link_talk.specs.Sayings.{Saying, Command, Carried, said_by, talk}
+use Rattle.channel_model.specs.Calls.{link_down}
+use Rattle.channel_model.specs.Carrying.{takes}
+use Rattle.channel_model.specs.Policies.{Policy, policy}
+use Rattle.channel_model.specs.Value.{Channels, no_channels}
+use Rattle.channel_laws.specs.OwnTalk.{asked_between}
+use Rattle.channel_laws.specs.Runs.{Occurrence, Comes, Connects, AsksFeatures, Disconnects, Sends, Gives, Fires, Tells, said_in, Run, new_link, run_on, run_of}
+use Rattle.push_model.specs.declared.course.Point.TheVariants.{Due, Asked}
+use Rattle.push_model.specs.declared.course.Stage.{Stage}
+use Rattle.push_model.specs.declared.course.Stage.TheVariants.{Rest, Link as Paged, SearchChannel, Search, SearchEnd, Features, ObjectChannel, Object, ObjectEnd, LinkEnd, Over}
+use Rattle.push_model.specs.Client.{Client}
+use Rattle.push_model.specs.Events.{is_linked, linked_at}
+use Rattle.world_model.specs.Machines.{LinkEvent, Up, Down, Linked}
+use Rattle.world_model.specs.Talks.{Talk}
+use Rattle.world_model.specs.Worlds.{Happening, IsAtRest, all_entries}
+use Rattle.host_model.specs.Circumstances.{Circumstance}
+use Rattle.host_model.specs.Clients as clients
+use Rattle.host_model.specs.Clients.{ClientProfile, client_profile}
+use Rattle.host_model.specs.Hosts.{tells_each}
+use Rattle.host_model.specs.Profiles.{Profile}
+use Rattle.host_laws.specs.Calls.{Asks, values_after, outer}
+use Rattle.host_laws.specs.Fed.{WovenFed, FedSpan, behind_span, AreFed}
+use Rattle.host_laws.specs.Feeds.{Feed}
+use Rattle.host_laws.specs.Leaving.{is_off}
+use Rattle.host_laws.specs.Lives.{Mark, Occurred, Turned, Span, marks_on, span_marks, all_marks}
+use Rattle.host_laws.specs.OverLinks.{parts, AreTimely, GoesOut, IsTalkOf}
+use Rattle.host_laws.specs.Seen.{spoken_of}
+use Rattle.host_laws.specs.Woven.{Strand, IsOnLink, turned, strand_list, strand_profile, woven_profile}
+use Rattle.host_laws.proofs.Asking.{hosts_ask}
+use Rattle.host_laws.proofs.KeepingClients.{clients_keep_on}
+use Rattle.host_laws.proofs.OverLinks.{hosts_talk_fed}
+use Rattle.scenario_laws.specs.Captures.{client_of, server_of, BothHosts, Happened, Ran}
+use Rattle.scenario_laws.specs.Coming.{out_of, LastHas, LastIsUp}
+use Rattle.scenario_laws.specs.Gentle.{CameGently}
+use Rattle.scenario_laws.specs.Parties.{party_of}
+use Rattle.scenario_laws.proofs.Free.{free_runs_are_gentle}
+use Rattle.scenario_laws.proofs.Onward.{pushes_go_onward}
+use Rattle.scenario_laws.proofs.UnlinkedClients.{clients_keep}
+use Rattle.scenario_laws.proofs.Wishes.{states_frame}
+use Rattle.cause_laws.specs.Said.{Brings, HearsOf}
+use Rattle.cause_laws.proofs.Hearings.{is_read_up, said_then}
+use Rattle.cause_laws.proofs.Off.{IsOff, strand_off}
+use Rattle.cause_laws.proofs.Weaves.{is_said, CameIn, HasCame, Knows, weave_knows}
+
+never : {X : Type 0} → false ≡ true → X
+never is = absurd cc
+
+-- ---- where a link begins
+
+module _ (settings : Settings) where
+  abbrev C : Profile ClientProfile
+  C = client_profile settings
+
+  abbrev asks : Asks (client_profile settings)
+  asks = hosts_ask.clients settings
+
+  abbrev wanted : Policy
+  wanted = policy settings false
+
+  -- no push goes on over it, or one without an outcome yet
+  abbrev Starts : ClientProfile → Type 0
+  Starts p = IsOff p ⊎ (p.client.cause ≡ None)
+
+  up_starts : (circumstances : List Circumstance) (p : ClientProfile) → IsOff p → Starts (clients.told circumstances (Linked Up) p)
+  up_starts circumstances p off = by p.client.stage refl off
+    where
+      waiting : (cause : Option Outcome) → p.client.cause ≡ cause → (let d : Client = if is_some cause then record (p.client) { stage = LinkEnd Due } else record (p.client) { stage = SearchChannel Due } in (is_off d.stage ≡ true) ⊎ (d.cause ≡ None))
+      waiting None is = inr is
+      waiting (Some outcome) is = inl refl
+
+      by : (stage : Stage) → p.client.stage ≡ stage → is_off stage ≡ true → (let d : Client = linked_at stage p.client in (is_off d.stage ≡ true) ⊎ (d.cause ≡ None))
+      by Rest at off' = inl off
+      by (Paged Due) at off' = inl off
+      by (Paged Asked) at off' = waiting p.client.cause refl
+      by (LinkEnd point) at off' = inl off
+      by Over at off' = inl off
+      by (SearchChannel point) at off' = cc
+      by Search at off' = cc
+      by (SearchEnd point) at off' = cc
+      by (Features point) at off' = cc
+      by (ObjectChannel point) at off' = cc
+      by Object at off' = cc
+      by (ObjectEnd point) at off' = cc
+
+  unlinked_off : (stage : Stage) → is_linked stage ≡ false → is_off stage ≡ true
+  unlinked_off Rest is = refl
+  unlinked_off (Paged point) is = refl
+  unlinked_off Over is = refl
+  unlinked_off (LinkEnd point) is = cc
+  unlinked_off (SearchChannel point) is = cc
+  unlinked_off Search is = cc
+  unlinked_off (SearchEnd point) is = cc
+  unlinked_off (Features point) is = cc
+  unlinked_off (ObjectChannel point) is = cc
+  unlinked_off Object is = cc
+  unlinked_off (ObjectEnd point) is = cc
+
+  down_off : (circumstances : List Circumstance) (reason : ℕ) (p : ClientProfile) → IsOff (clients.told circumstances (Linked (Down reason)) p)
+  down_off circumstances reason p = unlinked_off (clients.told circumstances (Linked (Down reason)) p).client.stage ((clients_keep settings).down circumstances reason p).free
+
+  weave_off : (weave : List Strand) (v : Channels) (p : ClientProfile) → AllByRecursion IsOnLink weave → IsOff p → IsOff (woven_profile (client_profile settings) (hosts_ask.clients settings) weave v p)
+  weave_off [] v p on off = off
+  weave_off (strand ∷ weave) v p on off = weave_off weave (values_after wanted v (strand_list C asks strand v p)) (strand_profile C strand v p) on.1 (strand_off settings strand v p on.0 off)
+
+  fed_off : (list : List Occurrence) (feeds : List Feed) (first last : ClientProfile) → WovenFed (client_profile settings) (hosts_ask.clients settings) list feeds first last → IsOff first → IsOff last
+  fed_off list feeds first last so off = subst IsOff (sym so.woven.last_is) (weave_off so.woven.weave no_channels first so.woven.on_link off)
+
+  -- ---- the links in their order
+
+  skip : (up : Bool) (list : List Occurrence) (marks : List Mark) → AreTimely up (map Occurred list ++ marks) → AreTimely up marks
+  skip up [] marks timely = timely
+  skip up (Comes pdu ∷ list) marks timely = skip up list marks timely.1
+  skip up (Connects psm ∷ list) marks timely = skip up list marks timely
+  skip up (AsksFeatures ∷ list) marks timely = skip up list marks timely
+  skip up (Disconnects own ∷ list) marks timely = skip up list marks timely
+  skip up (Sends own sdu ∷ list) marks timely = skip up list marks timely
+  skip up (Gives pdu ∷ list) marks timely = skip up list marks timely
+  skip up (Fires ∷ list) marks timely = skip up list marks timely
+  skip up (Tells ∷ list) marks timely = skip up list marks timely
+
+  turn_timely : (up : Bool) (span : Span) (spans : List Span) (now : List Occurrence) → AreTimely up (all_marks (span ∷ spans) now) → AreTimely up (Turned span.event ∷ all_marks spans now)
+  turn_timely up span spans now timely =
+      let here = marks_on span.list in
+      skip up (filter_map outer span.list) (Turned span.event ∷ all_marks spans now)
+      (subst (AreTimely up) (append_assoc (here ++ Turned span.event ∷ []) (flat_map span_marks spans) (marks_on now) ∙ append_assoc here (Turned span.event ∷ []) (flat_map span_marks spans ++ marks_on now)) timely)
+
+  -- a link is up or none is
+  abbrev Fits : (up : Bool) → ClientProfile → Type 0
+  Fits true p = Starts p
+  Fits false p = IsOff p
+
+  record Behind (spans : List Span) (now : List Occurrence) (p : ClientProfile) : Type 0 where
+    up : Bool
+    timely : AreTimely up (all_marks spans now)
+    fits : Fits up p
+
+  behind_fits : (up : Bool) (span : Span) (spans : List Span) (now : List Occurrence) (first : ClientProfile) (here : FedSpan (client_profile settings) (hosts_ask.clients settings) span first) → AreTimely up (Turned span.event ∷ all_marks spans now) → Fits up first
+      → Behind spans now (behind_span (client_profile settings) (hosts_ask.clients settings) span first here)
+  behind_fits up span spans now first here timely fits = by up span.event refl timely fits
+    where
+      by : (up' : Bool) (event : LinkEvent) → span.event ≡ event → AreTimely up' (Turned event ∷ all_marks spans now) → Fits up' first → Behind spans now (behind_span (client_profile settings) (hosts_ask.clients settings) span first here)
+      by true Up at timely' fits' = let no : true ≡ false = timely'.0 in absurd cc
+      by false Up at timely' fits' = record {
+        up = true;
+        timely = timely'.1;
+        fits = subst (λ (event : LinkEvent). Starts (turned C here.circumstances event (values_after wanted no_channels span.list) here.mid)) (sym at) (up_starts here.circumstances here.mid (fed_off span.list here.here first here.mid here.so fits'));
+      }
+      by true (Down reason) at timely' fits' = record {
+        up = false;
+        timely = timely'.1;
+        fits = subst (λ (event : LinkEvent). IsOff (turned C here.circumstances event (values_after wanted no_channels span.list) here.mid)) (sym at)
+            (let w = link_down (values_after wanted no_channels span.list) in down_off here.circumstances reason (tells_each C w.events w here.mid));
+      }
+      by false (Down reason) at timely' fits' = let no : false ≡ true = timely'.0 in never no
+
+  record LastLink (now : List Occurrence) (last : ClientProfile) : Type 0 where
+    feeds : List Feed
+    first : ClientProfile
+    so : WovenFed (client_profile settings) (hosts_ask.clients settings) now feeds first last
+    starts : Starts first
+
+  last_link : (up : Bool) (spans : List Span) (now : List Occurrence) (feeds : List Feed) (first last : ClientProfile) → AreFed (client_profile settings) (hosts_ask.clients settings) spans now feeds first last → AreTimely up (all_marks spans now) → Fits up first
+      → IsOff last ⊎ LastLink now last
+  last_link true [] now feeds first last fed timely fits = inr (record { feeds = feeds; first = first; so = fed; starts = fits })
+  last_link false [] now feeds first last fed timely fits = inl (fed_off now feeds first last fed fits)
+  last_link up (span ∷ spans) now feeds first last (here, later, is, fed) timely fits =
+      let behind = behind_fits up span spans now first here (turn_timely up span spans now timely) fits in last_link behind.up spans now later (behind_span C asks span first here) last fed behind.timely behind.fits
+
+-- ---- talk
+
+commands_out : (list : List Answer) → AllByRecursion GoesOut (map (Command Out) list)
+commands_out [] = tt
+commands_out (answer ∷ list) = (tt, commands_out list)
+
+all_both : (one two : List Saying) → AllByRecursion GoesOut one → AllByRecursion GoesOut two → AllByRecursion GoesOut (one ++ two)
+all_both [] two x y = y
+all_both (saying ∷ one) two x y = (x.0, all_both one two x.1 y)
+
+one_out : (pdu : List ℕ) → AllByRecursion GoesOut (said_by (out_of pdu))
+one_out pdu = by (eqb (channel_of pdu) 0x0001)
+  where
+    by : (signals : Bool) → AllByRecursion GoesOut (if signals then map (Command Out) (answers (drop 4 pdu)) else Carried Out pdu ∷ [])
+    by true = commands_out (answers (drop 4 pdu))
+    by false = (tt, tt)
+
+unsent_out : (list : List (List ℕ)) → AllByRecursion GoesOut (flat_map said_by (map out_of list))
+unsent_out [] = tt
+unsent_out (pdu ∷ list) = all_both (said_by (out_of pdu)) (flat_map said_by (map out_of list)) (one_out pdu) (unsent_out list)
+
+-- what came in stands in what moved
+none_in : (front rest : List Saying) (pdu : List ℕ) → AllByRecursion GoesOut (front ++ Carried Into pdu ∷ rest) → ⊥
+none_in [] rest pdu out = out.0
+none_in (saying ∷ front) rest pdu out = none_in front rest pdu out.1
+
+moved_front : (front rest moved outs : List Saying) (pdu : List ℕ) → front ++ Carried Into pdu ∷ rest ≡ moved ++ outs → AllByRecursion GoesOut outs → (more : List Saying) × (moved ≡ front ++ Carried Into pdu ∷ more)
+moved_front front rest [] outs pdu is out = absurd (none_in front rest pdu (subst (AllByRecursion GoesOut) (sym is) out))
+moved_front [] rest (saying ∷ moved) outs pdu is out = let same : Carried Into pdu ≡ saying = cc in (moved, ap (λ (s : Saying). s ∷ moved) (sym same))
+moved_front (one ∷ front) rest (saying ∷ moved) outs pdu is out =
+    let same : one ≡ saying = cc in
+    let later : front ++ Carried Into pdu ∷ rest ≡ moved ++ outs = cc in
+    let (more, moved_is) = moved_front front rest moved outs pdu later out in
+    (more, ap (λ (s : Saying). s ∷ moved) (sym same) ∙ ap (λ (l : List Saying). one ∷ l) moved_is)
+
+-- the talk of the last link
+last_talk : (policy : Policy) (lists : List (List Occurrence)) (now : List Occurrence) (before : List (List Talk)) (part : List Talk) → AllZip (IsTalkOf policy) (lists ++ now ∷ []) (before ++ part ∷ []) → IsTalkOf policy now part
+last_talk policy [] now [] part zip = zip.0
+last_talk policy [] now (one ∷ []) part zip = absurd zip.1
+last_talk policy [] now (one ∷ other ∷ before) part zip = absurd zip.1
+last_talk policy (list ∷ []) now [] part zip = absurd zip.1
+last_talk policy (list ∷ other ∷ lists) now [] part zip = absurd zip.1
+last_talk policy (list ∷ lists) now (one ∷ before) part zip = last_talk policy lists now before part zip.1
+
+-- what is said grows
+record Grown (before after : List Saying) : Type 0 where
+  more : List Saying
+  is : after ≡ before ++ more
+
+grown : (policy : Policy) (list : List Occurrence) (run : Run) → Grown run.said (fold (run_on policy) run list).said
+grown policy [] run = record { more = []; is = sym (append-nil run.said) }
+grown policy (one ∷ list) run =
+    let rest = grown policy list (run_on policy run one) in
+    record { more = said_in policy one run.value ++ rest.more; is = rest.is ∙ append_assoc run.said (said_in policy one run.value) rest.more }
+
+-- ---- at each moment
+
+-- nothing is left to be told
+pub none_told : (scenario : Scenario) (content : Option Contents) (done : List Happening) (w : BothHosts) → Happened scenario content done w → w.a.upper.channels.events ≡ []
+none_told scenario content done w there =
+    let ran : Ran scenario content (all_entries done) = record { happenings = done; world = w; happened = there; ends = []; last = tt; capture_is = sym (append-nil (all_entries done)) } in
+    let gentle = (free_runs_are_gentle scenario content (all_entries done) ran).a in
+    (hosts_talk_fed (client_profile scenario.settings) (hosts_ask.clients scenario.settings) gentle.came.talk w.a.upper gentle.came.over gentle.gently).so.lives.all_told
+
+-- ---- at rest
+
+module _ (scenario : Scenario) (content : Option Contents) (done : List Happening) (w : BothHosts) (there : Happened scenario content done w) (rest : IsAtRest (client_of scenario) (server_of scenario content) w) (link : Link) (up : link_up sides.A (all_entries done) ≡ Some link) where
+  abbrev D : Profile ClientProfile
+  D = client_profile scenario.settings
+
+  abbrev own : Policy
+  own = policy scenario.settings false
+
+  goes_on : is_off w.a.upper.profile.client.stage ≡ false
+  goes_on = pushes_go_onward scenario content done done w link ([], sym (append-nil done)) there rest up
+
+  on_never : {X : Type 0} → IsOff w.a.upper.profile → X
+  on_never off = never (sym goes_on ∙ off)
+
+  -- an SDU that came in on it stands in its talk
+  in_talk : (outcome : Outcome) (now : List Occurrence) → spoken_of (run_of (policy scenario.settings false) now).said ≡ (run_of (policy scenario.settings false) now).said
+      → (outs : List Saying) → spoken_of (run_of (policy scenario.settings false) now).said ≡ talk link ++ outs → AllByRecursion GoesOut outs → CameIn scenario.settings outcome now → HearsOf outcome (talk link)
+  in_talk outcome now keeps outs talk_is out came =
+      let party = party_of scenario.settings sides.A in
+      let read = is_read_up own party came.front came.pdu came.own came.psm came.sdu (states_frame scenario.settings false sides.A) came.brought in
+      let run = run_of own came.front in
+      let heard = run_on own run (Comes came.pdu) in
+      let more = grown own came.back heard in
+      let asked = asked_between run.value (takes (channel_of came.pdu) came.pdu run.value) in
+      let before = run.said ++ Carried Into came.pdu ∷ [] in
+      let said_is : (run_of own now).said ≡ run.said ++ Carried Into came.pdu ∷ (asked ++ more.more) =
+      ap (λ (l : List Occurrence). (run_of own l).said) came.list_is
+      ∙ (ap (λ (r : Run). r.said) (fold-append (run_on own) new_link came.front (Comes came.pdu ∷ came.back))
+      ∙ (more.is
+      ∙ (ap (λ (l : List Saying). l ++ more.more) (said_then own party came.front came.pdu came.own came.psm came.sdu (states_frame scenario.settings false sides.A) came.brought)
+      ∙ (append_assoc before asked more.more ∙ append_assoc run.said (Carried Into came.pdu ∷ []) (asked ++ more.more))))) in
+      let (behind, moved_is) = moved_front run.said (asked ++ more.more) (talk link) outs came.pdu (sym said_is ∙ (sym keeps ∙ talk_is)) out in
+      record {
+        front = run.said;
+        pdu = came.pdu;
+        rest = behind;
+        said_is = moved_is;
+        party = party;
+        entry = read.entry;
+        found = read.found;
+        earlier = read.earlier;
+        octets = came.sdu;
+        later = read.later;
+        sdus_are = read.sdus_are;
+        brings = subst (λ (psm : ℕ). Brings outcome psm came.sdu) (sym read.psm_is) came.brings;
+      }
+
+  abbrev asking : Asks (client_profile scenario.settings)
+  asking = hosts_ask.clients scenario.settings
+
+  -- what is known behind all that happened on it
+  known_on : (now : List Occurrence) (last : ClientProfile) → LastLink scenario.settings now last → Knows scenario.settings (hosts_ask.clients scenario.settings) last now
+  known_on now last here =
+      let woven = here.so.woven in
+      subst (λ (p : ClientProfile). Knows scenario.settings asking p now) (sym woven.last_is)
+      (subst (Knows scenario.settings asking (woven_profile D asking woven.weave no_channels here.first)) (sym woven.list_is) (weave_knows scenario.settings asking woven.weave [] here.first no_channels refl woven.on_link (at_first here.starts)))
+    where
+      at_first : Starts scenario.settings here.first → Knows scenario.settings (hosts_ask.clients scenario.settings) here.first []
+      at_first (inl off) = inl off
+      at_first (inr none) = inr (subst (λ (c : Option Outcome). HasCame scenario.settings c []) (sym none) tt)
+
+  came_on : (outcome : Outcome) (now : List Occurrence) → w.a.upper.profile.client.cause ≡ Some outcome → is_said outcome ≡ true → Knows scenario.settings (hosts_ask.clients scenario.settings) w.a.upper.profile now → CameIn scenario.settings outcome now
+  came_on outcome now is said (inl off) = on_never off
+  came_on outcome now is said (inr has) = let known : HasCame scenario.settings (Some outcome) now = subst (λ (c : Option Outcome). HasCame scenario.settings c now) is has in known said
+
+  gently_hears : (outcome : Outcome) → w.a.upper.profile.client.cause ≡ Some outcome → is_said outcome ≡ true → CameGently (client_profile scenario.settings) sides.A (all_entries done) w.a.upper → HearsOf outcome (talk link)
+  gently_hears outcome is said gentle =
+      let fed = hosts_talk_fed D asking gentle.came.talk w.a.upper gentle.came.over gentle.gently in
+      let lives = fed.so.lives in
+      let timely : AreTimely false (all_marks lives.spans lives.now) = subst (AreTimely false) (sym lives.marks_are) fed.so.timely in
+      let has : LastHas (parts gentle.came.talk) (pdus link) = subst (LastIsUp (parts gentle.came.talk)) up gentle.came.last in
+      let (before, part, unsent, parts_are, pdus_are) = has in
+      let zip : AllZip (IsTalkOf own) (map (λ (span : Span). span.list) lives.spans ++ lives.now ∷ []) (before ++ part ∷ []) =
+      subst (AllZip (IsTalkOf own) (map (λ (span : Span). span.list) lives.spans ++ lives.now ∷ [])) parts_are fed.so.talks_are in
+      let so = last_talk own (map (λ (span : Span). span.list) lives.spans) lives.now before part zip in
+      let left = flat_map said_by (map out_of unsent) in
+      let talk_is : spoken_of (run_of own lives.now).said ≡ talk link ++ (left ++ so.waits) =
+      so.talk_is
+      ∙ (ap (λ (l : List Pdu). flat_map said_by l ++ so.waits) pdus_are
+      ∙ (ap (λ (l : List Saying). l ++ so.waits) (flat_map-append said_by (pdus link) (map out_of unsent)) ∙ append_assoc (talk link) left so.waits)) in
+      with_last outcome is said lives.now (left ++ so.waits) talk_is (all_both left so.waits (unsent_out unsent) so.go_out)
+      (ap (λ (v : Channels). v.events) (sym lives.channels_run) ∙ lives.all_told)
+      (last_link scenario.settings false lives.spans lives.now lives.feeds D.first w.a.upper.profile fed.fed timely refl)
+    where
+      with_last : (outcome : Outcome) → w.a.upper.profile.client.cause ≡ Some outcome → is_said outcome ≡ true → (now : List Occurrence) (outs : List Saying) → spoken_of (run_of (policy scenario.settings false) now).said ≡ talk link ++ outs → AllByRecursion GoesOut outs
+          → (run_of (policy scenario.settings false) now).value.events ≡ [] → IsOff w.a.upper.profile ⊎ LastLink scenario.settings now w.a.upper.profile → HearsOf outcome (talk link)
+      with_last outcome is said now outs talk_is out none (inl off) = on_never off
+      with_last outcome is said now outs talk_is out none (inr here) =
+          in_talk outcome now (clients_keep_on scenario.settings asking now here.first w.a.upper.profile here.so.woven none goes_on) outs talk_is out (came_on outcome now is said (known_on now w.a.upper.profile here))
+
+  pub rest_hears : (outcome : Outcome) → w.a.upper.profile.client.cause ≡ Some outcome → is_said outcome ≡ true → HearsOf outcome (talk link)
+  rest_hears outcome is said =
+      let ran : Ran scenario content (all_entries done) = record { happenings = done; world = w; happened = there; ends = []; last = tt; capture_is = sym (append-nil (all_entries done)) } in
+      gently_hears outcome is said (free_runs_are_gentle scenario content (all_entries done) ran).a

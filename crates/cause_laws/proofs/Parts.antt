@@ -1,0 +1,173 @@
+-- How the part of a push stands, as its outcome is so far; and which entries bring which outcomes about.
+use Rattle.std.proofs.Common.{◌≡◌, ℕ, Bool, true, false, not, ◌||◌, ◌==◌, List, [], ◌∷◌, ◌++◌, Option, Some, None, refl, sym, ap, subst, ◌∙◌, append_assoc, inl, inr}
+use Rattle.std.proofs.lemmas.Bool.{eqb-true}
+use Rattle.push_terms.specs.declared.outcome.Outcome.{Outcome}
+use Rattle.push_terms.specs.declared.outcome.Outcome.TheVariants.{Done, LinkLost, RetryLimit, Refused, NoService, ShelfFault, Cancelled as PushCancelled, PeerClosed, PeerFault, ScriptEnded}
+use Rattle.capture.specs.Entries.{Entry}
+use Rattle.cause_laws.specs.FirstCauses.{is_cancel, is_piece, end_reason, is_turned, IsLoss, BringsAbout, IsNoCause, AreNoCauses, AreNotCancelled, IsBroughtAbout, HasCause}
+use Rattle.cause_laws.proofs.Clients.{is_any, is_heard, is_shelf, Came, HasCome}
+use Rattle.cause_laws.proofs.Driving.{is_timed, is_gone}
+
+-- what it shows of an outcome that came before the script ended
+abbrev Shown : Outcome → List Entry → Type 0
+Shown Done part = IsBroughtAbout Done part
+Shown (Refused code) part = IsBroughtAbout (Refused code) part
+Shown NoService part = IsBroughtAbout NoService part
+Shown LinkLost part = IsBroughtAbout LinkLost part
+Shown PushCancelled part = IsBroughtAbout PushCancelled part
+Shown RetryLimit part = IsBroughtAbout RetryLimit part
+Shown ShelfFault part = AreNotCancelled part
+Shown PeerClosed part = IsBroughtAbout PeerClosed part
+Shown (PeerFault layer reason) part = IsBroughtAbout (PeerFault layer reason) part
+Shown ScriptEnded part = ⊥
+
+-- as the outcome of its push is so far
+abbrev pub Stood : List Entry → Option Outcome → Type 0
+Stood part None = AreNoCauses part
+Stood part (Some outcome) = Shown outcome part
+
+pub shown_cause : (outcome : Outcome) (part : List Entry) → Shown outcome part → HasCause outcome part
+shown_cause Done part shown = shown
+shown_cause (Refused code) part shown = shown
+shown_cause NoService part shown = shown
+shown_cause LinkLost part shown = shown
+shown_cause PushCancelled part shown = shown
+shown_cause RetryLimit part shown = shown
+shown_cause ShelfFault part shown = shown
+shown_cause PeerClosed part shown = shown
+shown_cause (PeerFault layer reason) part shown = shown
+shown_cause ScriptEnded part shown = absurd shown
+
+not_cancelled_of : (part : List Entry) → AreNoCauses part → AreNotCancelled part
+not_cancelled_of [] all = tt
+not_cancelled_of (entry ∷ part) all = (all.0.not_cancelled, not_cancelled_of part all.1)
+
+all_more : (part : List Entry) (entry : Entry) → is_cancel entry ≡ false → AreNotCancelled part → AreNotCancelled (part ++ entry ∷ [])
+all_more [] entry plain all = (plain, tt)
+all_more (one ∷ part) entry plain all = (all.0, all_more part entry plain all.1)
+
+none_more : (part : List Entry) (entry : Entry) → IsNoCause entry → AreNoCauses part → AreNoCauses (part ++ entry ∷ [])
+none_more [] entry none all = (none, tt)
+none_more (one ∷ part) entry none all = (all.0, none_more part entry none all.1)
+
+brought_more : (outcome : Outcome) (part : List Entry) (entry : Entry) → is_cancel entry ≡ false → IsBroughtAbout outcome part → IsBroughtAbout outcome (part ++ entry ∷ [])
+brought_more outcome part entry plain about = record {
+  before = about.before;
+  entry = about.entry;
+  after = about.after ++ entry ∷ [];
+  part_is = ap (λ (l : List Entry). l ++ entry ∷ []) about.part_is ∙ append_assoc about.before (about.entry ∷ about.after) (entry ∷ []);
+  first = about.first;
+  brings = about.brings;
+  none_after = all_more about.after entry plain about.none_after;
+}
+
+shown_more : (outcome : Outcome) (part : List Entry) (entry : Entry) → is_cancel entry ≡ false → Shown outcome part → Shown outcome (part ++ entry ∷ [])
+shown_more Done part entry plain shown = brought_more Done part entry plain shown
+shown_more (Refused code) part entry plain shown = brought_more (Refused code) part entry plain shown
+shown_more NoService part entry plain shown = brought_more NoService part entry plain shown
+shown_more LinkLost part entry plain shown = brought_more LinkLost part entry plain shown
+shown_more PushCancelled part entry plain shown = brought_more PushCancelled part entry plain shown
+shown_more RetryLimit part entry plain shown = brought_more RetryLimit part entry plain shown
+shown_more ShelfFault part entry plain shown = all_more part entry plain shown
+shown_more PeerClosed part entry plain shown = brought_more PeerClosed part entry plain shown
+shown_more (PeerFault layer reason) part entry plain shown = brought_more (PeerFault layer reason) part entry plain shown
+shown_more ScriptEnded part entry plain shown = absurd shown
+
+pub stood_more : (part : List Entry) (entry : Entry) (cause : Option Outcome) → IsNoCause entry → Stood part cause → Stood (part ++ entry ∷ []) cause
+stood_more part entry None none stood = none_more part entry none stood
+stood_more part entry (Some outcome) none stood = shown_more outcome part entry none.not_cancelled stood
+
+pub never : {X : Type 0} → false ≡ true → X
+never is = absurd cc
+
+-- the fault of the shelf needs no entry
+shelf_shown : (outcome : Outcome) (part : List Entry) → is_shelf outcome ≡ true → AreNotCancelled part → Shown outcome part
+shelf_shown Done part is all = never is
+shelf_shown (Refused code) part is all = never is
+shelf_shown NoService part is all = never is
+shelf_shown LinkLost part is all = never is
+shelf_shown PushCancelled part is all = never is
+shelf_shown RetryLimit part is all = never is
+shelf_shown ShelfFault part is all = all
+shelf_shown PeerClosed part is all = never is
+shelf_shown (PeerFault layer reason) part is all = never is
+shelf_shown ScriptEnded part is all = never is
+
+-- where one of them comes of the entry, it brings it about
+abbrev Brings : (Outcome → Bool) → Entry → Type 0
+Brings q entry = (outcome : Outcome) (part : List Entry) → q outcome ≡ true → AreNoCauses part → Shown outcome (part ++ entry ∷ [])
+
+pub stood_with : (q : Outcome → Bool) (part : List Entry) (entry : Entry) (old new : Option Outcome) → IsNoCause entry → Brings q entry → Came q old new → Stood part old → Stood (part ++ entry ∷ []) new
+stood_with q part entry None None none brings came stood = none_more part entry none stood
+stood_with q part entry None (Some outcome) none brings came stood = brings outcome part came stood
+stood_with q part entry (Some outcome) new none brings came stood = subst (λ (c : Option Outcome). Stood (part ++ entry ∷ []) c) (sym came) (shown_more outcome part entry none.not_cancelled stood)
+
+-- the same where the entry is a cause, and one of them came
+pub stood_by : (q : Outcome → Bool) (part : List Entry) (entry : Entry) (old new : Option Outcome) → is_cancel entry ≡ false → Brings q entry → Came q old new → HasCome new → Stood part old → Stood (part ++ entry ∷ []) new
+stood_by q part entry None None plain brings came comes stood = absurd comes
+stood_by q part entry None (Some outcome) plain brings came comes stood = brings outcome part came stood
+stood_by q part entry (Some outcome) new plain brings came comes stood = subst (λ (c : Option Outcome). Stood (part ++ entry ∷ []) c) (sym came) (shown_more outcome part entry plain stood)
+
+pub stood_still : (part : List Entry) (old new : Option Outcome) → Came is_shelf old new → Stood part old → Stood part new
+stood_still part None None came stood = stood
+stood_still part None (Some outcome) came stood = shelf_shown outcome part came (not_cancelled_of part stood)
+stood_still part (Some outcome) new came stood = subst (λ (c : Option Outcome). Stood part c) (sym came) stood
+
+pub shelf_brings : (entry : Entry) → is_cancel entry ≡ false → Brings is_shelf entry
+shelf_brings entry plain outcome part is all = shelf_shown outcome (part ++ entry ∷ []) is (all_more part entry plain (not_cancelled_of part all))
+
+pub brought_by : (outcome : Outcome) (part : List Entry) (entry : Entry) → AreNoCauses part → BringsAbout outcome entry → IsBroughtAbout outcome (part ++ entry ∷ [])
+brought_by outcome part entry all brings = record { before = part; entry = entry; after = []; part_is = refl; first = all; brings = brings; none_after = tt }
+
+pub turned_brings : (entry : Entry) → is_cancel entry ≡ false → (is_piece entry || is_turned entry) ≡ true → Brings is_timed entry
+turned_brings entry plain turned Done part is all = never is
+turned_brings entry plain turned (Refused code) part is all = never is
+turned_brings entry plain turned NoService part is all = never is
+turned_brings entry plain turned LinkLost part is all = never is
+turned_brings entry plain turned PushCancelled part is all = never is
+turned_brings entry plain turned RetryLimit part is all = brought_by RetryLimit part entry all turned
+turned_brings entry plain turned ShelfFault part is all = all_more part entry plain (not_cancelled_of part all)
+turned_brings entry plain turned PeerClosed part is all = never is
+turned_brings entry plain turned (PeerFault layer reason) part is all = brought_by (PeerFault layer reason) part entry all turned
+turned_brings entry plain turned ScriptEnded part is all = never is
+
+pub piece_brings : (entry : Entry) → is_cancel entry ≡ false → is_piece entry ≡ true → Brings is_heard entry
+piece_brings entry plain piece Done part is all = brought_by Done part entry all piece
+piece_brings entry plain piece (Refused code) part is all = brought_by (Refused code) part entry all piece
+piece_brings entry plain piece NoService part is all = brought_by NoService part entry all piece
+piece_brings entry plain piece LinkLost part is all = never is
+piece_brings entry plain piece PushCancelled part is all = never is
+piece_brings entry plain piece RetryLimit part is all = brought_by RetryLimit part entry all (ap (λ (b : Bool). b || is_turned entry) piece)
+piece_brings entry plain piece ShelfFault part is all = all_more part entry plain (not_cancelled_of part all)
+piece_brings entry plain piece PeerClosed part is all = brought_by PeerClosed part entry all (inl piece)
+piece_brings entry plain piece (PeerFault layer reason) part is all = brought_by (PeerFault layer reason) part entry all (ap (λ (b : Bool). b || is_turned entry) piece)
+piece_brings entry plain piece ScriptEnded part is all = never is
+
+not_true : (b : Bool) → not b ≡ true → b ≡ false
+not_true true is = never is
+not_true false is = refl
+
+pub gone_brings : (handle reason : ℕ) (entry : Entry) → is_cancel entry ≡ false → end_reason entry ≡ Some reason → Brings (is_gone (reason == 0x13)) entry
+gone_brings handle reason entry plain ends LinkLost part is all = brought_by LinkLost part entry all (subst IsLoss (sym ends) (not_true (reason == 0x13) is))
+gone_brings handle reason entry plain ends Done part is all = never is
+gone_brings handle reason entry plain ends (Refused code) part is all = never is
+gone_brings handle reason entry plain ends NoService part is all = never is
+gone_brings handle reason entry plain ends PushCancelled part is all = never is
+gone_brings handle reason entry plain ends RetryLimit part is all = never is
+gone_brings handle reason entry plain ends ShelfFault part is all = all_more part entry plain (not_cancelled_of part all)
+gone_brings handle reason entry plain ends PeerClosed part is all = brought_by PeerClosed part entry all (inr (ends ∙ ap Some (eqb-true reason 0x13 is)))
+gone_brings handle reason entry plain ends (PeerFault layer r) part is all = never is
+gone_brings handle reason entry plain ends ScriptEnded part is all = never is
+
+-- as outcomes that come of more
+pub timed_any : (outcome : Outcome) → is_timed outcome ≡ true → is_any outcome ≡ true
+timed_any Done is = never is
+timed_any (Refused code) is = never is
+timed_any NoService is = never is
+timed_any LinkLost is = never is
+timed_any PushCancelled is = never is
+timed_any RetryLimit is = refl
+timed_any ShelfFault is = refl
+timed_any PeerClosed is = refl
+timed_any (PeerFault layer reason) is = refl
+timed_any ScriptEnded is = never is

@@ -1,0 +1,349 @@
+-- What an SDU says with which a push has an outcome.
+use Rattle.std.proofs.Common.{◌≡◌, ℕ, zero, suc, Bool, true, false, not, ◌&&◌, ◌==◌, List, [], ◌∷◌, ◌++◌, length, Option, Some, None, is_none, Result, Ok, Err, take, drop, refl, sym, ap, ap₂, subst, ◌∙◌, inl, inr, append_assoc, if◌then◌else◌}
+use Rattle.std.specs.Prelude.{nat_lt}
+use Rattle.std.proofs.lemmas.Bool.{eqb-true}
+use Rattle.std.proofs.lemmas.List.{take-append-drop}
+use Rattle.bt_base.specs.declared.settings.Transport.{Transport}
+use Rattle.bt_base.specs.declared.settings.Transport.TheVariants.{L2cap, Rfcomm}
+use Rattle.push_terms.specs.declared.outcome.Outcome.{Outcome}
+use Rattle.push_terms.specs.declared.outcome.Outcome.TheVariants.{Done, LinkLost, RetryLimit, Refused, NoService, ShelfFault, Cancelled, PeerClosed, PeerFault, ScriptEnded}
+use Rattle.obex_headers.specs.declared.fault.ObexRefusal.{ObexRefusal}
+use Rattle.obex_headers.specs.declared.fault.ObexRefusal.TheVariants.{AboveMaximum, BadLength}
+use Rattle.obex_headers.specs.declared.packet.Phase.TheVariants.{Response}
+use Rattle.obex_headers.specs.Assembling.{stated_len}
+use Rattle.obex_headers.specs.Packets.{PlainPacket}
+use Rattle.obex_headers.specs.Reading.{packet_in}
+use Rattle.obex_session.specs.declared.asking.Request.{Request}
+use Rattle.obex_session.specs.declared.asking.Request.TheVariants as requests
+use Rattle.obex_session.specs.declared.client.Answered.{Answered}
+use Rattle.obex_session.specs.declared.client.Answered.TheVariants as answer
+use Rattle.obex_session.specs.Asking.{phase_of, awaited_code, success_of, answer_read, answer_to}
+use Rattle.obex_session.specs.Marks.{marks_of}
+use Rattle.obex_session.specs.Views.{answer_at}
+use Rattle.rfcomm_frames.specs.declared.frame.MuxKind.{MuxKind}
+use Rattle.rfcomm_frames.specs.declared.frame.MuxKind.TheVariants.{Sabm, Ua, Dm, Disc, Uih}
+use Rattle.rfcomm_frames.specs.Frames.{PlainFrame}
+use Rattle.rfcomm_frames.specs.Answers.{Answer}
+use Rattle.rfcomm_frames.specs.FrameReading.{frame_answer}
+use Rattle.rfcomm_model.specs.declared.state.MuxReason.{MuxReason}
+use Rattle.rfcomm_model.specs.Hearing.{Up, nothing, opened, bytes, closed, up, news, read_data, data_kind, hears}
+use Rattle.rfcomm_model.specs.Machine.{Mux, may_pass, is_ready}
+use Rattle.sdp_elements.specs.declared.target.Target.{Target}
+use Rattle.sdp_client.specs.declared.reason.Found.{Found}
+use Rattle.sdp_client.specs.declared.reason.Found.TheVariants as found
+use Rattle.sdp_client.specs.declared.reason.QueryReason.{QueryReason}
+use Rattle.sdp_client.specs.declared.reason.QueryReason.TheVariants.{BadReply, ErrorCode, WrongTransaction, TooLong}
+use Rattle.sdp_client.specs.Asking.{Asking}
+use Rattle.sdp_client.specs.declared.query.Stage.{Stage as Asked_stage}
+use Rattle.sdp_client.specs.declared.query.Stage.TheVariants as stages
+use Rattle.sdp_client.specs.Hearing.{found_at, found_when, found_by, found_said, found_part, found_whole, found_in, found_target}
+use Rattle.sdp_client.specs.Replies.{PlainPart, PlainSaid, Gives, Failed, Nothing, said_in, is_of_another}
+use Rattle.sdp_elements.specs.Targets.{target_in, is_service_psm, is_server_channel}
+use Rattle.push_model.specs.declared.course.Stage.{Stage}
+use Rattle.push_model.specs.declared.course.Stage.TheVariants.{Rest, Link, SearchChannel, Search, SearchEnd, Features, ObjectChannel, Object, ObjectEnd, LinkEnd, Over}
+use Rattle.push_model.specs.Causes.{cause_of_query, cause_of_mux, unawaited_response}
+use Rattle.push_model.specs.Client.{Client}
+use Rattle.push_model.specs.Events.{search_psm, kept_of}
+use Rattle.push_model.specs.Responding.{is_early, is_success, is_left, hears_response}
+use Rattle.push_model.specs.Streams.{Front, Whole, Partial, Broken, front_of}
+use Rattle.push_model.specs.Shown.{first_of, way_of, found_shows, says, answer_shows, response_shows, front_shows, stream_shows, up_shows, object_shows, outside_shows, sdu_shows}
+use Rattle.cause_laws.specs.Said.{IsResponse, HasCode, IsCarried, LacksService, Brings}
+
+abbrev pub Says : (psm : ℕ) → List ℕ → Option Outcome → Type 0
+Says psm octets None = Unit {0}
+Says psm octets (Some outcome) = Brings outcome psm octets
+
+either : (psm : ℕ) (octets : List ℕ) (test : Bool) (a b : Option Outcome) → Says psm octets a → Says psm octets b → Says psm octets (if test then a else b)
+either psm octets true a b x y = x
+either psm octets false a b x y = y
+
+-- ---- answers of service discovery
+
+-- what comes of a reply that ends a search is the last part of an answer, and that is read as the target
+record IsAnswerOf (reply : List ℕ) (target : Target) : Type 0 where
+  part : PlainPart
+  is : said_in reply ≡ Gives part
+  last : (length part.continuation == 0) ≡ true
+  so_far : List ℕ
+  read : target_in (so_far ++ part.octets) ≡ Some target
+
+abbrev EndsSearch : List ℕ → Found → Type 0
+EndsSearch reply found.More = Unit {0}
+EndsSearch reply (found.Service target) = IsAnswerOf reply target
+EndsSearch reply found.NoService = (target : Target) × IsAnswerOf reply target × (target.l2cap ≡ None) × (target.rfcomm ≡ None)
+EndsSearch reply (found.Refused reason) = Unit {0}
+
+target_ends : (reply : List ℕ) (target : Target) (l2cap rfcomm : Option ℕ) → target.l2cap ≡ l2cap → target.rfcomm ≡ rfcomm → IsAnswerOf reply target → EndsSearch reply (found_target l2cap rfcomm)
+target_ends reply target None None one two answered = (target, answered, one, two)
+target_ends reply target None (Some rfcomm) one two answered = subst (IsAnswerOf reply) (ap₂ (λ (l r : Option ℕ). let t : Target = record { l2cap = l; rfcomm = r } in t) one two) answered
+target_ends reply target (Some l2cap) rfcomm one two answered = subst (IsAnswerOf reply) (ap₂ (λ (l r : Option ℕ). let t : Target = record { l2cap = l; rfcomm = r } in t) one two) answered
+
+part_ends : (reply : List ℕ) (asking : Asking) (part : PlainPart) → said_in reply ≡ Gives part → EndsSearch reply (found_part asking part)
+part_ends reply asking part is = by (nat_lt 4096 (length (asking.joined ++ part.octets))) (length part.continuation == 0) refl
+  where
+    whole : (target : Option Target) → target_in (asking.joined ++ part.octets) ≡ target → (length part.continuation == 0) ≡ true → EndsSearch reply (found_in target)
+    whole None read last = tt
+    whole (Some target) read last = target_ends reply target target.l2cap target.rfcomm refl refl (record { part = part; is = is; last = last; so_far = asking.joined; read = read })
+
+    by : (long last : Bool) → (length part.continuation == 0) ≡ last → EndsSearch reply (if long then found.Refused TooLong else if last then found_whole (asking.joined ++ part.octets) else found.More)
+    by true last none = tt
+    by false true none = whole (target_in (asking.joined ++ part.octets)) refl none
+    by false false none = tt
+
+said_ends : (reply : List ℕ) (asking : Asking) (said : PlainSaid) → said_in reply ≡ said → EndsSearch reply (found_said asking said)
+said_ends reply asking (Gives part) is = part_ends reply asking part is
+said_ends reply asking (Failed code) is = tt
+said_ends reply asking Nothing is = tt
+
+by_ends : (asking : Asking) (reply : List ℕ) → EndsSearch reply (found_by asking reply)
+by_ends asking reply = by (is_of_another reply asking.transaction)
+  where
+    by : (other : Bool) → EndsSearch reply (if other then found.Refused WrongTransaction else found_said asking (said_in reply))
+    by true = tt
+    by false = said_ends reply asking (said_in reply) refl
+
+when_ends : (stage : Asked_stage) (asking : Asking) (reply : List ℕ) → EndsSearch reply (found_when stage asking reply)
+when_ends stages.Due asking reply = tt
+when_ends stages.Written asking reply = by_ends asking reply
+when_ends stages.Again asking reply = by_ends asking reply
+when_ends stages.Answered asking reply = tt
+when_ends (stages.Refused reason) asking reply = tt
+
+query_says : (psm : ℕ) (octets : List ℕ) (reason : QueryReason) → Says psm octets (cause_of_query reason)
+query_says psm octets BadReply = tt
+query_says psm octets (ErrorCode code) = tt
+query_says psm octets WrongTransaction = tt
+query_says psm octets TooLong = tt
+
+lacks : (reply : List ℕ) (target : Target) (transport : Transport) → IsAnswerOf reply target → is_none (way_of transport target) ≡ true → LacksService reply
+lacks reply target transport answered none = record { part = answered.part; is = answered.is; last = answered.last; so_far = answered.so_far; target = target; read = answered.read; transport = transport; none = none }
+
+no_way : (transport : Transport) (target : Target) → target.l2cap ≡ None → target.rfcomm ≡ None → is_none (way_of transport target) ≡ true
+no_way L2cap target one two = ap (λ (o : Option ℕ). is_none (kept_of is_service_psm o)) one
+no_way Rfcomm target one two = ap (λ (o : Option ℕ). is_none (kept_of is_server_channel o)) two
+
+found_says : (transport : Transport) (psm : ℕ) (reply : List ℕ) (what : Found) → psm ≡ 0x0001 → EndsSearch reply what → Says psm reply (found_shows transport what)
+found_says transport psm reply found.More here ends = tt
+found_says transport psm reply (found.Service target) here ends = by (is_none (way_of transport target)) refl
+  where
+    by : (none : Bool) → is_none (way_of transport target) ≡ none → Says psm reply (if none then Some NoService else None)
+    by true is = (here, lacks reply target transport ends is)
+    by false is = tt
+found_says transport psm reply found.NoService here (target, answered, one, two) = (here, lacks reply target transport answered (no_way transport target one two))
+found_says transport psm reply (found.Refused reason) here ends = query_says psm reply reason
+
+-- ---- responses
+
+-- what a packet is with which an outcome is shown
+abbrev Speaks : List ℕ → Option Outcome → Type 0
+Speaks packet None = Unit {0}
+Speaks packet (Some Done) = IsResponse Response 0xA0 packet
+Speaks packet (Some (Refused code)) = HasCode code packet
+Speaks packet (Some NoService) = ⊥
+Speaks packet (Some LinkLost) = Unit {0}
+Speaks packet (Some RetryLimit) = Unit {0}
+Speaks packet (Some ShelfFault) = Unit {0}
+Speaks packet (Some Cancelled) = Unit {0}
+Speaks packet (Some PeerClosed) = Unit {0}
+Speaks packet (Some (PeerFault layer reason)) = Unit {0}
+Speaks packet (Some ScriptEnded) = Unit {0}
+
+answer_speaks : (maximum : ℕ) (request : Request) (octets : List ℕ) → Speaks octets (says (answer_to maximum request octets))
+answer_speaks maximum request octets = by (packet_in (phase_of request) maximum octets) refl
+  where
+    succeeds : (read : PlainPacket) (one : Request) → one ≡ request → packet_in (phase_of request) maximum octets ≡ Ok read → read.code ≡ awaited_code one → Speaks octets (says (success_of one))
+    succeeds read requests.Connect same is code = tt
+    succeeds read requests.FirstPut same is code = tt
+    succeeds read requests.Put same is code = tt
+    succeeds read requests.Stream same is code = tt
+    succeeds read requests.FinalPut same is code = record { maximum = maximum; read = read; is = subst (λ (r : Request). packet_in (phase_of r) maximum octets ≡ Ok read) (sym same) is; code_is = code }
+    succeeds read requests.Abort same is code = tt
+    succeeds read requests.Disconnect same is code = tt
+
+    tests : (read : PlainPacket) (parameters awaited : Bool) → packet_in (phase_of request) maximum octets ≡ Ok read → (read.code == awaited_code request) ≡ awaited → Speaks octets (says (if parameters then answer.Srmp else if awaited then success_of request else answer.Refused read.code))
+    tests read true awaited is code = tt
+    tests read false true is code = succeeds read request refl is (eqb-true read.code (awaited_code request) code)
+    tests read false false is code = (phase_of request, record { maximum = maximum; read = read; is = is; code_is = refl })
+
+    by : (read : Result PlainPacket ObexRefusal) → packet_in (phase_of request) maximum octets ≡ read → Speaks octets (says (answer_read request read))
+    by (Ok read) is = tests read (marks_of read.headers).parameters (read.code == awaited_code request) is refl
+    by (Err refusal) is = tt
+
+response_speaks : (octets : List ℕ) (client : Client) → Speaks octets (response_shows octets client)
+response_speaks octets client = by client.session.awaited
+  where
+    early : (test : Bool) (answered : Answered) → Speaks octets (says answered) → Speaks octets (if test then Some unawaited_response else says answered)
+    early true answered speaks = tt
+    early false answered speaks = speaks
+
+    by : (awaited : Option Request) → Speaks octets (answer_shows (answer_at awaited client.session octets) client)
+    by None = tt
+    by (Some request) =
+        let answered = answer_to client.session.maximum request octets in early (is_success answered && is_early client) answered (answer_speaks client.session.maximum request octets)
+
+speaks_says : (psm : ℕ) (packet : List ℕ) (shown : Option Outcome) → Speaks packet shown → Says psm packet shown
+speaks_says psm packet None speaks = tt
+speaks_says psm packet (Some Done) speaks = inl speaks
+speaks_says psm packet (Some (Refused code)) speaks = inl speaks
+speaks_says psm packet (Some NoService) speaks = absurd speaks
+speaks_says psm packet (Some LinkLost) speaks = tt
+speaks_says psm packet (Some RetryLimit) speaks = tt
+speaks_says psm packet (Some ShelfFault) speaks = tt
+speaks_says psm packet (Some Cancelled) speaks = tt
+speaks_says psm packet (Some PeerClosed) speaks = tt
+speaks_says psm packet (Some (PeerFault layer reason)) speaks = tt
+speaks_says psm packet (Some ScriptEnded) speaks = tt
+
+-- ---- a stream of packets
+
+-- such a packet stands in it
+record StandsIn (shown : Option Outcome) (stream : List ℕ) : Type 0 where
+  earlier : List ℕ
+  packet : List ℕ
+  later : List ℕ
+  is : stream ≡ earlier ++ (packet ++ later)
+  speaks : Speaks packet shown
+
+none_stands : (stream : List ℕ) → StandsIn None stream
+none_stands stream = record { earlier = []; packet = []; later = stream; is = refl; speaks = tt }
+
+whole_front : (maximum : ℕ) (stream packet rest : List ℕ) → front_of maximum stream ≡ Whole packet rest → stream ≡ packet ++ rest
+unfolding front_of
+whole_front maximum stream packet rest is = by (nat_lt (length stream) 3) (nat_lt maximum (stated_len stream)) (nat_lt (stated_len stream) 3) (nat_lt (length stream) (stated_len stream)) is
+  where
+    by : (short long few partial : Bool)
+        → (if short then Partial else if long then Broken AboveMaximum else if few then Broken BadLength else if partial then Partial else Whole (take (stated_len stream) stream) (drop (stated_len stream) stream)) ≡ Whole packet rest → stream ≡ packet ++ rest
+    by true long few partial same = cc
+    by false true few partial same = cc
+    by false false true partial same = cc
+    by false false false true same = cc
+    by false false false false same =
+        let one : take (stated_len stream) stream ≡ packet = cc in
+        let two : drop (stated_len stream) stream ≡ rest = cc in
+        sym (take-append-drop (stated_len stream) stream) ∙ ap₂ (λ (x y : List ℕ). x ++ y) one two
+
+stands_behind : (shown : Option Outcome) (stream packet rest : List ℕ) → stream ≡ packet ++ rest → StandsIn shown rest → StandsIn shown stream
+stands_behind shown stream packet rest is stands = record {
+  earlier = packet ++ stands.earlier;
+  packet = stands.packet;
+  later = stands.later;
+  is = is ∙ (ap (λ (l : List ℕ). packet ++ l) stands.is ∙ sym (append_assoc packet stands.earlier (stands.packet ++ stands.later)));
+  speaks = stands.speaks;
+}
+
+first_stands : (first later : Option Outcome) (stream : List ℕ) → StandsIn first stream → StandsIn later stream → StandsIn (first_of first later) stream
+first_stands None later stream one two = two
+first_stands (Some outcome) later stream one two = one
+
+front_stands : (more : List ℕ → Client → Option Outcome) → ((rest : List ℕ) (client : Client) → StandsIn (more rest client) rest) → (maximum : ℕ) (stream : List ℕ) (front : Front) (client : Client) → front_of maximum stream ≡ front → StandsIn (front_shows more front client) stream
+front_stands more all maximum stream (Whole packet rest) client is =
+    let alone : Client = record client { held = [] } in
+    let whole = whole_front maximum stream packet rest is in
+    first_stands (response_shows packet alone) (more rest (hears_response packet alone)) stream
+    (record { earlier = []; packet = packet; later = rest; is = whole; speaks = response_speaks packet alone })
+    (stands_behind (more rest (hears_response packet alone)) stream packet rest whole (all rest (hears_response packet alone)))
+front_stands more all maximum stream Partial client is = none_stands stream
+front_stands more all maximum stream (Broken refusal) client is = record { earlier = []; packet = []; later = stream; is = refl; speaks = tt }
+
+stream_stands : (count : ℕ) (stream : List ℕ) (client : Client) → StandsIn (stream_shows count stream client) stream
+unfolding stream_shows
+stream_stands zero stream client = none_stands stream
+stream_stands (suc count) stream client =
+    front_stands (λ rest next. stream_shows count rest next) (λ rest next. stream_stands count rest next) client.session.maximum stream (front_of client.session.maximum stream) client refl
+
+-- ---- frames
+
+-- a frame of a user channel, and its octets
+record Reads (sdu octets : List ℕ) : Type 0 where
+  frame : PlainFrame
+  is : frame_answer sdu ≡ Ok frame
+  kind : frame.kind ≡ Uih
+  user : (frame.dlci == 0) ≡ false
+  octets_are : frame.octets ≡ octets
+
+kind_reads : (sdu : List ℕ) (kind : MuxKind) (frame : PlainFrame) (m : Mux) (octet : ℕ) (octets : List ℕ) → frame_answer sdu ≡ Ok frame → frame.kind ≡ kind → data_kind kind frame m ≡ octet ∷ octets → Reads sdu (octet ∷ octets)
+kind_reads sdu Sabm frame m octet octets at kind is = cc
+kind_reads sdu Ua frame m octet octets at kind is = cc
+kind_reads sdu Dm frame m octet octets at kind is = cc
+kind_reads sdu Disc frame m octet octets at kind is = cc
+kind_reads sdu Uih frame m octet octets at kind is = by (frame.dlci == 0) ((frame.dlci == m.dlci) && may_pass m) refl is
+  where
+    by : (control passes : Bool) → (frame.dlci == 0) ≡ control → (if not control && passes then frame.octets else []) ≡ octet ∷ octets → Reads sdu (octet ∷ octets)
+    by true passes zero' read = cc
+    by false true zero' read = record { frame = frame; is = at; kind = kind; user = zero'; octets_are = read }
+    by false false zero' read = cc
+
+frame_reads : (sdu : List ℕ) (m : Mux) (read : Answer) (octet : ℕ) (octets : List ℕ) → frame_answer sdu ≡ read → read_data read m ≡ octet ∷ octets → Reads sdu (octet ∷ octets)
+frame_reads sdu m (Ok frame) octet octets at is = kind_reads sdu frame.kind frame m octet octets at refl is
+frame_reads sdu m (Err refusal) octet octets at is = cc
+
+up_reads : (sdu : List ℕ) (m : Mux) (octets : List ℕ) → up sdu m ≡ bytes octets → Reads sdu octets
+up_reads sdu m octets is = by m.closed (hears sdu m).closed (is_ready (hears sdu m) && not (is_ready m)) (read_data (frame_answer sdu) m) refl is
+  where
+    by : (before after : Option MuxReason) (ready : Bool) (info : List ℕ) → read_data (frame_answer sdu) m ≡ info → news before after ready info ≡ bytes octets → Reads sdu octets
+    by (Some before) after ready info at said = cc
+    by None (Some reason) ready info at said = cc
+    by None None true info at said = cc
+    by None None false [] at said = cc
+    by None None false (octet ∷ info) at said = let same : octet ∷ info ≡ octets = cc in subst (Reads sdu) same (frame_reads sdu m (frame_answer sdu) octet info refl at)
+
+carried_in : (Is : List ℕ → Type 0) (sdu octets held : List ℕ) → Reads sdu octets → (earlier packet later : List ℕ) → held ++ octets ≡ earlier ++ (packet ++ later) → Is packet → IsCarried Is sdu
+carried_in Is sdu octets held reads earlier packet later is read = record {
+  frame = reads.frame;
+  is = reads.is;
+  kind = reads.kind;
+  user = reads.user;
+  held = held;
+  earlier = earlier;
+  packet = packet;
+  later = later;
+  stream_is = ap (λ (l : List ℕ). held ++ l) reads.octets_are ∙ is;
+  read = read;
+}
+
+stands_says : (psm : ℕ) (sdu octets held : List ℕ) (shown : Option Outcome) → Reads sdu octets → StandsIn shown (held ++ octets) → Says psm sdu shown
+stands_says psm sdu octets held None reads stands = tt
+stands_says psm sdu octets held (Some Done) reads stands = inr (carried_in (IsResponse Response 0xA0) sdu octets held reads stands.earlier stands.packet stands.later stands.is stands.speaks)
+stands_says psm sdu octets held (Some (Refused code)) reads stands = inr (carried_in (HasCode code) sdu octets held reads stands.earlier stands.packet stands.later stands.is stands.speaks)
+stands_says psm sdu octets held (Some NoService) reads stands = absurd stands.speaks
+stands_says psm sdu octets held (Some LinkLost) reads stands = tt
+stands_says psm sdu octets held (Some RetryLimit) reads stands = tt
+stands_says psm sdu octets held (Some ShelfFault) reads stands = tt
+stands_says psm sdu octets held (Some Cancelled) reads stands = tt
+stands_says psm sdu octets held (Some PeerClosed) reads stands = tt
+stands_says psm sdu octets held (Some (PeerFault layer reason)) reads stands = tt
+stands_says psm sdu octets held (Some ScriptEnded) reads stands = tt
+
+up_says : (psm : ℕ) (sdu : List ℕ) (m : Mux) (brought : Up) (client : Client) → up sdu m ≡ brought → Says psm sdu (up_shows brought client)
+up_says psm sdu m nothing client is = tt
+up_says psm sdu m opened client is = tt
+up_says psm sdu m (bytes octets) client is =
+    let stream = client.held ++ octets in stands_says psm sdu octets client.held (stream_shows (length stream) stream client) (up_reads sdu m octets is) (stream_stands (length stream) stream client)
+up_says psm sdu m (closed reason) client is = either psm sdu (is_left client.contact reason) None (Some (cause_of_mux reason)) tt tt
+
+-- ---- an SDU
+
+object_says : (transport : Transport) (psm : ℕ) (sdu : List ℕ) (client : Client) → Says psm sdu (object_shows transport sdu client)
+object_says L2cap psm sdu client = speaks_says psm sdu (response_shows sdu client) (response_speaks sdu client)
+object_says Rfcomm psm sdu client = up_says psm sdu client.mux (up sdu client.mux) (record client { mux = hears sdu client.mux }) refl
+
+outside_says : (transport : Transport) (psm : ℕ) (sdu : List ℕ) → Says psm sdu (outside_shows transport)
+outside_says L2cap psm sdu = tt
+outside_says Rfcomm psm sdu = tt
+
+search_says : (psm : ℕ) (sdu : List ℕ) (client : Client) (here : Bool) → (psm == search_psm) ≡ here → Says psm sdu (if here then found_shows client.transport (found_at client.query sdu) else None)
+search_says psm sdu client true is = found_says client.transport psm sdu (found_at client.query sdu) (eqb-true psm search_psm is) (when_ends client.query.stage client.query sdu)
+search_says psm sdu client false is = tt
+
+pub sdu_says : (stage : Stage) (psm : ℕ) (sdu : List ℕ) (client : Client) → Says psm sdu (sdu_shows stage psm sdu client)
+sdu_says Rest psm sdu client = tt
+sdu_says (Link point) psm sdu client = tt
+sdu_says (SearchChannel point) psm sdu client = tt
+sdu_says Search psm sdu client = search_says psm sdu client (psm == search_psm) refl
+sdu_says (SearchEnd point) psm sdu client = tt
+sdu_says (Features point) psm sdu client = tt
+sdu_says (ObjectChannel point) psm sdu client = either psm sdu (psm == client.psm) (outside_shows client.transport) None (outside_says client.transport psm sdu) tt
+sdu_says Object psm sdu client = either psm sdu (psm == client.psm) (object_shows client.transport sdu client) None (object_says client.transport psm sdu client) tt
+sdu_says (ObjectEnd point) psm sdu client = either psm sdu (psm == client.psm) (outside_shows client.transport) None (outside_says client.transport psm sdu) tt
+sdu_says (LinkEnd point) psm sdu client = tt
+sdu_says Over psm sdu client = tt

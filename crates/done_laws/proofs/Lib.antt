@@ -1,0 +1,9 @@
+pub mod Successes
+pub mod Replies
+pub mod Unfinished
+pub mod Clients
+pub mod Servers
+pub mod Walks
+pub mod Kept
+pub mod Lasts
+pub mod Runs

@@ -1,0 +1,76 @@
+-- What the inbox gains of pushes of which some are done (IrOBEX 1.5, 3.2.1 and 3.3.3; Object Push Profile 1.2, 4.3; that a fault leaves out one object at most is
+-- this project's own).
+use Rattle.std.specs.Prelude.{ℕ, ◌≡◌, ◌≤◌, ◌+◌, ◌⊎◌, List, [], ◌∷◌, ◌++◌, length, Some}
+use Rattle.std.specs.List.{AllByRecursion}
+use Rattle.bt_base.specs.declared.settings.Settings.{Settings}
+use Rattle.bt_base.specs.Objects.{Object}
+use Rattle.push_terms.specs.declared.outcome.Outcome.TheVariants.{Done, Cancelled}
+use Rattle.push_model.specs.Client.{Client}
+use Rattle.push_model.specs.Laws as deeds
+use Rattle.push_model.specs.Server.{object_psm}
+use Rattle.push_laws.specs.Faults.{spent_from}
+use Rattle.push_laws.specs.Gains.{objects}
+use Rattle.push_laws.specs.Laws.{new_over, stored_in}
+use Rattle.push_laws.specs.Losing.{LeavesOut}
+use Rattle.push_laws.specs.Occurrences.{all_done}
+use Rattle.push_laws.specs.Parties.{client_side, Push, IsOffered, begun_of, over_pushes, AllServeDirectly}
+use Rattle.push_laws.specs.Premises.{NoneShort}
+use Rattle.push_laws.specs.Spelled.{ArePushed, IsOfShelfOrStill, name_of}
+
+-- ---- a push
+
+-- its client behind all that happened
+abbrev pub client_of : Push → Client
+client_of push = deeds.all_done (client_side push.moves) (begun_of push)
+
+-- it is done, on the channel of the object
+pub record IsDone (push : Push) : Type 0 where
+  pub cause : (client_of push).cause ≡ Some Done
+  pub psm : (client_of push).psm ≡ object_psm
+
+-- What was spelled of a push is one object at most, which is the shelf's where that tells it, and that was gained or left out. Where the push is done, it is one,
+-- and was gained; where it was cancelled, and where its client did nothing, none was spelled.
+pub record IsKept (push : Push) (gained spelled : List Object) : Type 0 where
+  pub few : length spelled ≤ 1
+  pub either : (gained ≡ []) ⊎ (gained ≡ spelled)
+  pub done : IsDone push → (gained ≡ spelled) × (length spelled ≡ 1)
+  pub cancelled : (client_of push).cause ≡ Some Cancelled → spelled ≡ []
+  pub still : client_side push.moves ≡ [] → spelled ≡ []
+  pub once : (shelf : List Object) → IsOfShelfOrStill shelf push → ArePushed shelf (name_of push) spelled
+
+-- so it is of each of them, in their order
+abbrev pub AreKept : (pushes : List Push) (gained spelled : List Object) → Type 0
+AreKept [] gained spelled = (gained ≡ []) × (spelled ≡ [])
+AreKept (push ∷ pushes) gained spelled =
+    (kept : List Object) × (here : List Object) × (gains : List Object) × (rest : List Object) × (gained ≡ kept ++ gains) × (spelled ≡ here ++ rest) × IsKept push kept here × AreKept pushes gains rest
+
+-- The last object that was gained and the last one that was spelled are the same; and so it is of pushes and what stands before these.
+pub record EndsKept (pushes : List Push) (gained spelled : List Object) : Type 0 where
+  pub object : Object
+  pub gains : List Object
+  pub rest : List Object
+  pub gained_is : gained ≡ gains ++ object ∷ []
+  pub spelled_is : spelled ≡ rest ++ object ∷ []
+  pub kept : AreKept pushes gains rest
+
+-- So it is where one of the pushes is done, and the clients of those behind it did nothing: at the end of that push the last object that the inbox gained is its own.
+abbrev pub DoneIsLast : Type 0
+DoneIsLast = (ahead : List Push) (done : Push) (behind : List Push) (gained spelled : List Object) → AreKept (ahead ++ done ∷ behind) gained spelled → IsDone done → AllByRecursion (λ (push : Push). client_side push.moves ≡ []) behind → EndsKept ahead gained spelled
+
+-- What is gained so is what is spelled, in its order, but for as many at most as it has less.
+abbrev pub KeptLeaveOut : Type 0
+KeptLeaveOut = (pushes : List Push) (gained spelled : List Object) (most : ℕ) → AreKept pushes gained spelled → length spelled ≤ length gained + most → LeavesOut gained spelled most
+
+-- ---- all pushes
+
+-- The inbox gained, push by push, the object that the packets spell of it or nothing; as many are left out at most as its calls used up faults.
+pub record KeepsDone (settings : Settings) (before : List Object) (pushes : List Push) (last : Push) : Type 0 where
+  pub gain : List Object
+  pub stored : stored_in (all_done (over_pushes pushes last) (new_over settings before)).gift.content ≡ Some (before ++ gain)
+  pub kept : AreKept (pushes ++ last ∷ []) gain (objects settings (over_pushes pushes last))
+  pub few : length (objects settings (over_pushes pushes last)) ≤ length gain + spent_from (new_over settings before) (over_pushes pushes last)
+
+-- So it is push after push over L2CAP, where the inbox does not lack memory, whatever becomes of the pushes.
+abbrev pub DonePushesAreKept : Type 0
+DonePushesAreKept = (settings : Settings) (before : List Object) (pushes : List Push) (last : Push) → AllByRecursion IsOffered pushes → IsOffered last → AllServeDirectly NoneShort (new_over settings before) (over_pushes pushes last)
+    → KeepsDone settings before pushes last

@@ -1,0 +1,37 @@
+-- What the inbox of a run gains of the pushes of host a, of which some are done (IrOBEX 1.5, 3.2.1 and 3.3.3; Object Push Profile 1.2, 4.3; that a fault leaves out one
+-- object at most is this project's own).
+use Rattle.std.specs.Prelude.{◌≡◌, ◌≤◌, ◌+◌, List, ◌++◌, length, Option, Some}
+use Rattle.std.specs.List.{AllByRecursion}
+use Rattle.bt_base.specs.declared.settings.Transport.TheVariants.{L2cap}
+use Rattle.bt_base.specs.Objects.{Object}
+use Rattle.obex_session.specs.InboxCalls.{Answer}
+use Rattle.push_script.specs.declared.scenario.Scenario.{Scenario}
+use Rattle.push_terms.specs.declared.word.Side.TheVariants as sides
+use Rattle.capture.specs.Entries.{Entry}
+use Rattle.link_talk.specs.Captures.{objects_heard}
+use Rattle.push_laws.specs.Faults.{faults_of}
+use Rattle.push_laws.specs.Laws.{stored_in}
+use Rattle.push_laws.specs.Parties.{Push}
+use Rattle.push_laws.specs.Premises.{NoneShort}
+use Rattle.push_laws.specs.Spelled.{AreAmong, IsOfShelfOrStill, names_of}
+use Rattle.scenario_laws.specs.Gains.{holding}
+use Rattle.scenario_laws.specs.Parties.{party_of}
+use Rattle.tape_laws.specs.OwnPairs.{RanOwn}
+use Rattle.done_laws.specs.Kept.{AreKept}
+
+-- Host a pushed objects of its shelf, under some of the names of the scenario, in their order; and push by push the inbox gained, behind what it stored at
+-- first, the object that the capture spells of it, or nothing: that of each push that is done. As many are left out at most as it answers with faults.
+pub record KeepsPushes (scenario : Scenario) (shelf before : List Object) (answers : List Answer) (spelled : List Object) (stored : Option (List Object)) : Type 0 where
+  pub pushes : List Push
+  pub named : AreAmong (names_of pushes) scenario.names
+  pub of_shelf : AllByRecursion (IsOfShelfOrStill shelf) pushes
+  pub gain : List Object
+  pub stored_is : stored ≡ Some (before ++ gain)
+  pub kept : AreKept pushes gain spelled
+  pub few : length spelled ≤ length gain + faults_of answers
+
+-- So it is at each moment of each run over L2CAP with a server that has its answers from its first moment on, none of which is want of memory, and a shelf that
+-- tells what it holds; wherever the run broke off.
+abbrev pub OwnServersKeepDone : Type 0
+OwnServersKeepDone = (scenario : Scenario) (shelf before : List Object) (answers : List Answer) (capture : List Entry) (own : RanOwn scenario (Some shelf) (holding before) answers capture) → scenario.settings.transport ≡ L2cap → NoneShort answers
+    → KeepsPushes scenario shelf before answers (objects_heard (party_of scenario.settings sides.B) sides.B capture) (stored_in own.world.b.upper.profile.inbox.content)

@@ -1,0 +1,27 @@
+//! Laws of pushes that are done: the object of each is stored, whatever the inbox answers besides.
+#![tactic(auto)]
+
+ghost use Rattle.done_laws.specs.Kept.{DoneIsLast, DonePushesAreKept, KeptLeaveOut};
+ghost use Rattle.done_laws.specs.Runs.{OwnServersKeepDone};
+
+/// Over L2CAP, push after push, whatever becomes of the pushes and whatever the inbox answers but want of memory: each push has one object at most in what
+/// the packets spell, and the inbox gained it or left it out; that of a push that is done is there, and was gained. Of one that was cancelled none is there.
+pub fn done_pushes_are_kept()
+    ensures { DonePushesAreKept }
+{}
+
+/// Behind a push that is done, where no other did anything since, the last object that the inbox gained is the last one that the packets spell: that push's.
+pub fn done_is_last()
+    ensures { DoneIsLast }
+{}
+
+/// What the inbox gained of the pushes is what the packets spell of them, in its order, but for as many at most as it has less.
+pub fn kept_leave_out()
+    ensures { KeptLeaveOut }
+{}
+
+/// So it is of the pushes of host a in each run over L2CAP, wherever it broke off, with a server that keeps its answers, none of which is want of memory: push
+/// by push, what the capture spells is the shelf's object or nothing, and the inbox gained that or left it out, and that of each push that is done it gained.
+pub fn own_servers_keep_done()
+    ensures { OwnServersKeepDone }
+{}

@@ -1,0 +1,4 @@
+pub mod Leaves
+pub mod Profiles
+pub mod Owing
+pub mod Runs

@@ -1,0 +1,74 @@
+-- That a push loses its link only where the air broke it (Core 5.1, Volume 1 Part F, 2.8, and Volume 2 Part E, 7.7.5).
+use Rattle.std.specs.Prelude.{◌≡◌, ◌⊎◌, Bool, true, false, List, [], ◌∷◌, ◌++◌, Option, Some}
+use Rattle.bt_base.specs.Objects.{Contents}
+use Rattle.push_script.specs.declared.scenario.Scenario.{Scenario}
+use Rattle.push_terms.specs.declared.outcome.Outcome.{Outcome}
+use Rattle.push_terms.specs.declared.outcome.Outcome.TheVariants.{Done, LinkLost, RetryLimit, Refused, NoService, ShelfFault, Cancelled, PeerClosed, PeerFault, ScriptEnded}
+use Rattle.push_terms.specs.declared.word.Word.{Word}
+use Rattle.push_terms.specs.declared.word.Word.TheVariants.{Pass, Lose, Repeat, Damage, Cut, Timer, Drop, Cancel}
+use Rattle.capture.specs.Entries.{Entry, Moved, Acted, Begun, Ended}
+use Rattle.capture.specs.Histories.{EachAfter}
+use Rattle.world_model.specs.Worlds.{Happening, all_entries}
+use Rattle.radio_world.specs.Standing.{last_entries}
+use Rattle.scenario_laws.specs.Captures.{client_of, BothHosts, Happened}
+use Rattle.cause_laws.specs.FirstCauses.{since_begun, end_reason, AreNoCauses}
+
+abbrev pub is_drop_word : Word → Bool
+is_drop_word Pass = false
+is_drop_word (Lose way) = false
+is_drop_word (Repeat way) = false
+is_drop_word (Damage way at mask) = false
+is_drop_word (Cut way packets) = false
+is_drop_word (Timer side) = false
+is_drop_word Drop = true
+is_drop_word Cancel = false
+
+-- the word `drop`, which found a link to break
+abbrev pub is_drop : Entry → Bool
+is_drop (Moved side flow packet) = false
+is_drop (Acted ordinal word) = is_drop_word word
+is_drop (Begun push) = false
+is_drop (Ended push outcome) = false
+
+abbrev pub HasDrop : List Entry → Type 0
+HasDrop [] = ⊥
+HasDrop (entry ∷ entries) = (is_drop entry ≡ true) ⊎ HasDrop entries
+
+-- Host a was told that its link ended, with reason 08: connection timeout. The word `drop` stands ahead of that, and nothing that ends its link or cancels the push.
+pub record IsLostByDrop (part : List Entry) : Type 0 where
+  pub before : List Entry
+  pub entry : Entry
+  pub after : List Entry
+  pub part_is : part ≡ before ++ entry ∷ after
+  pub first : AreNoCauses before
+  pub dropped : HasDrop before
+  pub told : end_reason entry ≡ Some 0x08
+
+-- so it is where the link was lost
+abbrev pub LossIs : Outcome → List Entry → Type 0
+LossIs LinkLost part = IsLostByDrop part
+LossIs Done part = Unit {0}
+LossIs RetryLimit part = Unit {0}
+LossIs (Refused code) part = Unit {0}
+LossIs NoService part = Unit {0}
+LossIs ShelfFault part = Unit {0}
+LossIs Cancelled part = Unit {0}
+LossIs PeerClosed part = Unit {0}
+LossIs (PeerFault layer reason) part = Unit {0}
+LossIs ScriptEnded part = Unit {0}
+
+abbrev pub EndsByDrop : List Entry → Entry → Type 0
+EndsByDrop past (Moved side flow packet) = Unit {0}
+EndsByDrop past (Acted ordinal word) = Unit {0}
+EndsByDrop past (Begun push) = Unit {0}
+EndsByDrop past (Ended push outcome) = LossIs outcome (since_begun past)
+
+-- Each push of a capture that ended with `link-lost` shows in its part that `drop` broke its link.
+abbrev pub LossesAreDrops : List Entry → Type 0
+LossesAreDrops capture = EachAfter EndsByDrop [] capture
+
+-- So it is of each run, wherever it broke off, whose client did not lack memory; and with the end of the push that goes on behind it.
+pub record RunsLoseByDrops : Type 0 where
+  pub moments : (scenario : Scenario) (content : Option Contents) (happenings : List Happening) (world : BothHosts) → Happened scenario content happenings world → world.a.upper.profile.client.failed ≡ false → LossesAreDrops (all_entries happenings)
+  pub ends : (scenario : Scenario) (content : Option Contents) (happenings : List Happening) (world : BothHosts) → Happened scenario content happenings world → world.a.upper.profile.client.failed ≡ false
+      → LossesAreDrops (all_entries happenings ++ last_entries ((client_of scenario).outcome world.a.upper) world.pushes)

@@ -1,0 +1,248 @@
+-- On the one channel of the object of a link no more requests were handed up than responses were taken, wherever one more comes.
+use Rattle.std.proofs.Common.{◌≡◌, ◌≤◌, ◌+◌, ℕ, Bool, true, false, cond, eqb, List, [], ◌∷◌, ◌++◌, length, drop, filter_map, find, Option, Some, None, refl, sym, ap, ap₂, subst, ◌∙◌, append_assoc, append-nil, length-append, arith, inl, inr}
+use Rattle.std.specs.List.{AllByRecursion, cons_option}
+use Rattle.std.proofs.lemmas.Bool.{eq-eqb}
+use Rattle.std.proofs.lemmas.List.Elements.{filter_map-append}
+use Rattle.acl_fragments.specs.Pieces.{channel_of}
+use Rattle.bt_base.specs.declared.settings.Settings.{Settings}
+use Rattle.capture.specs.declared.flow.Flow.TheVariants.{Out, Into}
+use Rattle.capture.specs.Histories.{EachAfter}
+use Rattle.l2cap_config.specs.declared.wish.Mode.TheVariants.{Enhanced}
+use Rattle.l2cap_signal.specs.Reading.{answers}
+use Rattle.link_talk.specs.declared.channel.Channel.{Channel}
+use Rattle.link_talk.specs.declared.party.Party.{Party}
+use Rattle.link_talk.specs.Carriages.{has_own, mode_of, pdus_of, stretch}
+use Rattle.link_talk.specs.Channels.{Entry, reading}
+use Rattle.link_talk.specs.GrowingLaws.{has_opened}
+use Rattle.link_talk.specs.Sayings.{Saying, Command, Carried, GaveUp}
+use Rattle.link_talk.specs.Sdus.{sdus, sdus_by}
+use Rattle.push_terms.specs.declared.word.Side.TheVariants as sides
+use Rattle.channel_model.specs.Carrying.{takes, Up as Handed, Nothing, Received, up_at}
+use Rattle.channel_model.specs.Hearing.{up}
+use Rattle.channel_model.specs.Policies.{Policy, policy}
+use Rattle.channel_model.specs.Value.{Channels}
+use Rattle.channel_laws.specs.Endpoints.{IsOf}
+use Rattle.channel_laws.specs.Frames.{IsUttered, AreUttered}
+use Rattle.channel_laws.specs.OwnTalk.{asked_between, said_with_all}
+use Rattle.channel_laws.specs.Runs.{Occurrence, Comes, Run, run_of, sdus_up}
+use Rattle.channel_laws.specs.Sdus.{StatesFrame, IsHandedUp}
+use Rattle.channel_laws.specs.Taken.{taken_of}
+use Rattle.channel_laws.specs.Views.{channel_by, read_at}
+use Rattle.channel_laws.proofs.Entries.{read-own}
+use Rattle.channel_laws.proofs.Incoming.{sdus-are_read}
+use Rattle.channel_laws.proofs.Signalling.{bare-asked, bare-comes}
+use Rattle.channel_laws.proofs.Stretching.{NoneComes, stays-heard}
+use Rattle.channel_laws.proofs.Taken.{taken-goes_out}
+use Rattle.push_laws.specs.Answers.{said}
+use Rattle.push_model.specs.Server.{object_psm}
+use Rattle.host_laws.specs.Gaining.{HandsAllUp}
+use Rattle.host_laws.specs.OneCarrier.{CarriesAlone}
+use Rattle.host_laws.specs.OverLinks.{GoesOut}
+use Rattle.host_laws.specs.Told.{sdus_told, told_on}
+use Rattle.host_laws.proofs.Profiles.{sdus-so}
+use Rattle.host_laws.proofs.SearchingWeave.{each_split}
+use Rattle.host_laws.proofs.Telling.{sdus_run}
+use Rattle.scenario_laws.specs.Parties.{party_of}
+use Rattle.scenario_laws.proofs.Wishes.{states_frame}
+use Rattle.request_laws.specs.HandedUp.{up_for, handed_for}
+use Rattle.request_laws.proofs.Accepted.{Accepted, accepted-stays, Opened, OpenedUp, opened-up, up-stays, all-opened}
+use Rattle.request_laws.proofs.Sole.{is_of, for_of, IsSole, sole}
+use Rattle.request_laws.proofs.Takes.{run_more, grown}
+use Rattle.orderly_laws.specs.Answered.{requests_on, responses_on, ComesBehind, IsAnswered, AreAnswered}
+use Rattle.orderly_laws.proofs.Moments.{of-stays, stands, unopened_out, unopened_in, fewer_said, more_responses, answered-at}
+
+-- ---- what comes in is not of what goes out behind
+
+record Splits (talk past : List Saying) (one : Saying) : Type 0 where
+  more : List Saying
+  is : talk ≡ past ++ one ∷ more
+
+out_at : (past tail : List Saying) (one : Saying) → AllByRecursion GoesOut (past ++ one ∷ tail) → GoesOut one
+out_at [] tail one all = all.0
+out_at (other ∷ past) tail one all = out_at past tail one all.1
+
+split_in : (talk outs past tail : List Saying) (one : Saying) → AllByRecursion GoesOut outs → (GoesOut one → ⊥) → talk ++ outs ≡ past ++ one ∷ tail → Splits talk past one
+split_in [] outs past tail one out comes is = absurd (comes (out_at past tail one (subst (AllByRecursion GoesOut) is out)))
+split_in (first ∷ talk) outs [] tail one out comes is = let same : first ≡ one = cc in record { more = talk; is = ap (λ (s : Saying). s ∷ talk) same }
+split_in (first ∷ talk) outs (other ∷ past) tail one out comes is =
+    let same : first ≡ other = cc in
+    let rest = split_in talk outs past tail one out comes cc in
+    record { more = rest.more; is = ap₂ (λ (s : Saying) (l : List Saying). s ∷ l) same rest.is }
+
+out_comes : (outs : List Saying) → AllByRecursion GoesOut outs → NoneComes outs
+out_comes [] out = refl
+out_comes (Command Out answer ∷ outs) out = out_comes outs out.1
+out_comes (Command Into answer ∷ outs) out = absurd out.0
+out_comes (Carried Out pdu ∷ outs) out = out_comes outs out.1
+out_comes (Carried Into pdu ∷ outs) out = absurd out.0
+out_comes (GaveUp forgone ∷ outs) out = absurd out.0
+
+-- ---- what is read of a channel is no less than what was handed up
+
+read_more : (broken : Bool) (ups read : List (List ℕ)) → IsHandedUp broken ups read → length ups ≤ length read
+read_more broken ups read (inl same) = let e = ap length same in omega (arith, e)
+read_more broken ups read (inr (is, sdu, same)) = let e = ap length same ∙ length-append ups (sdu ∷ []) in omega (arith, e)
+
+-- and no more where it is no longer
+read_all : (broken : Bool) (ups read : List (List ℕ)) → IsHandedUp broken ups read → length read ≤ length ups → read ≡ ups
+read_all broken ups read (inl same) few = same
+read_all broken ups read (inr (is, sdu, same)) few = let e = ap length same ∙ length-append ups (sdu ∷ []) in absurd (omega (arith, e, few))
+
+module _ (settings : Settings) (list : List Occurrence) (talk outs : List Saying) (said_is : (run_of (policy settings true) list).said ≡ talk ++ outs) (go_out : AllByRecursion GoesOut outs) (uttered : AreUttered (policy settings true) list)
+    (one : Channel) (psm_is : one.psm ≡ object_psm) (alone : CarriesAlone one (run_of (policy settings true) list).said) (answered : AreAnswered (party_of settings sides.B) talk) where
+  abbrev own : Policy
+  own = policy settings true
+
+  abbrev party : Party
+  party = party_of settings sides.B
+
+  states : StatesFrame (policy settings true) (party_of settings sides.B)
+  states = states_frame settings true sides.B
+
+  -- ---- the channel
+
+  abbrev entries : List Entry
+  entries = (reading (run_of (policy settings true) list).said).entries
+
+  pub sole-at : (psm at peer : ℕ) → Accepted (channel_by psm at peer) (read_at at (reading (run_of (policy settings true) list).said).entries) → IsSole object_psm one (channel_by psm at peer)
+  sole-at psm at peer is = sole object_psm one (channel_by psm at peer) (λ other aside same. aside.0 same) psm_is (for_of one (channel_by psm at peer) (run_of own list).said at alone (is_of (channel_by psm at peer) (read_at at entries) is))
+
+  pub sure-at : (psm at : ℕ) → Opened (run_of (policy settings true) list).said psm at → eqb psm object_psm ≡ eqb at one.own
+  sure-at psm at (peer, is) = (sole-at psm at peer is).agrees
+
+  -- ---- what was handed up of it
+
+  ups_same : (ups : List Handed) → AllByRecursion (OpenedUp (run_of own list).said) ups → handed_for object_psm ups ≡ sdus_up one.own ups
+  ups_same [] all = refl
+  ups_same (Nothing ∷ ups) all = ups_same ups all.1
+  ups_same (Received at psm sdu ∷ ups) all = ap₂ (λ (b : Bool) (l : List (List ℕ)). cons_option (cond b (Some sdu) None) l) (sure-at psm at all.0) (ups_same ups all.1)
+
+  all_stay : (front later : List Occurrence) (ups : List Handed) → list ≡ front ++ later → AllByRecursion (OpenedUp (run_of own front).said) ups → AllByRecursion (OpenedUp (run_of own list).said) ups
+  all_stay front later [] is all = tt
+  all_stay front later (brought ∷ ups) is all = (subst (λ (l : List Occurrence). OpenedUp (run_of own l).said brought) (sym is) (up-stays own front later brought all.0), all_stay front later ups is all.1)
+
+  pub handed-up : (front later : List Occurrence) → list ≡ front ++ later → handed_for object_psm (run_of (policy settings true) front).up ≡ sdus_up one.own (run_of (policy settings true) front).up
+  handed-up front later is = ups_same (run_of own front).up (all_stay front later (run_of own front).up is (all-opened own front))
+
+  -- ---- it is answered
+
+  talk_has : IsOf one (read_at one.own entries) → IsAnswered party talk one
+  talk_has is = answered-at party talk outs one psm_is answered (subst (λ (l : List Saying). IsOf one (read_at one.own (reading l).entries)) said_is is)
+
+  -- where its own end brings an SDU it is read
+  brings_has : (front rest : List Occurrence) (pdu : List ℕ) (at : ℕ) (sdu : List ℕ) → list ≡ front ++ Comes pdu ∷ rest → up (channel_of pdu) pdu (run_of own front).value ≡ Received at object_psm sdu → IsOf one (read_at one.own entries)
+  brings_has front rest pdu at sdu is brought = by (subst (OpenedUp (run_of own front).said) brought (opened-up own front (Comes pdu)))
+    where
+      by : Opened (run_of own front).said object_psm at → IsOf one (read_at one.own entries)
+      by (peer, accepted) =
+          let later : Accepted (channel_by object_psm at peer) (read_at at entries) =
+          subst (λ (l : List Occurrence). Accepted (channel_by object_psm at peer) (read_at at (reading (run_of own l).said).entries)) (sym is) (accepted-stays own front (Comes pdu ∷ rest) (channel_by object_psm at peer) at accepted) in
+          subst (λ (c : Channel). IsOf c (read_at c.own entries)) ((sole-at object_psm at peer later).same (eq-eqb object_psm object_psm refl)) (is_of (channel_by object_psm at peer) (read_at at entries) later)
+
+  -- what its talk says that went is no more than what its channel took
+  responses_few : (front later : List Occurrence) (more : List Saying) → list ≡ front ++ later → talk ≡ (run_of own front).said ++ more → IsAnswered party talk one → length (responses_on party one (run_of own front).said) ≤ length (filter_map said (taken_of own one.own front))
+  responses_few front later more is talk_is a = by (has_opened (find (has_own one) (reading (run_of own front).said).entries)) refl
+    where
+      past : List Saying
+      past = (run_of own front).said
+
+      utters : AreUttered own front
+      utters = (each_split (λ before next. IsUttered next (run_of own before).value) [] front later (subst (AreUttered own) is uttered)).0
+
+      by : (opened : Bool) → has_opened (find (has_own one) (reading (run_of own front).said).entries) ≡ opened → length (responses_on party one (run_of own front).said) ≤ length (filter_map said (taken_of own one.own front))
+      by false shut = let none = ap (λ (l : List (List ℕ)). length (filter_map said l)) (unopened_out party one past shut) in omega (arith, none)
+      by true open' =
+          let later' = stands one past more open' in
+          let mode : mode_of one past ≡ Enhanced =
+          sym later'.mode_is ∙ (ap (mode_of one) (sym talk_is) ∙ a.enhanced (subst (λ (l : List Saying). has_opened (find (has_own one) (reading l).entries) ≡ true) (sym talk_is) later'.opened)) in
+          fewer_said (sdus party one Out past) (taken_of own one.own front) (taken-goes_out own party front one states utters mode)
+
+  -- ---- one more comes
+
+  abbrev asked : List Occurrence → List ℕ → List Saying
+  asked front pdu = asked_between (run_of own front).value (takes (channel_of pdu) pdu (run_of own front).value)
+
+  no_signal : (front : List Occurrence) (pdu : List ℕ) (at : ℕ) (sdu : List ℕ) → up (channel_of pdu) pdu (run_of own front).value ≡ Received at object_psm sdu → eqb (channel_of pdu) 0x0001 ≡ false
+  no_signal front pdu at sdu brought = by (eqb (channel_of pdu) 0x0001) refl
+    where
+      by : (signals : Bool) → eqb (channel_of pdu) 0x0001 ≡ signals → signals ≡ false
+      by false is = refl
+      by true is = let never : Nothing ≡ Received at object_psm sdu = sym (ap (λ (b : Bool). cond b Nothing (up_at (channel_of pdu) pdu (run_of own front).value)) is) ∙ brought in cc
+
+  said_next : (front : List Occurrence) (pdu : List ℕ) → eqb (channel_of pdu) 0x0001 ≡ false → (run_of own (front ++ Comes pdu ∷ [])).said ≡ ((run_of own front).said ++ Carried Into pdu ∷ []) ++ asked front pdu
+  said_next front pdu plain =
+      let v : Channels = (run_of own front).value in
+      ap (λ (r : Run). r.said) (run_more own front (Comes pdu))
+      ∙ (ap (λ (b : Bool). (run_of own front).said ++ cond b (said_with_all own (answers (drop 4 pdu)) v) (Carried Into pdu ∷ asked front pdu)) plain ∙ sym (append_assoc (run_of own front).said (Carried Into pdu ∷ []) (asked front pdu)))
+
+  handed_next : (front : List Occurrence) (pdu : List ℕ) (at : ℕ) (sdu : List ℕ) → up (channel_of pdu) pdu (run_of own front).value ≡ Received at object_psm sdu
+      → length (handed_for object_psm (run_of own (front ++ Comes pdu ∷ [])).up) ≡ length (handed_for object_psm (run_of own front).up) + 1
+  handed_next front pdu at sdu brought =
+      ap (λ (r : Run). length (handed_for object_psm r.up)) (run_more own front (Comes pdu))
+      ∙ (ap length (filter_map-append (up_for object_psm) (run_of own front).up (up (channel_of pdu) pdu (run_of own front).value ∷ []))
+      ∙ (length-append (handed_for object_psm (run_of own front).up) (handed_for object_psm (up (channel_of pdu) pdu (run_of own front).value ∷ []))
+      ∙ ap (λ (u : Handed). length (handed_for object_psm (run_of own front).up) + length (handed_for object_psm (u ∷ []))) brought))
+
+  pub behind-responses : (front rest : List Occurrence) (pdu : List ℕ) (at : ℕ) (sdu : List ℕ) → list ≡ front ++ Comes pdu ∷ rest → up (channel_of pdu) pdu (run_of (policy settings true) front).value ≡ Received at object_psm sdu
+      → length (handed_for object_psm (run_of (policy settings true) front).up) ≤ length (filter_map said (taken_of (policy settings true) one.own front))
+  behind-responses front rest pdu at sdu is brought =
+      let past = (run_of own front).said in
+      let next = front ++ Comes pdu ∷ [] in
+      let plain = no_signal front pdu at sdu brought in
+      let further : list ≡ next ++ rest = is ∙ sym (append_assoc front (Comes pdu ∷ []) rest) in
+      let g = grown own next rest in
+      let all : talk ++ outs ≡ past ++ Carried Into pdu ∷ (asked front pdu ++ g.more) =
+      sym said_is
+      ∙ (ap (λ (l : List Occurrence). (run_of own l).said) further
+      ∙ (g.is
+      ∙ (ap (λ (l : List Saying). l ++ g.more) (said_next front pdu plain)
+      ∙ (append_assoc (past ++ Carried Into pdu ∷ []) (asked front pdu) g.more ∙ append_assoc past (Carried Into pdu ∷ []) (asked front pdu ++ g.more))))) in
+      let split = split_in talk outs past (asked front pdu ++ g.more) (Carried Into pdu) go_out (λ never. never) all in
+      let a = talk_has (brings_has front rest pdu at sdu is brought) in
+      let turn : ComesBehind party one past (Carried Into pdu) = (each_split (ComesBehind party one) [] past (Carried Into pdu ∷ split.more) (subst (EachAfter (ComesBehind party one) []) split.is a.in_turn)).1.0 in
+      let read = read_more _ (sdus_up one.own (run_of own next).up) (sdus party one Into (run_of own next).said) (sdus-are_read own party next one states) in
+      let same = ap (λ (l : List Saying). length (sdus party one Into l)) (said_next front pdu plain)
+      ∙ ap length (stays-heard party one (asked front pdu) (past ++ Carried Into pdu ∷ []) (bare-comes (asked front pdu) (bare-asked (run_of own front).value (takes (channel_of pdu) pdu (run_of own front).value)))).sdus_are in
+      let ups = ap length (handed-up next rest further) in
+      let more = handed_next front pdu at sdu brought in
+      let few = responses_few front (Comes pdu ∷ rest) (Carried Into pdu ∷ split.more) is split.is a in
+      omega (arith, turn, read, same, ups, more, few)
+
+  -- ---- all is handed up
+
+  same_frame : (other : Party) → StatesFrame own other → sdus other one Into (run_of own list).said ≡ sdus party one Into (run_of own list).said
+  same_frame other has = ap (λ (n : ℕ). sdus_by n (mode_of one (run_of own list).said) (pdus_of Into (stretch one (run_of own list).said))) (sym (has 0) ∙ states 0)
+
+  -- where no more was taken than was handed up
+  read_few : length (filter_map said (taken_of own one.own list)) ≤ length (handed_for object_psm (run_of own list).up) → length (sdus party one Into (run_of own list).said) ≤ length (sdus_up one.own (run_of own list).up)
+  read_few few = by (has_opened (find (has_own one) (reading talk).entries)) refl
+    where
+      at_end : length (sdus party one Into (run_of own list).said) ≡ length (requests_on party one talk)
+      at_end = ap (λ (l : List Saying). length (sdus party one Into l)) said_is ∙ ap length (stays-heard party one outs talk (out_comes outs go_out)).sdus_are
+
+      has : (found : Option Entry) → read_at one.own (reading talk).entries ≡ found → has_opened found ≡ true → IsOf one (read_at one.own entries)
+      has None at opened = cc
+      has (Some entry) at opened =
+          let here : IsOf entry.channel (read_at one.own (reading talk).entries) = subst (IsOf entry.channel) (sym at) refl in
+          let there : IsOf entry.channel (read_at one.own entries) = subst (λ (l : List Saying). IsOf entry.channel (read_at one.own (reading l).entries)) (sym said_is) (of-stays entry.channel one.own talk outs here) in
+          let same : entry.channel ≡ one = (for_of one entry.channel (run_of own list).said one.own alone there).same (eq-eqb entry.channel.own one.own (read-own one.own (reading talk).entries entry at)) in
+          subst (λ (c : Channel). IsOf c (read_at one.own entries)) same there
+
+      by : (opened : Bool) → has_opened (find (has_own one) (reading talk).entries) ≡ opened → length (sdus party one Into (run_of own list).said) ≤ length (sdus_up one.own (run_of own list).up)
+      by false shut = let none = ap length (unopened_in party one talk shut) in omega (arith, none, at_end)
+      by true open' =
+          let a = talk_has (has (read_at one.own (reading talk).entries) refl open') in
+          let later = stands one talk outs open' in
+          let mode : mode_of one (run_of own list).said ≡ Enhanced = ap (mode_of one) said_is ∙ (later.mode_is ∙ a.enhanced open') in
+          let each = a.each in
+          let more = more_responses party one talk outs in
+          let same = ap (λ (l : List Saying). length (responses_on party one l)) said_is in
+          let took = fewer_said (sdus party one Out (run_of own list).said) (taken_of own one.own list) (taken-goes_out own party list one states uttered mode) in
+          let ups = ap length (handed-up list [] (sym (append-nil list))) in
+          omega (arith, at_end, each, more, same, took, few, ups)
+
+  pub hands-all_up : length (filter_map said (taken_of (policy settings true) one.own list)) ≤ length (handed_for object_psm (run_of (policy settings true) list).up) → (run_of (policy settings true) list).value.events ≡ [] → HandsAllUp (policy settings true) list one
+  hands-all_up few none broken other has =
+      let short = read_few few in
+      let ups = ap length (sdus_run own one.own list) in
+      same_frame other has ∙ read_all _ (sdus_told one.own (told_on own list)) (sdus party one Into (run_of own list).said) (sdus-so own party list states none one) (omega (arith, short, ups))

@@ -1,0 +1,213 @@
+-- On orderly input the inbox of a server gains what its own units spell.
+use Rattle.std.proofs.Common.{◌≡◌, true, false, List, [], ◌∷◌, ◌++◌, map, Option, Some, refl, sym, ap, ap₂, subst, ◌∙◌, append_assoc, inl, inr}
+use Rattle.std.specs.List.{AllByRecursion, AllZip, flat_map}
+use Rattle.std.proofs.lemmas.List.Concat.{flat_map-append}
+use Rattle.bt_base.specs.declared.settings.Settings.{Settings}
+use Rattle.bt_base.specs.declared.settings.Transport.{Transport}
+use Rattle.bt_base.specs.declared.settings.Transport.TheVariants.{L2cap}
+use Rattle.bt_base.specs.Objects.{Object, Contents}
+use Rattle.push_terms.specs.declared.word.Side.TheVariants as sides
+use Rattle.capture.specs.Links.{Link, links}
+use Rattle.capture.specs.Pdus.{Pdu, pdus}
+use Rattle.link_talk.specs.Captures.{talks}
+use Rattle.link_talk.specs.Sayings.{Saying, said_by, talk}
+use Rattle.channel_model.specs.Policies.{policy}
+use Rattle.channel_model.specs.Value.{Channels}
+use Rattle.channel_laws.specs.Frames.{AreUttered}
+use Rattle.channel_laws.specs.Runs.{Occurrence, run_of}
+use Rattle.channel_laws.specs.Singly.{AsksForNoChannel}
+use Rattle.obex_session.specs.InboxCalls.{Answer}
+use Rattle.push_model.specs.Client.{own_maximum}
+use Rattle.push_model.specs.Server.{object_psm}
+use Rattle.push_laws.specs.Premises.{AllGranted}
+use Rattle.world_model.specs.Talks.{Talk}
+use Rattle.world_model.specs.Machines.{Upper}
+use Rattle.host_model.specs.Circumstances.{Circumstance, Size, Part, Stored, answers_in}
+use Rattle.host_model.specs.Machines.{upper}
+use Rattle.host_model.proofs.Orderly.{says_frames}
+use Rattle.host_laws.specs.Acts.{Act, Hears, Says}
+use Rattle.host_laws.specs.Calls.{Asks}
+use Rattle.host_laws.specs.Gifts.{gifts_with}
+use Rattle.host_laws.specs.InOrder.{AsksForOneObject}
+use Rattle.host_laws.specs.Keeping.{GivesNothingUp}
+use Rattle.host_laws.specs.Lives.{Span}
+use Rattle.host_laws.specs.OneOnLinks.{CarriesOneOn}
+use Rattle.host_laws.specs.OverLinks.{AreTimely, parts, moved_in, talk_marks, IsTalkOf}
+use Rattle.host_laws.specs.Serving.{served_from}
+use Rattle.host_laws.specs.Spoken.{IsServed}
+use Rattle.host_laws.proofs.Asking.{hosts_ask}
+use Rattle.host_laws.proofs.GainingOver.{hosts_read_over_links}
+use Rattle.host_laws.proofs.InOrder.{asks-nothing, links-ask_none, servers-ask_for_nothing}
+use Rattle.host_laws.proofs.Keeping.{servers_lend}
+use Rattle.host_laws.proofs.OneOnLinks.{servers-carry_alone}
+use Rattle.host_laws.proofs.Seeking.{is-served}
+use Rattle.host_laws.proofs.Serving.{hosts_gain}
+use Rattle.scenario_laws.specs.Coming.{out_of, FallTo, CameOver}
+use Rattle.scenario_laws.specs.Gains.{holding, serving}
+use Rattle.scenario_laws.specs.Parties.{party_of}
+use Rattle.scenario_laws.proofs.Gaining.{all-out, both_out, all_spell, link_talks}
+use Rattle.scenario_laws.proofs.Orderly.{parts_asked, asked_talks}
+use Rattle.scenario_laws.proofs.Wishes.{states_frame}
+use Rattle.pair_laws.specs.Granted.{granted}
+use Rattle.request_laws.proofs.Lending.{serve_all}
+use Rattle.request_laws.proofs.Together.{all_granted}
+use Rattle.unit_laws.specs.Calls.{gifts_in}
+use Rattle.unit_laws.specs.Units.{units, lone_capture}
+use Rattle.unit_laws.proofs.Living.{servers-gently}
+use Rattle.unit_laws.proofs.Running.{units_are_talk}
+use Rattle.orderly_laws.specs.Answered.{AreAnswered}
+use Rattle.orderly_laws.specs.Orderly.{ServersGainAsked}
+use Rattle.orderly_laws.proofs.Counting.{none-ignored}
+use Rattle.orderly_laws.proofs.Given.{lives-given, nothing-given_up}
+use Rattle.orderly_laws.proofs.Granting.{act_so, runs-same, frames-same, over-so, over-acts}
+use Rattle.orderly_laws.proofs.Linking.{ReadLink, AllRead, all-carry, all-direct, all-turns}
+
+-- ---- its links, as they are read
+
+abbrev moved_on : List Pdu → List Saying
+moved_on link = flat_map said_by link
+
+abbrev AnswersOn : Settings → List (List Pdu) → Type 0
+AnswersOn settings caught = AllByRecursion (λ (link : List Pdu). AreAnswered (party_of settings sides.B) (moved_on link)) caught
+
+answers_on : (settings : Settings) (list : List Link) → AllByRecursion (AreAnswered (party_of settings sides.B)) (map talk list) → AnswersOn settings (map pdus list)
+answers_on settings [] all = tt
+answers_on settings (link ∷ list) all = (all.0, answers_on settings list all.1)
+
+-- what is so of a list
+record Of (settings : Settings) (list : List Occurrence) : Type 0 where
+  uttered : AreUttered (policy settings true) list
+  plain : GivesNothingUp (policy settings true) list
+  only : CarriesOneOn object_psm (policy settings true) list
+  none : AllByRecursion AsksForNoChannel list
+  told : (run_of (policy settings true) list).value.events ≡ []
+
+reads_of : (settings : Settings) (lists : List (List Occurrence)) (talks : List (List Talk)) (caught : List (List Pdu)) → AllZip (IsTalkOf (policy settings true)) lists talks → FallTo talks caught → AnswersOn settings caught → AllByRecursion (Of settings) lists
+    → AllByRecursion (ReadLink settings) lists
+reads_of settings [] talks caught are fall answers all = tt
+reads_of settings (list ∷ lists) [] caught are fall answers all = absurd are
+reads_of settings (list ∷ lists) (part ∷ talks) caught are (inl (none, fall)) answers all = (
+  record {
+    talk = [];
+    outs = are.0.waits;
+    said_is = sym all.0.plain ∙ (are.0.talk_is ∙ ap (λ (l : List Pdu). moved_on l ++ are.0.waits) none);
+    go_out = are.0.go_out;
+    uttered = all.0.uttered;
+    answered = tt;
+    only = all.0.only;
+    none = all.0.none;
+    told = all.0.told;
+  },
+  reads_of settings lists talks caught are.1 fall answers all.1,
+)
+reads_of settings (list ∷ lists) (part ∷ talks) caught are (inr (link, rest, unsent, caught_is, part_is, fall)) answers all =
+    let left = moved_on (map out_of unsent) in
+    let here = subst (AnswersOn settings) caught_is answers in (
+      record {
+        talk = moved_on link;
+        outs = left ++ are.0.waits;
+        said_is = sym all.0.plain
+            ∙ (are.0.talk_is ∙ (ap (λ (l : List Pdu). moved_on l ++ are.0.waits) part_is ∙ (ap (λ (l : List Saying). l ++ are.0.waits) (flat_map-append said_by link (map out_of unsent)) ∙ append_assoc (moved_on link) left are.0.waits)));
+        go_out = both_out left are.0.waits (all-out unsent) are.0.go_out;
+        uttered = all.0.uttered;
+        answered = here.0;
+        only = all.0.only;
+        none = all.0.none;
+        told = all.0.told;
+      },
+      reads_of settings lists talks rest are.1 fall here.1 all.1,
+    )
+
+-- those that ended, and the last one
+lists_of : List Span → List Occurrence → List (List Occurrence)
+lists_of spans now = map (λ (span : Span). span.list) spans ++ now ∷ []
+
+all_of : (settings : Settings) (lists : List (List Occurrence)) → AllByRecursion (AreUttered (policy settings true)) lists → AllByRecursion (GivesNothingUp (policy settings true)) lists → AllByRecursion (CarriesOneOn object_psm (policy settings true)) lists → AllByRecursion (AllByRecursion AsksForNoChannel) lists
+    → AllByRecursion (λ (list : List Occurrence). (run_of (policy settings true) list).value.events ≡ []) lists → AllByRecursion (Of settings) lists
+all_of settings [] utter plain only none told = tt
+all_of settings (list ∷ lists) utter plain only none told =
+    (record { uttered = utter.0; plain = plain.0; only = only.0; none = none.0; told = told.0 }, all_of settings lists utter.1 plain.1 only.1 none.1 told.1)
+
+on_each : (Q : List Occurrence → Type 0) (spans : List Span) (now : List Occurrence) → AllByRecursion (λ (span : Span). Q span.list) spans → Q now → AllByRecursion Q (map (λ (span : Span). span.list) spans ++ now ∷ [])
+on_each Q [] now before last = (last, tt)
+on_each Q (span ∷ spans) now before last = (before.0, on_each Q spans now before.1 last)
+
+record Parts (settings : Settings) (spans : List Span) (now : List Occurrence) : Type 0 where
+  before : AllRead settings spans
+  last : ReadLink settings now
+
+parts_read : (settings : Settings) (spans : List Span) (now : List Occurrence) → AllByRecursion (ReadLink settings) (map (λ (span : Span). span.list) spans ++ now ∷ []) → Parts settings spans now
+parts_read settings [] now all = record { before = tt; last = all.0 }
+parts_read settings (span ∷ spans) now all = let rest = parts_read settings spans now all.1 in record { before = (all.0, rest.before); last = rest.last }
+
+all_served : (settings : Settings) (lists : List (List Occurrence)) (talks : List (List Talk)) → AllZip (IsTalkOf (policy settings true)) lists talks → AllByRecursion (AllByRecursion AsksForNoChannel) lists → AllByRecursion (λ part. AsksForOneObject L2cap (moved_in part)) talks
+    → AllByRecursion (λ part. IsServed (moved_in part)) talks
+all_served settings [] [] are none sought = tt
+all_served settings [] (part ∷ talks) are none sought = absurd are
+all_served settings (list ∷ lists) [] are none sought = tt
+all_served settings (list ∷ lists) (part ∷ talks) are none sought =
+    (is-served L2cap (policy settings true) list (moved_in part) are.0.waits (record { none = none.0; talk_is = are.0.talk_is; go_out = are.0.go_out; sought = sought.0 }), all_served settings lists talks are.1 none.1 sought.1)
+
+-- ---- what its ports gave it
+
+abbrev IsGrant : List Circumstance → Type 0
+IsGrant gift = AllGranted (answers_in gift)
+
+grant_same : (gift : List Circumstance) → AllGranted (answers_in gift) → map granted gift ≡ gift
+grant_same [] all = refl
+grant_same (Size answer ∷ gift) all = ap (λ (l : List Circumstance). Size answer ∷ l) (grant_same gift all)
+grant_same (Part excerpt ∷ gift) all = ap (λ (l : List Circumstance). Part excerpt ∷ l) (grant_same gift all)
+grant_same (Stored answer ∷ gift) all = ap₂ (λ (a : Answer) (l : List Circumstance). Stored a ∷ l) (sym all.0) (grant_same gift all.1)
+
+all_same : (gifts : List (List Circumstance)) → AllByRecursion IsGrant gifts → AllByRecursion (λ (gift : List Circumstance). map granted gift ≡ gift) gifts
+all_same [] all = tt
+all_same (gift ∷ gifts) all = (grant_same gift all.0, all_same gifts all.1)
+
+granted_all : (gift : List Circumstance) → AllGranted (answers_in (map granted gift))
+granted_all [] = tt
+granted_all (Size answer ∷ gift) = granted_all gift
+granted_all (Part excerpt ∷ gift) = granted_all gift
+granted_all (Stored answer ∷ gift) = (refl, granted_all gift)
+
+acts_granted : {S : Type 0} (U : Upper S Circumstance) (acts : List (Act Circumstance)) → AllByRecursion (λ (act : Act Circumstance). AllByRecursion IsGrant (gifts_with act)) (map (act_so U (map granted)) acts)
+acts_granted U [] = tt
+acts_granted U (Hears gifts news ∷ acts) = ((granted_all gifts, tt), acts_granted U acts)
+acts_granted U (Says pdu ∷ acts) = (tt, acts_granted U acts)
+
+-- ---- the law
+
+pub servers_gain_asked : ServersGainAsked
+servers_gain_asked settings before occasions now transport did granted' orderly =
+    let content : Option Contents = holding before in
+    let A = serving settings before in
+    let asks : Asks (serving settings before) = hosts_ask.servers settings (holding before) in
+    let U = upper A in
+    let capture = lone_capture sides.B (units occasions) in
+    let party = party_of settings sides.B in
+    let told = units_are_talk (record U { hear = λ gifts news. U.hear (map granted gifts) news }) sides.B _ occasions now (frames-same U (map granted) (says_frames A)) (runs-same U (map granted) occasions _ now (all_same (gifts_in occasions) granted'.granted) did) in
+    let over = over-so U (map granted) told.talk now.upper told.over in
+    let came : CameOver (serving settings before) sides.B (lone_capture sides.B (units occasions)) now.upper = record { talk = told.talk; over = over; fall = told.fall; last = told.up } in
+    let lives = lives-given A asks IsGrant told.talk now.upper over (servers-gently settings content capture now.upper orderly.commands came) (subst (AllByRecursion (λ (act : Act Circumstance). AllByRecursion IsGrant (gifts_with act))) (sym (over-acts U (map granted) told.talk now.upper told.over)) (acts_granted U told.over.acts)) in
+    let so = lives.fed.so in
+    let spans = so.lives.spans in
+    let list = so.lives.now in
+    let lists = map (λ (span : Span). span.list) spans ++ list ∷ [] in
+    let marks = flat_map talk_marks told.talk in
+    let sought = parts_asked L2cap (parts told.talk) (map pdus (links sides.B capture)) told.fall (asked_talks L2cap (links sides.B capture) orderly.one_channel) in
+    let none = links-ask_none A asks marks now.upper so.lives (asks-nothing settings content) in
+    let none_all = on_each (AllByRecursion AsksForNoChannel) spans list none.before none.last in
+    let plain = nothing-given_up (policy settings true) lists told.talk so.talks_are (told.unfired granted'.untimed) (servers-ask_for_nothing settings content asks marks now.upper so.lives (servers_lend settings content)) in
+    let only = servers-carry_alone L2cap settings content asks told.talk now.upper so (asks-nothing settings content) sought in
+    let last_told : (run_of (policy settings true) list).value.events ≡ [] = ap (λ (v : Channels). v.events) (sym so.lives.channels_run) ∙ so.lives.all_told in
+    let events = on_each (λ (l : List Occurrence). (run_of (policy settings true) l).value.events ≡ []) spans list so.lives.spans_told last_told in
+    let reads = parts_read settings spans list (reads_of settings lists (parts told.talk) (map pdus (links sides.B capture)) so.talks_are told.fall (answers_on settings (links sides.B capture) orderly.answered) (all_of settings lists lives.uttered plain only none_all events)) in
+    let timely = subst (AreTimely false) (sym so.lives.marks_are) so.timely in
+    let feeds = so.lives.feeds in
+    let direct = all-direct settings content spans list feeds A.first now.upper.profile lives.fed.fed refl reads.before reads.last in
+    let turns = all-turns settings content spans list feeds A.first now.upper.profile lives.fed.fed refl timely reads.before reads.last 0 in
+    let heard = none-ignored settings before (served_from settings content A.first feeds) (serve_all AllGranted settings content feeds A.first (all_granted feeds lives.given) direct) turns.0 in
+    let carry = all-carry settings spans list reads.before reads.last timely (turns.1 heard.1) in
+    let served = all_served settings lists (parts told.talk) so.talks_are none_all sought in
+    let read = hosts_read_over_links settings content party asks told.talk now.upper so (states_frame settings true sides.B) (ap (λ (t : Transport). own_maximum t settings) transport) direct carry.carried carry.carries served in
+    hosts_gain settings before asks marks now.upper so.lives heard.0
+    ∙ ap (λ (l : List Object). Some (before ++ l)) (read ∙ (all_spell party (parts told.talk) (map pdus (links sides.B capture)) told.fall served ∙ link_talks party (links sides.B capture)))

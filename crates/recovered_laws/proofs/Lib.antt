@@ -1,0 +1,10 @@
+pub mod Waking
+pub mod Moving
+pub mod Twins
+pub mod Doing
+pub mod Turning
+pub mod Paying
+pub mod Readying
+pub mod Settling
+pub mod Following
+pub mod Owing

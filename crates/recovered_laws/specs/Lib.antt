@@ -1,0 +1,4 @@
+pub mod Calm
+pub mod Paid
+pub mod TwoEnds
+pub mod Owing
