@@ -2,21 +2,21 @@
 use Rattle.std.proofs.Common.{◌≡◌, ℕ, ◌+◌, ◌*◌, ◌%◌, ◌≤◌, ◌<◌, ◌==◌, ◌&&◌, nat_le, min, Bool, true, false, List, [], ◌∷◌, ◌++◌, length, Option, if◌then◌else◌, refl, sym, ap, ◌∙◌, subst, arith}
 use Rattle.std.specs.Prelude.{sum_by}
 use Rattle.std.proofs.lemmas.Bool.{eq-eqb, eqb-true, le-leb}
-use Rattle.h4_framing.specs.Packets.{Packet, Acl}
-use Rattle.hci_packets.specs.AclWords.{flag_of}
-use Rattle.hci_packets.specs.declared.acl.Boundary.{Boundary}
-use Rattle.hci_packets.specs.declared.acl.Boundary.TheVariants.{First, Continuing, FirstFromController}
-use Rattle.acl_fragments.specs.Pieces.{Piece}
-use Rattle.acl_credits.specs.Histories.{BufferEvent, Sent}
-use Rattle.push_terms.specs.declared.word.Side.{Side}
-use Rattle.capture.specs.declared.flow.Flow.{Flow}
-use Rattle.capture.specs.declared.flow.Flow.TheVariants.{Out}
-use Rattle.capture.specs.Entries.{Entry}
-use Rattle.capture.specs.Links.{Link, LinkNews, NoNews, link_news, link_up}
-use Rattle.capture.specs.Buffers.{events, outstanding_on_link, outstanding_of, all_outstanding}
-use Rattle.radio_air.specs.Controllers.{Controller, after_giving_back}
-use Rattle.radio_air.specs.Honest.{sent_on, completed_on, all_sent, all_completed}
-use Rattle.world_model.specs.Stations.{Order, Data}
+use Rattle.turn_laws.specs.h4_framing.specs.Packets.{Packet, Acl}
+use Rattle.turn_laws.specs.hci_packets.specs.AclWords.{flag_of}
+use Rattle.turn_laws.specs.hci_packets.specs.declared.acl.Boundary.{Boundary}
+use Rattle.turn_laws.specs.hci_packets.specs.declared.acl.Boundary.TheVariants.{First, Continuing, FirstFromController}
+use Rattle.turn_laws.specs.acl_fragments.specs.Pieces.{Piece}
+use Rattle.turn_laws.specs.acl_credits.specs.Histories.{BufferEvent, Sent}
+use Rattle.turn_laws.specs.push_terms.specs.declared.word.Side.{Side}
+use Rattle.turn_laws.specs.capture.specs.declared.flow.Flow.{Flow}
+use Rattle.turn_laws.specs.capture.specs.declared.flow.Flow.TheVariants.{Out}
+use Rattle.turn_laws.specs.capture.specs.Entries.{Entry}
+use Rattle.turn_laws.specs.capture.specs.Links.{Link, LinkNews, NoNews, link_news, link_up}
+use Rattle.turn_laws.specs.capture.specs.Buffers.{events, outstanding_on_link, outstanding_of, all_outstanding}
+use Rattle.turn_laws.specs.radio_air.specs.Controllers.{Controller, after_giving_back}
+use Rattle.turn_laws.specs.radio_air.specs.Honest.{sent_on, completed_on, all_sent, all_completed}
+use Rattle.turn_laws.specs.world_model.specs.Stations.{Order, Data}
 use Rattle.turn_laws.proofs.Wiring.{sent}
 use Rattle.air_laws.proofs.Knowing.{OnLink, Known}
 use Rattle.air_laws.proofs.Counting.{own, sent_more, completed_more, held_with, IsPlain, plain_held, none_held}

@@ -3,25 +3,25 @@ use Rattle.std.proofs.Common.{◌≡◌, ℕ, ◌+◌, ◌-◌, ◌≤◌, ◌==
 use Rattle.std.specs.Prelude.{nat_le, drop, min}
 use Rattle.std.proofs.lemmas.List.{append-nil}
 use Rattle.byteorder.specs.Endian.{little_number}
-use Rattle.acl_fragments.specs.Pieces.{Piece}
-use Rattle.push_terms.specs.declared.word.Side.{Side}
-use Rattle.push_terms.specs.declared.word.Side.TheVariants.{A, B}
-use Rattle.push_terms.specs.declared.word.Way.{Way}
-use Rattle.push_terms.specs.declared.word.Way.TheVariants.{Ab, Ba}
-use Rattle.capture.specs.declared.flow.Flow.TheVariants.{Out}
-use Rattle.capture.specs.Entries.{Entry, Moved}
-use Rattle.capture.specs.Histories.{AtEach, EachAfter}
-use Rattle.capture.specs.Links.{Link, links, link_up}
-use Rattle.capture.proofs.HistoryLaws.{each_after-more, at_each-more, at_each-none}
-use Rattle.radio_air.specs.declared.fate.Fate.{Fate}
-use Rattle.radio_air.specs.declared.deed.Deed.{Deed}
-use Rattle.radio_air.specs.declared.deed.Deed.TheVariants.{Nothing, Meets, Fires, FiresBoth, Breaks, Cancels}
-use Rattle.radio_air.specs.Controllers.{Answer, Returned, Stated, Called, LinkMade, LinkGone, GivenBack, Controller, after_telling}
-use Rattle.radio_air.specs.Honest.{IsNumbered, IsOnItsLink}
-use Rattle.radio_air.specs.Radio.{Radio, is_together, controller, after_meeting, found}
-use Rattle.world_model.specs.Machines.{TimerFired, Upper}
-use Rattle.world_model.specs.Stations.{Order, Reset, ReadBuffers, ReadAddress, Scan, Page, Accept, End, Data, order_packet, Station, Effort, Taking, Putting, Asking, Leaving, Commanding, MakesEffort, is_handle, longest_pdu, gives, holds, hears_each, hears_piece, hears_answer, may_accept, told}
-use Rattle.world_model.specs.Worlds.{World, Happening, Tries, Departure, GivingBack, Piecemeal, Answering, Turns, Misses, Opens, Closes, entries_of, words_in, checks, Acts, first_world, after_order}
+use Rattle.turn_laws.specs.acl_fragments.specs.Pieces.{Piece}
+use Rattle.turn_laws.specs.push_terms.specs.declared.word.Side.{Side}
+use Rattle.turn_laws.specs.push_terms.specs.declared.word.Side.TheVariants.{A, B}
+use Rattle.turn_laws.specs.push_terms.specs.declared.word.Way.{Way}
+use Rattle.turn_laws.specs.push_terms.specs.declared.word.Way.TheVariants.{Ab, Ba}
+use Rattle.turn_laws.specs.capture.specs.declared.flow.Flow.TheVariants.{Out}
+use Rattle.turn_laws.specs.capture.specs.Entries.{Entry, Moved}
+use Rattle.turn_laws.specs.capture.specs.Histories.{AtEach, EachAfter}
+use Rattle.turn_laws.specs.capture.specs.Links.{Link, links, link_up}
+use Rattle.turn_laws.specs.capture.proofs.HistoryLaws.{each_after-more, at_each-more, at_each-none}
+use Rattle.turn_laws.specs.radio_air.specs.declared.fate.Fate.{Fate}
+use Rattle.turn_laws.specs.radio_air.specs.declared.deed.Deed.{Deed}
+use Rattle.turn_laws.specs.radio_air.specs.declared.deed.Deed.TheVariants.{Nothing, Meets, Fires, FiresBoth, Breaks, Cancels}
+use Rattle.turn_laws.specs.radio_air.specs.Controllers.{Answer, Returned, Stated, Called, LinkMade, LinkGone, GivenBack, Controller, after_telling}
+use Rattle.turn_laws.specs.radio_air.specs.Honest.{IsNumbered, IsOnItsLink}
+use Rattle.turn_laws.specs.radio_air.specs.Radio.{Radio, is_together, controller, after_meeting, found}
+use Rattle.turn_laws.specs.world_model.specs.Machines.{TimerFired, Upper}
+use Rattle.turn_laws.specs.world_model.specs.Stations.{Order, Reset, ReadBuffers, ReadAddress, Scan, Page, Accept, End, Data, order_packet, Station, Effort, Taking, Putting, Asking, Leaving, Commanding, MakesEffort, is_handle, longest_pdu, gives, holds, hears_each, hears_piece, hears_answer, may_accept, told}
+use Rattle.turn_laws.specs.world_model.specs.Worlds.{World, Happening, Tries, Departure, GivingBack, Piecemeal, Answering, Turns, Misses, Opens, Closes, entries_of, words_in, checks, Acts, first_world, after_order}
 use Rattle.turn_laws.specs.WorldLaws.{handle_of}
 use Rattle.turn_laws.proofs.Leading.{tidings, made, led_low}
 use Rattle.turn_laws.proofs.Wiring.{piece_at, sent, count, Within}

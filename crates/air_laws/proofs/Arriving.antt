@@ -1,18 +1,18 @@
 -- What a packet that comes into a host does to the air as the capture has it.
 use Rattle.std.proofs.Common.{◌≡◌, ℕ, ◌+◌, ◌*◌, ◌≤◌, ◌<◌, nat_lt, Bool, true, List, [], ◌∷◌, ◌++◌, length, drop, Option, Some, if◌then◌else◌, refl, sym, ap, ◌∙◌, inl, inr, subst, arith, le-ltb}
 use Rattle.std.proofs.lemmas.Bool.{cases_lt, lt-ltb}
-use Rattle.h4_framing.specs.Packets.{Packet}
-use Rattle.hci_packets.specs.AclWords.{flag_of}
-use Rattle.acl_fragments.specs.Pieces.{Piece}
-use Rattle.push_terms.specs.declared.word.Side.{Side}
-use Rattle.push_terms.specs.declared.word.Side.TheVariants.{A, B}
-use Rattle.capture.specs.declared.flow.Flow.TheVariants.{Into}
-use Rattle.capture.specs.Entries.{Entry, Moved}
-use Rattle.capture.specs.Links.{Link, LinkNews, Asked, Answered, LinkEnded, NoNews, links, link_up}
-use Rattle.capture.specs.Frames.{Direction}
-use Rattle.capture.specs.Air.{Air, renewed, due, without_first_due, after_event, IsFirst, ComesBehind}
-use Rattle.radio_air.specs.Controllers.{Answer, Returned, Stated, Called, LinkMade, LinkGone, GivenBack, Controller, after_telling}
-use Rattle.radio_air.specs.Radio.{Radio, is_together, controller, with_controller}
+use Rattle.turn_laws.specs.h4_framing.specs.Packets.{Packet}
+use Rattle.turn_laws.specs.hci_packets.specs.AclWords.{flag_of}
+use Rattle.turn_laws.specs.acl_fragments.specs.Pieces.{Piece}
+use Rattle.turn_laws.specs.push_terms.specs.declared.word.Side.{Side}
+use Rattle.turn_laws.specs.push_terms.specs.declared.word.Side.TheVariants.{A, B}
+use Rattle.turn_laws.specs.capture.specs.declared.flow.Flow.TheVariants.{Into}
+use Rattle.turn_laws.specs.capture.specs.Entries.{Entry, Moved}
+use Rattle.turn_laws.specs.capture.specs.Links.{Link, LinkNews, Asked, Answered, LinkEnded, NoNews, links, link_up}
+use Rattle.turn_laws.specs.capture.specs.Frames.{Direction}
+use Rattle.turn_laws.specs.capture.specs.Air.{Air, renewed, due, without_first_due, after_event, IsFirst, ComesBehind}
+use Rattle.turn_laws.specs.radio_air.specs.Controllers.{Answer, Returned, Stated, Called, LinkMade, LinkGone, GivenBack, Controller, after_telling}
+use Rattle.turn_laws.specs.radio_air.specs.Radio.{Radio, is_together, controller, with_controller}
 use Rattle.turn_laws.proofs.Hearing.{with_coming, with_owed}
 use Rattle.air_laws.proofs.Waiting.{waits_as}
 use Rattle.air_laws.proofs.Knowing.{IsNextLink, Known}

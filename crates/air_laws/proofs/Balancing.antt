@@ -4,27 +4,27 @@ use Rattle.std.specs.Prelude.{nat_le, option_to_list}
 use Rattle.std.proofs.lemmas.Bool.{eq-eqb}
 use Rattle.std.proofs.lemmas.List.{append-nil}
 use Rattle.std.proofs.lemmas.List.Concat.{flat_map-append}
-use Rattle.acl_fragments.specs.Pieces.{Piece}
-use Rattle.push_terms.specs.declared.word.Side.{Side}
-use Rattle.push_terms.specs.declared.word.Side.TheVariants.{A, B}
-use Rattle.push_terms.specs.declared.word.Way.{Way}
-use Rattle.push_terms.specs.declared.word.Way.TheVariants.{Ab, Ba}
-use Rattle.capture.specs.declared.flow.Flow.TheVariants.{Out, Into}
-use Rattle.capture.specs.Entries.{Entry, Moved, Acted, Begun, Ended}
-use Rattle.capture.specs.Moves.{move_of, moves}
-use Rattle.capture.specs.Links.{Link, Asked, NoNews, linking, link_up}
-use Rattle.capture.specs.Buffers.{all_outstanding, KeepsWithin}
-use Rattle.capture.proofs.HistoryLaws.{at_each-more, at_each-none}
-use Rattle.radio_air.specs.declared.fate.Fate.{Fate}
-use Rattle.radio_air.specs.declared.deed.Deed.{Deed}
-use Rattle.radio_air.specs.declared.deed.Deed.TheVariants.{Nothing, Meets, Fires, FiresBoth, Breaks, Cancels}
-use Rattle.radio_air.specs.Controllers.{Answer, Controller, new_controller, answer_packet, piece_packet, after_telling}
-use Rattle.radio_air.specs.Owed.{back}
-use Rattle.radio_air.specs.Honest.{all_sent, all_completed, IsHonest}
-use Rattle.radio_air.specs.Radio.{Radio, is_together, controller, knows_link, with_piece, after_taking, after_meeting, found}
-use Rattle.world_model.specs.Machines.{TimerFired, Upper}
-use Rattle.world_model.specs.Stations.{Order, Reset, ReadBuffers, ReadAddress, Scan, Page, Accept, End, Data, order_packet, Station, Effort, Taking, Putting, Asking, Leaving, Commanding, MakesEffort, longest_pdu, gives, holds, is_handle, hears_each, hears_piece, hears_answer, first_station, told}
-use Rattle.world_model.specs.Worlds.{World, Happening, Tries, Departure, GivingBack, Piecemeal, Answering, Turns, Misses, Opens, Closes, piece_on, all_entries, checks, Acts, Runs, first_world, after_order}
+use Rattle.turn_laws.specs.acl_fragments.specs.Pieces.{Piece}
+use Rattle.turn_laws.specs.push_terms.specs.declared.word.Side.{Side}
+use Rattle.turn_laws.specs.push_terms.specs.declared.word.Side.TheVariants.{A, B}
+use Rattle.turn_laws.specs.push_terms.specs.declared.word.Way.{Way}
+use Rattle.turn_laws.specs.push_terms.specs.declared.word.Way.TheVariants.{Ab, Ba}
+use Rattle.turn_laws.specs.capture.specs.declared.flow.Flow.TheVariants.{Out, Into}
+use Rattle.turn_laws.specs.capture.specs.Entries.{Entry, Moved, Acted, Begun, Ended}
+use Rattle.turn_laws.specs.capture.specs.Moves.{move_of, moves}
+use Rattle.turn_laws.specs.capture.specs.Links.{Link, Asked, NoNews, linking, link_up}
+use Rattle.turn_laws.specs.capture.specs.Buffers.{all_outstanding, KeepsWithin}
+use Rattle.turn_laws.specs.capture.proofs.HistoryLaws.{at_each-more, at_each-none}
+use Rattle.turn_laws.specs.radio_air.specs.declared.fate.Fate.{Fate}
+use Rattle.turn_laws.specs.radio_air.specs.declared.deed.Deed.{Deed}
+use Rattle.turn_laws.specs.radio_air.specs.declared.deed.Deed.TheVariants.{Nothing, Meets, Fires, FiresBoth, Breaks, Cancels}
+use Rattle.turn_laws.specs.radio_air.specs.Controllers.{Answer, Controller, new_controller, answer_packet, piece_packet, after_telling}
+use Rattle.turn_laws.specs.radio_air.specs.Owed.{back}
+use Rattle.turn_laws.specs.radio_air.specs.Honest.{all_sent, all_completed, IsHonest}
+use Rattle.turn_laws.specs.radio_air.specs.Radio.{Radio, is_together, controller, knows_link, with_piece, after_taking, after_meeting, found}
+use Rattle.turn_laws.specs.world_model.specs.Machines.{TimerFired, Upper}
+use Rattle.turn_laws.specs.world_model.specs.Stations.{Order, Reset, ReadBuffers, ReadAddress, Scan, Page, Accept, End, Data, order_packet, Station, Effort, Taking, Putting, Asking, Leaving, Commanding, MakesEffort, longest_pdu, gives, holds, is_handle, hears_each, hears_piece, hears_answer, first_station, told}
+use Rattle.turn_laws.specs.world_model.specs.Worlds.{World, Happening, Tries, Departure, GivingBack, Piecemeal, Answering, Turns, Misses, Opens, Closes, piece_on, all_entries, checks, Acts, Runs, first_world, after_order}
 use Rattle.turn_laws.specs.WorldLaws.{Fits, handle_of}
 use Rattle.turn_laws.proofs.Leading.{led_low}
 use Rattle.turn_laws.proofs.Wiring.{piece_at, sent, Within}

@@ -3,19 +3,19 @@ use Rattle.std.proofs.Common.{◌≡◌, ℕ, ◌+◌, ◌-◌, ◌≤◌, ◌==
 use Rattle.std.specs.Prelude.{sum_by}
 use Rattle.std.proofs.lemmas.Bool.{eq-eqb, eqb-true, le-leb, leb-true}
 use Rattle.byteorder.specs.Endian.{little_number}
-use Rattle.h4_framing.specs.Packets.{Packet}
-use Rattle.hci_packets.specs.Events.{event_refusal, event_params}
-use Rattle.acl_credits.specs.Histories.{BufferEvent, Completed}
-use Rattle.push_terms.specs.declared.word.Side.{Side}
-use Rattle.capture.specs.declared.flow.Flow.TheVariants.{Into}
-use Rattle.capture.specs.Entries.{Entry}
-use Rattle.capture.specs.Links.{Link, NoNews, link_up}
-use Rattle.capture.specs.Buffers.{events, outstanding_on_link, outstanding_of, all_outstanding}
-use Rattle.radio_air.specs.Controllers.{Answer, Returned, Stated, Called, LinkMade, LinkGone, GivenBack, Controller, event_of, answer_packet, after_telling}
-use Rattle.radio_air.specs.Owed.{back_by, back}
-use Rattle.radio_air.specs.Honest.{sent_on, completed_on, all_sent, all_completed}
-use Rattle.world_model.specs.Machines.{Upper}
-use Rattle.world_model.specs.Stations.{Accept, Station, learns, is_handle, may_accept, hears_answer}
+use Rattle.turn_laws.specs.h4_framing.specs.Packets.{Packet}
+use Rattle.turn_laws.specs.hci_packets.specs.Events.{event_refusal, event_params}
+use Rattle.turn_laws.specs.acl_credits.specs.Histories.{BufferEvent, Completed}
+use Rattle.turn_laws.specs.push_terms.specs.declared.word.Side.{Side}
+use Rattle.turn_laws.specs.capture.specs.declared.flow.Flow.TheVariants.{Into}
+use Rattle.turn_laws.specs.capture.specs.Entries.{Entry}
+use Rattle.turn_laws.specs.capture.specs.Links.{Link, NoNews, link_up}
+use Rattle.turn_laws.specs.capture.specs.Buffers.{events, outstanding_on_link, outstanding_of, all_outstanding}
+use Rattle.turn_laws.specs.radio_air.specs.Controllers.{Answer, Returned, Stated, Called, LinkMade, LinkGone, GivenBack, Controller, event_of, answer_packet, after_telling}
+use Rattle.turn_laws.specs.radio_air.specs.Owed.{back_by, back}
+use Rattle.turn_laws.specs.radio_air.specs.Honest.{sent_on, completed_on, all_sent, all_completed}
+use Rattle.turn_laws.specs.world_model.specs.Machines.{Upper}
+use Rattle.turn_laws.specs.world_model.specs.Stations.{Accept, Station, learns, is_handle, may_accept, hears_answer}
 use Rattle.turn_laws.proofs.Showing.{no-news, made-news}
 use Rattle.turn_laws.proofs.Wiring.{sent, sent_above, Within}
 use Rattle.turn_laws.proofs.Leading.{Came, Went, tidings, Led, led_low}

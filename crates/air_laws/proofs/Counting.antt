@@ -6,23 +6,23 @@ use Rattle.std.specs.Option.{option_map, option_or}
 use Rattle.std.proofs.lemmas.List.{append-nil}
 use Rattle.std.proofs.lemmas.List.Concat.{flat_map-append}
 use Rattle.std.proofs.lemmas.List.Sums.{sum_by-append}
-use Rattle.bt_base.specs.Octets.{le16}
-use Rattle.bt_base.proofs.OctetLemmas.{le16-number}
-use Rattle.h4_framing.specs.Packets.{Packet}
-use Rattle.hci_packets.specs.Events.{CompletedPackets, event_refusal, entries_of}
-use Rattle.hci_packets.proofs.EventLaws.{event_accepted}
-use Rattle.acl_credits.specs.Histories.{BufferEvent, Completed, outstanding_after}
-use Rattle.push_terms.specs.declared.word.Side.{Side}
-use Rattle.push_terms.specs.declared.word.Side.TheVariants.{A, B}
-use Rattle.capture.specs.declared.flow.Flow.{Flow}
-use Rattle.capture.specs.declared.flow.Flow.TheVariants.{Into}
-use Rattle.capture.specs.Entries.{Entry, Moved}
-use Rattle.capture.specs.Moves.{Move, move_of, moves}
-use Rattle.capture.specs.Links.{Link, Linking, LinkNews, Asked, Answered, LinkEnded, NoNews, link_news, longer, made, after_move, linking, link_up}
-use Rattle.capture.specs.Buffers.{events, buffer_events, outstanding_on_link, outstanding_of, all_outstanding}
-use Rattle.capture.proofs.MoreLaws.{moves-more, outstanding-more}
-use Rattle.radio_air.specs.Controllers.{GivenBack, answer_packet}
-use Rattle.radio_air.specs.Honest.{sent_on, completed_on, all_sent, all_completed}
+use Rattle.turn_laws.specs.bt_base.specs.Octets.{le16}
+use Rattle.turn_laws.specs.bt_base.proofs.OctetLemmas.{le16-number}
+use Rattle.turn_laws.specs.h4_framing.specs.Packets.{Packet}
+use Rattle.turn_laws.specs.hci_packets.specs.Events.{CompletedPackets, event_refusal, entries_of}
+use Rattle.turn_laws.specs.hci_packets.proofs.EventLaws.{event_accepted}
+use Rattle.turn_laws.specs.acl_credits.specs.Histories.{BufferEvent, Completed, outstanding_after}
+use Rattle.turn_laws.specs.push_terms.specs.declared.word.Side.{Side}
+use Rattle.turn_laws.specs.push_terms.specs.declared.word.Side.TheVariants.{A, B}
+use Rattle.turn_laws.specs.capture.specs.declared.flow.Flow.{Flow}
+use Rattle.turn_laws.specs.capture.specs.declared.flow.Flow.TheVariants.{Into}
+use Rattle.turn_laws.specs.capture.specs.Entries.{Entry, Moved}
+use Rattle.turn_laws.specs.capture.specs.Moves.{Move, move_of, moves}
+use Rattle.turn_laws.specs.capture.specs.Links.{Link, Linking, LinkNews, Asked, Answered, LinkEnded, NoNews, link_news, longer, made, after_move, linking, link_up}
+use Rattle.turn_laws.specs.capture.specs.Buffers.{events, buffer_events, outstanding_on_link, outstanding_of, all_outstanding}
+use Rattle.turn_laws.specs.capture.proofs.MoreLaws.{moves-more, outstanding-more}
+use Rattle.turn_laws.specs.radio_air.specs.Controllers.{GivenBack, answer_packet}
+use Rattle.turn_laws.specs.radio_air.specs.Honest.{sent_on, completed_on, all_sent, all_completed}
 use Rattle.turn_laws.proofs.Capturing.{beside, moved}
 
 -- ---- the events of one packet

@@ -1,13 +1,13 @@
 -- The frames that wait in the radio, and those that the capture has.
 use Rattle.std.proofs.Common.{◌≡◌, ℕ, ◌||◌, Bool, true, false, List, refl, ap, ◌∙◌}
-use Rattle.push_terms.specs.declared.word.Way.{Way}
-use Rattle.push_terms.specs.declared.word.Way.TheVariants.{Ab, Ba}
-use Rattle.radio_air.specs.Air.{Hosts, air_after}
-use Rattle.radio_air.specs.Queues.{is_crowded}
-use Rattle.radio_air.specs.Radio.{Radio}
-use Rattle.capture.specs.Entries.{Entry}
-use Rattle.world_model.specs.Machines.{Upper}
-use Rattle.world_model.specs.Worlds.{all_entries}
+use Rattle.turn_laws.specs.push_terms.specs.declared.word.Way.{Way}
+use Rattle.turn_laws.specs.push_terms.specs.declared.word.Way.TheVariants.{Ab, Ba}
+use Rattle.turn_laws.specs.radio_air.specs.Air.{Hosts, air_after}
+use Rattle.turn_laws.specs.radio_air.specs.Queues.{is_crowded}
+use Rattle.turn_laws.specs.radio_air.specs.Radio.{Radio}
+use Rattle.turn_laws.specs.capture.specs.Entries.{Entry}
+use Rattle.turn_laws.specs.world_model.specs.Machines.{Upper}
+use Rattle.turn_laws.specs.world_model.specs.Worlds.{all_entries}
 use Rattle.air_laws.specs.Crowded.{frames_after, IsCrowded, FramesAreTold, CrowdsAreTold}
 use Rattle.air_laws.proofs.Obeying.{obeyed}
 

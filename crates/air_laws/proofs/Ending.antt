@@ -3,26 +3,26 @@ use Rattle.std.proofs.Common.{◌≡◌, ℕ, ◌||◌, Bool, true, false, List,
 use Rattle.std.specs.Prelude.{is_some}
 use Rattle.std.specs.List.{list_all, AllByRecursion}
 use Rattle.std.proofs.lemmas.List.{append-nil, append_assoc}
-use Rattle.push_terms.specs.declared.word.Side.{Side}
-use Rattle.push_terms.specs.declared.word.Side.TheVariants.{A, B}
-use Rattle.push_terms.specs.declared.word.Word.{Word}
-use Rattle.push_terms.specs.declared.outcome.Outcome.{Outcome}
-use Rattle.capture.specs.Entries.{Entry, Moved, Acted, Begun, Ended}
-use Rattle.capture.specs.Histories.{EachAfter}
-use Rattle.capture.specs.Links.{Link, link_up}
-use Rattle.capture.specs.Air.{Air, words_done, IsSettled, is_end, before_last_ends}
-use Rattle.capture.specs.Frames.{waiting}
-use Rattle.capture.specs.Air.{direction}
-use Rattle.capture.proofs.HistoryLaws.{each_after-more}
-use Rattle.capture.proofs.FurtherLaws.{words-more}
-use Rattle.radio_air.specs.declared.deed.Deed.{Deed}
-use Rattle.radio_air.specs.declared.deed.Deed.TheVariants.{Nothing, Meets, Fires, FiresBoth, Breaks, Cancels}
-use Rattle.radio_air.specs.Words.{receiver}
-use Rattle.radio_air.specs.Air.{Hosts, checks_channel, after_meeting, after_deed, air_after, found, FindsNothing, KeepsTo, LeftFindNothing}
-use Rattle.radio_air.specs.Radio.{first_channel}
-use Rattle.world_model.specs.Machines.{Upper}
-use Rattle.world_model.specs.Pushes.{Pushes}
-use Rattle.world_model.specs.Worlds.{all_entries, all_words, first_world}
+use Rattle.turn_laws.specs.push_terms.specs.declared.word.Side.{Side}
+use Rattle.turn_laws.specs.push_terms.specs.declared.word.Side.TheVariants.{A, B}
+use Rattle.turn_laws.specs.push_terms.specs.declared.word.Word.{Word}
+use Rattle.turn_laws.specs.push_terms.specs.declared.outcome.Outcome.{Outcome}
+use Rattle.turn_laws.specs.capture.specs.Entries.{Entry, Moved, Acted, Begun, Ended}
+use Rattle.turn_laws.specs.capture.specs.Histories.{EachAfter}
+use Rattle.turn_laws.specs.capture.specs.Links.{Link, link_up}
+use Rattle.turn_laws.specs.capture.specs.Air.{Air, words_done, IsSettled, is_end, before_last_ends}
+use Rattle.turn_laws.specs.capture.specs.Frames.{waiting}
+use Rattle.turn_laws.specs.capture.specs.Air.{direction}
+use Rattle.turn_laws.specs.capture.proofs.HistoryLaws.{each_after-more}
+use Rattle.turn_laws.specs.capture.proofs.FurtherLaws.{words-more}
+use Rattle.turn_laws.specs.radio_air.specs.declared.deed.Deed.{Deed}
+use Rattle.turn_laws.specs.radio_air.specs.declared.deed.Deed.TheVariants.{Nothing, Meets, Fires, FiresBoth, Breaks, Cancels}
+use Rattle.turn_laws.specs.radio_air.specs.Words.{receiver}
+use Rattle.turn_laws.specs.radio_air.specs.Air.{Hosts, checks_channel, after_meeting, after_deed, air_after, found, FindsNothing, KeepsTo, LeftFindNothing}
+use Rattle.turn_laws.specs.radio_air.specs.Radio.{first_channel}
+use Rattle.turn_laws.specs.world_model.specs.Machines.{Upper}
+use Rattle.turn_laws.specs.world_model.specs.Pushes.{Pushes}
+use Rattle.turn_laws.specs.world_model.specs.Worlds.{all_entries, all_words, first_world}
 use Rattle.turn_laws.proofs.Capturing.{beside}
 use Rattle.air_laws.specs.AirLaws.{PassesEnds, IsLastEnd, AirIsObeyed}
 use Rattle.air_laws.proofs.Turning.{finds_as}

@@ -1,13 +1,13 @@
 -- The example is a run.
 use Rattle.std.proofs.Common.{◌≡◌, ◌<◌, ℕ, true, Bool, false, List, [], ◌∷◌, ◌++◌, Option, Some, None, refl, ap, subst, arith}
-use Rattle.push_terms.specs.declared.word.Way.{Way}
-use Rattle.push_terms.specs.declared.word.Way.TheVariants.{Ab, Ba}
-use Rattle.push_terms.specs.declared.outcome.Outcome.TheVariants.{Done}
-use Rattle.radio_air.specs.Controllers.{Controller}
-use Rattle.radio_air.specs.Radio.{Apart, Together}
-use Rattle.world_model.specs.Machines.{Up, Down, News, Linked, Failed, Heard, TimerFired, Cancelled, Opening}
-use Rattle.world_model.specs.Stations.{Station}
-use Rattle.world_model.specs.Worlds.{World, Happening, Runs, IsAtRest, first_world}
+use Rattle.turn_laws.specs.push_terms.specs.declared.word.Way.{Way}
+use Rattle.turn_laws.specs.push_terms.specs.declared.word.Way.TheVariants.{Ab, Ba}
+use Rattle.turn_laws.specs.push_terms.specs.declared.outcome.Outcome.TheVariants.{Done}
+use Rattle.turn_laws.specs.radio_air.specs.Controllers.{Controller}
+use Rattle.turn_laws.specs.radio_air.specs.Radio.{Apart, Together}
+use Rattle.turn_laws.specs.world_model.specs.Machines.{Up, Down, News, Linked, Failed, Heard, TimerFired, Cancelled, Opening}
+use Rattle.turn_laws.specs.world_model.specs.Stations.{Station}
+use Rattle.turn_laws.specs.world_model.specs.Worlds.{World, Happening, Runs, IsAtRest, first_world}
 use Rattle.turn_laws.specs.Premises.{IsFrame, SaysFrames, IsAside}
 use Rattle.turn_laws.specs.WorldLaws.{Fits}
 use Rattle.air_laws.specs.AirLaws.{TellsHosts}

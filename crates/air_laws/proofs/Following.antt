@@ -2,22 +2,22 @@
 use Rattle.std.proofs.Common.{◌≡◌, ℕ, Bool, false, List, [], ◌∷◌, ◌++◌, None, refl, sym, ap, ◌∙◌, subst, arith}
 use Rattle.std.proofs.lemmas.List.{append-nil, append_assoc}
 use Rattle.std.proofs.lemmas.List.Concat.{flat_map-append}
-use Rattle.push_terms.specs.declared.word.Side.{Side}
-use Rattle.push_terms.specs.declared.word.Side.TheVariants.{A, B}
-use Rattle.push_terms.specs.declared.word.Way.TheVariants.{Ab, Ba}
-use Rattle.push_terms.specs.declared.word.Word.{Word}
-use Rattle.capture.specs.declared.flow.Flow.TheVariants.{Into}
-use Rattle.capture.specs.Entries.{Entry}
-use Rattle.radio_air.specs.declared.fate.Fate.{Fate}
-use Rattle.radio_air.specs.declared.deed.Deed.{Deed}
-use Rattle.radio_air.specs.declared.deed.Deed.TheVariants.{Nothing, Meets, Fires, FiresBoth, Breaks, Cancels}
-use Rattle.radio_air.specs.Controllers.{Answer, Returned, Stated, Called, LinkMade, LinkGone, GivenBack, Controller}
-use Rattle.radio_air.specs.Radio.{Radio, is_together, controller, found, after_meeting}
-use Rattle.world_model.specs.Machines.{Upper}
-use Rattle.world_model.specs.Talks.{Talk}
-use Rattle.world_model.specs.PerLink.{Linkage, no_linkage}
-use Rattle.world_model.specs.Stations.{Order, Data, longest_pdu, gives}
-use Rattle.world_model.specs.Worlds.{World, Happening, Tries, Departure, GivingBack, Piecemeal, Answering, Turns, Misses, Opens, Closes, entries_of, all_entries, words_in, all_words, checks, Acts, Does, Runs, first_world, after_order}
+use Rattle.turn_laws.specs.push_terms.specs.declared.word.Side.{Side}
+use Rattle.turn_laws.specs.push_terms.specs.declared.word.Side.TheVariants.{A, B}
+use Rattle.turn_laws.specs.push_terms.specs.declared.word.Way.TheVariants.{Ab, Ba}
+use Rattle.turn_laws.specs.push_terms.specs.declared.word.Word.{Word}
+use Rattle.turn_laws.specs.capture.specs.declared.flow.Flow.TheVariants.{Into}
+use Rattle.turn_laws.specs.capture.specs.Entries.{Entry}
+use Rattle.turn_laws.specs.radio_air.specs.declared.fate.Fate.{Fate}
+use Rattle.turn_laws.specs.radio_air.specs.declared.deed.Deed.{Deed}
+use Rattle.turn_laws.specs.radio_air.specs.declared.deed.Deed.TheVariants.{Nothing, Meets, Fires, FiresBoth, Breaks, Cancels}
+use Rattle.turn_laws.specs.radio_air.specs.Controllers.{Answer, Returned, Stated, Called, LinkMade, LinkGone, GivenBack, Controller}
+use Rattle.turn_laws.specs.radio_air.specs.Radio.{Radio, is_together, controller, found, after_meeting}
+use Rattle.turn_laws.specs.world_model.specs.Machines.{Upper}
+use Rattle.turn_laws.specs.world_model.specs.Talks.{Talk}
+use Rattle.turn_laws.specs.world_model.specs.PerLink.{Linkage, no_linkage}
+use Rattle.turn_laws.specs.world_model.specs.Stations.{Order, Data, longest_pdu, gives}
+use Rattle.turn_laws.specs.world_model.specs.Worlds.{World, Happening, Tries, Departure, GivingBack, Piecemeal, Answering, Turns, Misses, Opens, Closes, entries_of, all_entries, words_in, all_words, checks, Acts, Does, Runs, first_world, after_order}
 use Rattle.turn_laws.specs.Premises.{SaysFrames, Idles}
 use Rattle.turn_laws.specs.WorldLaws.{Fits}
 use Rattle.turn_laws.proofs.Finishing.{nothing_more}

@@ -4,19 +4,19 @@ use Rattle.std.specs.Prelude.{option_to_list, slice_get}
 use Rattle.std.specs.Option.{option_map}
 use Rattle.std.proofs.lemmas.List.{append-nil, map-append, drop-append-le}
 use Rattle.std.proofs.lemmas.List.Concat.{flat_map-append}
-use Rattle.capture.specs.declared.flow.Flow.{Flow}
-use Rattle.capture.specs.declared.flow.Flow.TheVariants.{Out, Into}
-use Rattle.capture.specs.Pdus.{Pdu}
-use Rattle.capture.proofs.HistoryLaws.{each_after-more}
-use Rattle.radio_air.specs.declared.fate.Fate.{Fate}
-use Rattle.radio_air.specs.declared.fate.Fate.TheVariants.{Delivered, Lost, Repeated, CutOff, Changed}
-use Rattle.radio_air.specs.Fates.{meets, comes_of}
-use Rattle.radio_air.specs.Flights.{Met, step, position, of_frame, heard, FindsFrames}
-use Rattle.radio_air.proofs.Flying.{one_fate_more, one_frame_more}
-use Rattle.world_model.specs.Machines.{Up, Down, Linked, Failed, Heard, TimerFired, Cancelled, Opening}
-use Rattle.world_model.specs.Talks.{Talk, Told, Said, Unsent, Done}
-use Rattle.world_model.specs.Talks as told
-use Rattle.world_model.specs.PerLink.{PerLink, heard_after, heard_from, Flown, front_meets, flies, flown_from, Linkage, pdus_of, linkage_after, linkage_from}
+use Rattle.turn_laws.specs.capture.specs.declared.flow.Flow.{Flow}
+use Rattle.turn_laws.specs.capture.specs.declared.flow.Flow.TheVariants.{Out, Into}
+use Rattle.turn_laws.specs.capture.specs.Pdus.{Pdu}
+use Rattle.turn_laws.specs.capture.proofs.HistoryLaws.{each_after-more}
+use Rattle.turn_laws.specs.radio_air.specs.declared.fate.Fate.{Fate}
+use Rattle.turn_laws.specs.radio_air.specs.declared.fate.Fate.TheVariants.{Delivered, Lost, Repeated, CutOff, Changed}
+use Rattle.turn_laws.specs.radio_air.specs.Fates.{meets, comes_of}
+use Rattle.turn_laws.specs.radio_air.specs.Flights.{Met, step, position, of_frame, heard, FindsFrames}
+use Rattle.turn_laws.specs.radio_air.proofs.Flying.{one_fate_more, one_frame_more}
+use Rattle.turn_laws.specs.world_model.specs.Machines.{Up, Down, Linked, Failed, Heard, TimerFired, Cancelled, Opening}
+use Rattle.turn_laws.specs.world_model.specs.Talks.{Talk, Told, Said, Unsent, Done}
+use Rattle.turn_laws.specs.world_model.specs.Talks as told
+use Rattle.turn_laws.specs.world_model.specs.PerLink.{PerLink, heard_after, heard_from, Flown, front_meets, flies, flown_from, Linkage, pdus_of, linkage_after, linkage_from}
 use Rattle.air_laws.specs.Heard.{one_way, moved, Comes, EachComes}
 
 -- ---- talk that keeps to its links

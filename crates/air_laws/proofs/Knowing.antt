@@ -3,18 +3,18 @@ use Rattle.std.proofs.Common.{◌≡◌, ℕ, ◌+◌, Bool, true, false, List, 
 use Rattle.std.specs.Prelude.{option_to_list}
 use Rattle.std.specs.Option.{option_map}
 use Rattle.std.proofs.lemmas.List.{length-map}
-use Rattle.push_terms.specs.declared.word.Side.{Side}
-use Rattle.capture.specs.declared.flow.Flow.{Flow}
-use Rattle.capture.specs.declared.flow.Flow.TheVariants.{Out}
-use Rattle.capture.specs.Entries.{Entry}
-use Rattle.capture.specs.Moves.{moves}
-use Rattle.capture.specs.Links.{Link, linking, links, link_up}
-use Rattle.capture.specs.Pdus.{Pdu, pdus, pieces}
-use Rattle.acl_fragments.specs.Answers.{open_after}
-use Rattle.radio_air.specs.Controllers.{Answer, Returned, Stated, Called, LinkMade, LinkGone, GivenBack, Controller, after_telling}
-use Rattle.radio_air.specs.Radio.{frame_limit}
-use Rattle.world_model.specs.Stations.{Order, Reset, ReadBuffers, ReadAddress, Scan, Page, Accept, End, Data, Station, gives}
-use Rattle.world_model.specs.PerLink.{Linkage, with_moved}
+use Rattle.turn_laws.specs.push_terms.specs.declared.word.Side.{Side}
+use Rattle.turn_laws.specs.capture.specs.declared.flow.Flow.{Flow}
+use Rattle.turn_laws.specs.capture.specs.declared.flow.Flow.TheVariants.{Out}
+use Rattle.turn_laws.specs.capture.specs.Entries.{Entry}
+use Rattle.turn_laws.specs.capture.specs.Moves.{moves}
+use Rattle.turn_laws.specs.capture.specs.Links.{Link, linking, links, link_up}
+use Rattle.turn_laws.specs.capture.specs.Pdus.{Pdu, pdus, pieces}
+use Rattle.turn_laws.specs.acl_fragments.specs.Answers.{open_after}
+use Rattle.turn_laws.specs.radio_air.specs.Controllers.{Answer, Returned, Stated, Called, LinkMade, LinkGone, GivenBack, Controller, after_telling}
+use Rattle.turn_laws.specs.radio_air.specs.Radio.{frame_limit}
+use Rattle.turn_laws.specs.world_model.specs.Stations.{Order, Reset, ReadBuffers, ReadAddress, Scan, Page, Accept, End, Data, Station, gives}
+use Rattle.turn_laws.specs.world_model.specs.PerLink.{Linkage, with_moved}
 use Rattle.turn_laws.proofs.Linkages.{said_by, order_by, answer_by}
 use Rattle.turn_laws.proofs.Showing.{ShownUp}
 use Rattle.turn_laws.proofs.Capturing.{view, ShownAt}

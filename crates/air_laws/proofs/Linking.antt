@@ -3,23 +3,23 @@ use Rattle.std.proofs.Common.{◌≡◌, ℕ, Bool, true, false, List, [], ◌�
 use Rattle.std.specs.Prelude.{option_to_list}
 use Rattle.std.specs.Option.{option_map}
 use Rattle.std.proofs.lemmas.List.{map-append}
-use Rattle.push_terms.specs.declared.word.Side.{Side}
-use Rattle.push_terms.specs.declared.word.Side.TheVariants.{A, B}
-use Rattle.push_terms.specs.declared.word.Way.TheVariants.{Ab, Ba}
-use Rattle.push_terms.specs.declared.outcome.Outcome.{Outcome}
-use Rattle.capture.specs.Entries.{Entry}
-use Rattle.capture.specs.Links.{Link, linking}
-use Rattle.capture.specs.Moves.{moves}
-use Rattle.capture.specs.Pdus.{Pdu, pdus}
-use Rattle.radio_air.specs.declared.fate.Fate.{Fate}
-use Rattle.radio_air.specs.declared.deed.Deed.{Deed}
-use Rattle.radio_air.specs.declared.deed.Deed.TheVariants.{Nothing, Meets, Fires, FiresBoth, Breaks, Cancels}
-use Rattle.radio_air.specs.Fates.{comes_of}
-use Rattle.world_model.specs.Machines.{Up, Down, News, Linked, Failed, Heard, TimerFired, Cancelled, Opening, Upper, drain, all_said, Breath, Whole, Short, Reaction}
-use Rattle.world_model.specs.Talks.{Talk, Told, Said, Unsent, Met, Done}
-use Rattle.world_model.specs.Turns.{Party, Pair, speaks_on, hears, notes, receives, event_heard, with_talk, Step, Turn, Idle, Rise, Fall, Began, Ended, Hands, Acts, Moves, found, Passes, first_pair}
-use Rattle.world_model.specs.PerLink.{PerLink, none_yet, Linkage, no_linkage, linkage, captured, heard_in, flown_in}
-use Rattle.world_model.specs.Worlds.{all_entries}
+use Rattle.turn_laws.specs.push_terms.specs.declared.word.Side.{Side}
+use Rattle.turn_laws.specs.push_terms.specs.declared.word.Side.TheVariants.{A, B}
+use Rattle.turn_laws.specs.push_terms.specs.declared.word.Way.TheVariants.{Ab, Ba}
+use Rattle.turn_laws.specs.push_terms.specs.declared.outcome.Outcome.{Outcome}
+use Rattle.turn_laws.specs.capture.specs.Entries.{Entry}
+use Rattle.turn_laws.specs.capture.specs.Links.{Link, linking}
+use Rattle.turn_laws.specs.capture.specs.Moves.{moves}
+use Rattle.turn_laws.specs.capture.specs.Pdus.{Pdu, pdus}
+use Rattle.turn_laws.specs.radio_air.specs.declared.fate.Fate.{Fate}
+use Rattle.turn_laws.specs.radio_air.specs.declared.deed.Deed.{Deed}
+use Rattle.turn_laws.specs.radio_air.specs.declared.deed.Deed.TheVariants.{Nothing, Meets, Fires, FiresBoth, Breaks, Cancels}
+use Rattle.turn_laws.specs.radio_air.specs.Fates.{comes_of}
+use Rattle.turn_laws.specs.world_model.specs.Machines.{Up, Down, News, Linked, Failed, Heard, TimerFired, Cancelled, Opening, Upper, drain, all_said, Breath, Whole, Short, Reaction}
+use Rattle.turn_laws.specs.world_model.specs.Talks.{Talk, Told, Said, Unsent, Met, Done}
+use Rattle.turn_laws.specs.world_model.specs.Turns.{Party, Pair, speaks_on, hears, notes, receives, event_heard, with_talk, Step, Turn, Idle, Rise, Fall, Began, Ended, Hands, Acts, Moves, found, Passes, first_pair}
+use Rattle.turn_laws.specs.world_model.specs.PerLink.{PerLink, none_yet, Linkage, no_linkage, linkage, captured, heard_in, flown_in}
+use Rattle.turn_laws.specs.world_model.specs.Worlds.{all_entries}
 use Rattle.turn_laws.proofs.Advancing.{breaks_linked}
 use Rattle.turn_laws.proofs.Linking.{hears_what_was_said}
 use Rattle.turn_laws.proofs.Recounting.{world_is_turned}

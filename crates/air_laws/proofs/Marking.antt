@@ -4,22 +4,22 @@ use Rattle.std.specs.Prelude.{slice_get}
 use Rattle.std.specs.List.{flat_map}
 use Rattle.std.proofs.lemmas.List.{append-nil}
 use Rattle.std.proofs.lemmas.List.Concat.{flat_map-append}
-use Rattle.push_terms.specs.declared.word.Side.TheVariants.{A, B}
-use Rattle.push_terms.specs.declared.word.Word.{Word}
-use Rattle.push_terms.specs.declared.outcome.Outcome.{Outcome}
-use Rattle.capture.specs.declared.flow.Flow.TheVariants.{Out, Into}
-use Rattle.capture.specs.Entries.{Entry, Moved, Acted, Begun, Ended}
-use Rattle.capture.specs.Histories.{EachAfter, last_of}
-use Rattle.capture.specs.Pushes.{under_way, NoLinkOutside, LinksWithin, NoLinkAtEnd}
-use Rattle.capture.proofs.HistoryLaws.{each_after-more, last_of-append}
-use Rattle.capture.proofs.FurtherLaws.{under_way-more}
-use Rattle.radio_air.specs.Controllers.{Controller, answer_packet, piece_packet}
-use Rattle.radio_air.specs.Radio.{is_together, found}
-use Rattle.radio_air.specs.Course.{push_begun, pushes_begun, KeepsTurn, PushesInTurn}
-use Rattle.world_model.specs.Machines.{Upper}
-use Rattle.world_model.specs.Pushes.{Pushes, one_begun, one_ended}
-use Rattle.world_model.specs.Stations.{order_packet}
-use Rattle.world_model.specs.Worlds.{World, Happening, Tries, Departure, GivingBack, Piecemeal, Answering, Turns, Misses, Opens, Closes, all_entries, all_words, first_world}
+use Rattle.turn_laws.specs.push_terms.specs.declared.word.Side.TheVariants.{A, B}
+use Rattle.turn_laws.specs.push_terms.specs.declared.word.Word.{Word}
+use Rattle.turn_laws.specs.push_terms.specs.declared.outcome.Outcome.{Outcome}
+use Rattle.turn_laws.specs.capture.specs.declared.flow.Flow.TheVariants.{Out, Into}
+use Rattle.turn_laws.specs.capture.specs.Entries.{Entry, Moved, Acted, Begun, Ended}
+use Rattle.turn_laws.specs.capture.specs.Histories.{EachAfter, last_of}
+use Rattle.turn_laws.specs.capture.specs.Pushes.{under_way, NoLinkOutside, LinksWithin, NoLinkAtEnd}
+use Rattle.turn_laws.specs.capture.proofs.HistoryLaws.{each_after-more, last_of-append}
+use Rattle.turn_laws.specs.capture.proofs.FurtherLaws.{under_way-more}
+use Rattle.turn_laws.specs.radio_air.specs.Controllers.{Controller, answer_packet, piece_packet}
+use Rattle.turn_laws.specs.radio_air.specs.Radio.{is_together, found}
+use Rattle.turn_laws.specs.radio_air.specs.Course.{push_begun, pushes_begun, KeepsTurn, PushesInTurn}
+use Rattle.turn_laws.specs.world_model.specs.Machines.{Upper}
+use Rattle.turn_laws.specs.world_model.specs.Pushes.{Pushes, one_begun, one_ended}
+use Rattle.turn_laws.specs.world_model.specs.Stations.{order_packet}
+use Rattle.turn_laws.specs.world_model.specs.Worlds.{World, Happening, Tries, Departure, GivingBack, Piecemeal, Answering, Turns, Misses, Opens, Closes, all_entries, all_words, first_world}
 use Rattle.turn_laws.proofs.Leading.{Tiding, tidings, Led}
 use Rattle.air_laws.specs.AirLaws.{IsLastEnd, PushesAreMarked}
 use Rattle.air_laws.proofs.Following.{Reached, known_a, known_b, Keeps, reached_first, along}

@@ -3,25 +3,25 @@ use Rattle.std.proofs.Common.{◌≡◌, ◌⊎◌, ℕ, suc, ◌+◌, ◌-◌, 
 use Rattle.std.specs.Prelude.{is_some, slice_get}
 use Rattle.std.specs.List.{AllByRecursion}
 use Rattle.std.proofs.lemmas.List.{append-nil, append_assoc}
-use Rattle.push_terms.specs.declared.word.Side.{Side}
-use Rattle.push_terms.specs.declared.word.Side.TheVariants.{A, B}
-use Rattle.push_terms.specs.declared.word.Word.{Word}
-use Rattle.capture.specs.declared.flow.Flow.TheVariants.{Out, Into}
-use Rattle.capture.specs.Entries.{Entry, Moved, Acted, Begun, Ended}
-use Rattle.capture.specs.Histories.{EachAfter}
-use Rattle.capture.specs.Links.{Link, link_up}
-use Rattle.capture.specs.Air.{Air, no_air, after_out, after_event, without_first_due, ordinal_of, last_or, words_done, IsSettled}
-use Rattle.capture.proofs.HistoryLaws.{led_by-append, each_after-more}
-use Rattle.capture.proofs.FurtherLaws.{words-more}
-use Rattle.radio_air.specs.declared.deed.Deed.{Deed}
-use Rattle.radio_air.specs.declared.deed.Deed.TheVariants.{Cancels}
-use Rattle.radio_air.specs.Air.{Hosts, after_entry, air_after, after_deed, acted, FindsNothing, KeepsTo}
-use Rattle.radio_air.specs.Controllers.{Answer, Controller, answer_packet, piece_packet, after_telling}
-use Rattle.radio_air.specs.Radio.{Radio, Phase, Apart, Paging, Requested, Together, is_together, is_requested, controller, with_controller}
-use Rattle.radio_air.specs.Radio as radio_rules
-use Rattle.world_model.specs.Machines.{Upper}
-use Rattle.world_model.specs.Stations.{Order, order_packet}
-use Rattle.world_model.specs.Worlds.{World, Happening, Tries, Departure, GivingBack, Piecemeal, Answering, Turns, Misses, Opens, Closes, IsAtRest, Does, Runs, first_world}
+use Rattle.turn_laws.specs.push_terms.specs.declared.word.Side.{Side}
+use Rattle.turn_laws.specs.push_terms.specs.declared.word.Side.TheVariants.{A, B}
+use Rattle.turn_laws.specs.push_terms.specs.declared.word.Word.{Word}
+use Rattle.turn_laws.specs.capture.specs.declared.flow.Flow.TheVariants.{Out, Into}
+use Rattle.turn_laws.specs.capture.specs.Entries.{Entry, Moved, Acted, Begun, Ended}
+use Rattle.turn_laws.specs.capture.specs.Histories.{EachAfter}
+use Rattle.turn_laws.specs.capture.specs.Links.{Link, link_up}
+use Rattle.turn_laws.specs.capture.specs.Air.{Air, no_air, after_out, after_event, without_first_due, ordinal_of, last_or, words_done, IsSettled}
+use Rattle.turn_laws.specs.capture.proofs.HistoryLaws.{led_by-append, each_after-more}
+use Rattle.turn_laws.specs.capture.proofs.FurtherLaws.{words-more}
+use Rattle.turn_laws.specs.radio_air.specs.declared.deed.Deed.{Deed}
+use Rattle.turn_laws.specs.radio_air.specs.declared.deed.Deed.TheVariants.{Cancels}
+use Rattle.turn_laws.specs.radio_air.specs.Air.{Hosts, after_entry, air_after, after_deed, acted, FindsNothing, KeepsTo}
+use Rattle.turn_laws.specs.radio_air.specs.Controllers.{Answer, Controller, answer_packet, piece_packet, after_telling}
+use Rattle.turn_laws.specs.radio_air.specs.Radio.{Radio, Phase, Apart, Paging, Requested, Together, is_together, is_requested, controller, with_controller}
+use Rattle.turn_laws.specs.radio_air.specs.Radio as radio_rules
+use Rattle.turn_laws.specs.world_model.specs.Machines.{Upper}
+use Rattle.turn_laws.specs.world_model.specs.Stations.{Order, order_packet}
+use Rattle.turn_laws.specs.world_model.specs.Worlds.{World, Happening, Tries, Departure, GivingBack, Piecemeal, Answering, Turns, Misses, Opens, Closes, IsAtRest, Does, Runs, first_world}
 use Rattle.turn_laws.specs.Premises.{Idles}
 use Rattle.turn_laws.specs.WorldLaws.{Fits, handle_of}
 use Rattle.turn_laws.proofs.Leading.{led_low}

@@ -2,16 +2,16 @@
 use Rattle.std.proofs.Common.{◌≡◌, ℕ, zero, suc, ◌+◌, ◌≤◌, ◌<◌, ◌==◌, ◌&&◌, nat_lt, nat_le, Bool, true, false, List, [], ◌∷◌, ◌++◌, drop, if◌then◌else◌, refl, sym, ap, ◌∙◌, inl, inr, subst, arith}
 use Rattle.std.specs.List.{AllByRecursion}
 use Rattle.std.proofs.lemmas.Bool.{cases_lt, lt-ltb, eq-eqb, ne_eqb}
-use Rattle.bt_base.specs.Octets.{le16}
+use Rattle.turn_laws.specs.bt_base.specs.Octets.{le16}
 use Rattle.byteorder.specs.Endian.{little_number}
-use Rattle.push_terms.specs.declared.word.Side.{Side}
-use Rattle.push_terms.specs.declared.word.Side.TheVariants.{A, B}
-use Rattle.radio_air.specs.Controllers.{Answer, Returned, Stated, Called, LinkMade, LinkGone, GivenBack, Controller, owing, gives_back, after_giving_back}
-use Rattle.radio_air.specs.Owed.{back_by, back}
-use Rattle.radio_air.proofs.Outstanding.{back-append}
-use Rattle.radio_air.specs.Radio.{Radio, Paging, Requested, controller, owes, scanning, is_reached, after_reaching, may_page, is_requested, joined, knows_link, parted, after_taking}
-use Rattle.world_model.specs.Stations.{Order, Reset, ReadBuffers, ReadAddress, Scan, Page, Accept, End, Data}
-use Rattle.world_model.specs.Worlds.{after_order}
+use Rattle.turn_laws.specs.push_terms.specs.declared.word.Side.{Side}
+use Rattle.turn_laws.specs.push_terms.specs.declared.word.Side.TheVariants.{A, B}
+use Rattle.turn_laws.specs.radio_air.specs.Controllers.{Answer, Returned, Stated, Called, LinkMade, LinkGone, GivenBack, Controller, owing, gives_back, after_giving_back}
+use Rattle.turn_laws.specs.radio_air.specs.Owed.{back_by, back}
+use Rattle.turn_laws.specs.radio_air.proofs.Outstanding.{back-append}
+use Rattle.turn_laws.specs.radio_air.specs.Radio.{Radio, Paging, Requested, controller, owes, scanning, is_reached, after_reaching, may_page, is_requested, joined, knows_link, parted, after_taking}
+use Rattle.turn_laws.specs.world_model.specs.Stations.{Order, Reset, ReadBuffers, ReadAddress, Scan, Page, Accept, End, Data}
+use Rattle.turn_laws.specs.world_model.specs.Worlds.{after_order}
 use Rattle.turn_laws.proofs.Recording.{NoData}
 
 -- ---- what it owes

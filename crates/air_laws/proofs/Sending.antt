@@ -3,24 +3,24 @@ use Rattle.std.proofs.Common.{◌≡◌, ◌⊎◌, ℕ, ◌+◌, ◌*◌, ◌�
 use Rattle.std.specs.Prelude.{slice_index}
 use Rattle.std.proofs.lemmas.Bool.{eq-eqb, eqb-true}
 use Rattle.std.proofs.lemmas.List.{append-nil}
-use Rattle.bt_base.specs.Octets.{le16}
-use Rattle.bt_base.proofs.OctetLemmas.{le16-number}
-use Rattle.h4_framing.specs.Packets.{Packet, Acl}
-use Rattle.hci_packets.specs.AclWords.{flag_of}
-use Rattle.acl_fragments.specs.Pieces.{Piece, starts}
-use Rattle.acl_fragments.specs.Answers.{answer, open_after}
-use Rattle.push_terms.specs.declared.word.Side.{Side}
-use Rattle.push_terms.specs.declared.word.Side.TheVariants.{A, B}
-use Rattle.capture.specs.declared.flow.Flow.TheVariants.{Out}
-use Rattle.capture.specs.Entries.{Entry}
-use Rattle.capture.specs.Links.{Link, links, link_up}
-use Rattle.capture.specs.Frames.{with_frames}
-use Rattle.capture.specs.Pdus.{Pdu, piece_of, pieces, whole_of, completed_by}
-use Rattle.capture.specs.Air.{Air, broken_off, frames_of, frames_put, put_from, is_disconnect, breaks_off, after_out}
-use Rattle.radio_air.specs.Controllers.{Answer, Returned, Stated, Controller}
-use Rattle.radio_air.specs.Radio.{Radio, Phase, Apart, Paging, Requested, Together, is_apart, is_paging, is_requested, is_together, controller, with_controller, owes, scanning, may_page, is_reached, after_reaching, joined, parted, frame_limit, frames_by, with_piece, after_taking, after_offer}
-use Rattle.world_model.specs.Stations.{Order, Reset, ReadBuffers, ReadAddress, Scan, Page, Accept, End, Data, order_packet}
-use Rattle.world_model.specs.Worlds.{piece_on, after_order}
+use Rattle.turn_laws.specs.bt_base.specs.Octets.{le16}
+use Rattle.turn_laws.specs.bt_base.proofs.OctetLemmas.{le16-number}
+use Rattle.turn_laws.specs.h4_framing.specs.Packets.{Packet, Acl}
+use Rattle.turn_laws.specs.hci_packets.specs.AclWords.{flag_of}
+use Rattle.turn_laws.specs.acl_fragments.specs.Pieces.{Piece, starts}
+use Rattle.turn_laws.specs.acl_fragments.specs.Answers.{answer, open_after}
+use Rattle.turn_laws.specs.push_terms.specs.declared.word.Side.{Side}
+use Rattle.turn_laws.specs.push_terms.specs.declared.word.Side.TheVariants.{A, B}
+use Rattle.turn_laws.specs.capture.specs.declared.flow.Flow.TheVariants.{Out}
+use Rattle.turn_laws.specs.capture.specs.Entries.{Entry}
+use Rattle.turn_laws.specs.capture.specs.Links.{Link, links, link_up}
+use Rattle.turn_laws.specs.capture.specs.Frames.{with_frames}
+use Rattle.turn_laws.specs.capture.specs.Pdus.{Pdu, piece_of, pieces, whole_of, completed_by}
+use Rattle.turn_laws.specs.capture.specs.Air.{Air, broken_off, frames_of, frames_put, put_from, is_disconnect, breaks_off, after_out}
+use Rattle.turn_laws.specs.radio_air.specs.Controllers.{Answer, Returned, Stated, Controller}
+use Rattle.turn_laws.specs.radio_air.specs.Radio.{Radio, Phase, Apart, Paging, Requested, Together, is_apart, is_paging, is_requested, is_together, controller, with_controller, owes, scanning, may_page, is_reached, after_reaching, joined, parted, frame_limit, frames_by, with_piece, after_taking, after_offer}
+use Rattle.turn_laws.specs.world_model.specs.Stations.{Order, Reset, ReadBuffers, ReadAddress, Scan, Page, Accept, End, Data, order_packet}
+use Rattle.turn_laws.specs.world_model.specs.Worlds.{piece_on, after_order}
 use Rattle.turn_laws.specs.WorldLaws.{handle_of}
 use Rattle.turn_laws.proofs.Showing.{piece_packet_is, out_of}
 use Rattle.turn_laws.proofs.Departing.{takes_packet}

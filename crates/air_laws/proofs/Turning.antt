@@ -1,29 +1,29 @@
 -- What a word does to the air as the capture has it, and where it finds nothing.
 use Rattle.std.proofs.Common.{◌≡◌, ◌⊎◌, ℕ, ◌≤◌, ◌||◌, not, Bool, true, false, List, [], ◌∷◌, length, Option, Some, None, if◌then◌else◌, refl, sym, ap, ◌∙◌, inl, inr, subst, arith, le-ltb}
 use Rattle.std.specs.Prelude.{is_some, unwrap_or}
-use Rattle.acl_fragments.specs.Pieces.{channel_of}
-use Rattle.push_terms.specs.declared.word.Side.{Side}
-use Rattle.push_terms.specs.declared.word.Side.TheVariants.{A, B}
-use Rattle.push_terms.specs.declared.word.Way.{Way}
-use Rattle.push_terms.specs.declared.word.Way.TheVariants.{Ab, Ba}
-use Rattle.push_terms.specs.declared.word.Word.{Word}
-use Rattle.push_terms.specs.declared.word.Word.TheVariants.{Pass, Lose, Repeat, Damage, Cut, Timer, Drop, Cancel}
-use Rattle.capture.specs.Entries.{Entry}
-use Rattle.capture.specs.Frames.{waiting, way_served}
-use Rattle.capture.specs.Air.{Air}
-use Rattle.radio_air.specs.declared.fate.Fate.{Fate}
-use Rattle.radio_air.specs.declared.fate.Fate.TheVariants.{Delivered, Lost, Repeated, CutOff, Changed}
-use Rattle.radio_air.specs.declared.deed.Deed.{Deed}
-use Rattle.radio_air.specs.declared.deed.Deed.TheVariants.{Nothing, Meets, Fires, FiresBoth, Breaks, Cancels}
-use Rattle.radio_air.specs.Words.{deed_of, passing, meets_on}
-use Rattle.radio_air.specs.Fates.{first_can_meet}
-use Rattle.radio_air.specs.Air.{Hosts, checks_channel, is_checked, after_meeting, after_deed, acted, found, FindsNothing}
-use Rattle.radio_air.specs.Radio.{Radio, is_together, controller, first_channel}
-use Rattle.radio_air.specs.Radio as radio_rules
-use Rattle.world_model.specs.Machines.{Upper}
-use Rattle.world_model.specs.Turns as turns
-use Rattle.world_model.specs.Stations.{Station}
-use Rattle.world_model.specs.Worlds.{World, checks, Acts}
+use Rattle.turn_laws.specs.acl_fragments.specs.Pieces.{channel_of}
+use Rattle.turn_laws.specs.push_terms.specs.declared.word.Side.{Side}
+use Rattle.turn_laws.specs.push_terms.specs.declared.word.Side.TheVariants.{A, B}
+use Rattle.turn_laws.specs.push_terms.specs.declared.word.Way.{Way}
+use Rattle.turn_laws.specs.push_terms.specs.declared.word.Way.TheVariants.{Ab, Ba}
+use Rattle.turn_laws.specs.push_terms.specs.declared.word.Word.{Word}
+use Rattle.turn_laws.specs.push_terms.specs.declared.word.Word.TheVariants.{Pass, Lose, Repeat, Damage, Cut, Timer, Drop, Cancel}
+use Rattle.turn_laws.specs.capture.specs.Entries.{Entry}
+use Rattle.turn_laws.specs.capture.specs.Frames.{waiting, way_served}
+use Rattle.turn_laws.specs.capture.specs.Air.{Air}
+use Rattle.turn_laws.specs.radio_air.specs.declared.fate.Fate.{Fate}
+use Rattle.turn_laws.specs.radio_air.specs.declared.fate.Fate.TheVariants.{Delivered, Lost, Repeated, CutOff, Changed}
+use Rattle.turn_laws.specs.radio_air.specs.declared.deed.Deed.{Deed}
+use Rattle.turn_laws.specs.radio_air.specs.declared.deed.Deed.TheVariants.{Nothing, Meets, Fires, FiresBoth, Breaks, Cancels}
+use Rattle.turn_laws.specs.radio_air.specs.Words.{deed_of, passing, meets_on}
+use Rattle.turn_laws.specs.radio_air.specs.Fates.{first_can_meet}
+use Rattle.turn_laws.specs.radio_air.specs.Air.{Hosts, checks_channel, is_checked, after_meeting, after_deed, acted, found, FindsNothing}
+use Rattle.turn_laws.specs.radio_air.specs.Radio.{Radio, is_together, controller, first_channel}
+use Rattle.turn_laws.specs.radio_air.specs.Radio as radio_rules
+use Rattle.turn_laws.specs.world_model.specs.Machines.{Upper}
+use Rattle.turn_laws.specs.world_model.specs.Turns as turns
+use Rattle.turn_laws.specs.world_model.specs.Stations.{Station}
+use Rattle.turn_laws.specs.world_model.specs.Worlds.{World, checks, Acts}
 use Rattle.turn_laws.specs.Premises.{IsFrame}
 use Rattle.turn_laws.proofs.Wiring.{AllFrames}
 use Rattle.air_laws.specs.AirLaws.{Agrees}

@@ -1,19 +1,19 @@
 -- The air as the capture has it, and the radio: they hold the same frames, and have the same link.
 use Rattle.std.proofs.Common.{◌≡◌, ℕ, ◌+◌, ◌≤◌, ◌<◌, Bool, true, false, List, [], ◌∷◌, ◌++◌, Option, refl, sym, ap, ◌∙◌, subst, arith}
 use Rattle.std.proofs.lemmas.List.{append-nil}
-use Rattle.acl_fragments.specs.Pieces.{Piece}
-use Rattle.push_terms.specs.declared.word.Side.{Side}
-use Rattle.push_terms.specs.declared.word.Side.TheVariants.{A, B}
-use Rattle.push_terms.specs.declared.word.Way.{Way}
-use Rattle.push_terms.specs.declared.word.Way.TheVariants.{Ab, Ba}
-use Rattle.capture.specs.Frames.{Direction, empty, waiting, with_frames, emptied}
-use Rattle.capture.specs.Air.{Air, no_air, renewed, broken_off, due, put_from}
-use Rattle.radio_air.specs.declared.fate.Fate.{Fate}
-use Rattle.radio_air.specs.Fates.{meets}
-use Rattle.radio_air.specs.Words.{served_by}
-use Rattle.radio_air.specs.Air.{with_meeting}
-use Rattle.radio_air.specs.Controllers.{Controller}
-use Rattle.radio_air.specs.Radio.{Radio, new_radio, is_together, controller, with_controller, parted, hands, frames}
+use Rattle.turn_laws.specs.acl_fragments.specs.Pieces.{Piece}
+use Rattle.turn_laws.specs.push_terms.specs.declared.word.Side.{Side}
+use Rattle.turn_laws.specs.push_terms.specs.declared.word.Side.TheVariants.{A, B}
+use Rattle.turn_laws.specs.push_terms.specs.declared.word.Way.{Way}
+use Rattle.turn_laws.specs.push_terms.specs.declared.word.Way.TheVariants.{Ab, Ba}
+use Rattle.turn_laws.specs.capture.specs.Frames.{Direction, empty, waiting, with_frames, emptied}
+use Rattle.turn_laws.specs.capture.specs.Air.{Air, no_air, renewed, broken_off, due, put_from}
+use Rattle.turn_laws.specs.radio_air.specs.declared.fate.Fate.{Fate}
+use Rattle.turn_laws.specs.radio_air.specs.Fates.{meets}
+use Rattle.turn_laws.specs.radio_air.specs.Words.{served_by}
+use Rattle.turn_laws.specs.radio_air.specs.Air.{with_meeting}
+use Rattle.turn_laws.specs.radio_air.specs.Controllers.{Controller}
+use Rattle.turn_laws.specs.radio_air.specs.Radio.{Radio, new_radio, is_together, controller, with_controller, parted, hands, frames}
 use Rattle.air_laws.proofs.Waiting.{Waits, waits_as, waits_none, waits_more, waits_emptied, waits_met}
 
 -- one host, and the direction that it speaks in; `link` is the number of the link that the air carries

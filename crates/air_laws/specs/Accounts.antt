@@ -1,10 +1,10 @@
 -- What the capture of a run of the world has of the buffers of each controller, for every two machines.
 use Rattle.std.specs.Prelude.{ℕ, List}
-use Rattle.push_terms.specs.declared.word.Side.TheVariants.{A, B}
-use Rattle.capture.specs.Buffers.{KeepsWithin}
-use Rattle.radio_air.specs.Honest.{AreHonest}
-use Rattle.world_model.specs.Machines.{Upper}
-use Rattle.world_model.specs.Worlds.{World, Happening, Runs, all_entries, first_world}
+use Rattle.turn_laws.specs.push_terms.specs.declared.word.Side.TheVariants.{A, B}
+use Rattle.turn_laws.specs.capture.specs.Buffers.{KeepsWithin}
+use Rattle.turn_laws.specs.radio_air.specs.Honest.{AreHonest}
+use Rattle.turn_laws.specs.world_model.specs.Machines.{Upper}
+use Rattle.turn_laws.specs.world_model.specs.Worlds.{World, Happening, Runs, all_entries, first_world}
 use Rattle.turn_laws.specs.WorldLaws.{Fits}
 
 -- at each moment a host has no more packets outstanding than its controller takes, and no more than 64

@@ -1,16 +1,16 @@
 -- What the capture of a run of the world has of the air and of pushes, for every two machines.
 use Rattle.std.specs.Prelude.{ℕ, ◌≡◌, true, List, [], ◌∷◌, ◌++◌}
-use Rattle.push_terms.specs.declared.word.Side.{Side}
-use Rattle.push_terms.specs.declared.word.Side.TheVariants.{A, B}
-use Rattle.push_terms.specs.declared.word.Word.{Word}
-use Rattle.push_terms.specs.declared.outcome.Outcome.{Outcome}
-use Rattle.capture.specs.Histories.{EachAfter}
-use Rattle.capture.specs.Entries.{Entry, Ended}
-use Rattle.radio_air.specs.Air.{Hosts, KeepsTo, Obeys}
-use Rattle.radio_air.specs.Course.{PushesInTurn}
-use Rattle.world_model.specs.Machines.{Upper}
-use Rattle.world_model.specs.Pushes.{Pushes}
-use Rattle.world_model.specs.Worlds.{World, Happening, Runs, IsAtRest, all_entries, all_words, first_world}
+use Rattle.turn_laws.specs.push_terms.specs.declared.word.Side.{Side}
+use Rattle.turn_laws.specs.push_terms.specs.declared.word.Side.TheVariants.{A, B}
+use Rattle.turn_laws.specs.push_terms.specs.declared.word.Word.{Word}
+use Rattle.turn_laws.specs.push_terms.specs.declared.outcome.Outcome.{Outcome}
+use Rattle.turn_laws.specs.capture.specs.Histories.{EachAfter}
+use Rattle.turn_laws.specs.capture.specs.Entries.{Entry, Ended}
+use Rattle.turn_laws.specs.radio_air.specs.Air.{Hosts, KeepsTo, Obeys}
+use Rattle.turn_laws.specs.radio_air.specs.Course.{PushesInTurn}
+use Rattle.turn_laws.specs.world_model.specs.Machines.{Upper}
+use Rattle.turn_laws.specs.world_model.specs.Pushes.{Pushes}
+use Rattle.turn_laws.specs.world_model.specs.Worlds.{World, Happening, Runs, IsAtRest, all_entries, all_words, first_world}
 use Rattle.turn_laws.specs.Laws.{IsFront}
 use Rattle.turn_laws.specs.WorldLaws.{Fits}
 

@@ -1,14 +1,14 @@
 -- The frames that wait in the air, as the capture has them, and where they are more than memory is reserved for (this project's own).
 use Rattle.std.specs.Prelude.{ℕ, ◌≡◌, ◌||◌, true, List}
-use Rattle.push_terms.specs.declared.word.Way.{Way}
-use Rattle.capture.specs.Entries.{Entry}
-use Rattle.capture.specs.Frames.{waiting}
-use Rattle.capture.specs.Air.{direction}
-use Rattle.radio_air.specs.Air.{Hosts, air_after}
-use Rattle.radio_air.specs.Queues.{is_crowded}
-use Rattle.radio_air.specs.Radio.{Radio, frames}
-use Rattle.world_model.specs.Machines.{Upper}
-use Rattle.world_model.specs.Worlds.{World, Happening, Runs, all_entries, first_world}
+use Rattle.turn_laws.specs.push_terms.specs.declared.word.Way.{Way}
+use Rattle.turn_laws.specs.capture.specs.Entries.{Entry}
+use Rattle.turn_laws.specs.capture.specs.Frames.{waiting}
+use Rattle.turn_laws.specs.capture.specs.Air.{direction}
+use Rattle.turn_laws.specs.radio_air.specs.Air.{Hosts, air_after}
+use Rattle.turn_laws.specs.radio_air.specs.Queues.{is_crowded}
+use Rattle.turn_laws.specs.radio_air.specs.Radio.{Radio, frames}
+use Rattle.turn_laws.specs.world_model.specs.Machines.{Upper}
+use Rattle.turn_laws.specs.world_model.specs.Worlds.{World, Happening, Runs, all_entries, first_world}
 use Rattle.turn_laws.specs.Laws.{IsFront}
 use Rattle.turn_laws.specs.WorldLaws.{Fits}
 use Rattle.air_laws.specs.AirLaws.{TellsHosts}

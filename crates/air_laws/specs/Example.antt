@@ -2,18 +2,18 @@
 -- own).
 use Rattle.std.specs.Prelude.{ℕ, ◌≡◌, ◌<◌, Bool, true, false, List, [], ◌∷◌, ◌++◌, Option, Some, None}
 use Rattle.std.proofs.Common.{ap, arith}
-use Rattle.bt_base.specs.Octets.{le16}
-use Rattle.hci_packets.specs.declared.acl.Boundary.TheVariants.{First, FirstFromController}
-use Rattle.acl_fragments.specs.Pieces.{Piece}
-use Rattle.push_terms.specs.declared.word.Side.TheVariants.{A, B}
-use Rattle.push_terms.specs.declared.word.Word.TheVariants.{Pass, Drop}
-use Rattle.push_terms.specs.declared.outcome.Outcome.{Outcome}
-use Rattle.push_terms.specs.declared.outcome.Outcome.TheVariants.{Done}
-use Rattle.radio_air.specs.Controllers.{Returned, Stated, Called, LinkMade, LinkGone, GivenBack, address}
-use Rattle.radio_air.specs.Air.{Hosts}
-use Rattle.world_model.specs.Machines.{Up, Down, News, Linked, Heard, Opening, Upper}
-use Rattle.world_model.specs.Stations.{Reset, ReadBuffers, ReadAddress, Scan, Page, Accept, End, Data, Taking, Putting, Asking, Leaving, Commanding}
-use Rattle.world_model.specs.Worlds.{World, Happening, Tries, Departure, GivingBack, Piecemeal, Answering, Turns, Misses, Opens, Closes, Runs, IsAtRest, first_world}
+use Rattle.turn_laws.specs.bt_base.specs.Octets.{le16}
+use Rattle.turn_laws.specs.hci_packets.specs.declared.acl.Boundary.TheVariants.{First, FirstFromController}
+use Rattle.turn_laws.specs.acl_fragments.specs.Pieces.{Piece}
+use Rattle.turn_laws.specs.push_terms.specs.declared.word.Side.TheVariants.{A, B}
+use Rattle.turn_laws.specs.push_terms.specs.declared.word.Word.TheVariants.{Pass, Drop}
+use Rattle.turn_laws.specs.push_terms.specs.declared.outcome.Outcome.{Outcome}
+use Rattle.turn_laws.specs.push_terms.specs.declared.outcome.Outcome.TheVariants.{Done}
+use Rattle.turn_laws.specs.radio_air.specs.Controllers.{Returned, Stated, Called, LinkMade, LinkGone, GivenBack, address}
+use Rattle.turn_laws.specs.radio_air.specs.Air.{Hosts}
+use Rattle.turn_laws.specs.world_model.specs.Machines.{Up, Down, News, Linked, Heard, Opening, Upper}
+use Rattle.turn_laws.specs.world_model.specs.Stations.{Reset, ReadBuffers, ReadAddress, Scan, Page, Accept, End, Data, Taking, Putting, Asking, Leaving, Commanding}
+use Rattle.turn_laws.specs.world_model.specs.Worlds.{World, Happening, Tries, Departure, GivingBack, Piecemeal, Answering, Turns, Misses, Opens, Closes, Runs, IsAtRest, first_world}
 use Rattle.turn_laws.specs.WorldLaws.{Fits}
 use Rattle.air_laws.specs.AirLaws.{TellsHosts}
 

@@ -1,16 +1,16 @@
 -- What comes into one host on each link is what comes of the PDUs that went out of the other on it, as the capture has both.
 use Rattle.std.specs.Prelude.{ℕ, ◌≡◌, List, [], ◌∷◌, map, if◌then◌else◌}
 use Rattle.std.specs.List.{flat_map}
-use Rattle.push_terms.specs.declared.word.Side.{Side}
-use Rattle.push_terms.specs.declared.word.Side.TheVariants.{A, B}
-use Rattle.capture.specs.declared.flow.Flow.{Flow}
-use Rattle.capture.specs.declared.flow.Flow.TheVariants.{Out, Into}
-use Rattle.capture.specs.Entries.{Entry}
-use Rattle.capture.specs.Links.{links}
-use Rattle.capture.specs.Pdus.{Pdu, pdus, same_flow}
-use Rattle.radio_air.specs.Flights.{Met, heard, FindsFrames}
-use Rattle.world_model.specs.Machines.{Upper}
-use Rattle.world_model.specs.Worlds.{World, Happening, Runs, IsAtRest, all_entries, first_world}
+use Rattle.turn_laws.specs.push_terms.specs.declared.word.Side.{Side}
+use Rattle.turn_laws.specs.push_terms.specs.declared.word.Side.TheVariants.{A, B}
+use Rattle.turn_laws.specs.capture.specs.declared.flow.Flow.{Flow}
+use Rattle.turn_laws.specs.capture.specs.declared.flow.Flow.TheVariants.{Out, Into}
+use Rattle.turn_laws.specs.capture.specs.Entries.{Entry}
+use Rattle.turn_laws.specs.capture.specs.Links.{links}
+use Rattle.turn_laws.specs.capture.specs.Pdus.{Pdu, pdus, same_flow}
+use Rattle.turn_laws.specs.radio_air.specs.Flights.{Met, heard, FindsFrames}
+use Rattle.turn_laws.specs.world_model.specs.Machines.{Upper}
+use Rattle.turn_laws.specs.world_model.specs.Worlds.{World, Happening, Runs, IsAtRest, all_entries, first_world}
 use Rattle.turn_laws.specs.WorldLaws.{Fits}
 
 -- the PDUs that moved one way

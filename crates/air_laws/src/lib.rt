@@ -7,7 +7,7 @@ ghost use Rattle.air_laws.specs.AirLaws.{AirIsKept, AirIsObeyed, PushesAreMarked
 ghost use Rattle.air_laws.specs.Crowded.{CrowdsAreTold, FramesAreTold};
 ghost use Rattle.air_laws.specs.Example.{ExampleRuns};
 ghost use Rattle.air_laws.specs.Heard.{LinksAreHeard};
-ghost use Rattle.world_model.specs.Machines.{Upper};
+ghost use Rattle.turn_laws.specs.world_model.specs.Machines.{Upper};
 
 /// What comes into the hosts is what the words hand over, in each run, wherever it broke off.
 pub fn air_is_kept<S, T, G, H>()

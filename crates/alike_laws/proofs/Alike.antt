@@ -1,20 +1,20 @@
 -- Runs of machines that cannot be told apart.
 use Rattle.std.proofs.Common.{◌≡◌, ℕ, ◌-◌, ◌==◌, ◌&&◌, ◌||◌, Bool, true, false, List, [], ◌∷◌, ◌++◌, drop, Option, Some, None, is_none, nat_le, min, refl, sym, ap, ap₂, subst, ◌∙◌, if◌then◌else◌}
-use Rattle.push_terms.specs.declared.word.Side.{Side}
-use Rattle.push_terms.specs.declared.word.Side.TheVariants.{A, B}
-use Rattle.push_terms.specs.declared.word.Way.TheVariants.{Ab, Ba}
-use Rattle.acl_fragments.specs.Answers.{Answer as Joined, Pdu, answer as joined_by}
-use Rattle.acl_fragments.specs.Pieces.{Piece, starts, channel_of}
+use Rattle.run_laws.specs.push_terms.specs.declared.word.Side.{Side}
+use Rattle.run_laws.specs.push_terms.specs.declared.word.Side.TheVariants.{A, B}
+use Rattle.run_laws.specs.push_terms.specs.declared.word.Way.TheVariants.{Ab, Ba}
+use Rattle.run_laws.specs.acl_fragments.specs.Answers.{Answer as Joined, Pdu, answer as joined_by}
+use Rattle.run_laws.specs.acl_fragments.specs.Pieces.{Piece, starts, channel_of}
 use Rattle.byteorder.specs.Endian.{little_number}
-use Rattle.radio_air.specs.declared.deed.Deed.{Deed}
-use Rattle.radio_air.specs.declared.deed.Deed.TheVariants.{Nothing, Meets, Fires, FiresBoth, Breaks, Cancels}
-use Rattle.radio_air.specs.Controllers.{Controller, Answer, Returned, Stated, Called, LinkMade, LinkGone, GivenBack, after_handing}
-use Rattle.radio_air.specs.Radio.{with_controller, after_meeting, found, is_together}
-use Rattle.world_model.specs.Machines.{LinkEvent, News, Linked, Heard, TimerFired, Cancelled, Opening, Upper}
-use Rattle.world_model.specs.Pushes.{Pushes}
-use Rattle.world_model.specs.Turns.{IsCalm, FindsNothing}
-use Rattle.world_model.specs.Stations.{Accept, Station, longest_pdu, Effort, Taking, Putting, Asking, Leaving, Commanding, MakesEffort, whole_in, holds, hears_each, is_handle, hears_piece, answered, learns, may_accept, after_answer, event_in, upper_told, hears_answer, told}
-use Rattle.world_model.specs.Worlds.{World, Happening, Tries, Departure, GivingBack, Piecemeal, Answering, Turns, Misses, Opens, Closes, IsStill, IsAtRest, fired, checks, Acts, Does, Runs}
+use Rattle.run_laws.specs.radio_air.specs.declared.deed.Deed.{Deed}
+use Rattle.run_laws.specs.radio_air.specs.declared.deed.Deed.TheVariants.{Nothing, Meets, Fires, FiresBoth, Breaks, Cancels}
+use Rattle.run_laws.specs.radio_air.specs.Controllers.{Controller, Answer, Returned, Stated, Called, LinkMade, LinkGone, GivenBack, after_handing}
+use Rattle.run_laws.specs.radio_air.specs.Radio.{with_controller, after_meeting, found, is_together}
+use Rattle.run_laws.specs.world_model.specs.Machines.{LinkEvent, News, Linked, Heard, TimerFired, Cancelled, Opening, Upper}
+use Rattle.run_laws.specs.world_model.specs.Pushes.{Pushes}
+use Rattle.run_laws.specs.world_model.specs.Turns.{IsCalm, FindsNothing}
+use Rattle.run_laws.specs.world_model.specs.Stations.{Accept, Station, longest_pdu, Effort, Taking, Putting, Asking, Leaving, Commanding, MakesEffort, whole_in, holds, hears_each, is_handle, hears_piece, answered, learns, may_accept, after_answer, event_in, upper_told, hears_answer, told}
+use Rattle.run_laws.specs.world_model.specs.Worlds.{World, Happening, Tries, Departure, GivingBack, Piecemeal, Answering, Turns, Misses, Opens, Closes, IsStill, IsAtRest, fired, checks, Acts, Does, Runs}
 use Rattle.run_laws.specs.Embedding.{station_as}
 use Rattle.alike_laws.specs.Twins.{world_with, WorldsAlike}
 

@@ -1,6 +1,6 @@
 -- Runs from two beginnings that a machine cannot tell apart.
 use Rattle.std.proofs.Common.{◌≡◌, inl, inr, refl, sym, ap, ◌∙◌}
-use Rattle.world_model.specs.Machines.{Upper}
+use Rattle.run_laws.specs.world_model.specs.Machines.{Upper}
 use Rattle.alike_laws.specs.Twins.{AreTwins, IsOther, RunsAreOfTwins, RestIsOfTwins}
 use Rattle.alike_laws.proofs.Alike.{AreAlike, runs_on, rest_on}
 

@@ -1,1 +1,2 @@
+pub use Rattle.run_laws
 pub mod Twins

@@ -1,7 +1,7 @@
 -- Two states of one machine that cannot be told apart (this project's own).
 use Rattle.std.specs.Prelude.{ℕ, ◌≡◌, ◌⊎◌, List}
-use Rattle.world_model.specs.Machines.{News, Upper}
-use Rattle.world_model.specs.Worlds.{World, Happening, Runs, IsAtRest}
+use Rattle.run_laws.specs.world_model.specs.Machines.{News, Upper}
+use Rattle.run_laws.specs.world_model.specs.Worlds.{World, Happening, Runs, IsAtRest}
 use Rattle.run_laws.specs.Embedding.{world_as}
 
 -- The machine says and tells the same in both, and news lead from both to one: what was different is forgotten then.

@@ -2,7 +2,7 @@
 #![tactic(auto)]
 
 ghost use Rattle.alike_laws.specs.Twins.{RestIsOfTwins, RunsAreOfTwins};
-ghost use Rattle.world_model.specs.Machines.{Upper};
+ghost use Rattle.run_laws.specs.world_model.specs.Machines.{Upper};
 
 /// Where both machines of a world may begin in either of two states that they cannot tell apart, a run from the ones is a run from
 /// the others: it leads to the same world, but for a machine that has heard nothing.

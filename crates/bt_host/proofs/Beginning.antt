@@ -5,15 +5,15 @@ use Rattle.bt_base.specs.declared.settings.Settings.{Settings}
 use Rattle.push_terms.specs.declared.word.Side.{Side}
 use Rattle.push_terms.specs.declared.word.Side.TheVariants.{A, B}
 use Rattle.host_link.specs.PuttingOut.{started}
-use Rattle.radio_air.specs.Queues.{IsSize}
-use Rattle.world_model.specs.Machines.{Upper}
-use Rattle.world_model.specs.Stations.{Station, Commanding, first_station}
-use Rattle.world_model.specs.Worlds.{Tries}
-use Rattle.station_laws.specs.Seen.{role_of}
-use Rattle.host_model.specs.Circumstances.{Circumstance}
-use Rattle.host_model.specs.Profiles.{Profile}
-use Rattle.host_model.specs.Settings.{SetHost, with_settings}
-use Rattle.host_model.proofs.Setting.{hosts_say_octets}
+use Rattle.radio_world.specs.radio_air.specs.Queues.{IsSize}
+use Rattle.shelf_model.specs.world_model.specs.Machines.{Upper}
+use Rattle.shelf_model.specs.world_model.specs.Stations.{Station, Commanding, first_station}
+use Rattle.shelf_model.specs.world_model.specs.Worlds.{Tries}
+use Rattle.shelf_model.specs.station_laws.specs.Seen.{role_of}
+use Rattle.shelf_model.specs.host_model.specs.Circumstances.{Circumstance}
+use Rattle.shelf_model.specs.host_model.specs.Profiles.{Profile}
+use Rattle.shelf_model.specs.host_model.specs.Settings.{SetHost, with_settings}
+use Rattle.shelf_model.specs.host_model.proofs.Setting.{hosts_say_octets}
 use Rattle.radio_world.specs.Hosts.{answering}
 use Rattle.radio_world.specs.Scenes.{first_scene, moment, Moment, Plays}
 use Rattle.radio_world.specs.Standing.{starting, first_moment, IsCount, IsReached}

@@ -3,17 +3,17 @@ use Rattle.std.proofs.Common.{arith, ◌≡◌, ◌∙◌, ◌-◌, ◌≤◌, �
 use Rattle.std.specs.Prelude.{Option, Some, None, is_some, Result, Ok, Err, IsTrue, IfSome}
 use Rattle.std.specs.List.{AllByRecursion}
 use Rattle.bt_base.specs.Objects.{Object}
-use Rattle.obex_session.specs.Counting.{HasRisenBy}
-use Rattle.obex_session.specs.PutPackets.{place_of}
-use Rattle.obex_session.proofs.CountingLaws.{rises_none, rises_once}
+use Rattle.shelf_model.specs.obex_session.specs.Counting.{HasRisenBy}
+use Rattle.shelf_model.specs.obex_session.specs.PutPackets.{place_of}
+use Rattle.shelf_model.specs.obex_session.proofs.CountingLaws.{rises_none, rises_once}
 use Rattle.push_model.proofs.LinkLaws as LinkLaws
 use Rattle.push_model.proofs.LinkLaws.{steps_keep}
 use Rattle.bt_base.specs.Numbers.{IsPsm}
 use Rattle.std.proofs.lemmas.Bool.{cases_Bool, cond-true, eqb-true, eq-eqb}
 use Rattle.channel_model.specs.declared.event.ChannelEvent.{ChannelEvent}
 use Rattle.channel_model.specs.declared.event.ChannelEvent.TheVariants as event
-use Rattle.world_model.specs.Machines as machines
-use Rattle.world_model.specs.Machines.{Linked, Up, Down, Failed, Heard, TimerFired, Cancelled, Opening}
+use Rattle.shelf_model.specs.world_model.specs.Machines as machines
+use Rattle.shelf_model.specs.world_model.specs.Machines.{Linked, Up, Down, Failed, Heard, TimerFired, Cancelled, Opening}
 use Rattle.bt_base.specs.declared.ports.PortFault.{PortFault}
 use Rattle.bt_base.specs.declared.ports.PortFault.TheVariants as fault
 use Rattle.bt_base.specs.declared.settings.Settings.{Settings}
@@ -21,9 +21,9 @@ use Rattle.bt_base.specs.declared.settings.Transport.{Transport}
 use Rattle.bt_base.specs.declared.settings.Transport.TheVariants.{L2cap, Rfcomm}
 use Rattle.channel_model.specs.Value.{Channels}
 use Rattle.channel_model.specs.Calls.{sends, peer_mtu, waits}
-use Rattle.rfcomm_model.specs.Machine.{leaves}
-use Rattle.rfcomm_model.specs.Saying.{Said, next}
-use Rattle.sdp_client.specs.Asking.{is_due, after_request, request_octets}
+use Rattle.shelf_model.specs.rfcomm_model.specs.Machine.{leaves}
+use Rattle.shelf_model.specs.rfcomm_model.specs.Saying.{Said, next}
+use Rattle.shelf_model.specs.sdp_client.specs.Asking.{is_due, after_request, request_octets}
 use Rattle.push_terms.specs.declared.outcome.Outcome.{Outcome}
 use Rattle.push_model.specs.declared.course.Contact.TheVariants.{Closing}
 use Rattle.push_model.specs.declared.course.Point.TheVariants.{Due, Asked}
@@ -42,14 +42,14 @@ use Rattle.push_client.specs.Pushing.{gone, payload_in, step_of, wants_memory}
 use Rattle.push_client.specs.Putting.{AreAnswers, IsAnswer, Comes}
 use Rattle.push_client.specs.declared.step.Step.{Step}
 use Rattle.push_client.specs.declared.step.Step.TheVariants as step
-use Rattle.host_model.specs.Circumstances.{Circumstance, Excerpt, Part, parts_in}
-use Rattle.host_model.specs.Clients as model
-use Rattle.host_model.specs.Clients.{ClientProfile, client_profile, after_end}
-use Rattle.host_model.specs.Endpoints.{Endpoint, endpoint_of, takes_sdu}
-use Rattle.host_model.specs.Pdus.{sdu_of}
-use Rattle.host_model.specs.Profiles.{Stride}
-use Rattle.host_model.specs.Shelves.{measured, bare_part, fitting, unused}
-use Rattle.host_model.proofs.Shelves.{unused_none, unused_one, next_part}
+use Rattle.shelf_model.specs.host_model.specs.Circumstances.{Circumstance, Excerpt, Part, parts_in}
+use Rattle.shelf_model.specs.host_model.specs.Clients as model
+use Rattle.shelf_model.specs.host_model.specs.Clients.{ClientProfile, client_profile, after_end}
+use Rattle.shelf_model.specs.host_model.specs.Endpoints.{Endpoint, endpoint_of, takes_sdu}
+use Rattle.shelf_model.specs.host_model.specs.Pdus.{sdu_of}
+use Rattle.shelf_model.specs.host_model.specs.Profiles.{Stride}
+use Rattle.shelf_model.specs.host_model.specs.Shelves.{measured, bare_part, fitting, unused}
+use Rattle.shelf_model.specs.host_model.proofs.Shelves.{unused_none, unused_one, next_part}
 use Rattle.bt_host.specs.Calls.{Does}
 use Rattle.bt_host.specs.Uppers.{IsAside}
 use Rattle.bt_host.specs.Pushing.{pushing, HasCid, Pushes, FoundMemory, IsOf, failures_in, AreOf}

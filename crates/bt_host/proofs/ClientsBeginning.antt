@@ -8,9 +8,9 @@ use Rattle.bt_base.specs.Numbers.{IsPsm}
 use Rattle.bt_base.specs.Objects.{Object, octets_of}
 use Rattle.bt_base.specs.declared.ports.PortFault.{PortFault}
 use Rattle.bt_base.specs.declared.ports.PortFault.TheVariants as fault
-use Rattle.obex_session.specs.Counting.{HasRisenBy}
-use Rattle.obex_session.specs.PutPackets.{units_in}
-use Rattle.obex_session.proofs.CountingLaws.{rises_none, rises_once}
+use Rattle.shelf_model.specs.obex_session.specs.Counting.{HasRisenBy}
+use Rattle.shelf_model.specs.obex_session.specs.PutPackets.{units_in}
+use Rattle.shelf_model.specs.obex_session.proofs.CountingLaws.{rises_none, rises_once}
 use Rattle.push_terms.specs.declared.outcome.Outcome.{Outcome}
 use Rattle.push_model.specs.declared.course.Point.TheVariants.{Due, Asked}
 use Rattle.push_model.specs.declared.course.Stage.{Stage}
@@ -23,13 +23,13 @@ use Rattle.push_client.specs.Ending as push
 use Rattle.push_client.specs.Pushing.{gone, payload_in, step_of, Begins}
 use Rattle.push_client.specs.Putting.{Comes}
 use Rattle.push_client.specs.declared.step.Step.{Step}
-use Rattle.world_model.specs.Machines.{Opening}
-use Rattle.host_model.specs.Circumstances.{Circumstance, Excerpt, Size, parts_in}
-use Rattle.host_model.specs.Clients as model
-use Rattle.host_model.specs.Clients.{ClientProfile, calls, after_call}
-use Rattle.host_model.specs.Shelves.{name_for, size_if, is_short}
+use Rattle.shelf_model.specs.world_model.specs.Machines.{Opening}
+use Rattle.shelf_model.specs.host_model.specs.Circumstances.{Circumstance, Excerpt, Size, parts_in}
+use Rattle.shelf_model.specs.host_model.specs.Clients as model
+use Rattle.shelf_model.specs.host_model.specs.Clients.{ClientProfile, calls, after_call}
+use Rattle.shelf_model.specs.host_model.specs.Shelves.{name_for, size_if, is_short}
 use Rattle.shelf_model.specs.Held.{given_by, held_by}
-use Rattle.host_model.proofs.Shelves.{name_stays, size_stays}
+use Rattle.shelf_model.specs.host_model.proofs.Shelves.{name_stays, size_stays}
 use Rattle.bt_host.specs.Calls.{Does}
 use Rattle.bt_host.specs.Pushing.{pushing, Pushes, IsDue, FoundMemory, IsOf, failures_in, AreOf}
 use Rattle.bt_host.specs.PushingLaws.{Answers, joins}

@@ -13,7 +13,7 @@ use Rattle.channel_model.specs.Value.{Channels}
 use Rattle.channel_model.specs.Calls.{sends}
 use Rattle.l2cap_channels.specs.Machine.{Machine, with_channels}
 use Rattle.l2cap_channels.specs.Sending.{takes}
-use Rattle.obex_session.specs.PutPackets.{units_in}
+use Rattle.shelf_model.specs.obex_session.specs.PutPackets.{units_in}
 use Rattle.push_model.specs.Client.{Client, cancelled, is_idle}
 use Rattle.push_model.specs.Payloads.{Payload, IsSaid}
 use Rattle.push_model.specs.Steps as course
@@ -23,12 +23,12 @@ use Rattle.push_client.specs.Pushing.{gone, payload_in, step_of, wants_memory, B
 use Rattle.push_client.specs.Putting.{Comes}
 use Rattle.push_client.specs.declared.step.Step.{Step}
 use Rattle.push_client.specs.declared.step.Step.TheVariants as step
-use Rattle.world_model.specs.Machines.{Cancelled, Opening}
-use Rattle.host_model.specs.Clients as model
-use Rattle.host_model.specs.Clients.{ClientProfile, client_profile, calls}
-use Rattle.host_model.specs.Endpoints.{Endpoint, is_of, endpoint_of, with_endpoint, takes_sdu}
-use Rattle.host_model.specs.Pdus.{sdu_of}
-use Rattle.host_model.proofs.Single.{only_sdu}
+use Rattle.shelf_model.specs.world_model.specs.Machines.{Cancelled, Opening}
+use Rattle.shelf_model.specs.host_model.specs.Clients as model
+use Rattle.shelf_model.specs.host_model.specs.Clients.{ClientProfile, client_profile, calls}
+use Rattle.shelf_model.specs.host_model.specs.Endpoints.{Endpoint, is_of, endpoint_of, with_endpoint, takes_sdu}
+use Rattle.shelf_model.specs.host_model.specs.Pdus.{sdu_of}
+use Rattle.shelf_model.specs.host_model.proofs.Single.{only_sdu}
 use Rattle.bt_host.specs.Calls.{Does}
 use Rattle.bt_host.specs.Pushing.{pushing, HasCid, Pushes, IsDue}
 use Rattle.bt_host.specs.PushingLaws.{Answers}

@@ -10,8 +10,8 @@ use Rattle.h4_framing.specs.Packets.{Packet, packet}
 use Rattle.h4_framing.specs.Framing.{Framing}
 use Rattle.h4_framing.specs.Taking.{Takes as FramerTakes}
 use Rattle.bt_base.specs.declared.settings.Settings.{Settings}
-use Rattle.host_model.specs.Circumstances.{Circumstance}
-use Rattle.host_model.specs.Profiles.{Profile}
+use Rattle.shelf_model.specs.host_model.specs.Circumstances.{Circumstance}
+use Rattle.shelf_model.specs.host_model.specs.Profiles.{Profile}
 use Rattle.bt_host.specs.declared.feed_refusal.FeedRefusal.{FeedRefusal}
 use Rattle.bt_host.specs.declared.feed_refusal.FeedRefusal.TheVariants.{Transport, CommandFailed, BadBuffers, NoMemory}
 use Rattle.l2cap_channels.specs.Machine.{Machine, with_channels}

@@ -7,9 +7,9 @@ use Rattle.channel_model.specs.Value.{Channels}
 use Rattle.channel_model.specs.Calls.{next_event, after_event}
 use Rattle.channel_model.specs.Giving.{next_given}
 use Rattle.l2cap_channels.specs.Machine.{Machine, with_channels}
-use Rattle.host_model.specs.Circumstances.{Circumstance}
-use Rattle.host_model.specs.Profiles.{Stride, Profile}
-use Rattle.host_model.specs.Hosts.{Host, tells_events, drives}
+use Rattle.shelf_model.specs.host_model.specs.Circumstances.{Circumstance}
+use Rattle.shelf_model.specs.host_model.specs.Profiles.{Stride, Profile}
+use Rattle.shelf_model.specs.host_model.specs.Hosts.{Host, tells_events, drives}
 use Rattle.bt_host.specs.Calls.{Does, JoinAnswers}
 use Rattle.bt_host.specs.Uppers.{Upward, asking, Strode, strode}
 use Rattle.bt_host.proofs.Calling.{does_none}

@@ -1,7 +1,7 @@
 -- What the half of a host above its line hears, by what its channels and its end hear.
 use Rattle.std.proofs.Common.{◌≡◌, ◌∙◌, ℕ, ◌^◌, Bool, List, [], ◌++◌, refl, sym, ap, subst}
 use Rattle.bt_base.specs.declared.settings.Settings.{Settings}
-use Rattle.acl_fragments.specs.Pieces.{channel_of}
+use Rattle.shelf_model.specs.acl_fragments.specs.Pieces.{channel_of}
 use Rattle.channel_model.specs.Value.{Channels}
 use Rattle.channel_model.specs.Policies.{Policy, policy}
 use Rattle.channel_model.specs.Calls.{link_up, link_down}
@@ -9,10 +9,10 @@ use Rattle.channel_model.specs.Carrying.{Up as Handed}
 use Rattle.channel_model.specs.Hearing as channels
 use Rattle.channel_model.specs.Timing.{timed_out}
 use Rattle.l2cap_channels.specs.Machine.{Machine, policy_of, with_channels}
-use Rattle.world_model.specs.Machines.{News, Linked, Up, Down, Failed, Heard, TimerFired}
-use Rattle.host_model.specs.Circumstances.{Circumstance}
-use Rattle.host_model.specs.Profiles.{Profile}
-use Rattle.host_model.specs.Hosts.{Host, tells_events, driven, handed, told, hears_news, hear}
+use Rattle.shelf_model.specs.world_model.specs.Machines.{News, Linked, Up, Down, Failed, Heard, TimerFired}
+use Rattle.shelf_model.specs.host_model.specs.Circumstances.{Circumstance}
+use Rattle.shelf_model.specs.host_model.specs.Profiles.{Profile}
+use Rattle.shelf_model.specs.host_model.specs.Hosts.{Host, tells_events, driven, handed, told, hears_news, hear}
 use Rattle.bt_host.specs.Calls.{Does, JoinAnswers}
 use Rattle.bt_host.specs.Uppers.{Upward, asking, IsAside}
 use Rattle.bt_host.proofs.Calling.{does_none, does_then, does_map, does_from, does_to}

@@ -1,8 +1,8 @@
 -- The channels that an end keeps.
 use Rattle.std.proofs.Common.{◌≡◌, ◌∙◌, ℕ, Bool, true, false, not, ◌==◌, List, [], ◌∷◌, map, take, filter, refl, sym, ap}
 use Rattle.std.proofs.lemmas.List.{take-map}
-use Rattle.host_model.specs.Endpoints as model
-use Rattle.host_model.specs.Endpoints.{is_of, with_endpoint}
+use Rattle.shelf_model.specs.host_model.specs.Endpoints as model
+use Rattle.shelf_model.specs.host_model.specs.Endpoints.{is_of, with_endpoint}
 use Rattle.bt_host.specs.declared.endpoints.Endpoint.{Endpoint}
 use Rattle.bt_host.specs.EndpointLists.{endpoint_value, endpoints_of}
 

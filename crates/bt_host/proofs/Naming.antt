@@ -7,8 +7,8 @@ use Rattle.std.specs.Prelude.{count_by}
 use Rattle.std.specs.Char.Escape.{encode_utf16}
 use Rattle.std.specs.Str.{chars, IsUtf8}
 use lib.Utf8.{scalar, scalars, scalar_cases, encodes, encode, next}
-use Rattle.obex_session.specs.PutPackets.{units_in}
-use Rattle.push_script.specs.Names.{begins_character, utf16_length}
+use Rattle.shelf_model.specs.obex_session.specs.PutPackets.{units_in}
+use Rattle.radio_world.specs.push_script.specs.Names.{begins_character, utf16_length}
 
 -- an octet that begins a character of one to three octets counts once, one that begins four twice, and any other not at all
 abbrev Counts : ℕ → Bool → Bool → Type 0

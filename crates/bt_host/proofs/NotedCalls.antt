@@ -3,9 +3,9 @@ use Rattle.std.proofs.Common.{◌≡◌, ℕ, Bool, List, [], Result, Ok, Err, a
 use Rattle.std.specs.Prelude.{IfOk}
 use Rattle.bt_base.specs.declared.settings.Settings.{Settings}
 use Rattle.channel_model.specs.Value.{Channels}
-use Rattle.host_model.specs.Circumstances.{Circumstance}
-use Rattle.host_model.specs.Profiles.{Stride}
-use Rattle.world_model.specs.Machines.{News}
+use Rattle.shelf_model.specs.host_model.specs.Circumstances.{Circumstance}
+use Rattle.shelf_model.specs.host_model.specs.Profiles.{Stride}
+use Rattle.shelf_model.specs.world_model.specs.Machines.{News}
 use Rattle.bt_host.specs.Calls.{Does}
 use Rattle.bt_host.specs.Noting.{Noted, with_end, noting_by, stride_noted}
 use Rattle.bt_host.specs.NotedHosts.{noted_client}

@@ -5,11 +5,11 @@ use Rattle.std.specs.Result.{result_err}
 use Rattle.bt_base.specs.declared.settings.Settings.{Settings}
 use Rattle.push_terms.specs.declared.word.Side.{Side}
 use Rattle.h4_framing.specs.Framing.{Framing}
-use Rattle.world_model.specs.Machines.{News}
-use Rattle.world_model.specs.Stations.{told}
-use Rattle.host_model.specs.Circumstances.{Circumstance}
-use Rattle.host_model.specs.Profiles.{Profile}
-use Rattle.host_model.specs.Settings.{with_settings}
+use Rattle.shelf_model.specs.world_model.specs.Machines.{News}
+use Rattle.shelf_model.specs.world_model.specs.Stations.{told}
+use Rattle.shelf_model.specs.host_model.specs.Circumstances.{Circumstance}
+use Rattle.shelf_model.specs.host_model.specs.Profiles.{Profile}
+use Rattle.shelf_model.specs.host_model.specs.Settings.{with_settings}
 use Rattle.radio_world.specs.Hosts.{order_octets}
 use Rattle.radio_world.specs.Hosts as world
 use Rattle.line_laws.specs.Reading.{orders_in}

@@ -3,7 +3,7 @@ use Rattle.std.proofs.Common.{◌≡◌, ◌∙◌, ◌⊎◌, inl, inr, ◌≤�
 use Rattle.std.specs.Prelude.{Option, Some, None}
 use Rattle.std.specs.List.{list_any}
 use Rattle.std.proofs.lemmas.Bool.{cases_Bool}
-use Rattle.acl_fragments.specs.Pieces.{Piece}
+use Rattle.shelf_model.specs.acl_fragments.specs.Pieces.{Piece}
 use Rattle.host_link.specs.declared.host_command.HostCommand.{HostCommand}
 use Rattle.host_link.specs.declared.host_command.HostCommand.TheVariants.{CreateConnection, Disconnect}
 use Rattle.host_link.specs.HostCommands.{command_packet, asks, opcode}
@@ -12,9 +12,9 @@ use Rattle.host_link.specs.CommandFlows.{Flow, with_command, first_of, next_comm
 use Rattle.host_link.specs.Lines.{Line}
 use Rattle.host_link.specs.PuttingOut.{has_room, has_buffer, is_waiting, with_piece, with_pieces, put_pieces_on, put_pieces, with_next, put_command, connecting, leaving, can_take_pdu, with_pdu, take_pdu}
 use Rattle.bt_base.specs.declared.settings.Settings.{Settings}
-use Rattle.host_model.specs.Circumstances.{Circumstance}
-use Rattle.host_model.specs.Profiles.{Profile}
-use Rattle.host_model.specs.Hosts.{Host, has_more}
+use Rattle.shelf_model.specs.host_model.specs.Circumstances.{Circumstance}
+use Rattle.shelf_model.specs.host_model.specs.Profiles.{Profile}
+use Rattle.shelf_model.specs.host_model.specs.Hosts.{Host, has_more}
 use Rattle.bt_host.specs.Uppers.{Upward, asking, says}
 use Rattle.bt_host.specs.Stacks.{Stacked, Standing, standing, HasSaid, Rests, KeepsLink, AsksForLink, IsLeft, IsPaged, is_asking, can_put_piece}
 

@@ -13,12 +13,12 @@ use Rattle.channel_model.specs.declared.event.ChannelEvent.TheVariants.{Closed}
 use Rattle.channel_model.specs.declared.event.CloseReason.{CloseReason}
 use Rattle.channel_model.specs.Value.{Channels}
 use Rattle.channel_model.specs.Calls.{sends}
-use Rattle.obex_session.specs.Counting.{AreCounted, counts_of}
-use Rattle.obex_session.specs.InboxCalls.{Answer}
-use Rattle.rfcomm_frames.specs.Frames.{PlainFrame}
-use Rattle.rfcomm_frames.specs.FrameReading.{is_empty}
-use Rattle.rfcomm_model.specs.Machine.{Mux, is_ready, leaves}
-use Rattle.rfcomm_model.specs.Saying.{Said, next}
+use Rattle.shelf_model.specs.obex_session.specs.Counting.{AreCounted, counts_of}
+use Rattle.shelf_model.specs.obex_session.specs.InboxCalls.{Answer}
+use Rattle.shelf_model.specs.rfcomm_frames.specs.Frames.{PlainFrame}
+use Rattle.shelf_model.specs.rfcomm_frames.specs.FrameReading.{is_empty}
+use Rattle.shelf_model.specs.rfcomm_model.specs.Machine.{Mux, is_ready, leaves}
+use Rattle.shelf_model.specs.rfcomm_model.specs.Saying.{Said, next}
 use Rattle.push_model.specs.declared.outlet.Outlet.{Outlet}
 use Rattle.push_model.specs.declared.outlet.Outlet.TheVariants.{Records, Direct, Muxed}
 use Rattle.push_model.specs.Payloads.{Payload}
@@ -30,14 +30,14 @@ use Rattle.answer_laws.specs.Memory.{HadMemory, LackedNone}
 use Rattle.answer_laws.proofs.Memory.{unfailed_lacked_none}
 use Rattle.push_profile.specs.Reactions.{Comes}
 use Rattle.push_profile.specs.Serving.{reacted, has_failed, IsPsmOf, AreLent}
-use Rattle.world_model.specs.Machines.{Linked, Down}
-use Rattle.host_model.specs.Circumstances.{Circumstance, Stored, answers_in}
-use Rattle.host_model.specs.Endpoints.{Endpoint, endpoint_of, with_endpoint, takes_sdu}
-use Rattle.host_model.specs.Pdus.{sdu_of, are_octets}
-use Rattle.host_model.specs.Profiles.{Stride}
-use Rattle.host_model.specs.Servers.{ServerProfile, is_told}
-use Rattle.host_model.specs.Servers as model
-use Rattle.host_model.proofs.Single.{only_sdu}
+use Rattle.shelf_model.specs.world_model.specs.Machines.{Linked, Down}
+use Rattle.shelf_model.specs.host_model.specs.Circumstances.{Circumstance, Stored, answers_in}
+use Rattle.shelf_model.specs.host_model.specs.Endpoints.{Endpoint, endpoint_of, with_endpoint, takes_sdu}
+use Rattle.shelf_model.specs.host_model.specs.Pdus.{sdu_of, are_octets}
+use Rattle.shelf_model.specs.host_model.specs.Profiles.{Stride}
+use Rattle.shelf_model.specs.host_model.specs.Servers.{ServerProfile, is_told}
+use Rattle.shelf_model.specs.host_model.specs.Servers as model
+use Rattle.shelf_model.specs.host_model.proofs.Single.{only_sdu}
 use Rattle.l2cap_channels.specs.Machine.{Machine, with_channels}
 use Rattle.l2cap_channels.specs.Sending.{takes}
 use Rattle.bt_host.specs.Calls.{Does, JoinAnswers}

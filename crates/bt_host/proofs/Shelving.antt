@@ -8,11 +8,11 @@ use Rattle.bt_base.specs.declared.ports.PortFault.{PortFault}
 use Rattle.bt_base.specs.declared.ports.PortFault.TheVariants.{Failed, NoMemory}
 use Rattle.bt_base.specs.declared.settings.Settings.{Settings}
 use Rattle.channel_model.specs.Value.{Channels}
-use Rattle.world_model.specs.Machines.{Opening}
+use Rattle.shelf_model.specs.world_model.specs.Machines.{Opening}
 use Rattle.push_model.specs.Steps.{Part as Octets}
-use Rattle.host_model.specs.Circumstances.{Circumstance, Size, Part, Stored, size_in}
-use Rattle.host_model.specs.Clients.{ClientProfile, client_profile}
-use Rattle.host_model.specs.Profiles.{Stride}
+use Rattle.shelf_model.specs.host_model.specs.Circumstances.{Circumstance, Size, Part, Stored, size_in}
+use Rattle.shelf_model.specs.host_model.specs.Clients.{ClientProfile, client_profile}
+use Rattle.shelf_model.specs.host_model.specs.Profiles.{Stride}
 use Rattle.shelf_model.specs.Held.{size_in_octets, given_by, length_of, sized, held_by}
 use Rattle.shelf_model.proofs.Sizes.{size_stays, sized_stays, held_stays}
 use Rattle.bt_host.specs.Calls.{Does}

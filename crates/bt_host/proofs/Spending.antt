@@ -7,10 +7,10 @@ use Rattle.bt_base.specs.declared.settings.Transport.{Transport}
 use Rattle.bt_base.specs.declared.settings.Transport.TheVariants.{L2cap, Rfcomm}
 use Rattle.push_terms.specs.declared.outcome.Outcome.{Outcome}
 use Rattle.push_terms.specs.declared.outcome.Outcome.TheVariants.{ShelfFault}
-use Rattle.rfcomm_frames.specs.FrameReading.{is_empty}
-use Rattle.rfcomm_model.specs.Machine.{leaves, is_ready, sends, taken_count}
-use Rattle.rfcomm_model.specs.Saying.{Said, next}
-use Rattle.sdp_client.specs.Asking.{is_due, after_request, request_octets}
+use Rattle.shelf_model.specs.rfcomm_frames.specs.FrameReading.{is_empty}
+use Rattle.shelf_model.specs.rfcomm_model.specs.Machine.{leaves, is_ready, sends, taken_count}
+use Rattle.shelf_model.specs.rfcomm_model.specs.Saying.{Said, next}
+use Rattle.shelf_model.specs.sdp_client.specs.Asking.{is_due, after_request, request_octets}
 use Rattle.push_model.specs.declared.course.Contact.{Contact}
 use Rattle.push_model.specs.declared.course.Contact.TheVariants.{Unmet, Met, Left, Closing}
 use Rattle.push_model.specs.declared.course.Point.TheVariants.{Due, Asked}

@@ -1,25 +1,25 @@
 -- What a host does by itself, as efforts of its station.
 use Rattle.std.proofs.Common.{◌≡◌, ◌∙◌, ℕ, zero, suc, ◌+◌, ◌-◌, ◌&&◌, not, Bool, true, false, List, [], ◌∷◌, ◌++◌, length, replicate, Option, Some, None, refl, sym, ap, subst, arith, true≢false}
 use Rattle.std.proofs.lemmas.List.{length-map}
-use Rattle.acl_fragments.specs.Cuts.{cut}
-use Rattle.hci_packets.specs.declared.acl.Boundary.TheVariants.{First}
+use Rattle.shelf_model.specs.acl_fragments.specs.Cuts.{cut}
+use Rattle.shelf_model.specs.hci_packets.specs.declared.acl.Boundary.TheVariants.{First}
 use Rattle.bt_base.specs.declared.settings.Settings.{Settings}
 use Rattle.push_terms.specs.declared.word.Side.{Side}
 use Rattle.push_terms.specs.declared.word.Side.TheVariants.{A, B}
-use Rattle.radio_air.specs.Controllers.{address}
+use Rattle.radio_world.specs.radio_air.specs.Controllers.{address}
 use Rattle.host_link.specs.Lines.{Line}
 use Rattle.host_link.specs.PuttingOut.{put_pieces, put_command, take_pdu, connecting, leaving}
-use Rattle.world_model.specs.Machines.{Upper}
-use Rattle.world_model.specs.Stations.{Station, Effort}
-use Rattle.world_model.specs.Stations as station
-use Rattle.station_laws.specs.Seen.{order_of}
-use Rattle.station_laws.specs.Striving.{Makes, Strives}
-use Rattle.station_laws.proofs.Striving.{pieces_go, pdus_go, commands_go}
-use Rattle.host_model.specs.Circumstances.{Circumstance}
-use Rattle.host_model.specs.Profiles.{Profile}
-use Rattle.host_model.specs.Hosts.{has_more}
-use Rattle.host_model.specs.Settings.{SetHost, set_to, said_with, with_settings}
-use Rattle.host_model.proofs.Setting.{hosts_say_octets}
+use Rattle.shelf_model.specs.world_model.specs.Machines.{Upper}
+use Rattle.shelf_model.specs.world_model.specs.Stations.{Station, Effort}
+use Rattle.shelf_model.specs.world_model.specs.Stations as station
+use Rattle.shelf_model.specs.station_laws.specs.Seen.{order_of}
+use Rattle.shelf_model.specs.station_laws.specs.Striving.{Makes, Strives}
+use Rattle.shelf_model.specs.station_laws.proofs.Striving.{pieces_go, pdus_go, commands_go}
+use Rattle.shelf_model.specs.host_model.specs.Circumstances.{Circumstance}
+use Rattle.shelf_model.specs.host_model.specs.Profiles.{Profile}
+use Rattle.shelf_model.specs.host_model.specs.Hosts.{has_more}
+use Rattle.shelf_model.specs.host_model.specs.Settings.{SetHost, set_to, said_with, with_settings}
+use Rattle.shelf_model.specs.host_model.proofs.Setting.{hosts_say_octets}
 use Rattle.radio_world.specs.Hosts.{MakesEfforts}
 use Rattle.line_laws.specs.Seeing.{seen, IsSeen}
 use Rattle.line_laws.specs.Laws.{GoesAsSeen}

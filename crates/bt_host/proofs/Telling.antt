@@ -6,9 +6,9 @@ use Rattle.channel_model.specs.Carrying.{Up, Nothing, Received}
 use Rattle.l2cap_channels.specs.declared.up.Up.{Up as Kept}
 use Rattle.l2cap_channels.specs.declared.up.Up.TheVariants as kept
 use Rattle.l2cap_channels.specs.Arriving.{plain_up}
-use Rattle.host_model.specs.Circumstances.{Circumstance}
-use Rattle.host_model.specs.Profiles.{Stride, Profile}
-use Rattle.host_model.specs.Hosts.{Host, tells_each, tells_events, handed}
+use Rattle.shelf_model.specs.host_model.specs.Circumstances.{Circumstance}
+use Rattle.shelf_model.specs.host_model.specs.Profiles.{Stride, Profile}
+use Rattle.shelf_model.specs.host_model.specs.Hosts.{Host, tells_each, tells_events, handed}
 use Rattle.bt_host.specs.Calls.{Does, JoinAnswers}
 use Rattle.bt_host.specs.Uppers.{Strode, strode}
 use Rattle.bt_host.proofs.Calling.{does_then, does_map, does_from}

@@ -3,9 +3,9 @@ use Rattle.std.proofs.Common.{◌≡◌, List, Option, Result, sym, subst}
 use Rattle.std.specs.Prelude.{OnOk}
 use Rattle.h4_framing.specs.Framing.{Framing}
 use Rattle.bt_base.specs.declared.settings.Settings.{Settings}
-use Rattle.world_model.specs.Machines.{News}
-use Rattle.host_model.specs.Circumstances.{Circumstance}
-use Rattle.host_model.specs.Profiles.{Profile}
+use Rattle.shelf_model.specs.world_model.specs.Machines.{News}
+use Rattle.shelf_model.specs.host_model.specs.Circumstances.{Circumstance}
+use Rattle.shelf_model.specs.host_model.specs.Profiles.{Profile}
 use Rattle.bt_host.specs.declared.feed_refusal.FeedRefusal.{FeedRefusal}
 use Rattle.bt_host.specs.Stacks.{Stacked, HearsNews}
 use Rattle.bt_host.specs.Shells.{Shelled, settings_of, moment_of}

@@ -1,6 +1,6 @@
 -- The channels that an end uses, as they are kept.
 use Rattle.std.specs.Prelude.{List, map}
-use Rattle.host_model.specs.Endpoints as model
+use Rattle.shelf_model.specs.host_model.specs.Endpoints as model
 use Rattle.bt_host.specs.declared.endpoints.Endpoint.{Endpoint}
 
 abbrev pub endpoint_value : Endpoint → model.Endpoint

@@ -2,12 +2,12 @@
 use Rattle.std.specs.Prelude.{ℕ, List, Option}
 use Rattle.bt_base.specs.Objects.{Object, Contents}
 use Rattle.bt_base.specs.declared.settings.Settings.{Settings}
-use Rattle.world_model.specs.Machines.{Upper}
-use Rattle.host_model.specs.Circumstances.{Circumstance}
-use Rattle.host_model.specs.Profiles.{Profile}
-use Rattle.host_model.specs.Clients.{ClientProfile}
-use Rattle.host_model.specs.Servers.{ServerProfile}
-use Rattle.host_model.specs.Settings.{SetHost, with_settings}
+use Rattle.shelf_model.specs.world_model.specs.Machines.{Upper}
+use Rattle.shelf_model.specs.host_model.specs.Circumstances.{Circumstance}
+use Rattle.shelf_model.specs.host_model.specs.Profiles.{Profile}
+use Rattle.shelf_model.specs.host_model.specs.Clients.{ClientProfile}
+use Rattle.shelf_model.specs.host_model.specs.Servers.{ServerProfile}
+use Rattle.shelf_model.specs.host_model.specs.Settings.{SetHost, with_settings}
 use Rattle.bt_host.specs.Noting.{Noted, noting, noting_by}
 use Rattle.bt_host.specs.Shelving.{Shelved, shelf_profile, shelved_by}
 use Rattle.bt_host.specs.Serving.{Served, profile_of, served_by}

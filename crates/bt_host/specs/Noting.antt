@@ -2,8 +2,8 @@
 use Rattle.std.specs.Prelude.{ℕ, List, max}
 use Rattle.channel_model.specs.Value.{Channels}
 use Rattle.channel_model.specs.Calls.{window_used}
-use Rattle.host_model.specs.Circumstances.{Circumstance}
-use Rattle.host_model.specs.Profiles.{Stride, Profile}
+use Rattle.shelf_model.specs.host_model.specs.Circumstances.{Circumstance}
+use Rattle.shelf_model.specs.host_model.specs.Profiles.{Stride, Profile}
 
 -- an end, and the greatest numbers so far: of the frames of one enhanced channel that are not acknowledged, and of the credits that are
 -- held

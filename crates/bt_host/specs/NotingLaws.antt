@@ -1,7 +1,7 @@
 -- What was noted stays noted (this project's own).
 use Rattle.std.specs.Prelude.{ℕ, zero, suc, ◌≡◌, ◌≤◌, Bool, true, false, List, [], ◌∷◌, Option, Some, None, is_some, refl, if◌then◌else◌}
 use Rattle.std.proofs.Common.{arith, subst}
-use Rattle.acl_fragments.specs.Pieces.{channel_of}
+use Rattle.shelf_model.specs.acl_fragments.specs.Pieces.{channel_of}
 use Rattle.bt_base.specs.declared.settings.Settings.{Settings}
 use Rattle.channel_model.specs.declared.event.ChannelEvent.{ChannelEvent}
 use Rattle.channel_model.specs.Value.{Channels}
@@ -10,12 +10,12 @@ use Rattle.channel_model.specs.Carrying.{Up as Handed, Nothing, Received}
 use Rattle.channel_model.specs.Hearing.{hears, up}
 use Rattle.channel_model.specs.Timing.{timed_out}
 use Rattle.channel_model.specs.Giving.{Given, next_given, after_given}
-use Rattle.world_model.specs.Machines.{Upper, News, Linked, Up, Down, Failed, Heard, TimerFired, Cancelled, Opening}
-use Rattle.host_model.specs.Circumstances.{Circumstance}
-use Rattle.host_model.specs.Pdus.{pdu_of, is_frame}
-use Rattle.host_model.specs.Profiles.{Profile}
-use Rattle.host_model.specs.Hosts.{Host, with_channels, tells_each, settles, strides, drives, driven, handed, hears_news, ready, hear, most_steps, steps_behind, after_said, says, next}
-use Rattle.host_model.specs.Settings.{SetHost, said_with, with_settings}
+use Rattle.shelf_model.specs.world_model.specs.Machines.{Upper, News, Linked, Up, Down, Failed, Heard, TimerFired, Cancelled, Opening}
+use Rattle.shelf_model.specs.host_model.specs.Circumstances.{Circumstance}
+use Rattle.shelf_model.specs.host_model.specs.Pdus.{pdu_of, is_frame}
+use Rattle.shelf_model.specs.host_model.specs.Profiles.{Profile}
+use Rattle.shelf_model.specs.host_model.specs.Hosts.{Host, with_channels, tells_each, settles, strides, drives, driven, handed, hears_news, ready, hear, most_steps, steps_behind, after_said, says, next}
+use Rattle.shelf_model.specs.host_model.specs.Settings.{SetHost, said_with, with_settings}
 use Rattle.radio_world.specs.Measures.{IsMostOf}
 use Rattle.bt_host.specs.Noting.{Noted, noting}
 use Rattle.bt_host.specs.Playing.{playing}

@@ -3,12 +3,12 @@ use Rattle.std.specs.Prelude.{◌≡◌, Bool, List, Option, None}
 use Rattle.bt_base.specs.Objects.{Object, Contents}
 use Rattle.push_terms.specs.declared.word.Side.{Side}
 use Rattle.push_terms.specs.declared.word.Side.TheVariants.{A, B}
-use Rattle.radio_air.specs.Controllers.{address}
+use Rattle.radio_world.specs.radio_air.specs.Controllers.{address}
 use Rattle.bt_base.specs.declared.settings.Settings.{Settings}
-use Rattle.host_model.specs.Circumstances.{Circumstance}
-use Rattle.host_model.specs.Profiles.{Profile}
-use Rattle.host_model.specs.Clients.{ClientProfile}
-use Rattle.host_model.specs.Settings.{SetHost, set_to}
+use Rattle.shelf_model.specs.host_model.specs.Circumstances.{Circumstance}
+use Rattle.shelf_model.specs.host_model.specs.Profiles.{Profile}
+use Rattle.shelf_model.specs.host_model.specs.Clients.{ClientProfile}
+use Rattle.shelf_model.specs.host_model.specs.Settings.{SetHost, set_to}
 use Rattle.radio_world.specs.Hosts.{Asking}
 use Rattle.line_laws.specs.Seeing.{seen, IsSeen}
 use Rattle.bt_host.specs.Uppers.{asking}

@@ -2,10 +2,10 @@
 use Rattle.std.specs.Prelude.{◌≡◌, ◌||◌, Bool, true, false, List, [], refl}
 use Rattle.bt_base.specs.declared.settings.Settings.{Settings}
 use Rattle.push_terms.specs.declared.word.Side.{Side}
-use Rattle.world_model.specs.Stations.{IsStopped}
-use Rattle.host_model.specs.Circumstances.{Circumstance}
-use Rattle.host_model.specs.Profiles.{Profile}
-use Rattle.host_model.specs.Settings.{with_settings}
+use Rattle.shelf_model.specs.world_model.specs.Stations.{IsStopped}
+use Rattle.shelf_model.specs.host_model.specs.Circumstances.{Circumstance}
+use Rattle.shelf_model.specs.host_model.specs.Profiles.{Profile}
+use Rattle.shelf_model.specs.host_model.specs.Settings.{with_settings}
 use Rattle.radio_world.specs.Hosts.{answering}
 use Rattle.radio_world.specs.Hosts as world
 use Rattle.bt_host.specs.Calls.{JoinAnswers}

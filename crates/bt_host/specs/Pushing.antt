@@ -11,16 +11,16 @@ use Rattle.host_link.specs.PuttingOut.{started}
 use Rattle.l2cap_channels.specs.Machine.{new_machine}
 use Rattle.bt_base.specs.declared.ports.PortFault.{PortFault}
 use Rattle.bt_base.specs.declared.ports.PortFault.TheVariants.{Failed, NoMemory}
-use Rattle.obex_session.specs.Counting.{HasRisenBy}
+use Rattle.shelf_model.specs.obex_session.specs.Counting.{HasRisenBy}
 use Rattle.push_model.specs.Client as push
 use Rattle.push_model.specs.Laws.{links}
 use Rattle.push_model.specs.Steps.{Part as Octets}
 use Rattle.push_model.specs.declared.course.Point.TheVariants.{Due}
 use Rattle.push_model.specs.declared.course.Stage.TheVariants.{Link}
-use Rattle.host_model.specs.Circumstances.{Circumstance, Size, Part, Stored, parts_in}
-use Rattle.host_model.specs.Clients as model
-use Rattle.host_model.specs.Clients.{ClientProfile, client_profile}
-use Rattle.host_model.specs.Endpoints.{Endpoint}
+use Rattle.shelf_model.specs.host_model.specs.Circumstances.{Circumstance, Size, Part, Stored, parts_in}
+use Rattle.shelf_model.specs.host_model.specs.Clients as model
+use Rattle.shelf_model.specs.host_model.specs.Clients.{ClientProfile, client_profile}
+use Rattle.shelf_model.specs.host_model.specs.Endpoints.{Endpoint}
 use Rattle.shelf_model.specs.Held.{longest_octets, IsHeld}
 use Rattle.bt_host.specs.Noting.{Noted, unnoted}
 use Rattle.bt_host.specs.Stacks.{Stacked, usual_peer}

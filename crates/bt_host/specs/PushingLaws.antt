@@ -6,13 +6,13 @@ use Rattle.std.proofs.lemmas.Bool.{cases_lt}
 use Rattle.bt_base.specs.Counts.{HasRisen, last_count}
 use Rattle.bt_base.specs.Objects.{Object}
 use Rattle.bt_base.specs.declared.settings.Settings.{Settings}
-use Rattle.world_model.specs.Machines.{News, Linked, Up, Down, Failed, Heard, TimerFired, Cancelled, Opening}
-use Rattle.host_model.specs.Circumstances.{Circumstance}
-use Rattle.host_model.specs.Clients.{ClientProfile, client_profile}
+use Rattle.shelf_model.specs.world_model.specs.Machines.{News, Linked, Up, Down, Failed, Heard, TimerFired, Cancelled, Opening}
+use Rattle.shelf_model.specs.host_model.specs.Circumstances.{Circumstance}
+use Rattle.shelf_model.specs.host_model.specs.Clients.{ClientProfile, client_profile}
 use Rattle.bt_host.specs.Calls.{JoinAnswers}
 use Rattle.bt_host.specs.Uppers.{IsAside}
-use Rattle.obex_session.specs.Counting.{HasRisenBy}
-use Rattle.obex_session.proofs.CountingLaws.{rises_none, rises_both}
+use Rattle.shelf_model.specs.obex_session.specs.Counting.{HasRisenBy}
+use Rattle.shelf_model.specs.obex_session.proofs.CountingLaws.{rises_none, rises_both}
 use Rattle.bt_host.specs.Pushing.{IsOf, failures_in, AreOf}
 
 rises_later : (a b c : ℕ) → a ≤ b → b ≤ c → HasRisen b c → HasRisen a c

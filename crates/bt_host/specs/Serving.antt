@@ -5,15 +5,15 @@ use Rattle.bt_base.specs.Counts.{HasRisen}
 use Rattle.bt_base.specs.Objects.{Contents}
 use Rattle.bt_base.specs.declared.settings.Settings.{Settings}
 use Rattle.std.specs.Prelude.{Option, None, ℕ}
-use Rattle.obex_session.specs.Counting.{AreCounted, counts_of}
+use Rattle.shelf_model.specs.obex_session.specs.Counting.{AreCounted, counts_of}
 use Rattle.push_model.specs.Server.{Server}
 use Rattle.push_model.specs.Sessions.{is_pending}
 use Rattle.answer_laws.specs.Memory.{HadMemory}
 use Rattle.push_profile.specs.Serving.{has_failed}
-use Rattle.host_model.specs.Circumstances.{Circumstance, answers_in}
-use Rattle.host_model.specs.Endpoints.{Endpoint}
-use Rattle.host_model.specs.Profiles.{Profile}
-use Rattle.host_model.specs.Servers.{ServerProfile, server_profile}
+use Rattle.shelf_model.specs.host_model.specs.Circumstances.{Circumstance, answers_in}
+use Rattle.shelf_model.specs.host_model.specs.Endpoints.{Endpoint}
+use Rattle.shelf_model.specs.host_model.specs.Profiles.{Profile}
+use Rattle.shelf_model.specs.host_model.specs.Servers.{ServerProfile, server_profile}
 
 -- a server, the channel that brought the last SDU for each PSM, and whether it ends the link
 pub record Served : Type 0 where

@@ -4,14 +4,14 @@ use Rattle.std.proofs.Common.{arith, inl, inr, sym, ap, ◌∙◌, subst, append
 use Rattle.std.specs.List.{AllByRecursion}
 use Rattle.std.proofs.lemmas.Bool.{cases_lt}
 use Rattle.bt_base.specs.Counts.{HasRisen, last_count}
-use Rattle.obex_session.specs.Counting.{Counts, AreCounted, counts_of}
-use Rattle.obex_session.specs.InboxCalls.{Answer}
-use Rattle.obex_session.proofs.CountingLaws.{counted_none, counted_then}
+use Rattle.shelf_model.specs.obex_session.specs.Counting.{Counts, AreCounted, counts_of}
+use Rattle.shelf_model.specs.obex_session.specs.InboxCalls.{Answer}
+use Rattle.shelf_model.specs.obex_session.proofs.CountingLaws.{counted_none, counted_then}
 use Rattle.answer_laws.specs.Memory.{HadMemory}
-use Rattle.host_model.specs.Circumstances.{Circumstance, answer_of, answers_in}
+use Rattle.shelf_model.specs.host_model.specs.Circumstances.{Circumstance, answer_of, answers_in}
 use Rattle.bt_base.specs.declared.settings.Settings.{Settings}
-use Rattle.world_model.specs.Machines.{News, Linked, Up, Down, Failed, Heard, TimerFired, Cancelled, Opening}
-use Rattle.host_model.specs.Servers.{ServerProfile}
+use Rattle.shelf_model.specs.world_model.specs.Machines.{News, Linked, Up, Down, Failed, Heard, TimerFired, Cancelled, Opening}
+use Rattle.shelf_model.specs.host_model.specs.Servers.{ServerProfile}
 use Rattle.bt_host.specs.Serving.{profile_of, Asks}
 use Rattle.bt_host.specs.Uppers.{IsAside}
 use Rattle.bt_host.specs.Calls.{JoinAnswers}

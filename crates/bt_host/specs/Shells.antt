@@ -2,8 +2,8 @@
 use Rattle.std.specs.Prelude.{ℕ, ◌≡◌, List, Option, None, Result, Ok, Err, MatchOption}
 use Rattle.h4_framing.specs.Framing.{Framing}
 use Rattle.h4_framing.specs.Packets.{Packet}
-use Rattle.host_model.specs.Circumstances.{Circumstance}
-use Rattle.host_model.specs.Profiles.{Profile}
+use Rattle.shelf_model.specs.host_model.specs.Circumstances.{Circumstance}
+use Rattle.shelf_model.specs.host_model.specs.Profiles.{Profile}
 use Rattle.bt_host.specs.declared.feed_refusal.FeedRefusal.{FeedRefusal}
 use Rattle.bt_host.specs.declared.feed_refusal.FeedRefusal.TheVariants.{NoMemory}
 use Rattle.bt_host.specs.Refusals.{refusal_in}

@@ -6,10 +6,10 @@ use Rattle.bt_base.specs.declared.ports.PortFault.TheVariants.{Failed}
 use Rattle.bt_base.specs.declared.settings.Settings.{Settings}
 use Rattle.push_terms.specs.declared.outcome.Outcome.{Outcome}
 use Rattle.push_terms.specs.declared.outcome.Outcome.TheVariants.{Done, LinkLost, RetryLimit, Refused, NoService, ShelfFault, Cancelled as PushCancelled, PeerClosed, PeerFault, ScriptEnded}
-use Rattle.world_model.specs.Machines.{News, Linked, Failed as NotLinked, Heard, TimerFired, Cancelled, Opening}
-use Rattle.host_model.specs.Circumstances.{Circumstance, Size, Part, Stored}
-use Rattle.host_model.specs.Clients.{ClientProfile, client_profile, told}
-use Rattle.host_model.specs.Profiles.{Stride, Profile}
+use Rattle.shelf_model.specs.world_model.specs.Machines.{News, Linked, Failed as NotLinked, Heard, TimerFired, Cancelled, Opening}
+use Rattle.shelf_model.specs.host_model.specs.Circumstances.{Circumstance, Size, Part, Stored}
+use Rattle.shelf_model.specs.host_model.specs.Clients.{ClientProfile, client_profile, told}
+use Rattle.shelf_model.specs.host_model.specs.Profiles.{Stride, Profile}
 use Rattle.shelf_model.specs.Held.{given_by, held_by}
 use Rattle.bt_host.specs.Pushing.{pushing, failures_in}
 

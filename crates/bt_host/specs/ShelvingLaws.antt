@@ -2,9 +2,9 @@
 use Rattle.std.specs.Prelude.{◌≡◌, List, [], map}
 use Rattle.std.proofs.Common.{◌∙◌, sym, ap}
 use Rattle.bt_base.specs.declared.settings.Settings.{Settings}
-use Rattle.world_model.specs.Machines.{News}
-use Rattle.host_model.specs.Circumstances.{Circumstance}
-use Rattle.host_model.specs.Clients.{ClientProfile}
+use Rattle.shelf_model.specs.world_model.specs.Machines.{News}
+use Rattle.shelf_model.specs.host_model.specs.Circumstances.{Circumstance}
+use Rattle.shelf_model.specs.host_model.specs.Clients.{ClientProfile}
 use Rattle.shelf_model.specs.Held.{held_by}
 use Rattle.bt_host.specs.PushingLaws.{told_alone}
 use Rattle.bt_host.specs.Shelving.{Shelved, left_behind, in_memory, shelf_profile}

@@ -3,11 +3,11 @@ use Rattle.std.specs.Prelude.{ℕ, zero, suc, ◌≡◌, Bool, true, false, List
 use Rattle.std.proofs.Common.{◌∙◌, arith}
 use Rattle.bt_base.specs.declared.settings.Settings.{Settings}
 use Rattle.channel_model.specs.Giving.{next_given}
-use Rattle.world_model.specs.Machines.{News, Linked, Up, Down, Failed, Heard, TimerFired, Cancelled, Opening}
-use Rattle.host_model.specs.Circumstances.{Circumstance}
-use Rattle.host_model.specs.Profiles.{Stride, Profile}
-use Rattle.host_model.specs.Hosts.{Host, most_said, most_steps, settles, strides, drives, hears_news, ready, hear}
-use Rattle.host_model.specs.Settings.{with_settings}
+use Rattle.shelf_model.specs.world_model.specs.Machines.{News, Linked, Up, Down, Failed, Heard, TimerFired, Cancelled, Opening}
+use Rattle.shelf_model.specs.host_model.specs.Circumstances.{Circumstance}
+use Rattle.shelf_model.specs.host_model.specs.Profiles.{Stride, Profile}
+use Rattle.shelf_model.specs.host_model.specs.Hosts.{Host, most_said, most_steps, settles, strides, drives, hears_news, ready, hear}
+use Rattle.shelf_model.specs.host_model.specs.Settings.{with_settings}
 use Rattle.radio_world.specs.Speaking.{SpeaksWithin}
 use Rattle.bt_host.specs.Playing.{playing}
 use Rattle.bt_host.specs.Shells.{Shelled}

@@ -8,10 +8,10 @@ use Rattle.host_link.specs.Calling.{may_end}
 use Rattle.host_link.specs.HostCommands.{asks}
 use Rattle.host_link.specs.PuttingOut.{has_room, has_buffer, is_waiting, can_take_pdu, take_pdu, put_pieces, put_command, connecting, leaving}
 use Rattle.host_link.specs.Hearing.{fault_of, news_of, heard}
-use Rattle.host_model.specs.Circumstances.{Circumstance}
-use Rattle.host_model.specs.Profiles.{Profile}
-use Rattle.host_model.specs.Hosts.{Host, next, has_more, hear}
-use Rattle.world_model.specs.Machines.{News}
+use Rattle.shelf_model.specs.host_model.specs.Circumstances.{Circumstance}
+use Rattle.shelf_model.specs.host_model.specs.Profiles.{Profile}
+use Rattle.shelf_model.specs.host_model.specs.Hosts.{Host, next, has_more, hear}
+use Rattle.shelf_model.specs.world_model.specs.Machines.{News}
 use Rattle.bt_host.specs.declared.feed_refusal.FeedRefusal.{FeedRefusal}
 use Rattle.bt_host.specs.declared.feed_refusal.FeedRefusal.TheVariants.{NoMemory}
 use Rattle.bt_host.specs.Refusals.{Refuses}

@@ -7,13 +7,13 @@ use Rattle.push_terms.specs.declared.word.Side.{Side}
 use Rattle.host_link.specs.declared.host_command.HostCommand.TheVariants.{Reset}
 use Rattle.host_link.specs.CommandFlows.{Flow}
 use Rattle.host_link.specs.Lines.{Line}
-use Rattle.world_model.specs.Stations.{IsStopped}
-use Rattle.station_laws.specs.Seen.{order_of, AreFew}
-use Rattle.station_laws.proofs.Waiting.{waits}
-use Rattle.host_model.specs.Circumstances.{Circumstance}
-use Rattle.host_model.specs.Profiles.{Profile}
-use Rattle.host_model.specs.Hosts.{Host, has_more, next, says}
-use Rattle.host_model.specs.Settings.{set_to, said_with, with_settings}
+use Rattle.shelf_model.specs.world_model.specs.Stations.{IsStopped}
+use Rattle.shelf_model.specs.station_laws.specs.Seen.{order_of, AreFew}
+use Rattle.shelf_model.specs.station_laws.proofs.Waiting.{waits}
+use Rattle.shelf_model.specs.host_model.specs.Circumstances.{Circumstance}
+use Rattle.shelf_model.specs.host_model.specs.Profiles.{Profile}
+use Rattle.shelf_model.specs.host_model.specs.Hosts.{Host, has_more, next, says}
+use Rattle.shelf_model.specs.host_model.specs.Settings.{set_to, said_with, with_settings}
 use Rattle.radio_world.specs.Hosts.{order_octets}
 use Rattle.line_laws.specs.Reading.{orders_in}
 use Rattle.line_laws.specs.Seeing.{seen, IsSeen, IsSpent}

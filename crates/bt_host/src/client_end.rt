@@ -7,11 +7,11 @@ ghost use Rattle.bt_base.specs.Numbers.{IsPsm};
 ghost use Rattle.bt_base.specs.declared.settings.Settings.{Settings};
 ghost use Rattle.channel_model.specs.Calls.{connected, connect_answer};
 ghost use Rattle.l2cap_channels.specs.Machine.{with_channels};
-ghost use Rattle.obex_session.specs.PutPackets.{units_in};
+ghost use Rattle.shelf_model.specs.obex_session.specs.PutPackets.{units_in};
 ghost use Rattle.push_client.specs.Pushing.{payload_in, step_of};
-ghost use Rattle.world_model.specs.Machines.{Linked, Up, Down, Failed, TimerFired, Cancelled, Opening};
-ghost use Rattle.host_model.specs.Endpoints.{endpoint_of, with_answer};
-ghost use Rattle.host_model.specs.Clients.{client_profile, is_at_end, unlinked, told, happened, received, sent, done, submits, closes, takes, cause_of, calls};
+ghost use Rattle.shelf_model.specs.world_model.specs.Machines.{Linked, Up, Down, Failed, TimerFired, Cancelled, Opening};
+ghost use Rattle.shelf_model.specs.host_model.specs.Endpoints.{endpoint_of, with_answer};
+ghost use Rattle.shelf_model.specs.host_model.specs.Clients.{client_profile, is_at_end, unlinked, told, happened, received, sent, done, submits, closes, takes, cause_of, calls};
 ghost use Rattle.push_model.specs.Client.{is_idle, may_cancel};
 ghost use Rattle.push_model.specs.Events.{armed};
 ghost use Rattle.bt_host.specs.Calls.{Does};
@@ -52,7 +52,7 @@ pub(crate) struct ClientEnd {
 
 impl Model for ClientEnd {
     ghost use Rattle.std.specs.Prelude.{[]};
-    ghost use Rattle.host_model.specs.Clients.{ClientProfile};
+    ghost use Rattle.shelf_model.specs.host_model.specs.Clients.{ClientProfile};
     ghost use Rattle.bt_host.specs.Pushing.{bid_of};
 
     ghost Value = { ClientProfile };

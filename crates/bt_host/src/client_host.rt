@@ -31,7 +31,7 @@ pub struct ClientHost {
 
 impl Model for ClientHost {
     ghost use Rattle.std.specs.Prelude.{◌≡◌, None, false};
-    ghost use Rattle.host_model.specs.Clients.{ClientProfile};
+    ghost use Rattle.shelf_model.specs.host_model.specs.Clients.{ClientProfile};
     ghost use Rattle.bt_host.specs.Noting.{Noted};
     ghost use Rattle.bt_host.specs.Refusals.{acl_limit};
     ghost use Rattle.bt_host.specs.Shells.{Shelled};
@@ -67,8 +67,8 @@ impl ClientHost {
     ghost use Rattle.push_model.specs.Events.{armed};
     ghost use Rattle.h4_framing.specs.Taking.{EndsWith};
     ghost use Rattle.channel_model.specs.Calls as calls;
-    ghost use Rattle.obex_session.specs.PutPackets.{units_in};
-    ghost use Rattle.world_model.specs.Machines.{TimerFired, Cancelled, Opening};
+    ghost use Rattle.shelf_model.specs.obex_session.specs.PutPackets.{units_in};
+    ghost use Rattle.shelf_model.specs.world_model.specs.Machines.{TimerFired, Cancelled, Opening};
     ghost use Rattle.bt_host.specs.declared.feed_refusal.FeedRefusal.TheVariants as refusals;
     ghost use Rattle.bt_host.specs.Refusals.{fresh_framing};
     ghost use Rattle.bt_host.specs.Stacks.{GoesOn, HearsNews};

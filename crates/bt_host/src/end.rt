@@ -4,9 +4,9 @@ ghost use Rattle.std.specs.Prelude.{◌≡◌, ℕ, Bool, [], List, Option, IfOk
 ghost use Rattle.bt_base.specs.declared.settings.Settings.{Settings};
 ghost use Rattle.channel_model.specs.Policies.{policy};
 ghost use Rattle.l2cap_channels.specs.Machine.{with_channels};
-ghost use Rattle.world_model.specs.Machines.{News, Linked, Up, Down, Failed, TimerFired};
-ghost use Rattle.host_model.specs.Circumstances.{Circumstance};
-ghost use Rattle.host_model.specs.Profiles.{Profile, Stride};
+ghost use Rattle.shelf_model.specs.world_model.specs.Machines.{News, Linked, Up, Down, Failed, TimerFired};
+ghost use Rattle.shelf_model.specs.host_model.specs.Circumstances.{Circumstance};
+ghost use Rattle.shelf_model.specs.host_model.specs.Profiles.{Profile, Stride};
 ghost use Rattle.bt_host.specs.Calls.{Does, JoinAnswers};
 ghost use Rattle.bt_host.specs.Uppers.{IsAside};
 

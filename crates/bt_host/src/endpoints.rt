@@ -1,7 +1,7 @@
 //! The channels that an end uses.
 
 ghost use Rattle.std.specs.Prelude.{◌≡◌, []};
-ghost use Rattle.host_model.specs.Endpoints.{endpoint_of, with_endpoint};
+ghost use Rattle.shelf_model.specs.host_model.specs.Endpoints.{endpoint_of, with_endpoint};
 ghost use Rattle.bt_host.specs.EndpointLists.{endpoints_of};
 
 use arrayvec::ArrayVec;
@@ -25,7 +25,7 @@ pub(crate) struct Endpoints {
 
 impl Model for Endpoints {
     ghost use Rattle.std.specs.Prelude.{◌≤◌, List, length};
-    ghost use Rattle.host_model.specs.Endpoints as model;
+    ghost use Rattle.shelf_model.specs.host_model.specs.Endpoints as model;
     ghost use Rattle.bt_host.specs.EndpointLists.{endpoints_of};
 
     ghost Value = { List model.Endpoint };

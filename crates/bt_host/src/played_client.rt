@@ -9,8 +9,8 @@ use radio_world::{Client, Host, Measured};
 
 impl<F: Shelf> Host<F> for ClientHost {
     ghost use Rattle.push_terms.specs.declared.word.Side.TheVariants.{A};
-    ghost use Rattle.host_model.specs.Circumstances.{Circumstance};
-    ghost use Rattle.host_model.specs.Settings.{SetHost};
+    ghost use Rattle.shelf_model.specs.host_model.specs.Circumstances.{Circumstance};
+    ghost use Rattle.shelf_model.specs.host_model.specs.Settings.{SetHost};
     ghost use Rattle.bt_host.specs.Pushing.{Lacks};
     ghost use Rattle.bt_host.specs.Shelving.{Shelved};
     ghost use Rattle.bt_host.specs.Noting.{Noted};
@@ -20,7 +20,7 @@ impl<F: Shelf> Host<F> for ClientHost {
     ghost use Rattle.bt_host.specs.Playing.{playing, PushesSoundly};
     ghost use Rattle.bt_host.specs.PlayingLaws.{joined, stops};
     ghost use Rattle.bt_host.specs.SpeakingLaws.{speaks};
-    ghost use Rattle.host_model.specs.Hosts.{most_said};
+    ghost use Rattle.shelf_model.specs.host_model.specs.Hosts.{most_said};
 
     ghost State = { SetHost (Noted Shelved) };
 

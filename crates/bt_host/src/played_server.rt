@@ -8,9 +8,9 @@ use radio_world::{Host, Measured};
 
 impl<I: Inbox> Host<I> for ServerHost {
     ghost use Rattle.push_terms.specs.declared.word.Side.TheVariants.{B};
-    ghost use Rattle.host_model.specs.Circumstances.{Circumstance};
-    ghost use Rattle.host_model.specs.Servers.{ServerProfile};
-    ghost use Rattle.host_model.specs.Settings.{SetHost};
+    ghost use Rattle.shelf_model.specs.host_model.specs.Circumstances.{Circumstance};
+    ghost use Rattle.shelf_model.specs.host_model.specs.Servers.{ServerProfile};
+    ghost use Rattle.shelf_model.specs.host_model.specs.Settings.{SetHost};
     ghost use Rattle.bt_host.specs.Serving.{Asks, Lacks};
     ghost use Rattle.bt_host.specs.Noting.{Noted};
     ghost use Rattle.bt_host.specs.NotedHosts.{noted_server_machine, noted_server, server_noting};
@@ -18,7 +18,7 @@ impl<I: Inbox> Host<I> for ServerHost {
     ghost use Rattle.bt_host.specs.Playing.{playing, ServesSoundly};
     ghost use Rattle.bt_host.specs.PlayingLaws.{joined, stops};
     ghost use Rattle.bt_host.specs.SpeakingLaws.{speaks};
-    ghost use Rattle.host_model.specs.Hosts.{most_said};
+    ghost use Rattle.shelf_model.specs.host_model.specs.Hosts.{most_said};
 
     ghost State = { SetHost (Noted ServerProfile) };
 

@@ -2,11 +2,11 @@
 
 ghost use Rattle.std.specs.Prelude.{◌≡◌, ◌≤◌, [], false, length, OnOk, OnErr};
 ghost use Rattle.l2cap_channels.specs.Machine.{with_channels};
-ghost use Rattle.obex_session.specs.PutPackets.{units_in};
-ghost use Rattle.world_model.specs.Machines.{Cancelled, Opening};
+ghost use Rattle.shelf_model.specs.obex_session.specs.PutPackets.{units_in};
+ghost use Rattle.shelf_model.specs.world_model.specs.Machines.{Cancelled, Opening};
 ghost use Rattle.bt_base.specs.declared.settings.Settings.{Settings};
-ghost use Rattle.host_model.specs.Clients.{told};
-ghost use Rattle.host_model.specs.Hosts.{hear};
+ghost use Rattle.shelf_model.specs.host_model.specs.Clients.{told};
+ghost use Rattle.shelf_model.specs.host_model.specs.Hosts.{hear};
 ghost use Rattle.bt_host.specs.Calls.{Does};
 ghost use Rattle.bt_host.specs.Uppers.{asking, IsOf};
 ghost use Rattle.bt_host.specs.Stacks.{HearsNews, IsResting};

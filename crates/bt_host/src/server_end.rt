@@ -3,7 +3,7 @@
 ghost use Rattle.std.specs.Prelude.{◌≡◌, ◌≤◌, [], IfOk, OnOk, OnErr, true, false};
 ghost use Rattle.bt_base.specs.declared.settings.Settings.{Settings};
 ghost use Rattle.push_model.specs.Server.{new_server};
-ghost use Rattle.host_model.specs.Servers.{is_told};
+ghost use Rattle.shelf_model.specs.host_model.specs.Servers.{is_told};
 
 use crate::end::End;
 use crate::endpoints::Endpoints;
@@ -61,7 +61,7 @@ impl ServerEnd {
 
 impl<B: Inbox> End<B> for ServerEnd {
     ghost use Rattle.std.specs.Prelude.{◌≡◌, Bool, true, refl};
-    ghost use Rattle.host_model.specs.Servers.{ServerProfile};
+    ghost use Rattle.shelf_model.specs.host_model.specs.Servers.{ServerProfile};
     ghost use Rattle.bt_host.specs.NotedHosts.{credits_of_server};
     ghost use Rattle.bt_host.specs.Serving.{serving, profile_of, Works, Asks, Lacks};
     ghost use Rattle.bt_host.specs.ServingLaws.{joins, lacks, told_alone};

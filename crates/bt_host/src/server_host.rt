@@ -65,7 +65,7 @@ impl ServerHost {
     ghost use Rattle.std.specs.Prelude.{◌≡◌, ◌≤◌, None, Some, drop, length, IfOk, OnOk, OnErr};
     ghost use Rattle.h4_framing.specs.Taking.{EndsWith};
     ghost use Rattle.channel_model.specs.Calls as calls;
-    ghost use Rattle.world_model.specs.Machines.{TimerFired};
+    ghost use Rattle.shelf_model.specs.world_model.specs.Machines.{TimerFired};
     ghost use Rattle.bt_host.specs.declared.feed_refusal.FeedRefusal.TheVariants as refusals;
     ghost use Rattle.bt_host.specs.Refusals.{fresh_framing};
     ghost use Rattle.bt_host.specs.Stacks.{GoesOn, HearsNews};

@@ -3,9 +3,9 @@
 ghost use Rattle.std.specs.Prelude.{◌≡◌, ◌<◌, ◌≤◌, ℕ, false, true, List, [], drop, length, OnOk, OnErr};
 ghost use Rattle.h4_framing.specs.Packets.{packet};
 ghost use Rattle.l2cap_channels.specs.Machine.{with_channels};
-ghost use Rattle.world_model.specs.Machines.{TimerFired};
+ghost use Rattle.shelf_model.specs.world_model.specs.Machines.{TimerFired};
 ghost use Rattle.host_link.specs.PuttingOut.{can_take_pdu};
-ghost use Rattle.host_model.specs.Circumstances.{Circumstance};
+ghost use Rattle.shelf_model.specs.host_model.specs.Circumstances.{Circumstance};
 ghost use Rattle.bt_host.specs.Uppers.{says, IsOf};
 ghost use Rattle.bt_host.specs.Stacks.{standing, usual_peer, can_put_piece, GoesOn, HasSaid, HearsNews, HearsOne, IsLeft, IsPaged, IsResting, KeepsLink, AsksForLink};
 

@@ -2,14 +2,14 @@
 
 ghost use Rattle.std.specs.Prelude.{◌≡◌, ◌<◌, ◌≤◌, true, List, [], Some, IfOk, OnOk, OnErr, length, take};
 ghost use Rattle.bt_base.specs.Octets.{IsOctets};
-ghost use Rattle.acl_fragments.specs.Pieces.{channel_of};
+ghost use Rattle.shelf_model.specs.acl_fragments.specs.Pieces.{channel_of};
 ghost use Rattle.channel_model.specs.Hearing as channels_heard;
 ghost use Rattle.l2cap_channels.specs.Machine.{with_channels, policy_of};
 ghost use Rattle.host_link.specs.Hearing.{plain_news};
-ghost use Rattle.world_model.specs.Machines as machines;
-ghost use Rattle.world_model.specs.Machines.{Linked, Down, Failed, Heard, TimerFired};
-ghost use Rattle.host_model.specs.Circumstances.{Circumstance};
-ghost use Rattle.host_model.specs.Hosts.{tells_events, drives, driven, handed, hear, steps_behind};
+ghost use Rattle.shelf_model.specs.world_model.specs.Machines as machines;
+ghost use Rattle.shelf_model.specs.world_model.specs.Machines.{Linked, Down, Failed, Heard, TimerFired};
+ghost use Rattle.shelf_model.specs.host_model.specs.Circumstances.{Circumstance};
+ghost use Rattle.shelf_model.specs.host_model.specs.Hosts.{tells_events, drives, driven, handed, hear, steps_behind};
 ghost use Rattle.bt_host.specs.Calls.{Does};
 ghost use Rattle.bt_host.specs.Uppers.{asking, strode, says, told_of, hears_told, IsOf, IsTitled, SaysInto, GivesInto};
 

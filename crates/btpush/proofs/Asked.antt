@@ -12,7 +12,7 @@ use Rattle.btpush_forms.specs.Ports.{Written}
 use Rattle.btpush_forms.specs.Run.{HasCauses, HasEnded}
 use Rattle.btpush_forms.specs.Words.{AskForTrace, hosted_form}
 use Rattle.btpush_forms.specs.declared.hosted.Hosted.{Hosted}
-use Rattle.h4_view.specs.View.{IsAnswered}
+use Rattle.btpush_forms.specs.h4_view.specs.View.{IsAnswered}
 use Rattle.object_push.specs.Ports.{Ports}
 use Rattle.object_push.specs.Pushing.{Pushes, NotRead}
 use Rattle.making.specs.Making.{IsKnown, Makes, NotMade}

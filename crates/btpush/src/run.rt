@@ -15,8 +15,8 @@ ghost use Rattle.object_push.specs.Pushing.{IsShort, Pushes};
 ghost use Rattle.receiving.specs.Ports as received;
 ghost use Rattle.receiving.specs.Ports.{LacksMemory};
 ghost use Rattle.receiving.specs.Receiving.{Receives};
-ghost use Rattle.three_wire.specs.Carrying.{WriteRose, IsWholeInput};
-ghost use Rattle.h4_view.specs.View.{IsAnswered};
+ghost use Rattle.btpush_forms.specs.three_wire.specs.Carrying.{WriteRose, IsWholeInput};
+ghost use Rattle.btpush_forms.specs.h4_view.specs.View.{IsAnswered};
 
 use bt_base::{Inbox, Shelf, Sink, Source};
 use btpush_forms::{Hosted, Status, Viewing, run_alone};

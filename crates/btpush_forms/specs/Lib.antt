@@ -1,3 +1,5 @@
+pub use Rattle.h4_view
+pub use Rattle.three_wire
 pub mod Status
 pub mod Ports
 pub mod Words

@@ -1,3 +1,5 @@
+pub use Rattle.h4_framing
+pub use Rattle.push_script
 pub mod Histories
 pub mod Entries
 pub mod EntryLaws

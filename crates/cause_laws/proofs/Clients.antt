@@ -2,42 +2,42 @@
 use Rattle.std.proofs.Common.{◌≡◌, ℕ, zero, suc, Bool, true, false, not, ◌&&◌, ◌||◌, ◌==◌, List, [], ◌∷◌, ◌++◌, length, Option, Some, None, is_none, Result, Ok, Err, refl, sym, ap, subst, ◌∙◌, if◌then◌else◌}
 use Rattle.std.specs.Prelude.{nat_lt}
 use Rattle.std.specs.List.{AllByRecursion}
-use Rattle.bt_base.specs.declared.ports.PortFault.{PortFault}
-use Rattle.bt_base.specs.declared.ports.PortFault.TheVariants as fault
-use Rattle.bt_base.specs.declared.settings.Transport.{Transport}
-use Rattle.bt_base.specs.declared.settings.Transport.TheVariants.{L2cap, Rfcomm}
-use Rattle.push_terms.specs.declared.outcome.Outcome.{Outcome}
-use Rattle.push_terms.specs.declared.outcome.Outcome.TheVariants.{Done, LinkLost, RetryLimit, Refused, NoService, ShelfFault, Cancelled, PeerClosed, PeerFault, ScriptEnded}
-use Rattle.rfcomm_model.specs.Hearing.{Up, nothing, opened, bytes, closed, up, hears}
-use Rattle.rfcomm_model.specs.Saying.{Said, next}
-use Rattle.sdp_client.specs.Asking.{is_due}
-use Rattle.sdp_client.specs.Hearing.{found_at}
-use Rattle.sdp_client.specs.declared.reason.Found.{Found}
-use Rattle.sdp_client.specs.declared.reason.Found.TheVariants as found
-use Rattle.sdp_client.specs.declared.reason.QueryReason.{QueryReason}
-use Rattle.sdp_client.specs.declared.reason.QueryReason.TheVariants.{BadReply, ErrorCode, WrongTransaction, TooLong}
-use Rattle.obex_session.specs.declared.client.Answered.{Answered}
-use Rattle.obex_session.specs.declared.client.Answered.TheVariants as answer
-use Rattle.obex_session.specs.Views.{answer_at}
-use Rattle.push_model.specs.declared.closing.CloseCause.{CloseCause}
-use Rattle.push_model.specs.declared.closing.CloseCause.TheVariants as closing
-use Rattle.push_model.specs.declared.course.Point.TheVariants.{Due, Asked}
-use Rattle.push_model.specs.declared.course.Stage.{Stage}
-use Rattle.push_model.specs.declared.course.Stage.TheVariants.{Rest, Link, SearchChannel, Search, SearchEnd, Features, ObjectChannel, Object, ObjectEnd, LinkEnd, Over}
-use Rattle.push_model.specs.Causes.{cause_of_link, cause_of_close, cause_of_query, cause_of_mux, small_channel, unawaited_response}
-use Rattle.push_model.specs.Client.{Client, is_direct, begins, begun_by}
-use Rattle.push_model.specs.Events as events
-use Rattle.push_model.specs.Events.{News, is_linked, is_asking_features, armed, search_psm}
-use Rattle.push_model.specs.Laws.{Deed, Hears, Asks, Finishes, Cancels, done}
-use Rattle.push_model.specs.Responding.{is_early, is_success, is_left, is_object, hears_response}
-use Rattle.push_model.specs.Shown.{first_of, watched, closed_shows, opened_shows, way_of, found_shows, says, answer_shows, response_shows, front_shows, stream_shows, up_shows, object_shows, outside_shows, sdu_shows, part_shows, ask_shows, said_shows, step_shows, shows}
-use Rattle.push_model.specs.Steps as course
-use Rattle.push_model.specs.Steps.{Part, Ask, Stepped, puts, takes_some, filled, next_ask, may_ask, steps}
-use Rattle.push_model.specs.Streams.{Front, Whole, Partial, Broken, front_of}
-use Rattle.push_model.proofs.CauseLaws.{first_causes_stay}
-use Rattle.push_model.proofs.ShownLaws.{outcomes_are_shown}
+use Rattle.scenario_laws.specs.bt_base.specs.declared.ports.PortFault.{PortFault}
+use Rattle.scenario_laws.specs.bt_base.specs.declared.ports.PortFault.TheVariants as fault
+use Rattle.scenario_laws.specs.bt_base.specs.declared.settings.Transport.{Transport}
+use Rattle.scenario_laws.specs.bt_base.specs.declared.settings.Transport.TheVariants.{L2cap, Rfcomm}
+use Rattle.scenario_laws.specs.push_terms.specs.declared.outcome.Outcome.{Outcome}
+use Rattle.scenario_laws.specs.push_terms.specs.declared.outcome.Outcome.TheVariants.{Done, LinkLost, RetryLimit, Refused, NoService, ShelfFault, Cancelled, PeerClosed, PeerFault, ScriptEnded}
+use Rattle.scenario_laws.specs.rfcomm_model.specs.Hearing.{Up, nothing, opened, bytes, closed, up, hears}
+use Rattle.scenario_laws.specs.rfcomm_model.specs.Saying.{Said, next}
+use Rattle.scenario_laws.specs.sdp_client.specs.Asking.{is_due}
+use Rattle.scenario_laws.specs.sdp_client.specs.Hearing.{found_at}
+use Rattle.scenario_laws.specs.sdp_client.specs.declared.reason.Found.{Found}
+use Rattle.scenario_laws.specs.sdp_client.specs.declared.reason.Found.TheVariants as found
+use Rattle.scenario_laws.specs.sdp_client.specs.declared.reason.QueryReason.{QueryReason}
+use Rattle.scenario_laws.specs.sdp_client.specs.declared.reason.QueryReason.TheVariants.{BadReply, ErrorCode, WrongTransaction, TooLong}
+use Rattle.scenario_laws.specs.obex_session.specs.declared.client.Answered.{Answered}
+use Rattle.scenario_laws.specs.obex_session.specs.declared.client.Answered.TheVariants as answer
+use Rattle.scenario_laws.specs.obex_session.specs.Views.{answer_at}
+use Rattle.scenario_laws.specs.push_model.specs.declared.closing.CloseCause.{CloseCause}
+use Rattle.scenario_laws.specs.push_model.specs.declared.closing.CloseCause.TheVariants as closing
+use Rattle.scenario_laws.specs.push_model.specs.declared.course.Point.TheVariants.{Due, Asked}
+use Rattle.scenario_laws.specs.push_model.specs.declared.course.Stage.{Stage}
+use Rattle.scenario_laws.specs.push_model.specs.declared.course.Stage.TheVariants.{Rest, Link, SearchChannel, Search, SearchEnd, Features, ObjectChannel, Object, ObjectEnd, LinkEnd, Over}
+use Rattle.scenario_laws.specs.push_model.specs.Causes.{cause_of_link, cause_of_close, cause_of_query, cause_of_mux, small_channel, unawaited_response}
+use Rattle.scenario_laws.specs.push_model.specs.Client.{Client, is_direct, begins, begun_by}
+use Rattle.scenario_laws.specs.push_model.specs.Events as events
+use Rattle.scenario_laws.specs.push_model.specs.Events.{News, is_linked, is_asking_features, armed, search_psm}
+use Rattle.scenario_laws.specs.push_model.specs.Laws.{Deed, Hears, Asks, Finishes, Cancels, done}
+use Rattle.scenario_laws.specs.push_model.specs.Responding.{is_early, is_success, is_left, is_object, hears_response}
+use Rattle.scenario_laws.specs.push_model.specs.Shown.{first_of, watched, closed_shows, opened_shows, way_of, found_shows, says, answer_shows, response_shows, front_shows, stream_shows, up_shows, object_shows, outside_shows, sdu_shows, part_shows, ask_shows, said_shows, step_shows, shows}
+use Rattle.scenario_laws.specs.push_model.specs.Steps as course
+use Rattle.scenario_laws.specs.push_model.specs.Steps.{Part, Ask, Stepped, puts, takes_some, filled, next_ask, may_ask, steps}
+use Rattle.scenario_laws.specs.push_model.specs.Streams.{Front, Whole, Partial, Broken, front_of}
+use Rattle.scenario_laws.specs.push_model.proofs.CauseLaws.{first_causes_stay}
+use Rattle.scenario_laws.specs.push_model.proofs.ShownLaws.{outcomes_are_shown}
 use Rattle.push_client.proofs.KeepingLaws.{news_keeps, cancelled_keeps}
-use Rattle.host_laws.specs.Pushing.{Affair, Begins, Does, client_after, client_behind}
+use Rattle.scenario_laws.specs.host_laws.specs.Pushing.{Affair, Begins, Does, client_after, client_behind}
 
 -- ---- outcomes
 

@@ -2,54 +2,54 @@
 use Rattle.std.proofs.Common.{◌≡◌, ℕ, zero, suc, Bool, true, false, not, ◌&&◌, ◌||◌, ◌==◌, eqb, List, [], ◌∷◌, ◌++◌, map, Option, Some, None, refl, sym, ap, subst, ◌∙◌, if◌then◌else◌}
 use Rattle.std.specs.Prelude.{find, is_some}
 use Rattle.std.specs.List.{AllByRecursion, flat_map}
-use Rattle.bt_base.specs.declared.settings.Settings.{Settings}
-use Rattle.push_terms.specs.declared.outcome.Outcome.{Outcome}
-use Rattle.push_terms.specs.declared.outcome.Outcome.TheVariants.{Done, LinkLost, RetryLimit, Refused, NoService, ShelfFault, Cancelled as PushCancelled, PeerClosed, PeerFault, ScriptEnded}
-use Rattle.ertm_model.specs.declared.reason.ErtmReason.{ErtmReason}
-use Rattle.ertm_model.specs.declared.reason.ErtmReason.TheVariants as machines
-use Rattle.ertm_model.specs.Giving.{timed}
-use Rattle.ertm_model.specs.Reasons.{number_of}
-use Rattle.ertm_model.specs.Value.{Ertm}
-use Rattle.channel_model.specs.declared.errand.Errand.{Errand}
-use Rattle.channel_model.specs.declared.errand.Errand.TheVariants as errands
-use Rattle.channel_model.specs.declared.event.ChannelEvent.{ChannelEvent}
-use Rattle.channel_model.specs.declared.event.ChannelEvent.TheVariants as channels
-use Rattle.channel_model.specs.declared.event.CloseReason.{CloseReason}
-use Rattle.channel_model.specs.declared.event.CloseReason.TheVariants as reasons
-use Rattle.channel_model.specs.Asking.{Fired, StillDue, OnceMore, Spent, fired, asks, new_request}
-use Rattle.channel_model.specs.Following.{with_channel}
-use Rattle.channel_model.specs.Calls.{connected, asks_features, disconnected_held, disconnected_at, sends_held, sends_on, sends, link_down, lost_at, can_connect, waits}
-use Rattle.channel_model.specs.Carrying.{reason_of, settles_machine}
-use Rattle.channel_model.specs.Changing.{held_at, setup_of}
-use Rattle.channel_model.specs.Closing.{closes, closes_at, ends, ends_at}
-use Rattle.channel_model.specs.Giving.{Given, next_given, queue_given, held_given, carrier_spent, counted, stage_given, gives, after_given}
-use Rattle.channel_model.specs.Policies.{Policy, policy}
-use Rattle.channel_model.specs.Timing.{fires, times_carrier, times_setup, times_stage, times_held, loses_end, times_end_at, times_end, times_channel, times_channels, loses_features, times_features, timed_out}
-use Rattle.channel_model.specs.Value.{Request, Queued, Answer, Ask, Own, Unasked, Asking, Granted, Carrier, Plain, Retransmitting, Setup, Stage, Requested, Connected, Leaving, Closing, Crossed, Held, Channels}
-use Rattle.push_model.specs.declared.closing.CloseCause.{CloseCause}
-use Rattle.push_model.specs.declared.closing.CloseCause.TheVariants as closing
-use Rattle.push_model.specs.Causes.{cause_of_link, cause_of_close}
-use Rattle.push_model.specs.Client.{Client, begins}
-use Rattle.push_model.specs.Events as events
-use Rattle.push_model.specs.Events.{hears_news, is_linked, is_asking_features}
-use Rattle.push_model.specs.Laws.{Hears, Asks, Finishes}
-use Rattle.push_model.specs.Payloads.{Payload}
-use Rattle.sdp_client.specs.Asking.{is_due}
-use Rattle.push_model.specs.Shown.{watched, closed_shows}
-use Rattle.push_model.specs.Steps.{Part, Step, Wait, MakeLink, AskFeatures, OpenChannel, SendSdu, CloseChannel, BreakLink, Ended, NoMemory, steps}
-use Rattle.world_model.specs.Machines.{Linked, Up, Down, TimerFired, Opening}
-use Rattle.host_model.specs.Circumstances.{Circumstance}
-use Rattle.host_model.specs.Clients as clients
-use Rattle.host_model.specs.Clients.{ClientProfile, client_profile, cause_of, ended, fitted, takes, submits}
-use Rattle.host_model.specs.Endpoints.{endpoint_of, takes_sdu}
-use Rattle.host_model.specs.Hosts.{Host, most_steps, hears_news as host_hears, ready, hear, next, tells_each, with_channels, strides, settles, drives, says, after_said, steps_behind}
-use Rattle.host_model.specs.Pdus.{pdu_of, sdu_of, is_frame}
-use Rattle.host_model.specs.Profiles.{Profile}
-use Rattle.host_model.specs.Shelves.{size_for, name_for, unused}
-use Rattle.host_model.proofs.Keeping.{drives_on}
-use Rattle.host_laws.specs.Feeds.{Learns, Happens, Sent, Steps}
-use Rattle.host_laws.specs.Pushing.{Affair, Begins, Does, client_behind, end_asked, link_asked, then_ends, then_calls, closed_pushed, event_pushed, sent_pushed, step_pushed}
-use Rattle.host_laws.proofs.Pushing.{feed_so}
+use Rattle.scenario_laws.specs.bt_base.specs.declared.settings.Settings.{Settings}
+use Rattle.scenario_laws.specs.push_terms.specs.declared.outcome.Outcome.{Outcome}
+use Rattle.scenario_laws.specs.push_terms.specs.declared.outcome.Outcome.TheVariants.{Done, LinkLost, RetryLimit, Refused, NoService, ShelfFault, Cancelled as PushCancelled, PeerClosed, PeerFault, ScriptEnded}
+use Rattle.scenario_laws.specs.ertm_model.specs.declared.reason.ErtmReason.{ErtmReason}
+use Rattle.scenario_laws.specs.ertm_model.specs.declared.reason.ErtmReason.TheVariants as machines
+use Rattle.scenario_laws.specs.ertm_model.specs.Giving.{timed}
+use Rattle.scenario_laws.specs.ertm_model.specs.Reasons.{number_of}
+use Rattle.scenario_laws.specs.ertm_model.specs.Value.{Ertm}
+use Rattle.scenario_laws.specs.channel_model.specs.declared.errand.Errand.{Errand}
+use Rattle.scenario_laws.specs.channel_model.specs.declared.errand.Errand.TheVariants as errands
+use Rattle.scenario_laws.specs.channel_model.specs.declared.event.ChannelEvent.{ChannelEvent}
+use Rattle.scenario_laws.specs.channel_model.specs.declared.event.ChannelEvent.TheVariants as channels
+use Rattle.scenario_laws.specs.channel_model.specs.declared.event.CloseReason.{CloseReason}
+use Rattle.scenario_laws.specs.channel_model.specs.declared.event.CloseReason.TheVariants as reasons
+use Rattle.scenario_laws.specs.channel_model.specs.Asking.{Fired, StillDue, OnceMore, Spent, fired, asks, new_request}
+use Rattle.scenario_laws.specs.channel_model.specs.Following.{with_channel}
+use Rattle.scenario_laws.specs.channel_model.specs.Calls.{connected, asks_features, disconnected_held, disconnected_at, sends_held, sends_on, sends, link_down, lost_at, can_connect, waits}
+use Rattle.scenario_laws.specs.channel_model.specs.Carrying.{reason_of, settles_machine}
+use Rattle.scenario_laws.specs.channel_model.specs.Changing.{held_at, setup_of}
+use Rattle.scenario_laws.specs.channel_model.specs.Closing.{closes, closes_at, ends, ends_at}
+use Rattle.scenario_laws.specs.channel_model.specs.Giving.{Given, next_given, queue_given, held_given, carrier_spent, counted, stage_given, gives, after_given}
+use Rattle.scenario_laws.specs.channel_model.specs.Policies.{Policy, policy}
+use Rattle.scenario_laws.specs.channel_model.specs.Timing.{fires, times_carrier, times_setup, times_stage, times_held, loses_end, times_end_at, times_end, times_channel, times_channels, loses_features, times_features, timed_out}
+use Rattle.scenario_laws.specs.channel_model.specs.Value.{Request, Queued, Answer, Ask, Own, Unasked, Asking, Granted, Carrier, Plain, Retransmitting, Setup, Stage, Requested, Connected, Leaving, Closing, Crossed, Held, Channels}
+use Rattle.scenario_laws.specs.push_model.specs.declared.closing.CloseCause.{CloseCause}
+use Rattle.scenario_laws.specs.push_model.specs.declared.closing.CloseCause.TheVariants as closing
+use Rattle.scenario_laws.specs.push_model.specs.Causes.{cause_of_link, cause_of_close}
+use Rattle.scenario_laws.specs.push_model.specs.Client.{Client, begins}
+use Rattle.scenario_laws.specs.push_model.specs.Events as events
+use Rattle.scenario_laws.specs.push_model.specs.Events.{hears_news, is_linked, is_asking_features}
+use Rattle.scenario_laws.specs.push_model.specs.Laws.{Hears, Asks, Finishes}
+use Rattle.scenario_laws.specs.push_model.specs.Payloads.{Payload}
+use Rattle.scenario_laws.specs.sdp_client.specs.Asking.{is_due}
+use Rattle.scenario_laws.specs.push_model.specs.Shown.{watched, closed_shows}
+use Rattle.scenario_laws.specs.push_model.specs.Steps.{Part, Step, Wait, MakeLink, AskFeatures, OpenChannel, SendSdu, CloseChannel, BreakLink, Ended, NoMemory, steps}
+use Rattle.scenario_laws.specs.world_model.specs.Machines.{Linked, Up, Down, TimerFired, Opening}
+use Rattle.scenario_laws.specs.host_model.specs.Circumstances.{Circumstance}
+use Rattle.scenario_laws.specs.host_model.specs.Clients as clients
+use Rattle.scenario_laws.specs.host_model.specs.Clients.{ClientProfile, client_profile, cause_of, ended, fitted, takes, submits}
+use Rattle.scenario_laws.specs.host_model.specs.Endpoints.{endpoint_of, takes_sdu}
+use Rattle.scenario_laws.specs.host_model.specs.Hosts.{Host, most_steps, hears_news as host_hears, ready, hear, next, tells_each, with_channels, strides, settles, drives, says, after_said, steps_behind}
+use Rattle.scenario_laws.specs.host_model.specs.Pdus.{pdu_of, sdu_of, is_frame}
+use Rattle.scenario_laws.specs.host_model.specs.Profiles.{Profile}
+use Rattle.scenario_laws.specs.host_model.specs.Shelves.{size_for, name_for, unused}
+use Rattle.scenario_laws.specs.host_model.proofs.Keeping.{drives_on}
+use Rattle.scenario_laws.specs.host_laws.specs.Feeds.{Learns, Happens, Sent, Steps}
+use Rattle.scenario_laws.specs.host_laws.specs.Pushing.{Affair, Begins, Does, client_behind, end_asked, link_asked, then_ends, then_calls, closed_pushed, event_pushed, sent_pushed, step_pushed}
+use Rattle.scenario_laws.specs.host_laws.proofs.Pushing.{feed_so}
 use Rattle.cause_laws.proofs.Clients.{is_shelf, either, Within, within_more, ShowsWithin, asks_within, Came, came_same, came_then, came_more, IsWithin, came_behind, lame_behind, begins_shelf}
 use Rattle.cause_laws.proofs.Profiles.{came_fed, keeps_lame, well_before}
 

@@ -1,10 +1,10 @@
 -- What host a had heard, from one entry to the next.
 use Rattle.std.proofs.Common.{◌≡◌, Bool, true, false, List, [], ◌∷◌, ◌++◌, Option, Some, None, refl, sym, ap, subst, ◌∙◌, append_assoc}
 use Rattle.std.specs.List.{AllByRecursion}
-use Rattle.push_terms.specs.declared.outcome.Outcome.{Outcome}
-use Rattle.push_terms.specs.declared.outcome.Outcome.TheVariants.{Done, LinkLost, RetryLimit, Refused, NoService, ShelfFault, Cancelled as PushCancelled, PeerClosed, PeerFault, ScriptEnded}
-use Rattle.capture.specs.Entries.{Entry}
-use Rattle.capture.proofs.HistoryLaws.{each_after-both}
+use Rattle.scenario_laws.specs.push_terms.specs.declared.outcome.Outcome.{Outcome}
+use Rattle.scenario_laws.specs.push_terms.specs.declared.outcome.Outcome.TheVariants.{Done, LinkLost, RetryLimit, Refused, NoService, ShelfFault, Cancelled as PushCancelled, PeerClosed, PeerFault, ScriptEnded}
+use Rattle.scenario_laws.specs.capture.specs.Entries.{Entry}
+use Rattle.scenario_laws.specs.capture.proofs.HistoryLaws.{each_after-both}
 use Rattle.cause_laws.specs.FirstCauses.{is_piece, IsHeardBefore, IsNoBegin, HasHeard, HearsCause}
 use Rattle.cause_laws.proofs.Clients.{is_any, is_heard, is_ended, Came}
 

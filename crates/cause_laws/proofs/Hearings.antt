@@ -1,32 +1,32 @@
 -- An SDU that is handed up came in on a channel that was there, as the own talk of its host is read.
 use Rattle.std.proofs.Common.{◌≡◌, ℕ, Bool, true, false, cond, eqb, List, [], ◌∷◌, ◌++◌, Option, Some, None, refl, sym, ap, subst, ◌∙◌, inl, inr, append_assoc}
 use Rattle.std.specs.Prelude.{drop}
-use Rattle.l2cap_signal.specs.Reading.{answers}
+use Rattle.scenario_laws.specs.l2cap_signal.specs.Reading.{answers}
 use Rattle.std.specs.List.{filter_map}
 use Rattle.std.proofs.lemmas.Bool.{eq-eqb}
 use Rattle.std.proofs.lemmas.List.Elements.{filter_map-append}
 use Rattle.std.proofs.lemmas.List.Sums.{fold-append}
-use Rattle.acl_fragments.specs.Pieces.{channel_of}
-use Rattle.capture.specs.declared.flow.Flow.TheVariants.{Into}
-use Rattle.link_talk.specs.declared.channel.Channel.{Channel}
-use Rattle.link_talk.specs.declared.party.Party.{Party}
-use Rattle.link_talk.specs.Channels.{Entry, reading}
-use Rattle.link_talk.specs.Sayings.{Saying, Carried}
-use Rattle.link_talk.specs.Sdus.{sdus}
-use Rattle.channel_model.specs.Carrying.{Up, Nothing, Received, sdu_at, up_by, up_on, up_at, takes}
-use Rattle.channel_model.specs.Changing.{held_at}
-use Rattle.channel_model.specs.Hearing.{up}
-use Rattle.channel_model.specs.Policies.{Policy}
-use Rattle.channel_model.specs.Telling.{is_told_broken}
-use Rattle.channel_model.specs.Value.{Stage, Requested, Connected, Leaving, Closing, Crossed, Held, Setup, Channels}
-use Rattle.channel_laws.specs.OwnTalk.{asked_between, said_with_all}
-use Rattle.channel_laws.specs.Runs.{Occurrence, Comes, Run, new_link, run_on, run_of, arisen, sdu_up, sdus_up}
-use Rattle.channel_laws.specs.Sdus.{StatesFrame, IsHandedUp}
-use Rattle.channel_laws.specs.Views.{peer_of, channel_by, IsReadBy, IsRead, read_at}
-use Rattle.channel_laws.proofs.Incoming.{sdus-are_read}
-use Rattle.channel_laws.proofs.Running.{channels-are_read}
-use Rattle.channel_laws.proofs.Signalling.{bare-asked, bare-comes}
-use Rattle.channel_laws.proofs.Stretching.{stays-heard}
+use Rattle.scenario_laws.specs.acl_fragments.specs.Pieces.{channel_of}
+use Rattle.scenario_laws.specs.capture.specs.declared.flow.Flow.TheVariants.{Into}
+use Rattle.scenario_laws.specs.link_talk.specs.declared.channel.Channel.{Channel}
+use Rattle.scenario_laws.specs.link_talk.specs.declared.party.Party.{Party}
+use Rattle.scenario_laws.specs.link_talk.specs.Channels.{Entry, reading}
+use Rattle.scenario_laws.specs.link_talk.specs.Sayings.{Saying, Carried}
+use Rattle.scenario_laws.specs.link_talk.specs.Sdus.{sdus}
+use Rattle.scenario_laws.specs.channel_model.specs.Carrying.{Up, Nothing, Received, sdu_at, up_by, up_on, up_at, takes}
+use Rattle.scenario_laws.specs.channel_model.specs.Changing.{held_at}
+use Rattle.scenario_laws.specs.channel_model.specs.Hearing.{up}
+use Rattle.scenario_laws.specs.channel_model.specs.Policies.{Policy}
+use Rattle.scenario_laws.specs.channel_model.specs.Telling.{is_told_broken}
+use Rattle.scenario_laws.specs.channel_model.specs.Value.{Stage, Requested, Connected, Leaving, Closing, Crossed, Held, Setup, Channels}
+use Rattle.scenario_laws.specs.channel_laws.specs.OwnTalk.{asked_between, said_with_all}
+use Rattle.scenario_laws.specs.channel_laws.specs.Runs.{Occurrence, Comes, Run, new_link, run_on, run_of, arisen, sdu_up, sdus_up}
+use Rattle.scenario_laws.specs.channel_laws.specs.Sdus.{StatesFrame, IsHandedUp}
+use Rattle.scenario_laws.specs.channel_laws.specs.Views.{peer_of, channel_by, IsReadBy, IsRead, read_at}
+use Rattle.scenario_laws.specs.channel_laws.proofs.Incoming.{sdus-are_read}
+use Rattle.scenario_laws.specs.channel_laws.proofs.Running.{channels-are_read}
+use Rattle.scenario_laws.specs.channel_laws.proofs.Signalling.{bare-asked, bare-comes}
+use Rattle.scenario_laws.specs.channel_laws.proofs.Stretching.{stays-heard}
 
 -- ---- the channel
 

@@ -4,47 +4,47 @@ use Rattle.std.specs.Prelude.{drop, is_some}
 use Rattle.std.specs.List.{AllByRecursion, AllZip, filter_map, flat_map}
 use Rattle.std.proofs.lemmas.List.Concat.{flat_map-append}
 use Rattle.std.proofs.lemmas.List.Sums.{fold-append}
-use Rattle.bt_base.specs.Objects.{Contents}
-use Rattle.bt_base.specs.declared.settings.Settings.{Settings}
-use Rattle.acl_fragments.specs.Pieces.{channel_of}
-use Rattle.push_script.specs.declared.scenario.Scenario.{Scenario}
-use Rattle.push_terms.specs.declared.outcome.Outcome.{Outcome}
-use Rattle.push_terms.specs.declared.word.Side.TheVariants as sides
-use Rattle.capture.specs.declared.flow.Flow.TheVariants.{Out, Into}
-use Rattle.capture.specs.Links.{Link, link_up}
-use Rattle.capture.specs.Pdus.{Pdu, pdus}
-use Rattle.l2cap_signal.specs.Reading.{Answer, answers}
-use Rattle.link_talk.specs.Sayings.{Saying, Command, Carried, said_by, talk}
-use Rattle.channel_model.specs.Calls.{link_down}
-use Rattle.channel_model.specs.Carrying.{takes}
-use Rattle.channel_model.specs.Policies.{Policy, policy}
-use Rattle.channel_model.specs.Value.{Channels, no_channels}
-use Rattle.channel_laws.specs.OwnTalk.{asked_between}
-use Rattle.channel_laws.specs.Runs.{Occurrence, Comes, Connects, AsksFeatures, Disconnects, Sends, Gives, Fires, Tells, said_in, Run, new_link, run_on, run_of}
-use Rattle.push_model.specs.declared.course.Point.TheVariants.{Due, Asked}
-use Rattle.push_model.specs.declared.course.Stage.{Stage}
-use Rattle.push_model.specs.declared.course.Stage.TheVariants.{Rest, Link as Paged, SearchChannel, Search, SearchEnd, Features, ObjectChannel, Object, ObjectEnd, LinkEnd, Over}
-use Rattle.push_model.specs.Client.{Client}
-use Rattle.push_model.specs.Events.{is_linked, linked_at}
-use Rattle.world_model.specs.Machines.{LinkEvent, Up, Down, Linked}
-use Rattle.world_model.specs.Talks.{Talk}
-use Rattle.world_model.specs.Worlds.{Happening, IsAtRest, all_entries}
-use Rattle.host_model.specs.Circumstances.{Circumstance}
-use Rattle.host_model.specs.Clients as clients
-use Rattle.host_model.specs.Clients.{ClientProfile, client_profile}
-use Rattle.host_model.specs.Hosts.{tells_each}
-use Rattle.host_model.specs.Profiles.{Profile}
-use Rattle.host_laws.specs.Calls.{Asks, values_after, outer}
-use Rattle.host_laws.specs.Fed.{WovenFed, FedSpan, behind_span, AreFed}
-use Rattle.host_laws.specs.Feeds.{Feed}
-use Rattle.host_laws.specs.Leaving.{is_off}
-use Rattle.host_laws.specs.Lives.{Mark, Occurred, Turned, Span, marks_on, span_marks, all_marks}
-use Rattle.host_laws.specs.OverLinks.{parts, AreTimely, GoesOut, IsTalkOf}
-use Rattle.host_laws.specs.Seen.{spoken_of}
-use Rattle.host_laws.specs.Woven.{Strand, IsOnLink, turned, strand_list, strand_profile, woven_profile}
-use Rattle.host_laws.proofs.Asking.{hosts_ask}
-use Rattle.host_laws.proofs.KeepingClients.{clients_keep_on}
-use Rattle.host_laws.proofs.OverLinks.{hosts_talk_fed}
+use Rattle.scenario_laws.specs.bt_base.specs.Objects.{Contents}
+use Rattle.scenario_laws.specs.bt_base.specs.declared.settings.Settings.{Settings}
+use Rattle.scenario_laws.specs.acl_fragments.specs.Pieces.{channel_of}
+use Rattle.scenario_laws.specs.push_script.specs.declared.scenario.Scenario.{Scenario}
+use Rattle.scenario_laws.specs.push_terms.specs.declared.outcome.Outcome.{Outcome}
+use Rattle.scenario_laws.specs.push_terms.specs.declared.word.Side.TheVariants as sides
+use Rattle.scenario_laws.specs.capture.specs.declared.flow.Flow.TheVariants.{Out, Into}
+use Rattle.scenario_laws.specs.capture.specs.Links.{Link, link_up}
+use Rattle.scenario_laws.specs.capture.specs.Pdus.{Pdu, pdus}
+use Rattle.scenario_laws.specs.l2cap_signal.specs.Reading.{Answer, answers}
+use Rattle.scenario_laws.specs.link_talk.specs.Sayings.{Saying, Command, Carried, said_by, talk}
+use Rattle.scenario_laws.specs.channel_model.specs.Calls.{link_down}
+use Rattle.scenario_laws.specs.channel_model.specs.Carrying.{takes}
+use Rattle.scenario_laws.specs.channel_model.specs.Policies.{Policy, policy}
+use Rattle.scenario_laws.specs.channel_model.specs.Value.{Channels, no_channels}
+use Rattle.scenario_laws.specs.channel_laws.specs.OwnTalk.{asked_between}
+use Rattle.scenario_laws.specs.channel_laws.specs.Runs.{Occurrence, Comes, Connects, AsksFeatures, Disconnects, Sends, Gives, Fires, Tells, said_in, Run, new_link, run_on, run_of}
+use Rattle.scenario_laws.specs.push_model.specs.declared.course.Point.TheVariants.{Due, Asked}
+use Rattle.scenario_laws.specs.push_model.specs.declared.course.Stage.{Stage}
+use Rattle.scenario_laws.specs.push_model.specs.declared.course.Stage.TheVariants.{Rest, Link as Paged, SearchChannel, Search, SearchEnd, Features, ObjectChannel, Object, ObjectEnd, LinkEnd, Over}
+use Rattle.scenario_laws.specs.push_model.specs.Client.{Client}
+use Rattle.scenario_laws.specs.push_model.specs.Events.{is_linked, linked_at}
+use Rattle.scenario_laws.specs.world_model.specs.Machines.{LinkEvent, Up, Down, Linked}
+use Rattle.scenario_laws.specs.world_model.specs.Talks.{Talk}
+use Rattle.scenario_laws.specs.world_model.specs.Worlds.{Happening, IsAtRest, all_entries}
+use Rattle.scenario_laws.specs.host_model.specs.Circumstances.{Circumstance}
+use Rattle.scenario_laws.specs.host_model.specs.Clients as clients
+use Rattle.scenario_laws.specs.host_model.specs.Clients.{ClientProfile, client_profile}
+use Rattle.scenario_laws.specs.host_model.specs.Hosts.{tells_each}
+use Rattle.scenario_laws.specs.host_model.specs.Profiles.{Profile}
+use Rattle.scenario_laws.specs.host_laws.specs.Calls.{Asks, values_after, outer}
+use Rattle.scenario_laws.specs.host_laws.specs.Fed.{WovenFed, FedSpan, behind_span, AreFed}
+use Rattle.scenario_laws.specs.host_laws.specs.Feeds.{Feed}
+use Rattle.scenario_laws.specs.host_laws.specs.Leaving.{is_off}
+use Rattle.scenario_laws.specs.host_laws.specs.Lives.{Mark, Occurred, Turned, Span, marks_on, span_marks, all_marks}
+use Rattle.scenario_laws.specs.host_laws.specs.OverLinks.{parts, AreTimely, GoesOut, IsTalkOf}
+use Rattle.scenario_laws.specs.host_laws.specs.Seen.{spoken_of}
+use Rattle.scenario_laws.specs.host_laws.specs.Woven.{Strand, IsOnLink, turned, strand_list, strand_profile, woven_profile}
+use Rattle.scenario_laws.specs.host_laws.proofs.Asking.{hosts_ask}
+use Rattle.scenario_laws.specs.host_laws.proofs.KeepingClients.{clients_keep_on}
+use Rattle.scenario_laws.specs.host_laws.proofs.OverLinks.{hosts_talk_fed}
 use Rattle.scenario_laws.specs.Captures.{client_of, server_of, BothHosts, Happened, Ran}
 use Rattle.scenario_laws.specs.Coming.{out_of, LastHas, LastIsUp}
 use Rattle.scenario_laws.specs.Gentle.{CameGently}

@@ -1,31 +1,31 @@
 -- Where no push goes on over its link a client stays so, until it hears that a link is up.
 use Rattle.std.proofs.Common.{◌≡◌, ℕ, Bool, true, false, List, [], ◌∷◌, Option, Some, None, if◌then◌else◌}
-use Rattle.bt_base.specs.declared.settings.Settings.{Settings}
-use Rattle.channel_model.specs.declared.event.ChannelEvent.{ChannelEvent}
-use Rattle.channel_model.specs.Calls.{waits, sends}
-use Rattle.channel_model.specs.Hearing.{up}
-use Rattle.channel_model.specs.Carrying.{Up as Handed, Nothing, Received}
-use Rattle.channel_model.specs.Value.{Channels}
-use Rattle.acl_fragments.specs.Pieces.{channel_of}
-use Rattle.push_model.specs.Client.{Client, begins, cancelled}
-use Rattle.push_model.specs.Events as events
-use Rattle.push_model.specs.Events.{hears_news}
-use Rattle.push_model.specs.Steps.{Step, Wait, MakeLink, AskFeatures, OpenChannel, SendSdu, CloseChannel, BreakLink, Ended, NoMemory, steps}
-use Rattle.push_model.specs.Payloads.{Payload}
-use Rattle.world_model.specs.Machines.{News, Linked, Failed, Heard, TimerFired, Cancelled, Opening}
-use Rattle.host_model.specs.Circumstances.{Circumstance}
-use Rattle.host_model.specs.Clients.{ClientProfile, NoBid, client_profile, after_end, ended, after_call, calls, done, sent_on, submits, takes, fitted}
-use Rattle.host_model.specs.Clients as clients
-use Rattle.host_model.specs.Endpoints.{endpoint_of, takes_sdu}
-use Rattle.host_model.specs.Pdus.{sdu_of}
-use Rattle.host_model.specs.Hosts.{handed}
-use Rattle.host_model.specs.Shelves.{size_for, name_for, unused}
-use Rattle.host_laws.specs.Feeds.{tidings_by}
-use Rattle.host_laws.specs.Leaving.{is_off}
-use Rattle.host_laws.specs.Woven.{Strand, Hearing, Giving, Firing, Telling, Gifting, Learning, Checking, Stepping, IsOnLink, told_next, strand_profile}
-use Rattle.host_laws.proofs.Courses.{steps_off}
-use Rattle.host_laws.proofs.Faces.{heard_off, timer_off, cancelled_off, failed_off, begins_off}
-use Rattle.host_laws.proofs.StandingClients.{event_off}
+use Rattle.scenario_laws.specs.bt_base.specs.declared.settings.Settings.{Settings}
+use Rattle.scenario_laws.specs.channel_model.specs.declared.event.ChannelEvent.{ChannelEvent}
+use Rattle.scenario_laws.specs.channel_model.specs.Calls.{waits, sends}
+use Rattle.scenario_laws.specs.channel_model.specs.Hearing.{up}
+use Rattle.scenario_laws.specs.channel_model.specs.Carrying.{Up as Handed, Nothing, Received}
+use Rattle.scenario_laws.specs.channel_model.specs.Value.{Channels}
+use Rattle.scenario_laws.specs.acl_fragments.specs.Pieces.{channel_of}
+use Rattle.scenario_laws.specs.push_model.specs.Client.{Client, begins, cancelled}
+use Rattle.scenario_laws.specs.push_model.specs.Events as events
+use Rattle.scenario_laws.specs.push_model.specs.Events.{hears_news}
+use Rattle.scenario_laws.specs.push_model.specs.Steps.{Step, Wait, MakeLink, AskFeatures, OpenChannel, SendSdu, CloseChannel, BreakLink, Ended, NoMemory, steps}
+use Rattle.scenario_laws.specs.push_model.specs.Payloads.{Payload}
+use Rattle.scenario_laws.specs.world_model.specs.Machines.{News, Linked, Failed, Heard, TimerFired, Cancelled, Opening}
+use Rattle.scenario_laws.specs.host_model.specs.Circumstances.{Circumstance}
+use Rattle.scenario_laws.specs.host_model.specs.Clients.{ClientProfile, NoBid, client_profile, after_end, ended, after_call, calls, done, sent_on, submits, takes, fitted}
+use Rattle.scenario_laws.specs.host_model.specs.Clients as clients
+use Rattle.scenario_laws.specs.host_model.specs.Endpoints.{endpoint_of, takes_sdu}
+use Rattle.scenario_laws.specs.host_model.specs.Pdus.{sdu_of}
+use Rattle.scenario_laws.specs.host_model.specs.Hosts.{handed}
+use Rattle.scenario_laws.specs.host_model.specs.Shelves.{size_for, name_for, unused}
+use Rattle.scenario_laws.specs.host_laws.specs.Feeds.{tidings_by}
+use Rattle.scenario_laws.specs.host_laws.specs.Leaving.{is_off}
+use Rattle.scenario_laws.specs.host_laws.specs.Woven.{Strand, Hearing, Giving, Firing, Telling, Gifting, Learning, Checking, Stepping, IsOnLink, told_next, strand_profile}
+use Rattle.scenario_laws.specs.host_laws.proofs.Courses.{steps_off}
+use Rattle.scenario_laws.specs.host_laws.proofs.Faces.{heard_off, timer_off, cancelled_off, failed_off, begins_off}
+use Rattle.scenario_laws.specs.host_laws.proofs.StandingClients.{event_off}
 
 abbrev pub IsOff : ClientProfile → Type 0
 IsOff p = is_off p.client.stage ≡ true

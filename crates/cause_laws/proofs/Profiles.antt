@@ -2,35 +2,35 @@
 use Rattle.std.proofs.Common.{◌≡◌, ℕ, zero, suc, Bool, true, false, not, ◌&&◌, ◌==◌, List, [], ◌∷◌, ◌++◌, Option, Some, None, is_none, refl, sym, ap, subst, ◌∙◌, if◌then◌else◌}
 use Rattle.std.specs.Prelude.{is_some}
 use Rattle.std.specs.List.{AllByRecursion}
-use Rattle.bt_base.specs.declared.settings.Settings.{Settings}
-use Rattle.channel_model.specs.declared.event.ChannelEvent.{ChannelEvent}
-use Rattle.channel_model.specs.declared.event.ChannelEvent.TheVariants as channels
-use Rattle.channel_model.specs.Calls.{link_down, peer_mtu, waits}
-use Rattle.channel_model.specs.Giving.{Given, next_given, after_given}
-use Rattle.channel_model.specs.Timing.{timed_out}
-use Rattle.channel_model.specs.Value.{Channels}
-use Rattle.push_terms.specs.declared.outcome.Outcome.{Outcome}
-use Rattle.push_terms.specs.declared.outcome.Outcome.TheVariants.{Cancelled as PushCancelled}
-use Rattle.push_model.specs.declared.closing.CloseCause.{CloseCause}
-use Rattle.obex_session.specs.Views.{is_final_put}
-use Rattle.push_model.specs.Causes.{cause_of_link}
-use Rattle.push_model.specs.Client.{Client, begins, cancelled, ends, ends_by, may_cancel, is_rest}
-use Rattle.push_model.specs.Events as events
-use Rattle.push_model.specs.Events.{hears_news}
-use Rattle.push_model.specs.Laws.{Hears, Finishes}
-use Rattle.push_model.specs.Steps.{Part, Step, Wait, MakeLink, AskFeatures, OpenChannel, SendSdu, CloseChannel, BreakLink, Ended, NoMemory, steps}
-use Rattle.world_model.specs.Machines.{News, Linked, Up, Down, Heard, TimerFired, Cancelled, Opening}
-use Rattle.host_model.specs.Circumstances.{Circumstance}
-use Rattle.host_model.specs.Clients.{ClientProfile, client_profile, cause_of, ended, fitted}
-use Rattle.host_model.specs.Hosts.{Host, most_steps, hears_news as host_hears, ready, hear, next, tells_each, tells_events, with_channels, strides, settles, drives, says, says_frame, steps_behind}
-use Rattle.host_model.specs.Pdus.{pdu_of}
-use Rattle.host_model.specs.Profiles.{Profile, Stride}
-use Rattle.host_model.specs.Shelves.{size_for, name_for}
-use Rattle.host_model.proofs.Keeping.{Keeps, tells, drives_on, hears_on, goes_next}
-use Rattle.host_laws.specs.Feeds.{Feed, Learns, Receives, Happens, Sent, Steps, fed}
-use Rattle.host_laws.specs.Pushing.{Affair, Begins, Does, client_behind, end_asked, then_ends, link_asked, then_calls, opened_pushed, closed_pushed, event_pushed, sent_pushed, step_pushed, pushed_with}
-use Rattle.host_laws.proofs.OnwardSteps.{IsSo, keeps_so}
-use Rattle.host_laws.proofs.Pushing.{feed_so}
+use Rattle.scenario_laws.specs.bt_base.specs.declared.settings.Settings.{Settings}
+use Rattle.scenario_laws.specs.channel_model.specs.declared.event.ChannelEvent.{ChannelEvent}
+use Rattle.scenario_laws.specs.channel_model.specs.declared.event.ChannelEvent.TheVariants as channels
+use Rattle.scenario_laws.specs.channel_model.specs.Calls.{link_down, peer_mtu, waits}
+use Rattle.scenario_laws.specs.channel_model.specs.Giving.{Given, next_given, after_given}
+use Rattle.scenario_laws.specs.channel_model.specs.Timing.{timed_out}
+use Rattle.scenario_laws.specs.channel_model.specs.Value.{Channels}
+use Rattle.scenario_laws.specs.push_terms.specs.declared.outcome.Outcome.{Outcome}
+use Rattle.scenario_laws.specs.push_terms.specs.declared.outcome.Outcome.TheVariants.{Cancelled as PushCancelled}
+use Rattle.scenario_laws.specs.push_model.specs.declared.closing.CloseCause.{CloseCause}
+use Rattle.scenario_laws.specs.obex_session.specs.Views.{is_final_put}
+use Rattle.scenario_laws.specs.push_model.specs.Causes.{cause_of_link}
+use Rattle.scenario_laws.specs.push_model.specs.Client.{Client, begins, cancelled, ends, ends_by, may_cancel, is_rest}
+use Rattle.scenario_laws.specs.push_model.specs.Events as events
+use Rattle.scenario_laws.specs.push_model.specs.Events.{hears_news}
+use Rattle.scenario_laws.specs.push_model.specs.Laws.{Hears, Finishes}
+use Rattle.scenario_laws.specs.push_model.specs.Steps.{Part, Step, Wait, MakeLink, AskFeatures, OpenChannel, SendSdu, CloseChannel, BreakLink, Ended, NoMemory, steps}
+use Rattle.scenario_laws.specs.world_model.specs.Machines.{News, Linked, Up, Down, Heard, TimerFired, Cancelled, Opening}
+use Rattle.scenario_laws.specs.host_model.specs.Circumstances.{Circumstance}
+use Rattle.scenario_laws.specs.host_model.specs.Clients.{ClientProfile, client_profile, cause_of, ended, fitted}
+use Rattle.scenario_laws.specs.host_model.specs.Hosts.{Host, most_steps, hears_news as host_hears, ready, hear, next, tells_each, tells_events, with_channels, strides, settles, drives, says, says_frame, steps_behind}
+use Rattle.scenario_laws.specs.host_model.specs.Pdus.{pdu_of}
+use Rattle.scenario_laws.specs.host_model.specs.Profiles.{Profile, Stride}
+use Rattle.scenario_laws.specs.host_model.specs.Shelves.{size_for, name_for}
+use Rattle.scenario_laws.specs.host_model.proofs.Keeping.{Keeps, tells, drives_on, hears_on, goes_next}
+use Rattle.scenario_laws.specs.host_laws.specs.Feeds.{Feed, Learns, Receives, Happens, Sent, Steps, fed}
+use Rattle.scenario_laws.specs.host_laws.specs.Pushing.{Affair, Begins, Does, client_behind, end_asked, then_ends, link_asked, then_calls, opened_pushed, closed_pushed, event_pushed, sent_pushed, step_pushed, pushed_with}
+use Rattle.scenario_laws.specs.host_laws.proofs.OnwardSteps.{IsSo, keeps_so}
+use Rattle.scenario_laws.specs.host_laws.proofs.Pushing.{feed_so}
 use Rattle.cause_laws.proofs.Clients.{is_any, is_heard, is_ended, any_heard, any_ended, Within, ShowsWithin, more_shown, up_shown, opens_shown, closes_shown, told_shown, lost_shown, timer_shown, asks_shown, finishes_shown, sdu_shown, down_within, Came, came_same, came_then, IsWithin, came_behind, HasCome, has_come, over_comes, lame_behind, begins_within}
 
 -- ---- the affairs of a feed

@@ -4,47 +4,47 @@ use Rattle.std.proofs.lemmas.Bool.{eq-eqb}
 use Rattle.std.proofs.lemmas.List.{append-nil}
 use Rattle.std.proofs.lemmas.List.Sums.{fold-append}
 use Rattle.std.specs.Prelude.{is_none}
-use Rattle.link_talk.specs.Sayings.{talk}
-use Rattle.bt_base.specs.Objects.{Contents}
-use Rattle.bt_base.specs.declared.settings.Settings.{Settings}
-use Rattle.acl_fragments.specs.Pieces.{Piece}
-use Rattle.push_script.specs.declared.scenario.Scenario.{Scenario}
-use Rattle.push_terms.specs.declared.outcome.Outcome.{Outcome}
-use Rattle.push_terms.specs.declared.outcome.Outcome.TheVariants.{Done, LinkLost, RetryLimit, Refused, NoService, ShelfFault, Cancelled as PushCancelled, PeerClosed, PeerFault, ScriptEnded}
-use Rattle.push_terms.specs.declared.word.Side.TheVariants.{A, B}
-use Rattle.push_terms.specs.declared.word.Way.TheVariants.{Ab, Ba}
-use Rattle.push_terms.specs.declared.word.Word.{Word}
-use Rattle.capture.specs.declared.flow.Flow.TheVariants.{Out, Into}
-use Rattle.capture.specs.Entries.{Entry, Moved, Acted, Begun, Ended}
-use Rattle.capture.specs.Histories.{EachAfter}
-use Rattle.capture.specs.Links.{Link, link_up}
-use Rattle.capture.proofs.HistoryLaws.{each_after-more}
-use Rattle.radio_air.specs.declared.deed.Deed.{Deed}
-use Rattle.radio_air.specs.declared.deed.Deed.TheVariants.{Nothing, Meets, Fires, FiresBoth, Breaks, Cancels}
-use Rattle.radio_air.specs.Controllers.{Answer, Returned, Stated, Called, LinkMade, LinkGone, GivenBack, answer_packet, piece_packet}
-use Rattle.radio_air.specs.Radio.{found, is_together}
-use Rattle.push_model.specs.Client.{may_cancel}
-use Rattle.world_model.specs.Carriages.{Carriage, Doing, Carries, first_carriage}
-use Rattle.world_model.specs.Machines.{LinkEvent, Up, Down, Linked, Heard, TimerFired, Cancelled, Opening, Upper}
-use Rattle.world_model.specs.Pushes.{Pushes, one_begun, one_ended}
-use Rattle.world_model.specs.Stations.{order_packet, Station, Effort, Taking, Putting, Asking, Leaving, Commanding, MakesEffort, is_handle, longest_pdu, gives, holds, hears_each, hears_piece, event_in, upper_told, hears_answer, told}
-use Rattle.world_model.specs.Worlds.{World, Happening, Tries, Departure, GivingBack, Piecemeal, Answering, Turns, Misses, Opens, Closes, entries_of, all_entries, fired, Acts, one_turned, IsAtRest, Does}
-use Rattle.radio_world.specs.Standing.{last_entries}
-use Rattle.turn_laws.proofs.Advancing.{Both, advances}
-use Rattle.turn_laws.proofs.Coming.{owed_first}
-use Rattle.turn_laws.proofs.Finishing.{nothing_more}
-use Rattle.turn_laws.proofs.Keeping.{Kept}
-use Rattle.turn_laws.proofs.Leading.{Tiding, Went, tidings, Led}
-use Rattle.turn_laws.proofs.Running.{first_both}
-use Rattle.turn_laws.proofs.Stationing.{linked_handle}
-use Rattle.air_laws.proofs.Following.{Keeps as KeepsRun, reached_first, along}
-use Rattle.air_laws.proofs.Turning.{acts_pushes}
-use Rattle.host_model.specs.Circumstances.{Circumstance}
-use Rattle.host_model.specs.Clients.{ClientProfile, client_profile}
-use Rattle.host_model.specs.Hosts.{Host, hear}
-use Rattle.host_model.specs.Machines.{client_host}
-use Rattle.host_model.specs.Servers.{ServerProfile}
-use Rattle.host_laws.proofs.OnwardSteps.{IsSo}
+use Rattle.scenario_laws.specs.link_talk.specs.Sayings.{talk}
+use Rattle.scenario_laws.specs.bt_base.specs.Objects.{Contents}
+use Rattle.scenario_laws.specs.bt_base.specs.declared.settings.Settings.{Settings}
+use Rattle.scenario_laws.specs.acl_fragments.specs.Pieces.{Piece}
+use Rattle.scenario_laws.specs.push_script.specs.declared.scenario.Scenario.{Scenario}
+use Rattle.scenario_laws.specs.push_terms.specs.declared.outcome.Outcome.{Outcome}
+use Rattle.scenario_laws.specs.push_terms.specs.declared.outcome.Outcome.TheVariants.{Done, LinkLost, RetryLimit, Refused, NoService, ShelfFault, Cancelled as PushCancelled, PeerClosed, PeerFault, ScriptEnded}
+use Rattle.scenario_laws.specs.push_terms.specs.declared.word.Side.TheVariants.{A, B}
+use Rattle.scenario_laws.specs.push_terms.specs.declared.word.Way.TheVariants.{Ab, Ba}
+use Rattle.scenario_laws.specs.push_terms.specs.declared.word.Word.{Word}
+use Rattle.scenario_laws.specs.capture.specs.declared.flow.Flow.TheVariants.{Out, Into}
+use Rattle.scenario_laws.specs.capture.specs.Entries.{Entry, Moved, Acted, Begun, Ended}
+use Rattle.scenario_laws.specs.capture.specs.Histories.{EachAfter}
+use Rattle.scenario_laws.specs.capture.specs.Links.{Link, link_up}
+use Rattle.scenario_laws.specs.capture.proofs.HistoryLaws.{each_after-more}
+use Rattle.scenario_laws.specs.radio_air.specs.declared.deed.Deed.{Deed}
+use Rattle.scenario_laws.specs.radio_air.specs.declared.deed.Deed.TheVariants.{Nothing, Meets, Fires, FiresBoth, Breaks, Cancels}
+use Rattle.scenario_laws.specs.radio_air.specs.Controllers.{Answer, Returned, Stated, Called, LinkMade, LinkGone, GivenBack, answer_packet, piece_packet}
+use Rattle.scenario_laws.specs.radio_air.specs.Radio.{found, is_together}
+use Rattle.scenario_laws.specs.push_model.specs.Client.{may_cancel}
+use Rattle.scenario_laws.specs.world_model.specs.Carriages.{Carriage, Doing, Carries, first_carriage}
+use Rattle.scenario_laws.specs.world_model.specs.Machines.{LinkEvent, Up, Down, Linked, Heard, TimerFired, Cancelled, Opening, Upper}
+use Rattle.scenario_laws.specs.world_model.specs.Pushes.{Pushes, one_begun, one_ended}
+use Rattle.scenario_laws.specs.world_model.specs.Stations.{order_packet, Station, Effort, Taking, Putting, Asking, Leaving, Commanding, MakesEffort, is_handle, longest_pdu, gives, holds, hears_each, hears_piece, event_in, upper_told, hears_answer, told}
+use Rattle.scenario_laws.specs.world_model.specs.Worlds.{World, Happening, Tries, Departure, GivingBack, Piecemeal, Answering, Turns, Misses, Opens, Closes, entries_of, all_entries, fired, Acts, one_turned, IsAtRest, Does}
+use Rattle.scenario_laws.specs.radio_world.specs.Standing.{last_entries}
+use Rattle.scenario_laws.specs.turn_laws.proofs.Advancing.{Both, advances}
+use Rattle.scenario_laws.specs.turn_laws.proofs.Coming.{owed_first}
+use Rattle.scenario_laws.specs.turn_laws.proofs.Finishing.{nothing_more}
+use Rattle.scenario_laws.specs.turn_laws.proofs.Keeping.{Kept}
+use Rattle.scenario_laws.specs.turn_laws.proofs.Leading.{Tiding, Went, tidings, Led}
+use Rattle.scenario_laws.specs.turn_laws.proofs.Running.{first_both}
+use Rattle.scenario_laws.specs.turn_laws.proofs.Stationing.{linked_handle}
+use Rattle.scenario_laws.specs.air_laws.proofs.Following.{Keeps as KeepsRun, reached_first, along}
+use Rattle.scenario_laws.specs.air_laws.proofs.Turning.{acts_pushes}
+use Rattle.scenario_laws.specs.host_model.specs.Circumstances.{Circumstance}
+use Rattle.scenario_laws.specs.host_model.specs.Clients.{ClientProfile, client_profile}
+use Rattle.scenario_laws.specs.host_model.specs.Hosts.{Host, hear}
+use Rattle.scenario_laws.specs.host_model.specs.Machines.{client_host}
+use Rattle.scenario_laws.specs.host_model.specs.Servers.{ServerProfile}
+use Rattle.scenario_laws.specs.host_laws.proofs.OnwardSteps.{IsSo}
 use Rattle.scenario_laws.specs.Captures.{client_of, server_of, BothHosts, beginning, Happened}
 use Rattle.scenario_laws.proofs.Carrying.{carried}
 use Rattle.scenario_laws.proofs.Fronts.{fits}

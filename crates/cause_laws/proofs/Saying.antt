@@ -3,50 +3,50 @@ use Rattle.std.proofs.Common.{◌≡◌, ℕ, zero, suc, Bool, true, false, not,
 use Rattle.std.specs.Prelude.{nat_lt}
 use Rattle.std.proofs.lemmas.Bool.{eqb-true}
 use Rattle.std.proofs.lemmas.List.{take-append-drop}
-use Rattle.bt_base.specs.declared.settings.Transport.{Transport}
-use Rattle.bt_base.specs.declared.settings.Transport.TheVariants.{L2cap, Rfcomm}
-use Rattle.push_terms.specs.declared.outcome.Outcome.{Outcome}
-use Rattle.push_terms.specs.declared.outcome.Outcome.TheVariants.{Done, LinkLost, RetryLimit, Refused, NoService, ShelfFault, Cancelled, PeerClosed, PeerFault, ScriptEnded}
-use Rattle.obex_headers.specs.declared.fault.ObexRefusal.{ObexRefusal}
-use Rattle.obex_headers.specs.declared.fault.ObexRefusal.TheVariants.{AboveMaximum, BadLength}
-use Rattle.obex_headers.specs.declared.packet.Phase.TheVariants.{Response}
-use Rattle.obex_headers.specs.Assembling.{stated_len}
-use Rattle.obex_headers.specs.Packets.{PlainPacket}
-use Rattle.obex_headers.specs.Reading.{packet_in}
-use Rattle.obex_session.specs.declared.asking.Request.{Request}
-use Rattle.obex_session.specs.declared.asking.Request.TheVariants as requests
-use Rattle.obex_session.specs.declared.client.Answered.{Answered}
-use Rattle.obex_session.specs.declared.client.Answered.TheVariants as answer
-use Rattle.obex_session.specs.Asking.{phase_of, awaited_code, success_of, answer_read, answer_to}
-use Rattle.obex_session.specs.Marks.{marks_of}
-use Rattle.obex_session.specs.Views.{answer_at}
-use Rattle.rfcomm_frames.specs.declared.frame.MuxKind.{MuxKind}
-use Rattle.rfcomm_frames.specs.declared.frame.MuxKind.TheVariants.{Sabm, Ua, Dm, Disc, Uih}
-use Rattle.rfcomm_frames.specs.Frames.{PlainFrame}
-use Rattle.rfcomm_frames.specs.Answers.{Answer}
-use Rattle.rfcomm_frames.specs.FrameReading.{frame_answer}
-use Rattle.rfcomm_model.specs.declared.state.MuxReason.{MuxReason}
-use Rattle.rfcomm_model.specs.Hearing.{Up, nothing, opened, bytes, closed, up, news, read_data, data_kind, hears}
-use Rattle.rfcomm_model.specs.Machine.{Mux, may_pass, is_ready}
-use Rattle.sdp_elements.specs.declared.target.Target.{Target}
-use Rattle.sdp_client.specs.declared.reason.Found.{Found}
-use Rattle.sdp_client.specs.declared.reason.Found.TheVariants as found
-use Rattle.sdp_client.specs.declared.reason.QueryReason.{QueryReason}
-use Rattle.sdp_client.specs.declared.reason.QueryReason.TheVariants.{BadReply, ErrorCode, WrongTransaction, TooLong}
-use Rattle.sdp_client.specs.Asking.{Asking}
-use Rattle.sdp_client.specs.declared.query.Stage.{Stage as Asked_stage}
-use Rattle.sdp_client.specs.declared.query.Stage.TheVariants as stages
-use Rattle.sdp_client.specs.Hearing.{found_at, found_when, found_by, found_said, found_part, found_whole, found_in, found_target}
-use Rattle.sdp_client.specs.Replies.{PlainPart, PlainSaid, Gives, Failed, Nothing, said_in, is_of_another}
-use Rattle.sdp_elements.specs.Targets.{target_in, is_service_psm, is_server_channel}
-use Rattle.push_model.specs.declared.course.Stage.{Stage}
-use Rattle.push_model.specs.declared.course.Stage.TheVariants.{Rest, Link, SearchChannel, Search, SearchEnd, Features, ObjectChannel, Object, ObjectEnd, LinkEnd, Over}
-use Rattle.push_model.specs.Causes.{cause_of_query, cause_of_mux, unawaited_response}
-use Rattle.push_model.specs.Client.{Client}
-use Rattle.push_model.specs.Events.{search_psm, kept_of}
-use Rattle.push_model.specs.Responding.{is_early, is_success, is_left, hears_response}
-use Rattle.push_model.specs.Streams.{Front, Whole, Partial, Broken, front_of}
-use Rattle.push_model.specs.Shown.{first_of, way_of, found_shows, says, answer_shows, response_shows, front_shows, stream_shows, up_shows, object_shows, outside_shows, sdu_shows}
+use Rattle.scenario_laws.specs.bt_base.specs.declared.settings.Transport.{Transport}
+use Rattle.scenario_laws.specs.bt_base.specs.declared.settings.Transport.TheVariants.{L2cap, Rfcomm}
+use Rattle.scenario_laws.specs.push_terms.specs.declared.outcome.Outcome.{Outcome}
+use Rattle.scenario_laws.specs.push_terms.specs.declared.outcome.Outcome.TheVariants.{Done, LinkLost, RetryLimit, Refused, NoService, ShelfFault, Cancelled, PeerClosed, PeerFault, ScriptEnded}
+use Rattle.scenario_laws.specs.obex_headers.specs.declared.fault.ObexRefusal.{ObexRefusal}
+use Rattle.scenario_laws.specs.obex_headers.specs.declared.fault.ObexRefusal.TheVariants.{AboveMaximum, BadLength}
+use Rattle.scenario_laws.specs.obex_headers.specs.declared.packet.Phase.TheVariants.{Response}
+use Rattle.scenario_laws.specs.obex_headers.specs.Assembling.{stated_len}
+use Rattle.scenario_laws.specs.obex_headers.specs.Packets.{PlainPacket}
+use Rattle.scenario_laws.specs.obex_headers.specs.Reading.{packet_in}
+use Rattle.scenario_laws.specs.obex_session.specs.declared.asking.Request.{Request}
+use Rattle.scenario_laws.specs.obex_session.specs.declared.asking.Request.TheVariants as requests
+use Rattle.scenario_laws.specs.obex_session.specs.declared.client.Answered.{Answered}
+use Rattle.scenario_laws.specs.obex_session.specs.declared.client.Answered.TheVariants as answer
+use Rattle.scenario_laws.specs.obex_session.specs.Asking.{phase_of, awaited_code, success_of, answer_read, answer_to}
+use Rattle.scenario_laws.specs.obex_session.specs.Marks.{marks_of}
+use Rattle.scenario_laws.specs.obex_session.specs.Views.{answer_at}
+use Rattle.scenario_laws.specs.rfcomm_frames.specs.declared.frame.MuxKind.{MuxKind}
+use Rattle.scenario_laws.specs.rfcomm_frames.specs.declared.frame.MuxKind.TheVariants.{Sabm, Ua, Dm, Disc, Uih}
+use Rattle.scenario_laws.specs.rfcomm_frames.specs.Frames.{PlainFrame}
+use Rattle.scenario_laws.specs.rfcomm_frames.specs.Answers.{Answer}
+use Rattle.scenario_laws.specs.rfcomm_frames.specs.FrameReading.{frame_answer}
+use Rattle.scenario_laws.specs.rfcomm_model.specs.declared.state.MuxReason.{MuxReason}
+use Rattle.scenario_laws.specs.rfcomm_model.specs.Hearing.{Up, nothing, opened, bytes, closed, up, news, read_data, data_kind, hears}
+use Rattle.scenario_laws.specs.rfcomm_model.specs.Machine.{Mux, may_pass, is_ready}
+use Rattle.scenario_laws.specs.sdp_elements.specs.declared.target.Target.{Target}
+use Rattle.scenario_laws.specs.sdp_client.specs.declared.reason.Found.{Found}
+use Rattle.scenario_laws.specs.sdp_client.specs.declared.reason.Found.TheVariants as found
+use Rattle.scenario_laws.specs.sdp_client.specs.declared.reason.QueryReason.{QueryReason}
+use Rattle.scenario_laws.specs.sdp_client.specs.declared.reason.QueryReason.TheVariants.{BadReply, ErrorCode, WrongTransaction, TooLong}
+use Rattle.scenario_laws.specs.sdp_client.specs.Asking.{Asking}
+use Rattle.scenario_laws.specs.sdp_client.specs.declared.query.Stage.{Stage as Asked_stage}
+use Rattle.scenario_laws.specs.sdp_client.specs.declared.query.Stage.TheVariants as stages
+use Rattle.scenario_laws.specs.sdp_client.specs.Hearing.{found_at, found_when, found_by, found_said, found_part, found_whole, found_in, found_target}
+use Rattle.scenario_laws.specs.sdp_client.specs.Replies.{PlainPart, PlainSaid, Gives, Failed, Nothing, said_in, is_of_another}
+use Rattle.scenario_laws.specs.sdp_elements.specs.Targets.{target_in, is_service_psm, is_server_channel}
+use Rattle.scenario_laws.specs.push_model.specs.declared.course.Stage.{Stage}
+use Rattle.scenario_laws.specs.push_model.specs.declared.course.Stage.TheVariants.{Rest, Link, SearchChannel, Search, SearchEnd, Features, ObjectChannel, Object, ObjectEnd, LinkEnd, Over}
+use Rattle.scenario_laws.specs.push_model.specs.Causes.{cause_of_query, cause_of_mux, unawaited_response}
+use Rattle.scenario_laws.specs.push_model.specs.Client.{Client}
+use Rattle.scenario_laws.specs.push_model.specs.Events.{search_psm, kept_of}
+use Rattle.scenario_laws.specs.push_model.specs.Responding.{is_early, is_success, is_left, hears_response}
+use Rattle.scenario_laws.specs.push_model.specs.Streams.{Front, Whole, Partial, Broken, front_of}
+use Rattle.scenario_laws.specs.push_model.specs.Shown.{first_of, way_of, found_shows, says, answer_shows, response_shows, front_shows, stream_shows, up_shows, object_shows, outside_shows, sdu_shows}
 use Rattle.cause_laws.specs.Said.{IsResponse, HasCode, IsCarried, LacksService, Brings}
 
 abbrev pub Says : (psm : ℕ) → List ℕ → Option Outcome → Type 0

@@ -2,39 +2,39 @@
 use Rattle.std.proofs.Common.{◌≡◌, ℕ, Bool, true, false, not, List, [], ◌∷◌, ◌++◌, fold, Option, Some, None, Result, Ok, Err, refl, sym, ap, subst, ◌∙◌, ◌⊎◌, inl, inr, append_assoc, append-nil, if◌then◌else◌}
 use Rattle.std.specs.List.{AllByRecursion}
 use Rattle.std.proofs.lemmas.List.Sums.{fold-append}
-use Rattle.bt_base.specs.declared.ports.PortFault.{PortFault}
-use Rattle.bt_base.specs.declared.ports.PortFault.TheVariants as fault
-use Rattle.bt_base.specs.declared.settings.Settings.{Settings}
-use Rattle.acl_fragments.specs.Pieces.{channel_of}
-use Rattle.push_terms.specs.declared.outcome.Outcome.{Outcome}
-use Rattle.push_terms.specs.declared.outcome.Outcome.TheVariants.{Done, LinkLost, RetryLimit, Refused, NoService, ShelfFault, Cancelled as PushCancelled, PeerClosed, PeerFault, ScriptEnded}
-use Rattle.channel_model.specs.Carrying.{Up as Handed, Nothing, Received}
-use Rattle.channel_model.specs.Hearing.{up}
-use Rattle.channel_model.specs.declared.event.ChannelEvent.{ChannelEvent}
-use Rattle.channel_model.specs.Policies.{Policy, policy}
-use Rattle.channel_model.specs.Value.{Channels}
-use Rattle.channel_laws.specs.Runs.{Occurrence, Comes, Run, new_link, run_on, run_of}
-use Rattle.push_model.specs.Causes.{cause_of_page}
-use Rattle.push_model.specs.Client.{Client, begins, begun_by, cancelled, may_cancel}
-use Rattle.push_model.specs.Events as events
-use Rattle.push_model.specs.Events.{hears_news}
-use Rattle.push_model.specs.Laws.{Hears, Cancels, done}
-use Rattle.push_model.specs.Shown.{sdu_shows}
-use Rattle.push_model.specs.Steps.{steps}
-use Rattle.push_model.proofs.CauseLaws.{first_causes_stay}
-use Rattle.push_model.proofs.ShownLaws.{outcomes_are_shown}
-use Rattle.world_model.specs.Machines.{News, Linked, Failed, Heard, TimerFired, Cancelled, Opening}
-use Rattle.host_model.specs.Circumstances.{Circumstance}
-use Rattle.host_model.specs.Clients.{ClientProfile, client_profile, ended, fitted}
-use Rattle.host_model.specs.Shelves.{size_for, name_for}
-use Rattle.host_model.specs.Hosts.{handed}
-use Rattle.host_model.specs.Profiles.{Profile}
-use Rattle.host_laws.specs.Calls.{Asks, values_after}
-use Rattle.host_laws.specs.Feeds.{Feed, Learns, Happens, Sent, Steps, fed, tidings_by}
-use Rattle.host_laws.specs.Pushing.{Affair, client_behind, then_ends, then_calls, pushed_with}
-use Rattle.host_laws.proofs.Pushing.{feed_so}
-use Rattle.host_laws.specs.Woven.{Strand, Hearing, Giving, Firing, Telling, Gifting, Learning, Checking, Stepping, IsOnLink, told_next, strand_list, strand_profile, woven_list, woven_profile}
-use Rattle.host_laws.proofs.Links.{value_run}
+use Rattle.scenario_laws.specs.bt_base.specs.declared.ports.PortFault.{PortFault}
+use Rattle.scenario_laws.specs.bt_base.specs.declared.ports.PortFault.TheVariants as fault
+use Rattle.scenario_laws.specs.bt_base.specs.declared.settings.Settings.{Settings}
+use Rattle.scenario_laws.specs.acl_fragments.specs.Pieces.{channel_of}
+use Rattle.scenario_laws.specs.push_terms.specs.declared.outcome.Outcome.{Outcome}
+use Rattle.scenario_laws.specs.push_terms.specs.declared.outcome.Outcome.TheVariants.{Done, LinkLost, RetryLimit, Refused, NoService, ShelfFault, Cancelled as PushCancelled, PeerClosed, PeerFault, ScriptEnded}
+use Rattle.scenario_laws.specs.channel_model.specs.Carrying.{Up as Handed, Nothing, Received}
+use Rattle.scenario_laws.specs.channel_model.specs.Hearing.{up}
+use Rattle.scenario_laws.specs.channel_model.specs.declared.event.ChannelEvent.{ChannelEvent}
+use Rattle.scenario_laws.specs.channel_model.specs.Policies.{Policy, policy}
+use Rattle.scenario_laws.specs.channel_model.specs.Value.{Channels}
+use Rattle.scenario_laws.specs.channel_laws.specs.Runs.{Occurrence, Comes, Run, new_link, run_on, run_of}
+use Rattle.scenario_laws.specs.push_model.specs.Causes.{cause_of_page}
+use Rattle.scenario_laws.specs.push_model.specs.Client.{Client, begins, begun_by, cancelled, may_cancel}
+use Rattle.scenario_laws.specs.push_model.specs.Events as events
+use Rattle.scenario_laws.specs.push_model.specs.Events.{hears_news}
+use Rattle.scenario_laws.specs.push_model.specs.Laws.{Hears, Cancels, done}
+use Rattle.scenario_laws.specs.push_model.specs.Shown.{sdu_shows}
+use Rattle.scenario_laws.specs.push_model.specs.Steps.{steps}
+use Rattle.scenario_laws.specs.push_model.proofs.CauseLaws.{first_causes_stay}
+use Rattle.scenario_laws.specs.push_model.proofs.ShownLaws.{outcomes_are_shown}
+use Rattle.scenario_laws.specs.world_model.specs.Machines.{News, Linked, Failed, Heard, TimerFired, Cancelled, Opening}
+use Rattle.scenario_laws.specs.host_model.specs.Circumstances.{Circumstance}
+use Rattle.scenario_laws.specs.host_model.specs.Clients.{ClientProfile, client_profile, ended, fitted}
+use Rattle.scenario_laws.specs.host_model.specs.Shelves.{size_for, name_for}
+use Rattle.scenario_laws.specs.host_model.specs.Hosts.{handed}
+use Rattle.scenario_laws.specs.host_model.specs.Profiles.{Profile}
+use Rattle.scenario_laws.specs.host_laws.specs.Calls.{Asks, values_after}
+use Rattle.scenario_laws.specs.host_laws.specs.Feeds.{Feed, Learns, Happens, Sent, Steps, fed, tidings_by}
+use Rattle.scenario_laws.specs.host_laws.specs.Pushing.{Affair, client_behind, then_ends, then_calls, pushed_with}
+use Rattle.scenario_laws.specs.host_laws.proofs.Pushing.{feed_so}
+use Rattle.scenario_laws.specs.host_laws.specs.Woven.{Strand, Hearing, Giving, Firing, Telling, Gifting, Learning, Checking, Stepping, IsOnLink, told_next, strand_list, strand_profile, woven_list, woven_profile}
+use Rattle.scenario_laws.specs.host_laws.proofs.Links.{value_run}
 use Rattle.cause_laws.specs.Said.{Brings}
 use Rattle.cause_laws.proofs.Clients.{is_any, Within, ShowsWithin, more_shown, timer_shown, Came, came_same, IsWithin, came_behind, none_later}
 use Rattle.cause_laws.proofs.Profiles.{any_more, end_within, call_within, event_within, sent_within, step_within, came_fed}

@@ -1,16 +1,16 @@
 -- What words do at host a's push: only `cancel` cancels it.
 use Rattle.std.proofs.Common.{◌≡◌, ℕ, Bool, true, false, List, length, Option, Some, None, refl, if◌then◌else◌}
-use Rattle.push_terms.specs.declared.word.Way.{Way}
-use Rattle.push_terms.specs.declared.word.Way.TheVariants.{Ab, Ba}
-use Rattle.push_terms.specs.declared.word.Word.{Word}
-use Rattle.push_terms.specs.declared.word.Word.TheVariants.{Pass, Lose, Repeat, Damage, Cut, Timer, Drop, Cancel}
-use Rattle.capture.specs.Frames.{way_served}
-use Rattle.radio_air.specs.declared.deed.Deed.{Deed}
-use Rattle.radio_air.specs.declared.deed.Deed.TheVariants.{Nothing, Meets, Fires, FiresBoth, Breaks, Cancels}
-use Rattle.radio_air.specs.declared.fate.Fate.{Fate}
-use Rattle.radio_air.specs.declared.fate.Fate.TheVariants.{Delivered, Lost, Repeated, CutOff, Changed}
-use Rattle.radio_air.specs.Words.{meets_on, passing, deed_of}
-use Rattle.radio_air.specs.Fates.{first_can_meet}
+use Rattle.scenario_laws.specs.push_terms.specs.declared.word.Way.{Way}
+use Rattle.scenario_laws.specs.push_terms.specs.declared.word.Way.TheVariants.{Ab, Ba}
+use Rattle.scenario_laws.specs.push_terms.specs.declared.word.Word.{Word}
+use Rattle.scenario_laws.specs.push_terms.specs.declared.word.Word.TheVariants.{Pass, Lose, Repeat, Damage, Cut, Timer, Drop, Cancel}
+use Rattle.scenario_laws.specs.capture.specs.Frames.{way_served}
+use Rattle.scenario_laws.specs.radio_air.specs.declared.deed.Deed.{Deed}
+use Rattle.scenario_laws.specs.radio_air.specs.declared.deed.Deed.TheVariants.{Nothing, Meets, Fires, FiresBoth, Breaks, Cancels}
+use Rattle.scenario_laws.specs.radio_air.specs.declared.fate.Fate.{Fate}
+use Rattle.scenario_laws.specs.radio_air.specs.declared.fate.Fate.TheVariants.{Delivered, Lost, Repeated, CutOff, Changed}
+use Rattle.scenario_laws.specs.radio_air.specs.Words.{meets_on, passing, deed_of}
+use Rattle.scenario_laws.specs.radio_air.specs.Fates.{first_can_meet}
 use Rattle.cause_laws.specs.FirstCauses.{is_cancel_word}
 
 abbrev pub IsPlainDeed : Deed → Type 0

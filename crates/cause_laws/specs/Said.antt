@@ -1,25 +1,25 @@
 -- What a host heard that ended a push, by its talk on a link (IrOBEX 1.5, 3.2; Core 5.1, Volume 3 Part A, 3.1 and 7, and Part B, 4.7.2; RFCOMM 1.2, 5).
 use Rattle.std.specs.Prelude.{ℕ, ◌≡◌, ◌⊎◌, ◌==◌, false, List, [], ◌∷◌, ◌++◌, true, Some, Ok, find, is_none, length}
-use Rattle.bt_base.specs.declared.settings.Transport.{Transport}
-use Rattle.acl_fragments.specs.Pieces.{channel_of}
-use Rattle.capture.specs.declared.flow.Flow.TheVariants.{Into}
-use Rattle.push_terms.specs.declared.outcome.Outcome.{Outcome}
-use Rattle.push_terms.specs.declared.outcome.Outcome.TheVariants.{Done, LinkLost, RetryLimit, Refused, NoService, ShelfFault, Cancelled, PeerClosed, PeerFault, ScriptEnded}
-use Rattle.obex_headers.specs.declared.packet.Phase.{Phase}
-use Rattle.obex_headers.specs.declared.packet.Phase.TheVariants.{Response}
-use Rattle.obex_headers.specs.Packets.{PlainPacket}
-use Rattle.obex_headers.specs.Reading.{packet_in}
-use Rattle.rfcomm_frames.specs.declared.frame.MuxKind.TheVariants.{Uih}
-use Rattle.rfcomm_frames.specs.Frames.{PlainFrame}
-use Rattle.rfcomm_frames.specs.FrameReading.{frame_answer}
-use Rattle.sdp_elements.specs.declared.target.Target.{Target}
-use Rattle.sdp_elements.specs.Targets.{target_in}
-use Rattle.sdp_client.specs.Replies.{PlainPart, Gives, said_in}
-use Rattle.push_model.specs.Shown.{way_of}
-use Rattle.link_talk.specs.declared.party.Party.{Party}
-use Rattle.link_talk.specs.Channels.{Entry, reading}
-use Rattle.link_talk.specs.Sayings.{Saying, Carried}
-use Rattle.link_talk.specs.Sdus.{sdus}
+use Rattle.scenario_laws.specs.bt_base.specs.declared.settings.Transport.{Transport}
+use Rattle.scenario_laws.specs.acl_fragments.specs.Pieces.{channel_of}
+use Rattle.scenario_laws.specs.capture.specs.declared.flow.Flow.TheVariants.{Into}
+use Rattle.scenario_laws.specs.push_terms.specs.declared.outcome.Outcome.{Outcome}
+use Rattle.scenario_laws.specs.push_terms.specs.declared.outcome.Outcome.TheVariants.{Done, LinkLost, RetryLimit, Refused, NoService, ShelfFault, Cancelled, PeerClosed, PeerFault, ScriptEnded}
+use Rattle.scenario_laws.specs.obex_headers.specs.declared.packet.Phase.{Phase}
+use Rattle.scenario_laws.specs.obex_headers.specs.declared.packet.Phase.TheVariants.{Response}
+use Rattle.scenario_laws.specs.obex_headers.specs.Packets.{PlainPacket}
+use Rattle.scenario_laws.specs.obex_headers.specs.Reading.{packet_in}
+use Rattle.scenario_laws.specs.rfcomm_frames.specs.declared.frame.MuxKind.TheVariants.{Uih}
+use Rattle.scenario_laws.specs.rfcomm_frames.specs.Frames.{PlainFrame}
+use Rattle.scenario_laws.specs.rfcomm_frames.specs.FrameReading.{frame_answer}
+use Rattle.scenario_laws.specs.sdp_elements.specs.declared.target.Target.{Target}
+use Rattle.scenario_laws.specs.sdp_elements.specs.Targets.{target_in}
+use Rattle.scenario_laws.specs.sdp_client.specs.Replies.{PlainPart, Gives, said_in}
+use Rattle.scenario_laws.specs.push_model.specs.Shown.{way_of}
+use Rattle.scenario_laws.specs.link_talk.specs.declared.party.Party.{Party}
+use Rattle.scenario_laws.specs.link_talk.specs.Channels.{Entry, reading}
+use Rattle.scenario_laws.specs.link_talk.specs.Sayings.{Saying, Carried}
+use Rattle.scenario_laws.specs.link_talk.specs.Sdus.{sdus}
 
 -- ---- an SDU
 

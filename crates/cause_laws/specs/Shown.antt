@@ -1,9 +1,9 @@
 -- The captures of runs show why pushes ended (this project's own).
 use Rattle.std.specs.Prelude.{◌≡◌, false, List, ◌++◌, Option}
-use Rattle.bt_base.specs.Objects.{Contents}
-use Rattle.push_script.specs.declared.scenario.Scenario.{Scenario}
-use Rattle.world_model.specs.Worlds.{Happening, all_entries}
-use Rattle.radio_world.specs.Standing.{last_entries}
+use Rattle.scenario_laws.specs.bt_base.specs.Objects.{Contents}
+use Rattle.scenario_laws.specs.push_script.specs.declared.scenario.Scenario.{Scenario}
+use Rattle.scenario_laws.specs.world_model.specs.Worlds.{Happening, all_entries}
+use Rattle.scenario_laws.specs.radio_world.specs.Standing.{last_entries}
 use Rattle.scenario_laws.specs.Captures.{client_of, BothHosts, Happened}
 use Rattle.cause_laws.specs.FirstCauses.{CausesAreShown}
 

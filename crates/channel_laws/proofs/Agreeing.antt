@@ -4,22 +4,22 @@ use Rattle.std.specs.Prelude.{option_map, unwrap_or, is_some}
 use Rattle.std.specs.Option.{option_or}
 use Rattle.std.proofs.lemmas.Bool.{eqb-true, ltb-false, le-ltb}
 use Rattle.std.proofs.lemmas.List.{take-append-le, drop-append-le, length-drop}
-use Rattle.l2cap_config.specs.declared.options.ModeOption.{ModeOption}
-use Rattle.l2cap_config.specs.declared.options.Options.{Options}
-use Rattle.l2cap_config.specs.declared.options.ConfigRefusal.{ConfigRefusal}
-use Rattle.l2cap_config.specs.declared.agreement.ConfigAnswer.{ConfigAnswer}
-use Rattle.l2cap_config.specs.declared.agreement.ConfigAnswer.TheVariants.{Accept, Unacceptable, Unknown}
-use Rattle.l2cap_config.specs.declared.wish.Mode.{Mode}
-use Rattle.l2cap_config.specs.declared.wish.Mode.TheVariants.{Basic, Enhanced}
-use Rattle.l2cap_config.specs.declared.wish.Wish.{Wish}
-use Rattle.l2cap_config.specs.Items.{Item, options_in, joined}
-use Rattle.l2cap_config.specs.Reading.{item_at, items_of, items_within, fits, stated, options_read}
-use Rattle.l2cap_config.specs.Writing.{written}
-use Rattle.l2cap_config.specs.Agreement.{basic_mode, asked_mode, mode_number, answered, agreed_on, requested}
-use Rattle.l2cap_config.proofs.ItemLists.{items_step, items_none, items_nothing, options-append}
-use Rattle.link_talk.specs.Meanings.{Part}
-use Rattle.link_talk.specs.Setups as read
-use Rattle.link_talk.specs.Setups.{mode_in, mode_stated, mode_numbered, is_set, with_term, setup_after, Wished, Answered}
+use Rattle.talk_laws.specs.l2cap_config.specs.declared.options.ModeOption.{ModeOption}
+use Rattle.talk_laws.specs.l2cap_config.specs.declared.options.Options.{Options}
+use Rattle.talk_laws.specs.l2cap_config.specs.declared.options.ConfigRefusal.{ConfigRefusal}
+use Rattle.talk_laws.specs.l2cap_config.specs.declared.agreement.ConfigAnswer.{ConfigAnswer}
+use Rattle.talk_laws.specs.l2cap_config.specs.declared.agreement.ConfigAnswer.TheVariants.{Accept, Unacceptable, Unknown}
+use Rattle.talk_laws.specs.l2cap_config.specs.declared.wish.Mode.{Mode}
+use Rattle.talk_laws.specs.l2cap_config.specs.declared.wish.Mode.TheVariants.{Basic, Enhanced}
+use Rattle.talk_laws.specs.l2cap_config.specs.declared.wish.Wish.{Wish}
+use Rattle.talk_laws.specs.l2cap_config.specs.Items.{Item, options_in, joined}
+use Rattle.talk_laws.specs.l2cap_config.specs.Reading.{item_at, items_of, items_within, fits, stated, options_read}
+use Rattle.talk_laws.specs.l2cap_config.specs.Writing.{written}
+use Rattle.talk_laws.specs.l2cap_config.specs.Agreement.{basic_mode, asked_mode, mode_number, answered, agreed_on, requested}
+use Rattle.talk_laws.specs.l2cap_config.proofs.ItemLists.{items_step, items_none, items_nothing, options-append}
+use Rattle.talk_laws.specs.link_talk.specs.Meanings.{Part}
+use Rattle.talk_laws.specs.link_talk.specs.Setups as read
+use Rattle.talk_laws.specs.link_talk.specs.Setups.{mode_in, mode_stated, mode_numbered, is_set, with_term, setup_after, Wished, Answered}
 use Rattle.channel_model.specs.Value.{Request, Own, Unasked, Asking, Granted, Carrier, Setup}
 use Rattle.channel_model.specs.Configuring.{carrier_by, new_carrier, bounded_agreement}
 use Rattle.channel_laws.specs.Views.{carrier_mode, asked_mode as mode_asked}

@@ -1,21 +1,21 @@
 -- The peer answers a request for options.
 use Rattle.std.proofs.Common.{◌≡◌, ℕ, List, [], ◌∷◌, ◌++◌, fold, Bool, true, false, cond, eqb, not, ◌&&◌, Option, Some, None, Result, Ok, Err, refl, sym, ap, subst, ◌∙◌, inl, inr}
 use Rattle.std.proofs.lemmas.Bool.{eqb-true}
-use Rattle.capture.specs.declared.flow.Flow.TheVariants.{Into}
-use Rattle.l2cap_signal.specs.Commands.{Content, reject, connection_request, connection_response, configuration_request, configuration_response, disconnection_request, disconnection_response, echo_request, echo_response, information_request, information_response}
-use Rattle.l2cap_signal.specs.Reading.{Answer as Read}
-use Rattle.l2cap_config.specs.declared.options.Options.{Options}
-use Rattle.l2cap_config.specs.declared.options.ConfigRefusal.{ConfigRefusal}
-use Rattle.l2cap_config.specs.declared.wish.Wish.{Wish}
-use Rattle.l2cap_config.specs.Reading.{options_read}
-use Rattle.l2cap_config.specs.Agreement.{settled, requested, keeps_mode}
-use Rattle.link_talk.specs.declared.channel.Channel.{Channel}
-use Rattle.link_talk.specs.declared.party.Party.{Party}
-use Rattle.link_talk.specs.Sayings.{Saying, Carried, GaveUp}
-use Rattle.link_talk.specs.Sayings as sayings
-use Rattle.link_talk.specs.Meanings.{Nothing, Settles, granted, settled as settles, is_read}
-use Rattle.link_talk.specs.Channels.{Entry, is_there, reading}
-use Rattle.link_talk.specs.Waits.{OptionsAnswered, demand_of, demand_of_saying, demand_at, demanded, unless_same, Demand}
+use Rattle.talk_laws.specs.capture.specs.declared.flow.Flow.TheVariants.{Into}
+use Rattle.talk_laws.specs.l2cap_signal.specs.Commands.{Content, reject, connection_request, connection_response, configuration_request, configuration_response, disconnection_request, disconnection_response, echo_request, echo_response, information_request, information_response}
+use Rattle.talk_laws.specs.l2cap_signal.specs.Reading.{Answer as Read}
+use Rattle.talk_laws.specs.l2cap_config.specs.declared.options.Options.{Options}
+use Rattle.talk_laws.specs.l2cap_config.specs.declared.options.ConfigRefusal.{ConfigRefusal}
+use Rattle.talk_laws.specs.l2cap_config.specs.declared.wish.Wish.{Wish}
+use Rattle.talk_laws.specs.l2cap_config.specs.Reading.{options_read}
+use Rattle.talk_laws.specs.l2cap_config.specs.Agreement.{settled, requested, keeps_mode}
+use Rattle.talk_laws.specs.link_talk.specs.declared.channel.Channel.{Channel}
+use Rattle.talk_laws.specs.link_talk.specs.declared.party.Party.{Party}
+use Rattle.talk_laws.specs.link_talk.specs.Sayings.{Saying, Carried, GaveUp}
+use Rattle.talk_laws.specs.link_talk.specs.Sayings as sayings
+use Rattle.talk_laws.specs.link_talk.specs.Meanings.{Nothing, Settles, granted, settled as settles, is_read}
+use Rattle.talk_laws.specs.link_talk.specs.Channels.{Entry, is_there, reading}
+use Rattle.talk_laws.specs.link_talk.specs.Waits.{OptionsAnswered, demand_of, demand_of_saying, demand_at, demanded, unless_same, Demand}
 use Rattle.channel_model.specs.declared.errand.Errand.TheVariants as errands
 use Rattle.channel_model.specs.Value.{Own, Unasked, Asking, Granted, Setup, Stage, Requested, Connected, Leaving, Closing, Crossed, Held, Channels}
 use Rattle.channel_model.specs.Policies.{Policy}
@@ -36,7 +36,7 @@ use Rattle.channel_laws.proofs.Anew.{GoesAt, rests-goes, grant-goes}
 use Rattle.channel_laws.proofs.Accepting.{IsDone, IsAnswered, IsFinal, settled-answers}
 use Rattle.channel_laws.proofs.Wishing.{waiting, waiting-more, silent, sound-named, talks_to}
 use Rattle.channel_model.specs.declared.event.ChannelEvent.TheVariants.{Features}
-use Rattle.l2cap_config.specs.declared.agreement.Settled.TheVariants.{Accepted, Again, Wait, Never}
+use Rattle.talk_laws.specs.l2cap_config.specs.declared.agreement.Settled.TheVariants.{Accepted, Again, Wait, Never}
 use Rattle.channel_laws.proofs.Heeding.{Heeds, Nearly, goes-nearly, behind, channel-none}
 
 -- ---- a response of the peer

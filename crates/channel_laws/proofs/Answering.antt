@@ -2,18 +2,18 @@
 use Rattle.std.proofs.Common.{◌≡◌, ℕ, List, Bool, true, false, cond, ◌&&◌, eqb, Option, Some, None, refl, sym, ap, subst, ◌∙◌}
 use Rattle.std.specs.Prelude.{find, filter, option_map}
 use Rattle.std.proofs.lemmas.Bool.{eqb-true}
-use Rattle.capture.specs.declared.flow.Flow.TheVariants.{Out, Into}
-use Rattle.l2cap_config.specs.declared.options.Options.{Options}
-use Rattle.l2cap_config.specs.Writing.{written}
-use Rattle.link_talk.specs.declared.channel.Channel.{Channel}
-use Rattle.link_talk.specs.declared.word.Word.{Word}
-use Rattle.link_talk.specs.Sayings.{Saying}
-use Rattle.link_talk.specs.Senses.{Asks, ForOptions, sense}
-use Rattle.link_talk.specs.Requests.{Requests, requests_after, went}
-use Rattle.link_talk.specs.Meanings.{Meaning, Part, Answers, Wishes, meant}
-use Rattle.link_talk.specs.Setups as read
-use Rattle.link_talk.specs.Setups.{Term, is_set, setup_after, term, Wished, Answered}
-use Rattle.link_talk.specs.Channels.{word, life_after, is_there, Entry, entry_after, made_by, entries_after, Reading, read_on}
+use Rattle.talk_laws.specs.capture.specs.declared.flow.Flow.TheVariants.{Out, Into}
+use Rattle.talk_laws.specs.l2cap_config.specs.declared.options.Options.{Options}
+use Rattle.talk_laws.specs.l2cap_config.specs.Writing.{written}
+use Rattle.talk_laws.specs.link_talk.specs.declared.channel.Channel.{Channel}
+use Rattle.talk_laws.specs.link_talk.specs.declared.word.Word.{Word}
+use Rattle.talk_laws.specs.link_talk.specs.Sayings.{Saying}
+use Rattle.talk_laws.specs.link_talk.specs.Senses.{Asks, ForOptions, sense}
+use Rattle.talk_laws.specs.link_talk.specs.Requests.{Requests, requests_after, went}
+use Rattle.talk_laws.specs.link_talk.specs.Meanings.{Meaning, Part, Answers, Wishes, meant}
+use Rattle.talk_laws.specs.link_talk.specs.Setups as read
+use Rattle.talk_laws.specs.link_talk.specs.Setups.{Term, is_set, setup_after, term, Wished, Answered}
+use Rattle.talk_laws.specs.link_talk.specs.Channels.{word, life_after, is_there, Entry, entry_after, made_by, entries_after, Reading, read_on}
 use Rattle.channel_model.specs.Value.{Request, Asking, Setup, Held, Memory, Channels}
 use Rattle.channel_model.specs.Policies.{Policy}
 use Rattle.channel_model.specs.Changing.{has_own, setup_of}

@@ -2,15 +2,15 @@
 use Rattle.std.proofs.Common.{◌≡◌, ℕ, List, Bool, true, false, ◌&&◌, ◌||◌, Option, Some, None, refl, sym, ap, subst, ◌∙◌, ◌⊎◌, inl, inr}
 use Rattle.std.specs.Prelude.{find, is_some}
 use Rattle.std.specs.List.{list_any}
-use Rattle.link_talk.specs.declared.call.Wanted.{Wanted}
-use Rattle.link_talk.specs.declared.call.Call.{Call}
-use Rattle.link_talk.specs.declared.channel.Channel.{Channel}
-use Rattle.link_talk.specs.declared.party.Party.{Party}
-use Rattle.link_talk.specs.Sayings.{Saying}
-use Rattle.capture.specs.declared.flow.Flow.TheVariants.{Out}
-use Rattle.link_talk.specs.Requests.{went, has_source}
-use Rattle.link_talk.specs.Channels.{Entry, is_there, waits_for_end, Reading, reading}
-use Rattle.link_talk.specs.Waits.{wants, call_waits, information_waits, options_wait, frames_wait, query_waits, channel_waits as on_channel, entry_waits, waits}
+use Rattle.talk_laws.specs.link_talk.specs.declared.call.Wanted.{Wanted}
+use Rattle.talk_laws.specs.link_talk.specs.declared.call.Call.{Call}
+use Rattle.talk_laws.specs.link_talk.specs.declared.channel.Channel.{Channel}
+use Rattle.talk_laws.specs.link_talk.specs.declared.party.Party.{Party}
+use Rattle.talk_laws.specs.link_talk.specs.Sayings.{Saying}
+use Rattle.talk_laws.specs.capture.specs.declared.flow.Flow.TheVariants.{Out}
+use Rattle.talk_laws.specs.link_talk.specs.Requests.{went, has_source}
+use Rattle.talk_laws.specs.link_talk.specs.Channels.{Entry, is_there, waits_for_end, Reading, reading}
+use Rattle.talk_laws.specs.link_talk.specs.Waits.{wants, call_waits, information_waits, options_wait, frames_wait, query_waits, channel_waits as on_channel, entry_waits, waits}
 use Rattle.channel_model.specs.Value.{Setup, Stage, Requested, Connected, Leaving, Closing, Crossed, Held, Channels}
 use Rattle.channel_model.specs.Policies.{Policy}
 use Rattle.channel_model.specs.Changing.{has_own, held_at, setup_of}

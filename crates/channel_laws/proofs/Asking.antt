@@ -3,9 +3,9 @@ use Rattle.std.proofs.Common.{◌≡◌, ℕ, ◌+◌, List, [], ◌∷◌, ◌+
 use Rattle.std.specs.Prelude.{find, option_to_list}
 use Rattle.std.specs.Option.{option_or}
 use Rattle.std.proofs.lemmas.Bool.{eqb-true}
-use Rattle.l2cap_signal.specs.Commands.{Command, disconnection_request}
-use Rattle.link_talk.specs.declared.word.Word.TheVariants.{AsksEnd}
-use Rattle.link_talk.specs.Channels.{life_after, Reading, read_on}
+use Rattle.talk_laws.specs.l2cap_signal.specs.Commands.{Command, disconnection_request}
+use Rattle.talk_laws.specs.link_talk.specs.declared.word.Word.TheVariants.{AsksEnd}
+use Rattle.talk_laws.specs.link_talk.specs.Channels.{life_after, Reading, read_on}
 use Rattle.channel_model.specs.declared.errand.Errand.{Errand}
 use Rattle.channel_model.specs.declared.errand.Errand.TheVariants.{Configuration, Disconnection}
 use Rattle.channel_model.specs.declared.event.CloseReason.{CloseReason}

@@ -3,19 +3,19 @@ use Rattle.std.proofs.Common.{◌≡◌, ℕ, List, [], ◌∷◌, ◌++◌, Boo
 use Rattle.std.specs.Prelude.{option_map, is_some, unwrap_or}
 use Rattle.std.specs.Option.{option_or}
 use Rattle.std.specs.List.{list_any}
-use Rattle.capture.specs.declared.flow.Flow.TheVariants.{Out, Into}
-use Rattle.l2cap_signal.specs.Commands.{Command, Content, reject, connection_request, connection_response, configuration_request, configuration_response, disconnection_request, disconnection_response, echo_request, echo_response, information_request, information_response}
-use Rattle.l2cap_signal.specs.Reading.{Answer as Read}
-use Rattle.l2cap_config.specs.declared.wish.Mode.{Mode}
-use Rattle.l2cap_config.specs.declared.wish.Mode.TheVariants.{Basic}
-use Rattle.l2cap_config.specs.Writing.{written}
-use Rattle.link_talk.specs.declared.channel.Channel.{Channel}
-use Rattle.link_talk.specs.Sayings.{Saying, Carried, GaveUp}
-use Rattle.link_talk.specs.Sayings as sayings
-use Rattle.link_talk.specs.Senses.{sense}
-use Rattle.link_talk.specs.Meanings.{Meaning, Part, meant}
-use Rattle.link_talk.specs.Setups.{mode_in, is_set, with_term, setup_after, Term, Wished, Answered, term}
-use Rattle.link_talk.specs.Channels.{Entry, fresh, entry_after, entries_after, is_owner, is_there, made_by, Reading, reading}
+use Rattle.talk_laws.specs.capture.specs.declared.flow.Flow.TheVariants.{Out, Into}
+use Rattle.talk_laws.specs.l2cap_signal.specs.Commands.{Command, Content, reject, connection_request, connection_response, configuration_request, configuration_response, disconnection_request, disconnection_response, echo_request, echo_response, information_request, information_response}
+use Rattle.talk_laws.specs.l2cap_signal.specs.Reading.{Answer as Read}
+use Rattle.talk_laws.specs.l2cap_config.specs.declared.wish.Mode.{Mode}
+use Rattle.talk_laws.specs.l2cap_config.specs.declared.wish.Mode.TheVariants.{Basic}
+use Rattle.talk_laws.specs.l2cap_config.specs.Writing.{written}
+use Rattle.talk_laws.specs.link_talk.specs.declared.channel.Channel.{Channel}
+use Rattle.talk_laws.specs.link_talk.specs.Sayings.{Saying, Carried, GaveUp}
+use Rattle.talk_laws.specs.link_talk.specs.Sayings as sayings
+use Rattle.talk_laws.specs.link_talk.specs.Senses.{sense}
+use Rattle.talk_laws.specs.link_talk.specs.Meanings.{Meaning, Part, meant}
+use Rattle.talk_laws.specs.link_talk.specs.Setups.{mode_in, is_set, with_term, setup_after, Term, Wished, Answered, term}
+use Rattle.talk_laws.specs.link_talk.specs.Channels.{Entry, fresh, entry_after, entries_after, is_owner, is_there, made_by, Reading, reading}
 use Rattle.channel_model.specs.declared.errand.Errand.TheVariants as errands
 use Rattle.channel_model.specs.Value.{Request, Carrier, Plain, Retransmitting, Setup, Held, Remembered, Channels}
 use Rattle.channel_model.specs.Policies.{Policy}

@@ -3,12 +3,12 @@ use Rattle.std.proofs.Common.{◌≡◌, ℕ, List, [], ◌∷◌, Bool, true, f
 use Rattle.std.specs.Prelude.{find, filter}
 use Rattle.std.specs.List.{list_any}
 use Rattle.std.proofs.lemmas.Bool.{eqb-true}
-use Rattle.capture.specs.declared.flow.Flow.TheVariants.{Out}
-use Rattle.link_talk.specs.declared.call.Wanted.{Wanted}
-use Rattle.link_talk.specs.declared.call.Call.{Call}
-use Rattle.link_talk.specs.Requests.{went, has_source, is_call, is_own_call, first_of_run, last_run, call_wanted, answered_call, has_failed}
-use Rattle.link_talk.specs.Channels.{Entry, waits_for_end, Reading, reading}
-use Rattle.link_talk.specs.Waits.{is_given, wants, call_waits}
+use Rattle.talk_laws.specs.capture.specs.declared.flow.Flow.TheVariants.{Out}
+use Rattle.talk_laws.specs.link_talk.specs.declared.call.Wanted.{Wanted}
+use Rattle.talk_laws.specs.link_talk.specs.declared.call.Call.{Call}
+use Rattle.talk_laws.specs.link_talk.specs.Requests.{went, has_source, is_call, is_own_call, first_of_run, last_run, call_wanted, answered_call, has_failed}
+use Rattle.talk_laws.specs.link_talk.specs.Channels.{Entry, waits_for_end, Reading, reading}
+use Rattle.talk_laws.specs.link_talk.specs.Waits.{is_given, wants, call_waits}
 use Rattle.channel_model.specs.Value.{Stage, Requested, Connected, Leaving, Closing, Crossed, Held, Channels}
 use Rattle.channel_model.specs.Policies.{Policy}
 use Rattle.channel_model.specs.Changing.{held_at}

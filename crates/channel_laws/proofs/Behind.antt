@@ -2,19 +2,19 @@
 use Rattle.std.proofs.Common.{◌≡◌, ℕ, ◌<◌, List, [], ◌∷◌, ◌++◌, map, drop, Bool, true, false, cond, eqb, Option, Some, None, refl, sym, ap, subst, ◌∙◌, append_assoc, append-nil}
 use Rattle.std.specs.Prelude.{find, option_map, is_some, unwrap_or}
 use Rattle.std.specs.List.{list_any}
-use Rattle.bt_base.proofs.OctetLemmas.{le16-number}
-use Rattle.acl_fragments.specs.Pieces.{channel_of}
-use Rattle.capture.specs.declared.flow.Flow.TheVariants.{Out, Into}
-use Rattle.capture.specs.Histories.{EachAfter}
-use Rattle.l2cap_signal.specs.Commands.{Command}
-use Rattle.l2cap_signal.specs.Reading.{answers}
-use Rattle.ertm_frames.specs.Frames.{PlainFrame}
-use Rattle.ertm_frames.specs.Picking.{Passage}
-use Rattle.ertm_model.specs.Giving.{next_frame}
-use Rattle.link_talk.specs.declared.channel.Channel.{Channel}
-use Rattle.link_talk.specs.declared.party.Party.{Party}
-use Rattle.link_talk.specs.Sayings.{Saying, Carried}
-use Rattle.link_talk.specs.Channels.{reading}
+use Rattle.talk_laws.specs.bt_base.proofs.OctetLemmas.{le16-number}
+use Rattle.talk_laws.specs.acl_fragments.specs.Pieces.{channel_of}
+use Rattle.talk_laws.specs.capture.specs.declared.flow.Flow.TheVariants.{Out, Into}
+use Rattle.talk_laws.specs.capture.specs.Histories.{EachAfter}
+use Rattle.talk_laws.specs.l2cap_signal.specs.Commands.{Command}
+use Rattle.talk_laws.specs.l2cap_signal.specs.Reading.{answers}
+use Rattle.talk_laws.specs.ertm_frames.specs.Frames.{PlainFrame}
+use Rattle.talk_laws.specs.ertm_frames.specs.Picking.{Passage}
+use Rattle.channel_model.specs.ertm_model.specs.Giving.{next_frame}
+use Rattle.talk_laws.specs.link_talk.specs.declared.channel.Channel.{Channel}
+use Rattle.talk_laws.specs.link_talk.specs.declared.party.Party.{Party}
+use Rattle.talk_laws.specs.link_talk.specs.Sayings.{Saying, Carried}
+use Rattle.talk_laws.specs.link_talk.specs.Channels.{reading}
 use Rattle.channel_model.specs.Value.{Queued, Answer, Ask, Own, Unasked, Asking, Granted, Carrier, Plain, Retransmitting, Setup, Held, Channels}
 use Rattle.channel_model.specs.Policies.{Policy}
 use Rattle.channel_model.specs.Changing.{held_at, is_granted, is_open, setup_of}

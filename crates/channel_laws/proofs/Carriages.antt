@@ -2,18 +2,18 @@
 use Rattle.std.proofs.Common.{◌≡◌, ℕ, List, [], ◌∷◌, Bool, true, false, cond, ◌&&◌, eqb, Option, Some, None, refl, sym, ap, subst, ◌∙◌}
 use Rattle.std.specs.Prelude.{find}
 use Rattle.std.specs.List.{list_any}
-use Rattle.acl_fragments.specs.Pieces.{channel_of}
-use Rattle.capture.specs.declared.flow.Flow.{Flow}
-use Rattle.capture.specs.declared.flow.Flow.TheVariants.{Into}
+use Rattle.talk_laws.specs.acl_fragments.specs.Pieces.{channel_of}
+use Rattle.talk_laws.specs.capture.specs.declared.flow.Flow.{Flow}
+use Rattle.talk_laws.specs.capture.specs.declared.flow.Flow.TheVariants.{Into}
 use Rattle.std.proofs.lemmas.Bool.{eqb-true}
 use Rattle.channel_model.proofs.Lookups.{eqb-same, eqb-away, and_off}
 use Rattle.channel_laws.specs.Views.{read_at}
 use Rattle.channel_laws.proofs.Both.{and-right}
 use Rattle.channel_laws.proofs.Entries.{read-own}
-use Rattle.link_talk.specs.declared.channel.Channel.{Channel}
-use Rattle.link_talk.specs.Sayings.{Saying, Carried}
-use Rattle.link_talk.specs.Channels.{Entry, reading}
-use Rattle.link_talk.specs.Carriages.{Carriage, takes, taker, is_on, carried, has_own}
+use Rattle.talk_laws.specs.link_talk.specs.declared.channel.Channel.{Channel}
+use Rattle.talk_laws.specs.link_talk.specs.Sayings.{Saying, Carried}
+use Rattle.talk_laws.specs.link_talk.specs.Channels.{Entry, reading}
+use Rattle.talk_laws.specs.link_talk.specs.Carriages.{Carriage, takes, taker, is_on, carried, has_own}
 use Rattle.talk_laws.proofs.Owning.{alone, found_one, found_passes}
 use Rattle.channel_laws.proofs.Awaiting.{any-none, any-other}
 

@@ -3,10 +3,10 @@ use Rattle.std.proofs.Common.{◌≡◌, ℕ, List, [], ◌∷◌, Bool, true, f
 use Rattle.std.specs.Prelude.{is_some}
 use Rattle.std.specs.List.{list_any}
 use Rattle.std.proofs.lemmas.Bool.{eqb-true}
-use Rattle.l2cap_config.specs.declared.wish.Wish.{Wish}
-use Rattle.link_talk.specs.Setups.{is_enhanced}
-use Rattle.link_talk.specs.Channels.{is_there, Entry, reading}
-use Rattle.link_talk.specs.Waits.{is_checked}
+use Rattle.talk_laws.specs.l2cap_config.specs.declared.wish.Wish.{Wish}
+use Rattle.talk_laws.specs.link_talk.specs.Setups.{is_enhanced}
+use Rattle.talk_laws.specs.link_talk.specs.Channels.{is_there, Entry, reading}
+use Rattle.talk_laws.specs.link_talk.specs.Waits.{is_checked}
 use Rattle.channel_model.specs.Value.{Own, Unasked, Asking, Granted, Stage, Requested, Connected, Leaving, Closing, Crossed, Held}
 use Rattle.channel_model.specs.Policies.{Policy}
 use Rattle.channel_model.specs.Changing.{held_at, is_stated}

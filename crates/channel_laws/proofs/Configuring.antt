@@ -2,16 +2,16 @@
 use Rattle.std.proofs.Common.{◌≡◌, ℕ, ◌<◌, ◌≤◌, List, [], ◌∷◌, ◌++◌, Bool, true, false, cond, ◌&&◌, eqb, not, Option, Some, None, refl, sym, ap, subst, ◌∙◌}
 use Rattle.std.specs.Prelude.{find, filter, option_map, nat_lt, unwrap_or}
 use Rattle.std.proofs.lemmas.Bool.{ltb-true, ltb-false}
-use Rattle.capture.specs.declared.flow.Flow.TheVariants.{Into}
-use Rattle.l2cap_signal.specs.Reading.{Answer as Read}
-use Rattle.l2cap_config.specs.declared.wish.Mode.TheVariants.{Basic}
-use Rattle.l2cap_config.specs.declared.wish.Wish.{Wish}
-use Rattle.link_talk.specs.Senses.{sense}
-use Rattle.link_talk.specs.Requests.{Requests, Query, Terms, requests_after, went, has_identifier, first_of_run, last_run, query_terms, answered_query}
-use Rattle.link_talk.specs.Meanings.{Part, Answers, Nothing, meant, answered as meant_by, Meaning}
-use Rattle.link_talk.specs.Setups as read
-use Rattle.link_talk.specs.Setups.{Term, is_set, mode_in, setup_after, term, with_answer, Answered}
-use Rattle.link_talk.specs.Channels.{is_there, Entry, entry_after, entries_after, Reading, read_on}
+use Rattle.talk_laws.specs.capture.specs.declared.flow.Flow.TheVariants.{Into}
+use Rattle.talk_laws.specs.l2cap_signal.specs.Reading.{Answer as Read}
+use Rattle.talk_laws.specs.l2cap_config.specs.declared.wish.Mode.TheVariants.{Basic}
+use Rattle.talk_laws.specs.l2cap_config.specs.declared.wish.Wish.{Wish}
+use Rattle.talk_laws.specs.link_talk.specs.Senses.{sense}
+use Rattle.talk_laws.specs.link_talk.specs.Requests.{Requests, Query, Terms, requests_after, went, has_identifier, first_of_run, last_run, query_terms, answered_query}
+use Rattle.talk_laws.specs.link_talk.specs.Meanings.{Part, Answers, Nothing, meant, answered as meant_by, Meaning}
+use Rattle.talk_laws.specs.link_talk.specs.Setups as read
+use Rattle.talk_laws.specs.link_talk.specs.Setups.{Term, is_set, mode_in, setup_after, term, with_answer, Answered}
+use Rattle.talk_laws.specs.link_talk.specs.Channels.{is_there, Entry, entry_after, entries_after, Reading, read_on}
 use Rattle.channel_model.specs.Value.{Setup, Stage, Requested, Connected, Leaving, Closing, Crossed, Held, Remembered, Memory, Channels}
 use Rattle.channel_model.specs.Policies.{Policy}
 use Rattle.channel_model.specs.Changing.{has_own}

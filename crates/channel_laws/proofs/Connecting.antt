@@ -3,16 +3,16 @@ use Rattle.std.proofs.Common.{◌≡◌, ℕ, ◌<◌, List, [], ◌∷◌, ◌+
 use Rattle.std.specs.Prelude.{find, nat_le, nat_lt}
 use Rattle.std.specs.List.{list_any}
 use Rattle.std.proofs.lemmas.Bool.{eqb-true, eq-eqb, ltb-true, ltb-false}
-use Rattle.capture.specs.declared.flow.Flow.TheVariants.{Out, Into}
-use Rattle.l2cap_config.specs.declared.options.Options.{Options}
-use Rattle.l2cap_config.specs.declared.wish.Wish.{Wish}
-use Rattle.l2cap_config.specs.Items.{no_options}
-use Rattle.link_talk.specs.declared.channel.Channel.{Channel}
-use Rattle.link_talk.specs.Sayings.{Saying}
-use Rattle.link_talk.specs.Senses.{Opens, OnChannel, sense}
-use Rattle.link_talk.specs.Requests.{Requests, requests_after, counted, has_failed, answered_call}
-use Rattle.link_talk.specs.Meanings.{Nothing, granted, meant}
-use Rattle.link_talk.specs.Channels.{is_there, Entry, fresh, is_owner, entries_after, Reading, read_on}
+use Rattle.talk_laws.specs.capture.specs.declared.flow.Flow.TheVariants.{Out, Into}
+use Rattle.talk_laws.specs.l2cap_config.specs.declared.options.Options.{Options}
+use Rattle.talk_laws.specs.l2cap_config.specs.declared.wish.Wish.{Wish}
+use Rattle.talk_laws.specs.l2cap_config.specs.Items.{no_options}
+use Rattle.talk_laws.specs.link_talk.specs.declared.channel.Channel.{Channel}
+use Rattle.talk_laws.specs.link_talk.specs.Sayings.{Saying}
+use Rattle.talk_laws.specs.link_talk.specs.Senses.{Opens, OnChannel, sense}
+use Rattle.talk_laws.specs.link_talk.specs.Requests.{Requests, requests_after, counted, has_failed, answered_call}
+use Rattle.talk_laws.specs.link_talk.specs.Meanings.{Nothing, granted, meant}
+use Rattle.talk_laws.specs.link_talk.specs.Channels.{is_there, Entry, fresh, is_owner, entries_after, Reading, read_on}
 use Rattle.channel_model.specs.declared.errand.Errand.TheVariants.{Connection}
 use Rattle.channel_model.specs.declared.event.CloseReason.{CloseReason}
 use Rattle.channel_model.specs.declared.event.CloseReason.TheVariants.{Refused}

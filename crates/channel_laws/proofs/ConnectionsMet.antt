@@ -4,15 +4,15 @@ use Rattle.std.specs.Prelude.{find, nat_le, option_map}
 use Rattle.std.specs.List.{list_any}
 use Rattle.std.proofs.lemmas.Bool.{eqb-true, le-leb}
 use Rattle.std.proofs.lemmas.List.Sums.{fold-append}
-use Rattle.acl_fragments.specs.Pieces.{channel_of}
-use Rattle.capture.specs.Histories.{EachAfter}
-use Rattle.capture.specs.declared.flow.Flow.TheVariants.{Out, Into}
-use Rattle.l2cap_signal.specs.Commands.{Content, Command, reject, connection_request, connection_response, configuration_request, configuration_response, disconnection_request, disconnection_response, echo_request, echo_response, information_request, information_response}
-use Rattle.l2cap_signal.specs.Reading.{answers}
-use Rattle.link_talk.specs.declared.channel.Channel.{Channel}
-use Rattle.link_talk.specs.Channels.{Entry, reading}
-use Rattle.link_talk.specs.Sayings.{Saying}
-use Rattle.link_talk.specs.Sayings as sayings
+use Rattle.talk_laws.specs.acl_fragments.specs.Pieces.{channel_of}
+use Rattle.talk_laws.specs.capture.specs.Histories.{EachAfter}
+use Rattle.talk_laws.specs.capture.specs.declared.flow.Flow.TheVariants.{Out, Into}
+use Rattle.talk_laws.specs.l2cap_signal.specs.Commands.{Content, Command, reject, connection_request, connection_response, configuration_request, configuration_response, disconnection_request, disconnection_response, echo_request, echo_response, information_request, information_response}
+use Rattle.talk_laws.specs.l2cap_signal.specs.Reading.{answers}
+use Rattle.talk_laws.specs.link_talk.specs.declared.channel.Channel.{Channel}
+use Rattle.talk_laws.specs.link_talk.specs.Channels.{Entry, reading}
+use Rattle.talk_laws.specs.link_talk.specs.Sayings.{Saying}
+use Rattle.talk_laws.specs.link_talk.specs.Sayings as sayings
 use Rattle.channel_model.specs.declared.errand.Errand.TheVariants.{Connection}
 use Rattle.channel_model.specs.Changing.{has_own, held_at, has_live_peer, is_live_peer, has_room}
 use Rattle.channel_model.specs.Hearing.{hears_command}

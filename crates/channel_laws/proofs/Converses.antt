@@ -1,11 +1,11 @@
 -- What each step keeps of which all that happens to a host is made.
 use Rattle.std.proofs.Common.{◌≡◌, ℕ, List, [], ◌∷◌, ◌++◌, Bool, true, false, not, Option, Some, None, Ok, Err, ◌⊎◌}
-use Rattle.acl_fragments.specs.Pieces.{channel_of}
-use Rattle.capture.specs.declared.flow.Flow.TheVariants.{Into}
-use Rattle.l2cap_signal.specs.Commands.{Content, connection_request, connection_response}
-use Rattle.l2cap_signal.specs.Reading.{Answer as Read}
-use Rattle.link_talk.specs.Sayings.{Saying, Carried}
-use Rattle.link_talk.specs.Channels.{reading}
+use Rattle.talk_laws.specs.acl_fragments.specs.Pieces.{channel_of}
+use Rattle.talk_laws.specs.capture.specs.declared.flow.Flow.TheVariants.{Into}
+use Rattle.talk_laws.specs.l2cap_signal.specs.Commands.{Content, connection_request, connection_response}
+use Rattle.talk_laws.specs.l2cap_signal.specs.Reading.{Answer as Read}
+use Rattle.talk_laws.specs.link_talk.specs.Sayings.{Saying, Carried}
+use Rattle.talk_laws.specs.link_talk.specs.Channels.{reading}
 use Rattle.channel_model.specs.Value.{no_setup, Connected, Held, Remembered, Channels, no_channels}
 use Rattle.channel_model.specs.Policies.{Policy}
 use Rattle.channel_model.specs.Changing.{has_room, held_at}

@@ -3,27 +3,27 @@ use Rattle.std.proofs.Common.{◌≡◌, ℕ, ◌≤◌, List, [], ◌∷◌, �
 use Rattle.std.specs.Prelude.{find, option_map}
 use Rattle.std.proofs.lemmas.Bool.{eqb-true}
 use Rattle.std.proofs.lemmas.List.Elements.{filter-append}
-use Rattle.bt_base.proofs.OctetLemmas.{le16-number}
-use Rattle.acl_fragments.specs.Pieces.{channel_of}
-use Rattle.capture.specs.declared.flow.Flow.TheVariants.{Out}
-use Rattle.l2cap_signal.specs.Commands.{Command, spelling}
-use Rattle.l2cap_config.specs.declared.wish.Agreed.{Agreed}
-use Rattle.ertm_frames.specs.declared.refusal.FrameRefusal.TheVariants.{Short, BadFcs}
-use Rattle.ertm_frames.specs.Frames.{PlainFrame}
-use Rattle.ertm_frames.specs.Reading.{answer_in, frame_in}
-use Rattle.ertm_frames.specs.Picking.{outs}
-use Rattle.ertm_frames.proofs.Spelled.{written-read}
-use Rattle.ertm_frames.proofs.Telling.{outs-more}
-use Rattle.ertm_frames.proofs.WorkedOut.{answer-is_worked_out}
-use Rattle.ertm_model.specs.Value.{Ertm}
-use Rattle.ertm_model.specs.Giving.{next_frame}
-use Rattle.ertm_model.specs.Pair.{End as MachineEnd}
-use Rattle.link_talk.specs.declared.channel.Channel.{Channel}
-use Rattle.link_talk.specs.declared.party.Party.{Party}
-use Rattle.link_talk.specs.Sayings.{Saying, Carried}
-use Rattle.link_talk.specs.Channels.{is_there}
-use Rattle.link_talk.specs.Carriages.{carried}
-use Rattle.link_talk.specs.Accounts.{frames_passed}
+use Rattle.talk_laws.specs.bt_base.proofs.OctetLemmas.{le16-number}
+use Rattle.talk_laws.specs.acl_fragments.specs.Pieces.{channel_of}
+use Rattle.talk_laws.specs.capture.specs.declared.flow.Flow.TheVariants.{Out}
+use Rattle.talk_laws.specs.l2cap_signal.specs.Commands.{Command, spelling}
+use Rattle.talk_laws.specs.l2cap_config.specs.declared.wish.Agreed.{Agreed}
+use Rattle.talk_laws.specs.ertm_frames.specs.declared.refusal.FrameRefusal.TheVariants.{Short, BadFcs}
+use Rattle.talk_laws.specs.ertm_frames.specs.Frames.{PlainFrame}
+use Rattle.talk_laws.specs.ertm_frames.specs.Reading.{answer_in, frame_in}
+use Rattle.talk_laws.specs.ertm_frames.specs.Picking.{outs}
+use Rattle.talk_laws.specs.ertm_frames.proofs.Spelled.{written-read}
+use Rattle.talk_laws.specs.ertm_frames.proofs.Telling.{outs-more}
+use Rattle.talk_laws.specs.ertm_frames.proofs.WorkedOut.{answer-is_worked_out}
+use Rattle.channel_model.specs.ertm_model.specs.Value.{Ertm}
+use Rattle.channel_model.specs.ertm_model.specs.Giving.{next_frame}
+use Rattle.channel_model.specs.ertm_model.specs.Pair.{End as MachineEnd}
+use Rattle.talk_laws.specs.link_talk.specs.declared.channel.Channel.{Channel}
+use Rattle.talk_laws.specs.link_talk.specs.declared.party.Party.{Party}
+use Rattle.talk_laws.specs.link_talk.specs.Sayings.{Saying, Carried}
+use Rattle.talk_laws.specs.link_talk.specs.Channels.{is_there}
+use Rattle.talk_laws.specs.link_talk.specs.Carriages.{carried}
+use Rattle.talk_laws.specs.link_talk.specs.Accounts.{frames_passed}
 use Rattle.channel_model.specs.declared.errand.Errand.{Errand}
 use Rattle.channel_model.specs.declared.errand.Errand.TheVariants as errands
 use Rattle.channel_model.specs.Value.{Queued, Answer, Ask, Carrier, Plain, Retransmitting, Setup, Stage, Held, Channels}

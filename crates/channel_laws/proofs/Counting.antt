@@ -1,9 +1,9 @@
 -- Counting what is under way, and that an answer that waits is kept until it is given.
 use Rattle.std.proofs.Common.{◌≡◌, ℕ, ◌+◌, ◌≤◌, List, [], ◌∷◌, ◌++◌, length, Bool, true, false, Option, refl, sym, ap, subst, ◌∙◌, inl, inr, arith}
 use Rattle.std.specs.List.{list_any}
-use Rattle.acl_fragments.specs.Pieces.{channel_of}
-use Rattle.link_talk.specs.Sayings.{Saying}
-use Rattle.l2cap_signal.specs.Commands.{Content, Command}
+use Rattle.talk_laws.specs.acl_fragments.specs.Pieces.{channel_of}
+use Rattle.talk_laws.specs.link_talk.specs.Sayings.{Saying}
+use Rattle.talk_laws.specs.l2cap_signal.specs.Commands.{Content, Command}
 use Rattle.channel_model.specs.Value.{Queued, Answer, Ask, Channels}
 use Rattle.channel_model.specs.Policies.{Policy}
 use Rattle.channel_model.specs.Changing.{held_at, is_answer}

@@ -1,10 +1,10 @@
 -- What comes up of an enhanced channel is a front of what the other host's channel took.
 use Rattle.std.proofs.Common.{◌≡◌, ℕ, List, inl, sym, subst}
-use Rattle.l2cap_config.specs.declared.wish.Mode.TheVariants.{Enhanced}
-use Rattle.link_talk.specs.declared.channel.Channel.{Channel}
-use Rattle.link_talk.specs.Carriages.{mode_of}
-use Rattle.capture.specs.declared.flow.Flow.TheVariants.{Out}
-use Rattle.link_talk.specs.Sdus.{sdus}
+use Rattle.talk_laws.specs.l2cap_config.specs.declared.wish.Mode.TheVariants.{Enhanced}
+use Rattle.talk_laws.specs.link_talk.specs.declared.channel.Channel.{Channel}
+use Rattle.talk_laws.specs.link_talk.specs.Carriages.{mode_of}
+use Rattle.talk_laws.specs.capture.specs.declared.flow.Flow.TheVariants.{Out}
+use Rattle.talk_laws.specs.link_talk.specs.Sdus.{sdus}
 use Rattle.channel_model.specs.Policies.{Policy}
 use Rattle.channel_model.specs.Carrying.{Up}
 use Rattle.channel_laws.specs.Runs.{Occurrence, Run, sdus_up}
@@ -19,11 +19,11 @@ use Rattle.channel_laws.proofs.Piped.{frames_said, Piped}
 use Rattle.channel_laws.proofs.Piping.{tells-pipe}
 use Rattle.channel_laws.specs.Endpoints.{IsOf}
 use Rattle.channel_laws.specs.Views.{read_at}
-use Rattle.ertm_frames.specs.Joining.{sdus_of}
-use Rattle.ertm_frames.specs.Picking.{picked}
-use Rattle.ertm_model.proofs.Standing.{swapped}
-use Rattle.link_talk.specs.Channels.{reading}
-use Rattle.link_talk.specs.declared.party.Party.{Party}
+use Rattle.talk_laws.specs.ertm_frames.specs.Joining.{sdus_of}
+use Rattle.talk_laws.specs.ertm_frames.specs.Picking.{picked}
+use Rattle.channel_model.specs.ertm_model.proofs.Standing.{swapped}
+use Rattle.talk_laws.specs.link_talk.specs.Channels.{reading}
+use Rattle.talk_laws.specs.link_talk.specs.declared.party.Party.{Party}
 use Rattle.channel_laws.proofs.Flowing.{front-of_front, turned-piped, piped-by, terms_of, enhanced-are_pipes}
 use Rattle.channel_laws.proofs.Taken.{taken-said, taken-goes_out}
 

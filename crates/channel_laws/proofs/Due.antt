@@ -2,10 +2,10 @@
 use Rattle.std.proofs.Common.{◌≡◌, ℕ, ◌+◌, ◌<◌, ◌≤◌, List, [], ◌∷◌, ◌++◌, Bool, true, false, cond, eqb, Option, Some, None, refl, sym, ap, subst, ◌∙◌, arith}
 use Rattle.std.specs.Prelude.{find, nat_lt, option_map}
 use Rattle.std.proofs.lemmas.Bool.{eqb-true, ltb-false, ltb-true}
-use Rattle.l2cap_signal.specs.Commands.{connection_request}
-use Rattle.l2cap_config.specs.declared.wish.Wish.{Wish}
-use Rattle.link_talk.specs.Sayings.{Saying}
-use Rattle.link_talk.specs.Channels.{reading}
+use Rattle.talk_laws.specs.l2cap_signal.specs.Commands.{connection_request}
+use Rattle.talk_laws.specs.l2cap_config.specs.declared.wish.Wish.{Wish}
+use Rattle.talk_laws.specs.link_talk.specs.Sayings.{Saying}
+use Rattle.talk_laws.specs.link_talk.specs.Channels.{reading}
 use Rattle.channel_model.specs.declared.event.ChannelEvent.{ChannelEvent}
 use Rattle.channel_model.specs.Value.{Request, Carrier, no_setup, Stage, Requested, Connected, Leaving, Closing, Crossed, Held, Channels}
 use Rattle.channel_model.specs.Policies.{Policy}

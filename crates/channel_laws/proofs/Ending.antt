@@ -2,18 +2,18 @@
 use Rattle.std.proofs.Common.{◌≡◌, ℕ, List, ◌++◌, fold, Bool, true, false, cond, ◌&&◌, eqb, not, Option, Some, None, refl, sym, ap, subst, ◌∙◌}
 use Rattle.std.specs.Prelude.{find, filter, option_map}
 use Rattle.std.proofs.lemmas.Bool.{eqb-true}
-use Rattle.l2cap_signal.specs.Commands.{Content, reject, connection_request, connection_response, configuration_request, configuration_response, disconnection_request, disconnection_response, echo_request, echo_response, information_request, information_response}
-use Rattle.l2cap_signal.specs.Reading.{Answer as Read}
-use Rattle.link_talk.specs.Requests.{Requests, requests_after}
-use Rattle.link_talk.specs.declared.life.Life.{Life}
-use Rattle.link_talk.specs.declared.life.Life.TheVariants as lives
-use Rattle.link_talk.specs.declared.word.Word.{Word}
-use Rattle.link_talk.specs.declared.word.Word.TheVariants.{AnswersEnd}
-use Rattle.link_talk.specs.Sayings.{Saying}
-use Rattle.link_talk.specs.Senses.{Ends, sense}
-use Rattle.link_talk.specs.Meanings.{Meaning, Parts, meant}
-use Rattle.link_talk.specs.Setups as read
-use Rattle.link_talk.specs.Channels.{life_after, is_there, word, Entry, entry_after, made_by, entries_after, Reading, read_on}
+use Rattle.talk_laws.specs.l2cap_signal.specs.Commands.{Content, reject, connection_request, connection_response, configuration_request, configuration_response, disconnection_request, disconnection_response, echo_request, echo_response, information_request, information_response}
+use Rattle.talk_laws.specs.l2cap_signal.specs.Reading.{Answer as Read}
+use Rattle.talk_laws.specs.link_talk.specs.Requests.{Requests, requests_after}
+use Rattle.talk_laws.specs.link_talk.specs.declared.life.Life.{Life}
+use Rattle.talk_laws.specs.link_talk.specs.declared.life.Life.TheVariants as lives
+use Rattle.talk_laws.specs.link_talk.specs.declared.word.Word.{Word}
+use Rattle.talk_laws.specs.link_talk.specs.declared.word.Word.TheVariants.{AnswersEnd}
+use Rattle.talk_laws.specs.link_talk.specs.Sayings.{Saying}
+use Rattle.talk_laws.specs.link_talk.specs.Senses.{Ends, sense}
+use Rattle.talk_laws.specs.link_talk.specs.Meanings.{Meaning, Parts, meant}
+use Rattle.talk_laws.specs.link_talk.specs.Setups as read
+use Rattle.talk_laws.specs.link_talk.specs.Channels.{life_after, is_there, word, Entry, entry_after, made_by, entries_after, Reading, read_on}
 use Rattle.channel_model.specs.declared.request_kind.RequestKind.TheVariants as kinds
 use Rattle.channel_model.specs.declared.event.CloseReason.{CloseReason}
 use Rattle.channel_model.specs.Value.{Stage, Requested, Connected, Leaving, Closing, Crossed, Held, Remembered, Memory, Channels}

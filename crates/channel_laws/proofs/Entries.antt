@@ -3,14 +3,14 @@ use Rattle.std.proofs.Common.{◌≡◌, ℕ, List, [], ◌∷◌, ◌++◌, fol
 use Rattle.std.specs.Prelude.{option_map, option_to_list}
 use Rattle.std.specs.Option.{option_or}
 use Rattle.std.specs.List.{list_any}
-use Rattle.link_talk.specs.declared.channel.Channel.{Channel}
-use Rattle.link_talk.specs.declared.life.Life.{Life}
-use Rattle.link_talk.specs.declared.life.Life.TheVariants.{Alive, Leaving, Crossed, Over}
-use Rattle.link_talk.specs.declared.word.Word.{Word}
-use Rattle.link_talk.specs.declared.word.Word.TheVariants.{AsksEnd, AnswersEnd, EndAnswered, EndForgone}
-use Rattle.link_talk.specs.Meanings.{Meaning, Makes, Settles, Nothing}
-use Rattle.link_talk.specs.Setups.{Setup, setup_after, term}
-use Rattle.link_talk.specs.Channels.{word, life_after, is_there, Entry, fresh, entry_after, is_owner, with_fresh, made_by, entries_after}
+use Rattle.talk_laws.specs.link_talk.specs.declared.channel.Channel.{Channel}
+use Rattle.talk_laws.specs.link_talk.specs.declared.life.Life.{Life}
+use Rattle.talk_laws.specs.link_talk.specs.declared.life.Life.TheVariants.{Alive, Leaving, Crossed, Over}
+use Rattle.talk_laws.specs.link_talk.specs.declared.word.Word.{Word}
+use Rattle.talk_laws.specs.link_talk.specs.declared.word.Word.TheVariants.{AsksEnd, AnswersEnd, EndAnswered, EndForgone}
+use Rattle.talk_laws.specs.link_talk.specs.Meanings.{Meaning, Makes, Settles, Nothing}
+use Rattle.talk_laws.specs.link_talk.specs.Setups.{Setup, setup_after, term}
+use Rattle.talk_laws.specs.link_talk.specs.Channels.{word, life_after, is_there, Entry, fresh, entry_after, is_owner, with_fresh, made_by, entries_after}
 use Rattle.channel_laws.specs.Views.{is_own, read_at}
 use Rattle.channel_model.proofs.Lookups.{Distinct, distinct-map, found-distinct, find-map, find-append, found-has, any-finds, or_on}
 

@@ -6,25 +6,25 @@ use Rattle.std.proofs.lemmas.List.{map-append}
 use Rattle.std.proofs.lemmas.List.Elements.{filter_map-append}
 use Rattle.std.proofs.lemmas.List.Sums.{fold-append}
 use Rattle.std.proofs.Math.Seq.{drop-append_seam}
-use Rattle.bt_base.proofs.OctetLemmas.{le16-number}
-use Rattle.acl_fragments.specs.Pieces.{channel_of}
-use Rattle.capture.specs.declared.flow.Flow.{Flow}
-use Rattle.capture.specs.declared.flow.Flow.TheVariants.{Out, Into}
-use Rattle.capture.specs.Histories.{each_after, given_by, EachAfter}
-use Rattle.capture.specs.Pdus.{same_flow}
-use Rattle.capture.proofs.HistoryLaws.{given_by-more}
-use Rattle.l2cap_signal.specs.Reading.{answers}
-use Rattle.l2cap_config.specs.declared.wish.Mode.TheVariants.{Basic, Enhanced}
-use Rattle.link_talk.specs.declared.channel.Channel.{Channel}
-use Rattle.link_talk.specs.declared.party.Party.{Party}
-use Rattle.link_talk.specs.Sayings.{Saying, Command as Said, Carried, GaveUp}
-use Rattle.link_talk.specs.Setups.{is_set}
-use Rattle.link_talk.specs.Channels.{Entry, is_alive, is_there, reading}
-use Rattle.link_talk.specs.Carriages.{Carriage, is_held, is_heard, takes as takes_on_it, carried, stretch, pdus_of, one_way, mode_of}
-use Rattle.link_talk.specs.Gains.{gained}
-use Rattle.link_talk.specs.GrowingLaws.{has_opened}
-use Rattle.link_talk.specs.Sdus.{Spoken, spoken_as, sdus_of, spoken_with, spoken}
-use Rattle.link_talk.proofs.Growing.{stretch-grows}
+use Rattle.talk_laws.specs.bt_base.proofs.OctetLemmas.{le16-number}
+use Rattle.talk_laws.specs.acl_fragments.specs.Pieces.{channel_of}
+use Rattle.talk_laws.specs.capture.specs.declared.flow.Flow.{Flow}
+use Rattle.talk_laws.specs.capture.specs.declared.flow.Flow.TheVariants.{Out, Into}
+use Rattle.talk_laws.specs.capture.specs.Histories.{each_after, given_by, EachAfter}
+use Rattle.talk_laws.specs.capture.specs.Pdus.{same_flow}
+use Rattle.talk_laws.specs.capture.proofs.HistoryLaws.{given_by-more}
+use Rattle.talk_laws.specs.l2cap_signal.specs.Reading.{answers}
+use Rattle.talk_laws.specs.l2cap_config.specs.declared.wish.Mode.TheVariants.{Basic, Enhanced}
+use Rattle.talk_laws.specs.link_talk.specs.declared.channel.Channel.{Channel}
+use Rattle.talk_laws.specs.link_talk.specs.declared.party.Party.{Party}
+use Rattle.talk_laws.specs.link_talk.specs.Sayings.{Saying, Command as Said, Carried, GaveUp}
+use Rattle.talk_laws.specs.link_talk.specs.Setups.{is_set}
+use Rattle.talk_laws.specs.link_talk.specs.Channels.{Entry, is_alive, is_there, reading}
+use Rattle.talk_laws.specs.link_talk.specs.Carriages.{Carriage, is_held, is_heard, takes as takes_on_it, carried, stretch, pdus_of, one_way, mode_of}
+use Rattle.talk_laws.specs.link_talk.specs.Gains.{gained}
+use Rattle.talk_laws.specs.link_talk.specs.GrowingLaws.{has_opened}
+use Rattle.talk_laws.specs.link_talk.specs.Sdus.{Spoken, spoken_as, sdus_of, spoken_with, spoken}
+use Rattle.talk_laws.specs.link_talk.proofs.Growing.{stretch-grows}
 use Rattle.channel_model.specs.Value.{Own, Unasked, Asking, Granted, Carrier, Plain, Retransmitting, Setup, Stage, Requested, Connected, Leaving, Closing, Crossed, Held, Channels}
 use Rattle.channel_model.specs.Policies.{Policy}
 use Rattle.channel_model.specs.Changing.{held_at, is_open, is_stated, setup_of}

@@ -3,16 +3,16 @@ use Rattle.std.proofs.Common.{◌≡◌, ℕ, List, [], ◌∷◌, ◌++◌, fol
 use Rattle.std.specs.Prelude.{find, filter, option_to_list, nat_le}
 use Rattle.std.specs.List.{list_any}
 use Rattle.std.proofs.lemmas.List.Sums.{fold-append}
-use Rattle.l2cap_signal.specs.Commands.{Command, configuration_request, disconnection_request, information_request, connection_request}
-use Rattle.l2cap_config.specs.declared.options.Options.{Options}
-use Rattle.l2cap_config.specs.Writing.{written}
-use Rattle.ertm_model.specs.declared.reason.ErtmReason.{ErtmReason}
-use Rattle.ertm_model.specs.Value.{Ertm}
-use Rattle.ertm_model.specs.Giving.{timed}
-use Rattle.link_talk.specs.declared.word.Word.TheVariants.{AsksEnd, EndForgone}
-use Rattle.link_talk.specs.Sayings.{Saying, GaveUp}
-use Rattle.link_talk.specs.Sayings as sayings
-use Rattle.link_talk.specs.Channels.{life_after, Reading, read_on}
+use Rattle.talk_laws.specs.l2cap_signal.specs.Commands.{Command, configuration_request, disconnection_request, information_request, connection_request}
+use Rattle.talk_laws.specs.l2cap_config.specs.declared.options.Options.{Options}
+use Rattle.talk_laws.specs.l2cap_config.specs.Writing.{written}
+use Rattle.channel_model.specs.ertm_model.specs.declared.reason.ErtmReason.{ErtmReason}
+use Rattle.channel_model.specs.ertm_model.specs.Value.{Ertm}
+use Rattle.channel_model.specs.ertm_model.specs.Giving.{timed}
+use Rattle.talk_laws.specs.link_talk.specs.declared.word.Word.TheVariants.{AsksEnd, EndForgone}
+use Rattle.talk_laws.specs.link_talk.specs.Sayings.{Saying, GaveUp}
+use Rattle.talk_laws.specs.link_talk.specs.Sayings as sayings
+use Rattle.talk_laws.specs.link_talk.specs.Channels.{life_after, Reading, read_on}
 use Rattle.channel_model.specs.declared.errand.Errand.{Errand}
 use Rattle.channel_model.specs.declared.errand.Errand.TheVariants.{Connection, Configuration, Disconnection, Features}
 use Rattle.channel_model.specs.declared.event.CloseReason.{CloseReason}

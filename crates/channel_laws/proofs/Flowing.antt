@@ -4,25 +4,25 @@ use Rattle.std.specs.Prelude.{option_map}
 use Rattle.std.specs.List.{filter_map, cons_option}
 use Rattle.std.proofs.lemmas.List.Sums.{fold-append}
 use Rattle.std.proofs.lemmas.List.Elements.{filter_map-append}
-use Rattle.capture.specs.declared.flow.Flow.{Flow}
-use Rattle.capture.specs.declared.flow.Flow.TheVariants.{Out, Into}
-use Rattle.capture.specs.Histories.{each_after, EachAfter}
-use Rattle.l2cap_config.specs.declared.wish.Mode.TheVariants.{Basic, Enhanced}
-use Rattle.l2cap_config.specs.declared.wish.Mode.{Mode}
-use Rattle.ertm_frames.specs.Frames.{PlainFrame}
-use Rattle.ertm_frames.specs.Reading.{frame_in, frames_in}
-use Rattle.ertm_frames.specs.Picking.{Out as Gave, In, outs, picked}
-use Rattle.ertm_frames.specs.Joining.{sdus_of}
-use Rattle.ertm_model.specs.Pair.{new_end as new_machine_end}
-use Rattle.ertm_model.proofs.Standing.{new-stands, swapped}
-use Rattle.link_talk.specs.declared.channel.Channel.{Channel}
-use Rattle.link_talk.specs.declared.party.Party.{Party}
-use Rattle.link_talk.specs.Sayings.{Saying, Command, Carried, GaveUp}
-use Rattle.link_talk.specs.Channels.{Entry, reading}
-use Rattle.link_talk.specs.Setups.{Setup, is_enhanced, agreed_mode}
-use Rattle.link_talk.specs.Carriages.{Carriage, is_heard, is_passed, is_on, taker, carried, stretch, passages, one_way, pdus_of, entry_mode, mode_of}
-use Rattle.link_talk.specs.Accounts.{passage, passage_in}
-use Rattle.link_talk.specs.Sdus.{longest, sdus_by, sdus}
+use Rattle.talk_laws.specs.capture.specs.declared.flow.Flow.{Flow}
+use Rattle.talk_laws.specs.capture.specs.declared.flow.Flow.TheVariants.{Out, Into}
+use Rattle.talk_laws.specs.capture.specs.Histories.{each_after, EachAfter}
+use Rattle.talk_laws.specs.l2cap_config.specs.declared.wish.Mode.TheVariants.{Basic, Enhanced}
+use Rattle.talk_laws.specs.l2cap_config.specs.declared.wish.Mode.{Mode}
+use Rattle.talk_laws.specs.ertm_frames.specs.Frames.{PlainFrame}
+use Rattle.talk_laws.specs.ertm_frames.specs.Reading.{frame_in, frames_in}
+use Rattle.talk_laws.specs.ertm_frames.specs.Picking.{Out as Gave, In, outs, picked}
+use Rattle.talk_laws.specs.ertm_frames.specs.Joining.{sdus_of}
+use Rattle.channel_model.specs.ertm_model.specs.Pair.{new_end as new_machine_end}
+use Rattle.channel_model.specs.ertm_model.proofs.Standing.{new-stands, swapped}
+use Rattle.talk_laws.specs.link_talk.specs.declared.channel.Channel.{Channel}
+use Rattle.talk_laws.specs.link_talk.specs.declared.party.Party.{Party}
+use Rattle.talk_laws.specs.link_talk.specs.Sayings.{Saying, Command, Carried, GaveUp}
+use Rattle.talk_laws.specs.link_talk.specs.Channels.{Entry, reading}
+use Rattle.talk_laws.specs.link_talk.specs.Setups.{Setup, is_enhanced, agreed_mode}
+use Rattle.talk_laws.specs.link_talk.specs.Carriages.{Carriage, is_heard, is_passed, is_on, taker, carried, stretch, passages, one_way, pdus_of, entry_mode, mode_of}
+use Rattle.talk_laws.specs.link_talk.specs.Accounts.{passage, passage_in}
+use Rattle.talk_laws.specs.link_talk.specs.Sdus.{longest, sdus_by, sdus}
 use Rattle.channel_model.specs.Policies.{Policy}
 use Rattle.channel_laws.specs.Runs.{sdus_up}
 use Rattle.channel_laws.specs.Frames.{IsUttered}

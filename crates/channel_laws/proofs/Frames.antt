@@ -2,21 +2,21 @@
 use Rattle.std.proofs.Common.{◌≡◌, ℕ, List, [], ◌∷◌, ◌++◌, map, drop, Bool, true, false, cond, eqb, ◌&&◌, ◌||◌, Option, Some, None, refl, sym, ap, subst, ◌∙◌, inr, append_assoc, append-nil}
 use Rattle.std.specs.Prelude.{option_map, is_some, nat_lt}
 use Rattle.std.proofs.lemmas.List.Sums.{fold-append}
-use Rattle.acl_fragments.specs.Pieces.{channel_of}
-use Rattle.capture.specs.declared.flow.Flow.TheVariants.{Into}
-use Rattle.capture.specs.Histories.{EachAfter}
-use Rattle.l2cap_signal.specs.Reading.{answers}
-use Rattle.l2cap_config.specs.declared.wish.Mode.TheVariants.{Basic, Enhanced}
-use Rattle.ertm_frames.specs.Picking.{outs, ins, unacknowledged, poll_waits}
-use Rattle.ertm_model.specs.Value.{Ertm, window_used as machine_window, armed as machine_armed}
-use Rattle.link_talk.specs.declared.channel.Channel.{Channel}
-use Rattle.link_talk.specs.declared.party.Party.{Party}
-use Rattle.link_talk.specs.Sayings.{Saying, Carried}
-use Rattle.link_talk.specs.Setups.{is_enhanced, agreed_mode}
-use Rattle.link_talk.specs.Channels.{reading}
-use Rattle.link_talk.specs.Carriages.{entry_mode, mode_of}
-use Rattle.link_talk.specs.Accounts.{frames_passed, waiting_frames, window_used}
-use Rattle.link_talk.specs.Waits.{frames_wait_in}
+use Rattle.talk_laws.specs.acl_fragments.specs.Pieces.{channel_of}
+use Rattle.talk_laws.specs.capture.specs.declared.flow.Flow.TheVariants.{Into}
+use Rattle.talk_laws.specs.capture.specs.Histories.{EachAfter}
+use Rattle.talk_laws.specs.l2cap_signal.specs.Reading.{answers}
+use Rattle.talk_laws.specs.l2cap_config.specs.declared.wish.Mode.TheVariants.{Basic, Enhanced}
+use Rattle.talk_laws.specs.ertm_frames.specs.Picking.{outs, ins, unacknowledged, poll_waits}
+use Rattle.channel_model.specs.ertm_model.specs.Value.{Ertm, window_used as machine_window, armed as machine_armed}
+use Rattle.talk_laws.specs.link_talk.specs.declared.channel.Channel.{Channel}
+use Rattle.talk_laws.specs.link_talk.specs.declared.party.Party.{Party}
+use Rattle.talk_laws.specs.link_talk.specs.Sayings.{Saying, Carried}
+use Rattle.talk_laws.specs.link_talk.specs.Setups.{is_enhanced, agreed_mode}
+use Rattle.talk_laws.specs.link_talk.specs.Channels.{reading}
+use Rattle.talk_laws.specs.link_talk.specs.Carriages.{entry_mode, mode_of}
+use Rattle.talk_laws.specs.link_talk.specs.Accounts.{frames_passed, waiting_frames, window_used}
+use Rattle.talk_laws.specs.link_talk.specs.Waits.{frames_wait_in}
 use Rattle.channel_model.specs.Value.{Own, Unasked, Asking, Granted, Carrier, Plain, Retransmitting, Setup, Held, Channels}
 use Rattle.channel_model.specs.Policies.{Policy}
 use Rattle.channel_model.specs.Changing.{is_stated, held_at, is_granted, is_open}

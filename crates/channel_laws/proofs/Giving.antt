@@ -1,12 +1,12 @@
 -- What a host gives, sends, and ends.
 use Rattle.std.proofs.Common.{◌≡◌, ℕ, List, [], ◌∷◌, ◌++◌, fold, Bool, true, false, cond, Option, Some, None, refl, sym, ap, subst, ◌∙◌}
 use Rattle.std.specs.Prelude.{find, option_map}
-use Rattle.l2cap_signal.specs.Commands.{Command, disconnection_request}
-use Rattle.l2cap_config.specs.declared.wish.Wish.{Wish}
-use Rattle.link_talk.specs.declared.word.Word.TheVariants.{AsksEnd}
-use Rattle.link_talk.specs.Meanings.{Part}
-use Rattle.link_talk.specs.Setups as read
-use Rattle.link_talk.specs.Channels.{life_after, Reading, read_on, Entry}
+use Rattle.talk_laws.specs.l2cap_signal.specs.Commands.{Command, disconnection_request}
+use Rattle.talk_laws.specs.l2cap_config.specs.declared.wish.Wish.{Wish}
+use Rattle.talk_laws.specs.link_talk.specs.declared.word.Word.TheVariants.{AsksEnd}
+use Rattle.talk_laws.specs.link_talk.specs.Meanings.{Part}
+use Rattle.talk_laws.specs.link_talk.specs.Setups as read
+use Rattle.talk_laws.specs.link_talk.specs.Channels.{life_after, Reading, read_on, Entry}
 use Rattle.channel_model.specs.declared.errand.Errand.{Errand}
 use Rattle.channel_model.specs.declared.errand.Errand.TheVariants.{Connection, Configuration, Disconnection, Features}
 use Rattle.channel_model.specs.Value.{Own, Unasked, Asking, Granted, Carrier, Plain, Retransmitting, Setup, Stage, Requested, Connected, Leaving, Closing, Crossed, Held, Queued, Answer, Ask, Channels}
@@ -28,7 +28,7 @@ use Rattle.channel_laws.proofs.Questions.{asked-none}
 use Rattle.channel_laws.proofs.Consenting.{Talks}
 use Rattle.channel_laws.proofs.Responses.{turns-to}
 use Rattle.channel_laws.proofs.Settling.{TalksOr, talks-at}
-use Rattle.link_talk.specs.Requests.{Requests}
+use Rattle.talk_laws.specs.link_talk.specs.Requests.{Requests}
 use Rattle.channel_laws.proofs.Calling.{forgone-on}
 use Rattle.channel_model.specs.declared.event.CloseReason.TheVariants.{OwnClosed}
 

@@ -4,15 +4,15 @@ use Rattle.std.specs.Prelude.{find, filter}
 use Rattle.std.specs.Option.{option_or}
 use Rattle.std.specs.List.{list_any}
 use Rattle.std.proofs.lemmas.Bool.{eqb-true}
-use Rattle.capture.specs.declared.flow.Flow.TheVariants.{Into}
-use Rattle.link_talk.specs.declared.channel.Channel.{Channel}
-use Rattle.link_talk.specs.Requests.{Requests, went}
-use Rattle.link_talk.specs.Meanings.{Part}
-use Rattle.link_talk.specs.Setups as read
-use Rattle.link_talk.specs.Channels.{is_there, Entry, fresh, is_owner}
-use Rattle.l2cap_config.specs.Items.{no_options}
-use Rattle.l2cap_config.specs.Reading.{items_within, items_of, options_read}
-use Rattle.l2cap_config.specs.declared.wish.Wish.{Wish}
+use Rattle.talk_laws.specs.capture.specs.declared.flow.Flow.TheVariants.{Into}
+use Rattle.talk_laws.specs.link_talk.specs.declared.channel.Channel.{Channel}
+use Rattle.talk_laws.specs.link_talk.specs.Requests.{Requests, went}
+use Rattle.talk_laws.specs.link_talk.specs.Meanings.{Part}
+use Rattle.talk_laws.specs.link_talk.specs.Setups as read
+use Rattle.talk_laws.specs.link_talk.specs.Channels.{is_there, Entry, fresh, is_owner}
+use Rattle.talk_laws.specs.l2cap_config.specs.Items.{no_options}
+use Rattle.talk_laws.specs.l2cap_config.specs.Reading.{items_within, items_of, options_read}
+use Rattle.talk_laws.specs.l2cap_config.specs.declared.wish.Wish.{Wish}
 use Rattle.channel_model.specs.Value.{no_setup, Connected, Held, Memory}
 use Rattle.channel_model.specs.Policies.{Policy}
 use Rattle.channel_model.specs.Changing.{has_own}

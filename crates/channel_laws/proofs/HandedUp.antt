@@ -3,17 +3,17 @@ use Rattle.std.proofs.Common.{◌≡◌, ℕ, List, [], ◌∷◌, ◌++◌, Boo
 use Rattle.std.specs.Prelude.{option_to_list}
 use Rattle.std.specs.List.{cons_option}
 use Rattle.std.proofs.lemmas.List.Elements.{filter_map-append}
-use Rattle.ertm_frames.specs.Answers.{Answer}
-use Rattle.ertm_frames.specs.Reading.{answer_in, frame_in, frames_in}
-use Rattle.ertm_frames.specs.Picking.{picked, sdus_in}
-use Rattle.ertm_frames.specs.Joining.{sdus_of}
-use Rattle.ertm_model.specs.declared.reason.ErtmReason.{ErtmReason}
-use Rattle.ertm_model.specs.Value.{Ertm}
-use Rattle.ertm_model.specs.Hearing.{heard_by, open_heard, fault, refusal_fault, closed_by, answer_to, answer_by, PlainHeard, nothing, sdu, closed}
-use Rattle.ertm_model.specs.Runs.{Comes, Course, new_course, brought, comes, happens, all_happen, IsSaid}
-use Rattle.ertm_model.proofs.Coursing.{always-said}
-use Rattle.l2cap_config.specs.declared.wish.Mode.{Mode}
-use Rattle.link_talk.specs.Sdus.{sdus_by}
+use Rattle.talk_laws.specs.ertm_frames.specs.Answers.{Answer}
+use Rattle.talk_laws.specs.ertm_frames.specs.Reading.{answer_in, frame_in, frames_in}
+use Rattle.talk_laws.specs.ertm_frames.specs.Picking.{picked, sdus_in}
+use Rattle.talk_laws.specs.ertm_frames.specs.Joining.{sdus_of}
+use Rattle.channel_model.specs.ertm_model.specs.declared.reason.ErtmReason.{ErtmReason}
+use Rattle.channel_model.specs.ertm_model.specs.Value.{Ertm}
+use Rattle.channel_model.specs.ertm_model.specs.Hearing.{heard_by, open_heard, fault, refusal_fault, closed_by, answer_to, answer_by, PlainHeard, nothing, sdu, closed}
+use Rattle.channel_model.specs.ertm_model.specs.Runs.{Comes, Course, new_course, brought, comes, happens, all_happen, IsSaid}
+use Rattle.channel_model.specs.ertm_model.proofs.Coursing.{always-said}
+use Rattle.talk_laws.specs.l2cap_config.specs.declared.wish.Mode.{Mode}
+use Rattle.talk_laws.specs.link_talk.specs.Sdus.{sdus_by}
 use Rattle.channel_model.specs.Carrying.{read_by, machine_heard, machine_sdu, sdu_heard}
 use Rattle.channel_laws.specs.Sdus.{IsHandedUp}
 use Rattle.channel_laws.proofs.Attending.{Attends, happens-last}

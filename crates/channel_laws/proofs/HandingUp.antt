@@ -5,26 +5,26 @@ use Rattle.std.specs.List.{filter_map}
 use Rattle.std.proofs.lemmas.Bool.{eqb-true}
 use Rattle.std.proofs.lemmas.List.Sums.{fold-append}
 use Rattle.std.proofs.lemmas.List.Elements.{filter_map-append}
-use Rattle.acl_fragments.specs.Pieces.{channel_of}
-use Rattle.capture.specs.Histories.{EachAfter}
-use Rattle.capture.specs.declared.flow.Flow.TheVariants.{Into}
-use Rattle.l2cap_signal.specs.Reading.{answers}
-use Rattle.l2cap_config.specs.declared.wish.Mode.TheVariants.{Enhanced}
-use Rattle.l2cap_config.specs.declared.wish.Wish.{Wish}
-use Rattle.ertm_frames.specs.Answers.{Answer}
-use Rattle.ertm_frames.specs.Frames.{information, supervisory}
-use Rattle.ertm_frames.specs.Reading.{answer_in, frame_by}
-use Rattle.ertm_frames.specs.Joining.{ended}
-use Rattle.ertm_model.specs.declared.reason.ErtmReason.{ErtmReason}
-use Rattle.ertm_model.specs.Value.{Ertm}
-use Rattle.link_talk.specs.declared.channel.Channel.{Channel}
-use Rattle.link_talk.specs.declared.party.Party.{Party}
-use Rattle.link_talk.specs.Sayings.{Saying, Carried}
-use Rattle.link_talk.specs.Setups.{is_set}
-use Rattle.link_talk.specs.Channels.{Entry, is_alive, reading}
-use Rattle.link_talk.specs.Carriages.{is_heard, entry_mode}
-use Rattle.link_talk.specs.Picks.{pick_in}
-use Rattle.link_talk.specs.Sdus.{sdus_by, sdus}
+use Rattle.talk_laws.specs.acl_fragments.specs.Pieces.{channel_of}
+use Rattle.talk_laws.specs.capture.specs.Histories.{EachAfter}
+use Rattle.talk_laws.specs.capture.specs.declared.flow.Flow.TheVariants.{Into}
+use Rattle.talk_laws.specs.l2cap_signal.specs.Reading.{answers}
+use Rattle.talk_laws.specs.l2cap_config.specs.declared.wish.Mode.TheVariants.{Enhanced}
+use Rattle.talk_laws.specs.l2cap_config.specs.declared.wish.Wish.{Wish}
+use Rattle.talk_laws.specs.ertm_frames.specs.Answers.{Answer}
+use Rattle.talk_laws.specs.ertm_frames.specs.Frames.{information, supervisory}
+use Rattle.talk_laws.specs.ertm_frames.specs.Reading.{answer_in, frame_by}
+use Rattle.talk_laws.specs.ertm_frames.specs.Joining.{ended}
+use Rattle.channel_model.specs.ertm_model.specs.declared.reason.ErtmReason.{ErtmReason}
+use Rattle.channel_model.specs.ertm_model.specs.Value.{Ertm}
+use Rattle.talk_laws.specs.link_talk.specs.declared.channel.Channel.{Channel}
+use Rattle.talk_laws.specs.link_talk.specs.declared.party.Party.{Party}
+use Rattle.talk_laws.specs.link_talk.specs.Sayings.{Saying, Carried}
+use Rattle.talk_laws.specs.link_talk.specs.Setups.{is_set}
+use Rattle.talk_laws.specs.link_talk.specs.Channels.{Entry, is_alive, reading}
+use Rattle.talk_laws.specs.link_talk.specs.Carriages.{is_heard, entry_mode}
+use Rattle.talk_laws.specs.link_talk.specs.Picks.{pick_in}
+use Rattle.talk_laws.specs.link_talk.specs.Sdus.{sdus_by, sdus}
 use Rattle.talk_laws.specs.Sdus.{heard_so_far}
 use Rattle.talk_laws.proofs.Sdus.{sdus-more}
 use Rattle.channel_model.specs.Value.{Carrier, Plain, Retransmitting, Setup, Stage, Requested, Connected, Leaving, Closing, Crossed, Held, Channels}

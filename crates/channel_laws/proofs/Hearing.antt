@@ -1,10 +1,10 @@
 -- The peer asks for options of a channel, whatever it is.
 use Rattle.std.proofs.Common.{◌≡◌, ℕ, List, [], ◌++◌, fold, Option, Some, None, refl, sym, ap, subst, ◌∙◌}
 use Rattle.std.specs.Prelude.{find}
-use Rattle.l2cap_signal.specs.Commands.{Content, reject, configuration_response}
-use Rattle.l2cap_signal.specs.Reading.{Answer as Read}
-use Rattle.link_talk.specs.Requests.{Terms}
-use Rattle.link_talk.specs.Channels.{is_there, Reading, read_on}
+use Rattle.talk_laws.specs.l2cap_signal.specs.Commands.{Content, reject, configuration_response}
+use Rattle.talk_laws.specs.l2cap_signal.specs.Reading.{Answer as Read}
+use Rattle.talk_laws.specs.link_talk.specs.Requests.{Terms}
+use Rattle.talk_laws.specs.link_talk.specs.Channels.{is_there, Reading, read_on}
 use Rattle.channel_model.specs.declared.request_kind.RequestKind.TheVariants as kinds
 use Rattle.channel_model.specs.Value.{Request, Setup, Stage, Requested, Connected, Leaving, Closing, Crossed, Held, Channels}
 use Rattle.channel_model.specs.Policies.{Policy}

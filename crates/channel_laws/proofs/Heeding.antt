@@ -1,20 +1,20 @@
 -- The request for options that waits, as the host has it and as its talk says.
 use Rattle.std.proofs.Common.{◌≡◌, ℕ, ◌≤◌, List, [], ◌∷◌, ◌++◌, Bool, true, false, cond, eqb, not, ◌&&◌, Option, Some, None, Ok, Err, refl, sym, ap, subst, ◌∙◌, ◌⊎◌, inl, inr, arith, append_assoc, append-nil}
 use Rattle.std.specs.Prelude.{find, nat_le}
-use Rattle.capture.specs.declared.flow.Flow.TheVariants.{Out, Into}
-use Rattle.l2cap_signal.specs.Commands.{Content, reject, connection_request, connection_response, configuration_request, configuration_response, disconnection_request, disconnection_response, echo_request, echo_response, information_request, information_response}
-use Rattle.l2cap_signal.specs.Reading.{Answer as Read}
-use Rattle.l2cap_signal.specs.declared.refusal.SignalRefusal.TheVariants.{ZeroIdentifier, BadLength, UnknownCode, AboveMtu}
-use Rattle.link_talk.specs.declared.call.Wanted.{Wanted}
-use Rattle.link_talk.specs.declared.channel.Channel.{Channel}
-use Rattle.link_talk.specs.declared.party.Party.{Party}
-use Rattle.link_talk.specs.Sayings.{Saying, Carried, GaveUp}
-use Rattle.link_talk.specs.Sayings as sayings
-use Rattle.link_talk.specs.Requests.{Terms, Requests, answered_query, answered_call, has_failed}
-use Rattle.link_talk.specs.Meanings.{Meaning, Nothing, granted, made, answered, meant}
-use Rattle.link_talk.specs.Channels.{Entry, reading}
-use Rattle.link_talk.specs.Carriages.{has_own as is_of}
-use Rattle.link_talk.specs.Waits.{demand_of, demand_of_saying}
+use Rattle.talk_laws.specs.capture.specs.declared.flow.Flow.TheVariants.{Out, Into}
+use Rattle.talk_laws.specs.l2cap_signal.specs.Commands.{Content, reject, connection_request, connection_response, configuration_request, configuration_response, disconnection_request, disconnection_response, echo_request, echo_response, information_request, information_response}
+use Rattle.talk_laws.specs.l2cap_signal.specs.Reading.{Answer as Read}
+use Rattle.talk_laws.specs.l2cap_signal.specs.declared.refusal.SignalRefusal.TheVariants.{ZeroIdentifier, BadLength, UnknownCode, AboveMtu}
+use Rattle.talk_laws.specs.link_talk.specs.declared.call.Wanted.{Wanted}
+use Rattle.talk_laws.specs.link_talk.specs.declared.channel.Channel.{Channel}
+use Rattle.talk_laws.specs.link_talk.specs.declared.party.Party.{Party}
+use Rattle.talk_laws.specs.link_talk.specs.Sayings.{Saying, Carried, GaveUp}
+use Rattle.talk_laws.specs.link_talk.specs.Sayings as sayings
+use Rattle.talk_laws.specs.link_talk.specs.Requests.{Terms, Requests, answered_query, answered_call, has_failed}
+use Rattle.talk_laws.specs.link_talk.specs.Meanings.{Meaning, Nothing, granted, made, answered, meant}
+use Rattle.talk_laws.specs.link_talk.specs.Channels.{Entry, reading}
+use Rattle.talk_laws.specs.link_talk.specs.Carriages.{has_own as is_of}
+use Rattle.talk_laws.specs.link_talk.specs.Waits.{demand_of, demand_of_saying}
 use Rattle.talk_laws.specs.Waits.{Counts}
 use Rattle.talk_laws.proofs.Waits.{counts-before}
 use Rattle.channel_model.specs.declared.errand.Errand.{Errand}
@@ -33,7 +33,7 @@ use Rattle.channel_laws.proofs.Converses.{IsAlike, is_asking}
 use Rattle.channel_laws.proofs.Demanding.{asked_on, Stays, Rests}
 use Rattle.channel_laws.proofs.Anew.{IsAnew, GoesAt, follows-goes}
 use Rattle.channel_laws.proofs.Wishing.{waiting, silent, AreNamed, sound-named, Mild, mild-asked, new-waits}
-use Rattle.link_talk.specs.Senses.{Asks, Quiet, Unread}
+use Rattle.talk_laws.specs.link_talk.specs.Senses.{Asks, Quiet, Unread}
 use Rattle.channel_laws.proofs.Awaiting.{any-none}
 
 -- ---- responses are no demand

@@ -2,23 +2,23 @@
 use Rattle.std.proofs.Common.{◌≡◌, ℕ, ◌≤◌, List, [], ◌∷◌, ◌++◌, Bool, true, false, cond, eqb, ◌&&◌, Option, Some, None, Ok, Err, refl, sym, ap, subst, ◌∙◌, ◌⊎◌, inl, inr, arith, append-nil}
 use Rattle.std.specs.Prelude.{find, option_map, option_to_list, is_some}
 use Rattle.std.proofs.lemmas.Bool.{eqb-true}
-use Rattle.acl_fragments.specs.Pieces.{channel_of}
-use Rattle.capture.specs.declared.flow.Flow.TheVariants.{Into}
-use Rattle.l2cap_config.specs.declared.wish.Mode.{Mode}
-use Rattle.l2cap_config.specs.declared.wish.Agreed.{Agreed}
-use Rattle.l2cap_config.specs.declared.wish.Wish.{Wish}
-use Rattle.ertm_frames.specs.Answers.{Answer as FrameAnswer}
-use Rattle.ertm_frames.specs.Reading.{frame_by}
-use Rattle.ertm_frames.specs.Picking.{Passage, In}
-use Rattle.ertm_model.specs.declared.reason.ErtmReason.{ErtmReason}
-use Rattle.ertm_model.specs.Value.{Ertm}
-use Rattle.link_talk.specs.declared.channel.Channel.{Channel}
-use Rattle.link_talk.specs.declared.party.Party.{Party}
-use Rattle.link_talk.specs.Sayings.{Saying, Carried}
-use Rattle.link_talk.specs.Setups.{is_set}
-use Rattle.link_talk.specs.Channels.{Entry, is_there, reading}
-use Rattle.link_talk.specs.Carriages.{is_passed}
-use Rattle.link_talk.specs.Accounts.{frames_passed}
+use Rattle.talk_laws.specs.acl_fragments.specs.Pieces.{channel_of}
+use Rattle.talk_laws.specs.capture.specs.declared.flow.Flow.TheVariants.{Into}
+use Rattle.talk_laws.specs.l2cap_config.specs.declared.wish.Mode.{Mode}
+use Rattle.talk_laws.specs.l2cap_config.specs.declared.wish.Agreed.{Agreed}
+use Rattle.talk_laws.specs.l2cap_config.specs.declared.wish.Wish.{Wish}
+use Rattle.talk_laws.specs.ertm_frames.specs.Answers.{Answer as FrameAnswer}
+use Rattle.talk_laws.specs.ertm_frames.specs.Reading.{frame_by}
+use Rattle.talk_laws.specs.ertm_frames.specs.Picking.{Passage, In}
+use Rattle.channel_model.specs.ertm_model.specs.declared.reason.ErtmReason.{ErtmReason}
+use Rattle.channel_model.specs.ertm_model.specs.Value.{Ertm}
+use Rattle.talk_laws.specs.link_talk.specs.declared.channel.Channel.{Channel}
+use Rattle.talk_laws.specs.link_talk.specs.declared.party.Party.{Party}
+use Rattle.talk_laws.specs.link_talk.specs.Sayings.{Saying, Carried}
+use Rattle.talk_laws.specs.link_talk.specs.Setups.{is_set}
+use Rattle.talk_laws.specs.link_talk.specs.Channels.{Entry, is_there, reading}
+use Rattle.talk_laws.specs.link_talk.specs.Carriages.{is_passed}
+use Rattle.talk_laws.specs.link_talk.specs.Accounts.{frames_passed}
 use Rattle.channel_model.specs.Value.{Own, Unasked, Asking, Granted, Carrier, Plain, Retransmitting, Setup, Stage, Requested, Connected, Leaving, Closing, Crossed, Held, Channels}
 use Rattle.channel_model.specs.Policies.{Policy}
 use Rattle.channel_model.specs.Changing.{has_own, has_fcs_by, is_open, is_stated, setup_of, stage_with, with_setup}

@@ -2,12 +2,12 @@
 use Rattle.std.proofs.Common.{◌≡◌, ℕ, ◌≤◌, List, [], ◌∷◌, ◌++◌, fold, drop, Bool, true, false, cond, eqb, Option, Some, None, refl, sym, ap, subst, ◌∙◌, ◌⊎◌, inl, inr, append-nil}
 use Rattle.std.specs.Prelude.{find, option_map, option_to_list, is_some}
 use Rattle.std.proofs.lemmas.Bool.{eqb-true}
-use Rattle.acl_fragments.specs.Pieces.{channel_of}
-use Rattle.l2cap_config.specs.declared.wish.Mode.{Mode}
-use Rattle.l2cap_config.specs.declared.wish.Mode.TheVariants.{Basic, Enhanced}
-use Rattle.link_talk.specs.declared.channel.Channel.{Channel}
-use Rattle.link_talk.specs.Sayings.{Saying}
-use Rattle.link_talk.specs.Channels.{Entry, reading}
+use Rattle.talk_laws.specs.acl_fragments.specs.Pieces.{channel_of}
+use Rattle.talk_laws.specs.l2cap_config.specs.declared.wish.Mode.{Mode}
+use Rattle.talk_laws.specs.l2cap_config.specs.declared.wish.Mode.TheVariants.{Basic, Enhanced}
+use Rattle.talk_laws.specs.link_talk.specs.declared.channel.Channel.{Channel}
+use Rattle.talk_laws.specs.link_talk.specs.Sayings.{Saying}
+use Rattle.talk_laws.specs.link_talk.specs.Channels.{Entry, reading}
 use Rattle.channel_model.specs.Value.{Own, Unasked, Asking, Granted, Carrier, Plain, Retransmitting, Setup, Stage, Requested, Connected, Leaving, Closing, Crossed, Held, Channels}
 use Rattle.channel_model.specs.Policies.{Policy}
 use Rattle.channel_model.specs.Changing.{has_own, held_at, is_stated, setup_of}

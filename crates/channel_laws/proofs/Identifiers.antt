@@ -2,20 +2,20 @@
 use Rattle.std.proofs.Common.{◌≡◌, ℕ, ◌+◌, ◌-◌, ◌<◌, ◌≤◌, ◌⊎◌, inl, inr, List, [], ◌∷◌, ◌++◌, map, Bool, true, false, cond, eqb, not, ◌||◌, Option, Some, None, Result, Ok, Err, refl, sym, ap, subst, ◌∙◌, arith}
 use Rattle.std.specs.Prelude.{find, filter, is_some, nat_le}
 use Rattle.std.proofs.lemmas.Bool.{eqb-true, leb-false}
-use Rattle.l2cap_config.specs.declared.options.Options.{Options}
-use Rattle.l2cap_config.specs.declared.options.ConfigRefusal.{ConfigRefusal}
-use Rattle.l2cap_config.specs.declared.agreement.ConfigAnswer.{ConfigAnswer}
-use Rattle.l2cap_config.specs.declared.agreement.ConfigAnswer.TheVariants.{Accept, Unacceptable, Unknown}
-use Rattle.l2cap_config.specs.declared.agreement.Settled.{Settled}
-use Rattle.l2cap_config.specs.declared.agreement.Settled.TheVariants.{Accepted, Again, Wait, Never}
-use Rattle.l2cap_config.specs.declared.wish.Wish.{Wish}
-use Rattle.l2cap_config.specs.Reading.{options_read}
-use Rattle.l2cap_config.specs.Agreement.{settled}
-use Rattle.ertm_model.specs.declared.reason.ErtmReason.{ErtmReason}
-use Rattle.ertm_model.specs.Value.{Ertm}
+use Rattle.talk_laws.specs.l2cap_config.specs.declared.options.Options.{Options}
+use Rattle.talk_laws.specs.l2cap_config.specs.declared.options.ConfigRefusal.{ConfigRefusal}
+use Rattle.talk_laws.specs.l2cap_config.specs.declared.agreement.ConfigAnswer.{ConfigAnswer}
+use Rattle.talk_laws.specs.l2cap_config.specs.declared.agreement.ConfigAnswer.TheVariants.{Accept, Unacceptable, Unknown}
+use Rattle.talk_laws.specs.l2cap_config.specs.declared.agreement.Settled.{Settled}
+use Rattle.talk_laws.specs.l2cap_config.specs.declared.agreement.Settled.TheVariants.{Accepted, Again, Wait, Never}
+use Rattle.talk_laws.specs.l2cap_config.specs.declared.wish.Wish.{Wish}
+use Rattle.talk_laws.specs.l2cap_config.specs.Reading.{options_read}
+use Rattle.talk_laws.specs.l2cap_config.specs.Agreement.{settled}
+use Rattle.channel_model.specs.ertm_model.specs.declared.reason.ErtmReason.{ErtmReason}
+use Rattle.channel_model.specs.ertm_model.specs.Value.{Ertm}
 use Rattle.channel_model.specs.declared.errand.Errand.{Errand}
 use Rattle.channel_model.specs.declared.errand.Errand.TheVariants as errands
-use Rattle.l2cap_signal.specs.Commands.{Content, Command}
+use Rattle.talk_laws.specs.l2cap_signal.specs.Commands.{Content, Command}
 use Rattle.channel_model.specs.Giving.{asking, connection_at, configuration_by, configuration_at, disconnection_at, on_held, features_command, command_of}
 use Rattle.channel_model.specs.declared.event.CloseReason.{CloseReason}
 use Rattle.channel_model.specs.declared.event.ChannelEvent.TheVariants.{Features}

@@ -3,18 +3,18 @@ use Rattle.std.proofs.Common.{◌≡◌, ℕ, ◌≤◌, List, [], ◌∷◌, �
 use Rattle.std.specs.Prelude.{find, drop, option_to_list, slice_get}
 use Rattle.std.specs.List.{list_any}
 use Rattle.std.proofs.lemmas.Bool.{eqb-true}
-use Rattle.acl_fragments.specs.Pieces.{channel_of}
-use Rattle.capture.specs.declared.flow.Flow.TheVariants.{Into}
-use Rattle.l2cap_signal.specs.Reading.{answers}
-use Rattle.ertm_frames.specs.Reading.{frames_in}
-use Rattle.link_talk.specs.declared.channel.Channel.{Channel}
-use Rattle.link_talk.specs.declared.party.Party.{Party}
-use Rattle.link_talk.specs.Sayings.{Saying, Carried}
-use Rattle.link_talk.specs.Setups.{is_set}
-use Rattle.link_talk.specs.Channels.{is_alive, Entry, reading}
-use Rattle.link_talk.specs.Carriages.{Carriage}
-use Rattle.link_talk.specs.GrowingLaws.{has_opened}
-use Rattle.link_talk.specs.Sdus.{sdus}
+use Rattle.talk_laws.specs.acl_fragments.specs.Pieces.{channel_of}
+use Rattle.talk_laws.specs.capture.specs.declared.flow.Flow.TheVariants.{Into}
+use Rattle.talk_laws.specs.l2cap_signal.specs.Reading.{answers}
+use Rattle.talk_laws.specs.ertm_frames.specs.Reading.{frames_in}
+use Rattle.talk_laws.specs.link_talk.specs.declared.channel.Channel.{Channel}
+use Rattle.talk_laws.specs.link_talk.specs.declared.party.Party.{Party}
+use Rattle.talk_laws.specs.link_talk.specs.Sayings.{Saying, Carried}
+use Rattle.talk_laws.specs.link_talk.specs.Setups.{is_set}
+use Rattle.talk_laws.specs.link_talk.specs.Channels.{is_alive, Entry, reading}
+use Rattle.talk_laws.specs.link_talk.specs.Carriages.{Carriage}
+use Rattle.talk_laws.specs.link_talk.specs.GrowingLaws.{has_opened}
+use Rattle.talk_laws.specs.link_talk.specs.Sdus.{sdus}
 use Rattle.channel_model.specs.declared.event.ChannelEvent.{ChannelEvent}
 use Rattle.channel_model.specs.Value.{Carrier, Plain, Retransmitting, Stage, Requested, Connected, Leaving, Closing, Crossed, Held, Channels}
 use Rattle.channel_model.specs.Policies.{Policy}
@@ -35,7 +35,7 @@ use Rattle.channel_laws.specs.Runs.{Occurrence, Comes, Connects, AsksFeatures, D
 use Rattle.channel_laws.specs.Sdus.{StatesFrame, IsHandedUp, SdusAreRead}
 use Rattle.channel_laws.proofs.Sound.{AgreesIf, ReadsBy, Reads}
 use Rattle.channel_laws.proofs.Telling.{StageTold, HeldTold, RunTold, one_told, nothing_told, Anything}
-use Rattle.link_talk.specs.Carriages.{is_heard}
+use Rattle.talk_laws.specs.link_talk.specs.Carriages.{is_heard}
 use Rattle.channel_laws.proofs.Carriages.{into-here, into-else}
 use Rattle.channel_laws.proofs.Signalling.{bare-asked, bare-left, bare-with_all, bare-fired, bare-comes}
 use Rattle.channel_laws.proofs.Stretching.{heard_on, NoneComes, StaysHeard, opens, nothing-heard, one-heard, stays-heard}

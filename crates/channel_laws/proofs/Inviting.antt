@@ -4,17 +4,17 @@ use Rattle.std.specs.Prelude.{find, filter, option_to_list, nat_le, nat_lt, leng
 use Rattle.std.specs.Option.{option_or}
 use Rattle.std.specs.List.{list_any}
 use Rattle.std.proofs.lemmas.Bool.{eqb-true, leb-false}
-use Rattle.capture.specs.declared.flow.Flow.TheVariants.{Out, Into}
-use Rattle.l2cap_signal.specs.Commands.{Content, reject, connection_request, connection_response, configuration_request, configuration_response, disconnection_request, disconnection_response, echo_request, echo_response, information_request, information_response}
-use Rattle.l2cap_signal.specs.Reading.{Answer as Read}
-use Rattle.link_talk.specs.declared.call.Call.{Call}
-use Rattle.link_talk.specs.declared.call.Failure.{Failure}
-use Rattle.link_talk.specs.declared.call.Wanted.{Wanted}
-use Rattle.link_talk.specs.declared.channel.Channel.{Channel}
-use Rattle.link_talk.specs.Senses.{Opens, OnChannel, sense}
-use Rattle.link_talk.specs.Requests.{Requests, requests_after, went, is_call, first_of_run, last_run, call_wanted, has_source, answered_call}
-use Rattle.link_talk.specs.Meanings.{Makes, Nothing, granted, made, meant}
-use Rattle.link_talk.specs.Channels.{is_there, Entry, fresh, is_owner, with_fresh, entries_after, Reading, read_on}
+use Rattle.talk_laws.specs.capture.specs.declared.flow.Flow.TheVariants.{Out, Into}
+use Rattle.talk_laws.specs.l2cap_signal.specs.Commands.{Content, reject, connection_request, connection_response, configuration_request, configuration_response, disconnection_request, disconnection_response, echo_request, echo_response, information_request, information_response}
+use Rattle.talk_laws.specs.l2cap_signal.specs.Reading.{Answer as Read}
+use Rattle.talk_laws.specs.link_talk.specs.declared.call.Call.{Call}
+use Rattle.talk_laws.specs.link_talk.specs.declared.call.Failure.{Failure}
+use Rattle.talk_laws.specs.link_talk.specs.declared.call.Wanted.{Wanted}
+use Rattle.talk_laws.specs.link_talk.specs.declared.channel.Channel.{Channel}
+use Rattle.talk_laws.specs.link_talk.specs.Senses.{Opens, OnChannel, sense}
+use Rattle.talk_laws.specs.link_talk.specs.Requests.{Requests, requests_after, went, is_call, first_of_run, last_run, call_wanted, has_source, answered_call}
+use Rattle.talk_laws.specs.link_talk.specs.Meanings.{Makes, Nothing, granted, made, meant}
+use Rattle.talk_laws.specs.link_talk.specs.Channels.{is_there, Entry, fresh, is_owner, with_fresh, entries_after, Reading, read_on}
 use Rattle.channel_model.specs.declared.request_kind.RequestKind.TheVariants as kinds
 use Rattle.channel_model.specs.Value.{no_setup, Stage, Requested, Connected, Leaving, Closing, Crossed, Held, Remembered, Memory, Channels}
 use Rattle.channel_model.specs.Policies.{Policy}

@@ -1,26 +1,26 @@
 -- What a host asks of its peer's features, and what it remembers of its answers, changes only with a question or an answer.
 use Rattle.std.proofs.Common.{◌≡◌, ℕ, List, [], ◌∷◌, ◌++◌, Bool, true, false, cond, eqb, not, Option, Some, None, Result, Ok, Err, refl, ap, ◌∙◌, ◌||◌}
 use Rattle.std.specs.Prelude.{find, filter, option_map, is_some, nat_le}
-use Rattle.l2cap_signal.specs.Commands.{Content, reject, connection_request, connection_response, configuration_request, configuration_response, disconnection_request, disconnection_response, echo_request, echo_response, information_request, information_response}
-use Rattle.l2cap_config.specs.declared.options.Options.{Options}
-use Rattle.l2cap_config.specs.declared.options.ConfigRefusal.{ConfigRefusal}
-use Rattle.l2cap_config.specs.declared.agreement.ConfigAnswer.{ConfigAnswer}
-use Rattle.l2cap_config.specs.declared.agreement.ConfigAnswer.TheVariants.{Accept, Unacceptable, Unknown}
-use Rattle.l2cap_config.specs.declared.agreement.Settled.{Settled}
-use Rattle.l2cap_config.specs.declared.agreement.Settled.TheVariants.{Accepted, Again, Wait, Never}
-use Rattle.l2cap_config.specs.declared.wish.Wish.{Wish}
-use Rattle.l2cap_config.specs.Reading.{options_read}
-use Rattle.l2cap_config.specs.Agreement.{settled}
-use Rattle.ertm_model.specs.declared.reason.ErtmReason.{ErtmReason}
-use Rattle.ertm_model.specs.Value.{Ertm}
-use Rattle.ertm_model.specs.Giving.{timed}
+use Rattle.talk_laws.specs.l2cap_signal.specs.Commands.{Content, reject, connection_request, connection_response, configuration_request, configuration_response, disconnection_request, disconnection_response, echo_request, echo_response, information_request, information_response}
+use Rattle.talk_laws.specs.l2cap_config.specs.declared.options.Options.{Options}
+use Rattle.talk_laws.specs.l2cap_config.specs.declared.options.ConfigRefusal.{ConfigRefusal}
+use Rattle.talk_laws.specs.l2cap_config.specs.declared.agreement.ConfigAnswer.{ConfigAnswer}
+use Rattle.talk_laws.specs.l2cap_config.specs.declared.agreement.ConfigAnswer.TheVariants.{Accept, Unacceptable, Unknown}
+use Rattle.talk_laws.specs.l2cap_config.specs.declared.agreement.Settled.{Settled}
+use Rattle.talk_laws.specs.l2cap_config.specs.declared.agreement.Settled.TheVariants.{Accepted, Again, Wait, Never}
+use Rattle.talk_laws.specs.l2cap_config.specs.declared.wish.Wish.{Wish}
+use Rattle.talk_laws.specs.l2cap_config.specs.Reading.{options_read}
+use Rattle.talk_laws.specs.l2cap_config.specs.Agreement.{settled}
+use Rattle.channel_model.specs.ertm_model.specs.declared.reason.ErtmReason.{ErtmReason}
+use Rattle.channel_model.specs.ertm_model.specs.Value.{Ertm}
+use Rattle.channel_model.specs.ertm_model.specs.Giving.{timed}
 use Rattle.channel_model.specs.declared.errand.Errand.{Errand}
 use Rattle.channel_model.specs.declared.errand.Errand.TheVariants as errands
 use Rattle.channel_model.specs.declared.event.CloseReason.{CloseReason}
 use Rattle.channel_model.specs.declared.event.CloseReason.TheVariants.{NoAgreement, Refused, OwnClosed, RetryLimit}
 use Rattle.channel_model.specs.Value.{Request, Queued, Answer, Ask, Own, Unasked, Asking, Granted, Carrier, Plain, Retransmitting, Setup, no_setup, Stage, Requested, Connected, Leaving, Closing, Crossed, Held, Channels}
 use Rattle.channel_model.specs.Policies.{Policy}
-use Rattle.l2cap_signal.specs.Commands.{Command}
+use Rattle.talk_laws.specs.l2cap_signal.specs.Commands.{Command}
 use Rattle.channel_model.specs.Changing.{is_copy, is_copy_about, forgets, held_at, is_peer, setup_of, stage_with, with_setup, to_setup, is_leaving}
 use Rattle.channel_model.specs.Asking.{new_request, asks, asks_options, Fired, StillDue, OnceMore, Spent, fired}
 use Rattle.channel_model.specs.Closing.{closes, closes_at, peer_closes_at, ends_at, ends}

@@ -3,22 +3,22 @@ use Rattle.std.proofs.Common.{◌≡◌, ℕ, List, [], ◌∷◌, ◌++◌, Boo
 use Rattle.std.specs.Prelude.{nat_le}
 use Rattle.std.specs.Option.{option_or}
 use Rattle.std.specs.List.{list_any}
-use Rattle.capture.specs.declared.flow.Flow.TheVariants.{Out, Into}
-use Rattle.l2cap_signal.specs.Commands.{Content, reject, connection_request, connection_response, configuration_request, configuration_response, disconnection_request, disconnection_response, echo_request, echo_response, information_request, information_response}
-use Rattle.l2cap_signal.specs.Reading.{Answer as Read}
-use Rattle.l2cap_signal.specs.declared.refusal.SignalRefusal.TheVariants.{ZeroIdentifier, BadLength, UnknownCode, AboveMtu}
-use Rattle.l2cap_config.specs.declared.wish.Mode.{Mode}
-use Rattle.l2cap_config.specs.Reading.{options_read}
-use Rattle.link_talk.specs.declared.channel.Channel.{Channel}
-use Rattle.link_talk.specs.declared.call.Wanted.{Wanted}
-use Rattle.link_talk.specs.Sayings.{Saying, Carried, GaveUp}
-use Rattle.link_talk.specs.Sayings as sayings
-use Rattle.link_talk.specs.Senses.{Asks, Quiet, Unread, sense}
-use Rattle.link_talk.specs.Requests.{Requests, answered_call, has_failed}
-use Rattle.link_talk.specs.Meanings.{Meaning, Makes, Answers, Wishes, Settles, Parts, Nothing, granted, meant, is_read}
-use Rattle.link_talk.specs.Setups as read
-use Rattle.link_talk.specs.Setups.{mode_in, is_set, with_answer, with_term, setup_after, term, Answered, Wished}
-use Rattle.link_talk.specs.Channels.{Entry, fresh, entry_after, entries_after, is_there, is_owner, made_by, Reading, reading}
+use Rattle.talk_laws.specs.capture.specs.declared.flow.Flow.TheVariants.{Out, Into}
+use Rattle.talk_laws.specs.l2cap_signal.specs.Commands.{Content, reject, connection_request, connection_response, configuration_request, configuration_response, disconnection_request, disconnection_response, echo_request, echo_response, information_request, information_response}
+use Rattle.talk_laws.specs.l2cap_signal.specs.Reading.{Answer as Read}
+use Rattle.talk_laws.specs.l2cap_signal.specs.declared.refusal.SignalRefusal.TheVariants.{ZeroIdentifier, BadLength, UnknownCode, AboveMtu}
+use Rattle.talk_laws.specs.l2cap_config.specs.declared.wish.Mode.{Mode}
+use Rattle.talk_laws.specs.l2cap_config.specs.Reading.{options_read}
+use Rattle.talk_laws.specs.link_talk.specs.declared.channel.Channel.{Channel}
+use Rattle.talk_laws.specs.link_talk.specs.declared.call.Wanted.{Wanted}
+use Rattle.talk_laws.specs.link_talk.specs.Sayings.{Saying, Carried, GaveUp}
+use Rattle.talk_laws.specs.link_talk.specs.Sayings as sayings
+use Rattle.talk_laws.specs.link_talk.specs.Senses.{Asks, Quiet, Unread, sense}
+use Rattle.talk_laws.specs.link_talk.specs.Requests.{Requests, answered_call, has_failed}
+use Rattle.talk_laws.specs.link_talk.specs.Meanings.{Meaning, Makes, Answers, Wishes, Settles, Parts, Nothing, granted, meant, is_read}
+use Rattle.talk_laws.specs.link_talk.specs.Setups as read
+use Rattle.talk_laws.specs.link_talk.specs.Setups.{mode_in, is_set, with_answer, with_term, setup_after, term, Answered, Wished}
+use Rattle.talk_laws.specs.link_talk.specs.Channels.{Entry, fresh, entry_after, entries_after, is_there, is_owner, made_by, Reading, reading}
 use Rattle.channel_model.specs.Value.{Channels}
 use Rattle.channel_model.specs.Policies.{Policy}
 use Rattle.channel_laws.specs.OwnTalk.{spoken, command_with}

@@ -3,22 +3,22 @@ use Rattle.std.proofs.Common.{◌≡◌, ℕ, ◌+◌, ◌^◌, ◌<◌, ◌≤�
 use Rattle.std.specs.Prelude.{filter, map, nat_le, nat_lt, not, ◌%◌}
 use Rattle.std.specs.List.{AllByRecursion, list_any, list_all}
 use Rattle.std.proofs.lemmas.Bool.{ltb-false, and_from, and_parts}
-use Rattle.bt_base.specs.Octets.{IsOctets}
-use Rattle.l2cap_signal.specs.Commands.{Content, Command, reject, connection_request, connection_response, configuration_request, configuration_response, disconnection_request, disconnection_response, echo_request, echo_response, information_request, information_response, words_of, payload_of}
-use Rattle.l2cap_signal.specs.Reading.{Answer as Read, answers}
-use Rattle.l2cap_signal.specs.Grammar.{Judges, AreGiven, AreAnswers}
-use Rattle.l2cap_signal.proofs.Payloads.{answers_right}
-use Rattle.l2cap_config.specs.declared.options.ModeOption.{ModeOption}
-use Rattle.l2cap_config.specs.declared.options.Options.{Options}
-use Rattle.l2cap_config.specs.declared.options.ConfigRefusal.{ConfigRefusal}
-use Rattle.l2cap_config.specs.declared.agreement.ConfigAnswer.{ConfigAnswer}
-use Rattle.l2cap_config.specs.declared.agreement.ConfigAnswer.TheVariants.{Accept, Unacceptable, Unknown}
-use Rattle.l2cap_config.specs.declared.wish.Wish.{Wish}
-use Rattle.l2cap_config.specs.Types.{is_unknown, contains, with_type, joined_types, AreUnknown}
-use Rattle.l2cap_config.specs.Items.{Item, joined}
-use Rattle.l2cap_config.specs.Reading.{items_of, stated, options_read}
-use Rattle.l2cap_config.specs.Writing.{written}
-use Rattle.l2cap_config.proofs.TypeLists.{room, unknown_push, unknown_none}
+use Rattle.talk_laws.specs.bt_base.specs.Octets.{IsOctets}
+use Rattle.talk_laws.specs.l2cap_signal.specs.Commands.{Content, Command, reject, connection_request, connection_response, configuration_request, configuration_response, disconnection_request, disconnection_response, echo_request, echo_response, information_request, information_response, words_of, payload_of}
+use Rattle.talk_laws.specs.l2cap_signal.specs.Reading.{Answer as Read, answers}
+use Rattle.talk_laws.specs.l2cap_signal.specs.Grammar.{Judges, AreGiven, AreAnswers}
+use Rattle.talk_laws.specs.l2cap_signal.proofs.Payloads.{answers_right}
+use Rattle.talk_laws.specs.l2cap_config.specs.declared.options.ModeOption.{ModeOption}
+use Rattle.talk_laws.specs.l2cap_config.specs.declared.options.Options.{Options}
+use Rattle.talk_laws.specs.l2cap_config.specs.declared.options.ConfigRefusal.{ConfigRefusal}
+use Rattle.talk_laws.specs.l2cap_config.specs.declared.agreement.ConfigAnswer.{ConfigAnswer}
+use Rattle.talk_laws.specs.l2cap_config.specs.declared.agreement.ConfigAnswer.TheVariants.{Accept, Unacceptable, Unknown}
+use Rattle.talk_laws.specs.l2cap_config.specs.declared.wish.Wish.{Wish}
+use Rattle.talk_laws.specs.l2cap_config.specs.Types.{is_unknown, contains, with_type, joined_types, AreUnknown}
+use Rattle.talk_laws.specs.l2cap_config.specs.Items.{Item, joined}
+use Rattle.talk_laws.specs.l2cap_config.specs.Reading.{items_of, stated, options_read}
+use Rattle.talk_laws.specs.l2cap_config.specs.Writing.{written}
+use Rattle.talk_laws.specs.l2cap_config.proofs.TypeLists.{room, unknown_push, unknown_none}
 use Rattle.channel_model.specs.Value.{Stage, Requested, Connected, Leaving, Closing, Crossed, Setup, Held, Channels}
 use Rattle.channel_model.specs.Policies.{Policy}
 use Rattle.channel_model.specs.Changing.{has_own, held_at, has_peer, is_open}

@@ -2,17 +2,17 @@
 use Rattle.std.proofs.Common.{◌≡◌, ℕ, ◌<◌, ◌≤◌, List, Bool, true, false, cond, ◌&&◌, eqb, not, Option, Some, None, refl, sym, ap, subst, ◌∙◌}
 use Rattle.std.specs.Prelude.{find, option_map, nat_lt}
 use Rattle.std.proofs.lemmas.Bool.{ltb-true, ltb-false}
-use Rattle.l2cap_config.specs.declared.options.ModeOption.{ModeOption}
-use Rattle.l2cap_config.specs.declared.wish.Wish.{Wish}
-use Rattle.link_talk.specs.declared.life.Life.{Life}
-use Rattle.link_talk.specs.declared.life.Life.TheVariants as lives
-use Rattle.link_talk.specs.declared.word.Word.{Word}
-use Rattle.link_talk.specs.Sayings.{Saying}
-use Rattle.link_talk.specs.Senses.{Quiet, sense}
-use Rattle.link_talk.specs.Requests.{Requests, requests_after}
-use Rattle.link_talk.specs.Meanings.{Meaning, Part, Parts, meant}
-use Rattle.link_talk.specs.Setups as read
-use Rattle.link_talk.specs.Channels.{life_after, is_there, Entry, entry_after, made_by, entries_after, Reading, read_on}
+use Rattle.talk_laws.specs.l2cap_config.specs.declared.options.ModeOption.{ModeOption}
+use Rattle.talk_laws.specs.l2cap_config.specs.declared.wish.Wish.{Wish}
+use Rattle.talk_laws.specs.link_talk.specs.declared.life.Life.{Life}
+use Rattle.talk_laws.specs.link_talk.specs.declared.life.Life.TheVariants as lives
+use Rattle.talk_laws.specs.link_talk.specs.declared.word.Word.{Word}
+use Rattle.talk_laws.specs.link_talk.specs.Sayings.{Saying}
+use Rattle.talk_laws.specs.link_talk.specs.Senses.{Quiet, sense}
+use Rattle.talk_laws.specs.link_talk.specs.Requests.{Requests, requests_after}
+use Rattle.talk_laws.specs.link_talk.specs.Meanings.{Meaning, Part, Parts, meant}
+use Rattle.talk_laws.specs.link_talk.specs.Setups as read
+use Rattle.talk_laws.specs.link_talk.specs.Channels.{life_after, is_there, Entry, entry_after, made_by, entries_after, Reading, read_on}
 use Rattle.channel_model.specs.Value.{Stage, Requested, Connected, Leaving, Closing, Crossed, Held, Memory, Channels}
 use Rattle.channel_model.specs.Policies.{Policy}
 use Rattle.channel_model.specs.Changing.{has_own, has_fcs_by}

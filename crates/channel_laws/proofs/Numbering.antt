@@ -2,20 +2,20 @@
 use Rattle.std.proofs.Common.{◌≡◌, ◌≢◌, ℕ, zero, suc, ◌-◌, ◌^◌, ◌<◌, ◌≤◌, inl, inr, List, [], ◌∷◌, ◌++◌, length, take, drop, Bool, true, false, cond, eqb, Option, Some, None, Ok, Err, refl, sym, subst, arith}
 use Rattle.std.specs.Prelude.{find, nat_le, nat_lt, slice_get, option_map}
 use Rattle.std.specs.List.{AllByRecursion}
-use Rattle.ertm_frames.specs.Answers.{Answer}
-use Rattle.ertm_frames.specs.Frames.{PlainFrame, information, supervisory}
-use Rattle.ertm_frames.specs.Segments.{Segment, whole, start, end, continuation}
-use Rattle.ertm_frames.specs.declared.refusal.FrameRefusal.{FrameRefusal}
-use Rattle.ertm_model.specs.declared.reason.ErtmReason.{ErtmReason}
-use Rattle.ertm_model.specs.declared.reason.ErtmReason.TheVariants.{RetryLimit}
-use Rattle.ertm_model.specs.Value.{Kept, Poll, NoPoll, Due, Waits, Reply, NoReply, Acknowledges, Rejects, Ertm, Receiver}
-use Rattle.ertm_model.specs.Giving.{Giving, PollAnswer, Acknowledgement, Rejection, Polling, Again, New, new_giving, data_giving, poll_giving, reply_giving, open_giving, giving, frame_by, given_again, after_by, first_poll, poll_timed, open_timed, timed, closing, polling}
-use Rattle.ertm_model.specs.Hearing.{acknowledged, fault, heard_by, open_heard, heard, closed_by, refusal_fault, refused, Place, Expected, Ahead, Other, place_in, segment_of, placed_after, receiver_after}
-use Rattle.ertm_model.specs.Submitting.{later_within, later_segments, cut, is_busy, submitted, taking}
-use Rattle.l2cap_config.specs.declared.wish.Mode.{Mode}
-use Rattle.l2cap_config.specs.declared.wish.Mode.TheVariants.{Basic, Enhanced}
-use Rattle.l2cap_config.specs.declared.wish.Wish.{Wish}
-use Rattle.l2cap_config.specs.Agreement.{agreed_on}
+use Rattle.talk_laws.specs.ertm_frames.specs.Answers.{Answer}
+use Rattle.talk_laws.specs.ertm_frames.specs.Frames.{PlainFrame, information, supervisory}
+use Rattle.talk_laws.specs.ertm_frames.specs.Segments.{Segment, whole, start, end, continuation}
+use Rattle.talk_laws.specs.ertm_frames.specs.declared.refusal.FrameRefusal.{FrameRefusal}
+use Rattle.channel_model.specs.ertm_model.specs.declared.reason.ErtmReason.{ErtmReason}
+use Rattle.channel_model.specs.ertm_model.specs.declared.reason.ErtmReason.TheVariants.{RetryLimit}
+use Rattle.channel_model.specs.ertm_model.specs.Value.{Kept, Poll, NoPoll, Due, Waits, Reply, NoReply, Acknowledges, Rejects, Ertm, Receiver}
+use Rattle.channel_model.specs.ertm_model.specs.Giving.{Giving, PollAnswer, Acknowledgement, Rejection, Polling, Again, New, new_giving, data_giving, poll_giving, reply_giving, open_giving, giving, frame_by, given_again, after_by, first_poll, poll_timed, open_timed, timed, closing, polling}
+use Rattle.channel_model.specs.ertm_model.specs.Hearing.{acknowledged, fault, heard_by, open_heard, heard, closed_by, refusal_fault, refused, Place, Expected, Ahead, Other, place_in, segment_of, placed_after, receiver_after}
+use Rattle.channel_model.specs.ertm_model.specs.Submitting.{later_within, later_segments, cut, is_busy, submitted, taking}
+use Rattle.talk_laws.specs.l2cap_config.specs.declared.wish.Mode.{Mode}
+use Rattle.talk_laws.specs.l2cap_config.specs.declared.wish.Mode.TheVariants.{Basic, Enhanced}
+use Rattle.talk_laws.specs.l2cap_config.specs.declared.wish.Wish.{Wish}
+use Rattle.talk_laws.specs.l2cap_config.specs.Agreement.{agreed_on}
 use Rattle.channel_model.specs.declared.event.ChannelEvent.{ChannelEvent}
 use Rattle.channel_model.specs.Value.{Carrier, Plain, Retransmitting, Setup, Stage, Requested, Connected, Leaving, Closing, Crossed, Held, Channels, no_channels}
 use Rattle.channel_model.specs.Policies.{Policy}
@@ -27,9 +27,9 @@ use Rattle.channel_model.specs.Value.{Queued, Answer as Answered, Ask}
 use Rattle.channel_model.specs.Calls.{carrier_with, carrier_if, open_carrier, setup_on, carrier_mtu, peer_mtu}
 use Rattle.channel_model.proofs.Lookups.{own_of, Distinct, distinct-append, found-distinct}
 use Rattle.channel_model.proofs.Going.{IsAccepted, CarrierGoes, new_held, Walks}
-use Rattle.acl_fragments.specs.Pieces.{channel_of}
-use Rattle.l2cap_signal.specs.Commands.{Command}
-use Rattle.l2cap_signal.specs.Reading.{answers}
+use Rattle.talk_laws.specs.acl_fragments.specs.Pieces.{channel_of}
+use Rattle.talk_laws.specs.l2cap_signal.specs.Commands.{Command}
+use Rattle.talk_laws.specs.l2cap_signal.specs.Reading.{answers}
 use Rattle.channel_model.specs.Hearing.{hears_commands}
 use Rattle.channel_model.specs.Carrying.{takes}
 use Rattle.channel_model.proofs.Walking.{commands-go}

@@ -3,21 +3,21 @@ use Rattle.std.proofs.Common.{◌≡◌, ℕ, List, [], ◌∷◌, ◌++◌, map
 use Rattle.std.specs.Prelude.{find, option_map, option_to_list}
 use Rattle.std.specs.List.{AllByRecursion, list_any}
 use Rattle.std.proofs.lemmas.Bool.{eqb-true}
-use Rattle.acl_fragments.specs.Pieces.{channel_of}
-use Rattle.capture.specs.Histories.{EachAfter}
-use Rattle.capture.specs.declared.flow.Flow.{Flow}
-use Rattle.capture.specs.declared.flow.Flow.TheVariants.{Out, Into}
-use Rattle.capture.specs.Pdus.{same_flow}
-use Rattle.l2cap_signal.specs.Commands.{Command, Content, reject, connection_request, connection_response, configuration_request, configuration_response, disconnection_request, disconnection_response, echo_request, echo_response, information_request, information_response}
-use Rattle.l2cap_signal.specs.Reading.{Answer as Read}
-use Rattle.l2cap_signal.specs.declared.refusal.SignalRefusal.TheVariants.{ZeroIdentifier, BadLength, UnknownCode, AboveMtu}
-use Rattle.l2cap_config.specs.Writing.{written}
-use Rattle.link_talk.specs.declared.call.Call.{Call}
-use Rattle.link_talk.specs.Sayings.{Saying, Carried, GaveUp}
-use Rattle.link_talk.specs.Sayings as sayings
-use Rattle.link_talk.specs.Senses.{Asks, Quiet, Unread}
-use Rattle.link_talk.specs.Requests.{call, went, is_own_call}
-use Rattle.link_talk.specs.Channels.{reading}
+use Rattle.talk_laws.specs.acl_fragments.specs.Pieces.{channel_of}
+use Rattle.talk_laws.specs.capture.specs.Histories.{EachAfter}
+use Rattle.talk_laws.specs.capture.specs.declared.flow.Flow.{Flow}
+use Rattle.talk_laws.specs.capture.specs.declared.flow.Flow.TheVariants.{Out, Into}
+use Rattle.talk_laws.specs.capture.specs.Pdus.{same_flow}
+use Rattle.talk_laws.specs.l2cap_signal.specs.Commands.{Command, Content, reject, connection_request, connection_response, configuration_request, configuration_response, disconnection_request, disconnection_response, echo_request, echo_response, information_request, information_response}
+use Rattle.talk_laws.specs.l2cap_signal.specs.Reading.{Answer as Read}
+use Rattle.talk_laws.specs.l2cap_signal.specs.declared.refusal.SignalRefusal.TheVariants.{ZeroIdentifier, BadLength, UnknownCode, AboveMtu}
+use Rattle.talk_laws.specs.l2cap_config.specs.Writing.{written}
+use Rattle.talk_laws.specs.link_talk.specs.declared.call.Call.{Call}
+use Rattle.talk_laws.specs.link_talk.specs.Sayings.{Saying, Carried, GaveUp}
+use Rattle.talk_laws.specs.link_talk.specs.Sayings as sayings
+use Rattle.talk_laws.specs.link_talk.specs.Senses.{Asks, Quiet, Unread}
+use Rattle.talk_laws.specs.link_talk.specs.Requests.{call, went, is_own_call}
+use Rattle.talk_laws.specs.link_talk.specs.Channels.{reading}
 use Rattle.channel_model.specs.declared.errand.Errand.TheVariants as errands
 use Rattle.channel_model.specs.Value.{Request, Carrier, Plain, Retransmitting, Requested, Held, Channels, no_channels}
 use Rattle.channel_model.specs.Policies.{Policy}

@@ -4,20 +4,20 @@ use Rattle.std.specs.Prelude.{filter, nat_le, option_to_list}
 use Rattle.std.specs.Option.{option_or}
 use Rattle.std.specs.List.{list_any}
 use Rattle.std.proofs.lemmas.Bool.{eqb-true}
-use Rattle.capture.specs.declared.flow.Flow.{Flow}
-use Rattle.capture.specs.declared.flow.Flow.TheVariants.{Out, Into}
-use Rattle.capture.specs.Pdus.{same_flow}
-use Rattle.l2cap_signal.specs.Commands.{Content, reject, connection_request, connection_response, configuration_request, configuration_response, disconnection_request, disconnection_response, echo_request, echo_response, information_request, information_response}
-use Rattle.l2cap_config.specs.Reading.{options_read}
-use Rattle.l2cap_signal.specs.declared.refusal.SignalRefusal.TheVariants.{ZeroIdentifier, BadLength, UnknownCode, AboveMtu}
-use Rattle.link_talk.specs.declared.call.Wanted.{Wanted}
-use Rattle.link_talk.specs.declared.call.Call.{Call}
-use Rattle.link_talk.specs.declared.channel.Channel.{Channel}
-use Rattle.link_talk.specs.Sayings.{Saying, Command, Carried, GaveUp, Connection, Disconnection, Information}
-use Rattle.link_talk.specs.Senses.{Asks, Quiet, Unread, sense}
-use Rattle.link_talk.specs.Requests.{call, went, has_source, is_call, first_of_run, last_run, call_wanted, answered_call, answered_query, has_failed}
-use Rattle.link_talk.specs.Meanings.{Meaning, Makes, Answers, Wishes, Settles, Parts, Nothing, granted, made, answered, is_read, meant}
-use Rattle.link_talk.specs.Channels.{Entry, fresh, entry_after, made_by, is_owner, entries_after, Reading, reading}
+use Rattle.talk_laws.specs.capture.specs.declared.flow.Flow.{Flow}
+use Rattle.talk_laws.specs.capture.specs.declared.flow.Flow.TheVariants.{Out, Into}
+use Rattle.talk_laws.specs.capture.specs.Pdus.{same_flow}
+use Rattle.talk_laws.specs.l2cap_signal.specs.Commands.{Content, reject, connection_request, connection_response, configuration_request, configuration_response, disconnection_request, disconnection_response, echo_request, echo_response, information_request, information_response}
+use Rattle.talk_laws.specs.l2cap_config.specs.Reading.{options_read}
+use Rattle.talk_laws.specs.l2cap_signal.specs.declared.refusal.SignalRefusal.TheVariants.{ZeroIdentifier, BadLength, UnknownCode, AboveMtu}
+use Rattle.talk_laws.specs.link_talk.specs.declared.call.Wanted.{Wanted}
+use Rattle.talk_laws.specs.link_talk.specs.declared.call.Call.{Call}
+use Rattle.talk_laws.specs.link_talk.specs.declared.channel.Channel.{Channel}
+use Rattle.talk_laws.specs.link_talk.specs.Sayings.{Saying, Command, Carried, GaveUp, Connection, Disconnection, Information}
+use Rattle.talk_laws.specs.link_talk.specs.Senses.{Asks, Quiet, Unread, sense}
+use Rattle.talk_laws.specs.link_talk.specs.Requests.{call, went, has_source, is_call, first_of_run, last_run, call_wanted, answered_call, answered_query, has_failed}
+use Rattle.talk_laws.specs.link_talk.specs.Meanings.{Meaning, Makes, Answers, Wishes, Settles, Parts, Nothing, granted, made, answered, is_read, meant}
+use Rattle.talk_laws.specs.link_talk.specs.Channels.{Entry, fresh, entry_after, made_by, is_owner, entries_after, Reading, reading}
 use Rattle.talk_laws.proofs.Passes.{from_end}
 use Rattle.channel_laws.specs.OwnTalk.{command_with}
 use Rattle.channel_laws.specs.Views.{read_at}

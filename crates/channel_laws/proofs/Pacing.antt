@@ -2,7 +2,7 @@
 use Rattle.std.proofs.Common.{◌≡◌, ℕ, ◌+◌, ◌≤◌, List, [], ◌∷◌, ◌++◌, map, Bool, true, false, eqb, not, Option, Some, None, refl, sym, ap, subst, ◌∙◌, arith}
 use Rattle.std.specs.Prelude.{find, filter, min}
 use Rattle.std.proofs.lemmas.Bool.{eqb-true}
-use Rattle.l2cap_config.specs.declared.options.Options.{Options}
+use Rattle.talk_laws.specs.l2cap_config.specs.declared.options.Options.{Options}
 use Rattle.channel_model.specs.Value.{Request, Own, Unasked, Asking, Granted, Setup, Stage, Requested, Connected, Leaving, Closing, Crossed, Held, Channels}
 use Rattle.channel_model.specs.Changing.{has_own, in_place_of, held_at, setup_of, stage_with}
 use Rattle.channel_model.specs.Giving.{one_more, own_given, connection_given, configuration_given, disconnection_given}

@@ -2,24 +2,24 @@
 use Rattle.std.proofs.Common.{◌≡◌, ℕ, zero, suc, ◌+◌, ◌≤◌, List, [], ◌∷◌, ◌++◌, length, Bool, true, false, cond, ◌&&◌, Option, Some, None, Ok, Err, refl, sym, ap, subst, ◌∙◌, ◌⊎◌, inl, inr, arith, append-nil, append_assoc}
 use Rattle.std.specs.Prelude.{find, option_map, option_to_list, is_some, slice_get}
 use Rattle.std.specs.List.{AllByRecursion}
-use Rattle.l2cap_config.specs.declared.wish.Agreed.{Agreed}
-use Rattle.ertm_frames.specs.declared.refusal.FrameRefusal.{FrameRefusal}
-use Rattle.ertm_frames.specs.declared.refusal.FrameRefusal.TheVariants.{Short, BadFcs}
-use Rattle.ertm_frames.specs.Frames.{PlainFrame, information, supervisory}
-use Rattle.ertm_frames.specs.Segments.{Segment}
-use Rattle.ertm_frames.specs.Answers.{Answer, IsWithin}
-use Rattle.ertm_frames.specs.Reading.{answer_in}
-use Rattle.ertm_model.specs.declared.reason.ErtmReason.{ErtmReason}
-use Rattle.ertm_model.specs.Value.{Ertm, new_ertm}
-use Rattle.ertm_model.specs.Submitting.{is_busy, submitted}
-use Rattle.ertm_model.specs.Giving.{Giving, giving, given_frame, next_frame, after_by, frame_by, after_frame}
-use Rattle.ertm_model.specs.Hearing.{fault, refusal_fault, closed_by, segment_of}
-use Rattle.ertm_model.specs.Pair.{Sent, End, Pair, near, Submit, gave, took, hearing_by, hearing, acknowledged_by, accepted_by}
-use Rattle.ertm_model.specs.Order.{MayFly, Stands}
-use Rattle.ertm_model.proofs.Standing.{does-stands, swapped}
-use Rattle.ertm_model.proofs.Hearing.{hearing-stands}
-use Rattle.ertm_model.proofs.Saying.{gives-stands}
-use Rattle.ertm_model.proofs.Ordering.{front-flies}
+use Rattle.talk_laws.specs.l2cap_config.specs.declared.wish.Agreed.{Agreed}
+use Rattle.talk_laws.specs.ertm_frames.specs.declared.refusal.FrameRefusal.{FrameRefusal}
+use Rattle.talk_laws.specs.ertm_frames.specs.declared.refusal.FrameRefusal.TheVariants.{Short, BadFcs}
+use Rattle.talk_laws.specs.ertm_frames.specs.Frames.{PlainFrame, information, supervisory}
+use Rattle.talk_laws.specs.ertm_frames.specs.Segments.{Segment}
+use Rattle.talk_laws.specs.ertm_frames.specs.Answers.{Answer, IsWithin}
+use Rattle.talk_laws.specs.ertm_frames.specs.Reading.{answer_in}
+use Rattle.channel_model.specs.ertm_model.specs.declared.reason.ErtmReason.{ErtmReason}
+use Rattle.channel_model.specs.ertm_model.specs.Value.{Ertm, new_ertm}
+use Rattle.channel_model.specs.ertm_model.specs.Submitting.{is_busy, submitted}
+use Rattle.channel_model.specs.ertm_model.specs.Giving.{Giving, giving, given_frame, next_frame, after_by, frame_by, after_frame}
+use Rattle.channel_model.specs.ertm_model.specs.Hearing.{fault, refusal_fault, closed_by, segment_of}
+use Rattle.channel_model.specs.ertm_model.specs.Pair.{Sent, End, Pair, near, Submit, gave, took, hearing_by, hearing, acknowledged_by, accepted_by}
+use Rattle.channel_model.specs.ertm_model.specs.Order.{MayFly, Stands}
+use Rattle.channel_model.specs.ertm_model.proofs.Standing.{does-stands, swapped}
+use Rattle.channel_model.specs.ertm_model.proofs.Hearing.{hearing-stands}
+use Rattle.channel_model.specs.ertm_model.proofs.Saying.{gives-stands}
+use Rattle.channel_model.specs.ertm_model.proofs.Ordering.{front-flies}
 use Rattle.channel_model.specs.Value.{Carrier, Plain, Retransmitting, Setup, Stage, Requested, Connected, Leaving, Closing, Crossed, Held, Channels}
 use Rattle.channel_model.specs.Policies.{Policy}
 use Rattle.channel_model.specs.Changing.{has_own, held_at, is_granted, is_open, setup_of, stage_with, with_setup, to_setup, has_fcs_by}

@@ -4,24 +4,24 @@ use Rattle.std.specs.Prelude.{option_map, option_to_list}
 use Rattle.std.specs.List.{list_any, filter_map, cons_option}
 use Rattle.std.proofs.lemmas.Bool.{eqb-true}
 use Rattle.std.proofs.lemmas.List.Elements.{filter_map-append}
-use Rattle.bt_base.specs.Octets.{IsOctets, le16}
-use Rattle.bt_base.proofs.OctetLemmas.{le16-number}
-use Rattle.acl_fragments.specs.Pieces.{channel_of}
-use Rattle.capture.specs.declared.flow.Flow.TheVariants.{Out, Into}
-use Rattle.ertm_frames.specs.Frames.{PlainFrame, information, supervisory, body_of, control_of, Spells}
-use Rattle.ertm_frames.specs.Answers.{IsWithin}
-use Rattle.ertm_frames.specs.Reading.{answer_in, frame_by, frame_in}
-use Rattle.ertm_frames.specs.Picking.{Out as Gave, In}
-use Rattle.ertm_frames.proofs.Spelled.{written-read}
-use Rattle.ertm_frames.proofs.WorkedOut.{answer-is_worked_out}
-use Rattle.link_talk.specs.declared.channel.Channel.{Channel}
-use Rattle.link_talk.specs.declared.party.Party.{Party}
-use Rattle.link_talk.specs.Sayings.{Saying, Command, Carried, GaveUp}
-use Rattle.link_talk.specs.Setups.{is_set}
-use Rattle.link_talk.specs.Channels.{Entry, is_there, reading}
-use Rattle.link_talk.specs.Carriages.{Carriage, is_held, is_passed, takes as takes_on_it, taker, carried, passages, has_own as is_of}
-use Rattle.link_talk.specs.Accounts.{passage, passage_in, frames_passed}
-use Rattle.link_talk.proofs.Growing.{passages-grow}
+use Rattle.talk_laws.specs.bt_base.specs.Octets.{IsOctets, le16}
+use Rattle.talk_laws.specs.bt_base.proofs.OctetLemmas.{le16-number}
+use Rattle.talk_laws.specs.acl_fragments.specs.Pieces.{channel_of}
+use Rattle.talk_laws.specs.capture.specs.declared.flow.Flow.TheVariants.{Out, Into}
+use Rattle.talk_laws.specs.ertm_frames.specs.Frames.{PlainFrame, information, supervisory, body_of, control_of, Spells}
+use Rattle.talk_laws.specs.ertm_frames.specs.Answers.{IsWithin}
+use Rattle.talk_laws.specs.ertm_frames.specs.Reading.{answer_in, frame_by, frame_in}
+use Rattle.talk_laws.specs.ertm_frames.specs.Picking.{Out as Gave, In}
+use Rattle.talk_laws.specs.ertm_frames.proofs.Spelled.{written-read}
+use Rattle.talk_laws.specs.ertm_frames.proofs.WorkedOut.{answer-is_worked_out}
+use Rattle.talk_laws.specs.link_talk.specs.declared.channel.Channel.{Channel}
+use Rattle.talk_laws.specs.link_talk.specs.declared.party.Party.{Party}
+use Rattle.talk_laws.specs.link_talk.specs.Sayings.{Saying, Command, Carried, GaveUp}
+use Rattle.talk_laws.specs.link_talk.specs.Setups.{is_set}
+use Rattle.talk_laws.specs.link_talk.specs.Channels.{Entry, is_there, reading}
+use Rattle.talk_laws.specs.link_talk.specs.Carriages.{Carriage, is_held, is_passed, takes as takes_on_it, taker, carried, passages, has_own as is_of}
+use Rattle.talk_laws.specs.link_talk.specs.Accounts.{passage, passage_in, frames_passed}
+use Rattle.talk_laws.specs.link_talk.proofs.Growing.{passages-grow}
 use Rattle.talk_laws.proofs.Owning.{alone, found_one}
 use Rattle.channel_laws.specs.Views.{read_at}
 use Rattle.channel_model.proofs.Lookups.{eqb-same}

@@ -1,20 +1,20 @@
 -- A retransmission machine, and the frames that passed on its channel.
 use Rattle.std.proofs.Common.{◌≡◌, ℕ, ◌≤◌, List, [], ◌∷◌, ◌++◌, Bool, true, false, ◌||◌, Option, Some, None, Ok, Err, refl, sym, ap, subst, ◌∙◌, ◌⊎◌, inl, inr, append-nil}
 use Rattle.std.specs.Prelude.{option_map, option_to_list, nat_lt}
-use Rattle.ertm_frames.specs.Frames.{PlainFrame}
-use Rattle.ertm_frames.specs.Answers.{Answer}
-use Rattle.ertm_frames.specs.Reading.{answer_in, frame_by, frame_in, frames_in}
-use Rattle.ertm_frames.specs.Picking.{Passage, Out, In, outs, ins, unacknowledged, poll_waits}
-use Rattle.ertm_frames.proofs.Telling.{frames-more}
-use Rattle.ertm_model.specs.Value.{Ertm, new_ertm, window_used, armed}
-use Rattle.ertm_model.specs.Submitting.{submitted}
-use Rattle.ertm_model.specs.Giving.{Giving, giving, frame_by as given_by, given_frame, next_frame, after_frame, timed}
-use Rattle.ertm_model.specs.Runs.{Event, Submits, Comes, Gives, Fires, Course, new_course, comes, given, happens, all_happen, IsSaid}
-use Rattle.ertm_model.proofs.Coursing.{always-said}
-use Rattle.l2cap_config.specs.declared.wish.Agreed.{Agreed}
-use Rattle.l2cap_config.specs.declared.wish.Mode.TheVariants.{Basic}
-use Rattle.l2cap_config.specs.declared.wish.Wish.{Wish}
-use Rattle.l2cap_config.specs.Agreement.{agreed_on}
+use Rattle.talk_laws.specs.ertm_frames.specs.Frames.{PlainFrame}
+use Rattle.talk_laws.specs.ertm_frames.specs.Answers.{Answer}
+use Rattle.talk_laws.specs.ertm_frames.specs.Reading.{answer_in, frame_by, frame_in, frames_in}
+use Rattle.talk_laws.specs.ertm_frames.specs.Picking.{Passage, Out, In, outs, ins, unacknowledged, poll_waits}
+use Rattle.talk_laws.specs.ertm_frames.proofs.Telling.{frames-more}
+use Rattle.channel_model.specs.ertm_model.specs.Value.{Ertm, new_ertm, window_used, armed}
+use Rattle.channel_model.specs.ertm_model.specs.Submitting.{submitted}
+use Rattle.channel_model.specs.ertm_model.specs.Giving.{Giving, giving, frame_by as given_by, given_frame, next_frame, after_frame, timed}
+use Rattle.channel_model.specs.ertm_model.specs.Runs.{Event, Submits, Comes, Gives, Fires, Course, new_course, comes, given, happens, all_happen, IsSaid}
+use Rattle.channel_model.specs.ertm_model.proofs.Coursing.{always-said}
+use Rattle.talk_laws.specs.l2cap_config.specs.declared.wish.Agreed.{Agreed}
+use Rattle.talk_laws.specs.l2cap_config.specs.declared.wish.Mode.TheVariants.{Basic}
+use Rattle.talk_laws.specs.l2cap_config.specs.declared.wish.Wish.{Wish}
+use Rattle.talk_laws.specs.l2cap_config.specs.Agreement.{agreed_on}
 use Rattle.channel_model.specs.Configuring.{bounded_agreement, carrier_by}
 use Rattle.std.specs.List.{cons_option}
 use Rattle.channel_model.specs.Value.{Carrier, Plain, Retransmitting}

@@ -15,13 +15,13 @@ use Rattle.channel_laws.proofs.Due.{KeepsDue, Any, walks, AllWereDue, all-due}
 use Rattle.channel_laws.proofs.Conversing.{conversed-on}
 use Rattle.channel_laws.proofs.OneByOne.{asked-due, single-due}
 use Rattle.std.specs.List.{AllByRecursion, list_any}
-use Rattle.acl_fragments.specs.Pieces.{channel_of}
-use Rattle.capture.specs.Histories.{EachAfter}
-use Rattle.capture.specs.declared.flow.Flow.TheVariants.{Into}
-use Rattle.l2cap_signal.specs.Commands.{Content, reject, connection_request, connection_response, configuration_request, configuration_response, disconnection_request, disconnection_response, echo_request, echo_response, information_request, information_response}
-use Rattle.l2cap_signal.specs.Reading.{Answer as Read}
-use Rattle.link_talk.specs.Sayings.{Saying, Carried}
-use Rattle.link_talk.specs.Channels.{reading}
+use Rattle.talk_laws.specs.acl_fragments.specs.Pieces.{channel_of}
+use Rattle.talk_laws.specs.capture.specs.Histories.{EachAfter}
+use Rattle.talk_laws.specs.capture.specs.declared.flow.Flow.TheVariants.{Into}
+use Rattle.talk_laws.specs.l2cap_signal.specs.Commands.{Content, reject, connection_request, connection_response, configuration_request, configuration_response, disconnection_request, disconnection_response, echo_request, echo_response, information_request, information_response}
+use Rattle.talk_laws.specs.l2cap_signal.specs.Reading.{Answer as Read}
+use Rattle.talk_laws.specs.link_talk.specs.Sayings.{Saying, Carried}
+use Rattle.talk_laws.specs.link_talk.specs.Channels.{reading}
 use Rattle.channel_model.specs.declared.errand.Errand.TheVariants as errands
 use Rattle.channel_model.specs.Value.{Stage, Requested, Held, Channels}
 use Rattle.channel_model.specs.Policies.{Policy}

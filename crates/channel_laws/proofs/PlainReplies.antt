@@ -1,9 +1,9 @@
 -- A response to a request of another kind is none to a request for options.
 use Rattle.std.proofs.Common.{◌≡◌, ℕ, List, [], ◌∷◌, Bool, true, false, cond, eqb, Option, Some, None, refl, ap, subst, ◌∙◌}
-use Rattle.capture.specs.declared.flow.Flow.TheVariants.{Out, Into}
-use Rattle.l2cap_signal.specs.Commands.{Content, reject, connection_request, connection_response, configuration_request, configuration_response, disconnection_request, disconnection_response, echo_request, echo_response, information_request, information_response}
-use Rattle.link_talk.specs.Senses.{Quiet}
-use Rattle.link_talk.specs.Channels.{fresh, Reading}
+use Rattle.talk_laws.specs.capture.specs.declared.flow.Flow.TheVariants.{Out, Into}
+use Rattle.talk_laws.specs.l2cap_signal.specs.Commands.{Content, reject, connection_request, connection_response, configuration_request, configuration_response, disconnection_request, disconnection_response, echo_request, echo_response, information_request, information_response}
+use Rattle.talk_laws.specs.link_talk.specs.Senses.{Quiet}
+use Rattle.talk_laws.specs.link_talk.specs.Channels.{fresh, Reading}
 use Rattle.channel_model.specs.declared.request_kind.RequestKind.TheVariants as kinds
 use Rattle.channel_model.specs.Value.{Stage, Requested, Connected, Leaving, Closing, Crossed, Held, Remembered, Channels}
 use Rattle.channel_model.specs.Policies.{Policy}
@@ -11,8 +11,8 @@ use Rattle.channel_model.specs.Answers.{remembered}
 use Rattle.channel_laws.specs.OwnTalk.{response_by}
 use Rattle.channel_laws.proofs.Sound.{Sound}
 use Rattle.std.specs.Prelude.{filter}
-use Rattle.link_talk.specs.Requests.{went}
-use Rattle.link_talk.specs.Senses.{Opens, OnOptions}
+use Rattle.talk_laws.specs.link_talk.specs.Requests.{went}
+use Rattle.talk_laws.specs.link_talk.specs.Senses.{Opens, OnOptions}
 use Rattle.channel_model.specs.declared.request_kind.RequestKind.{RequestKind}
 use Rattle.channel_model.specs.Answers.{no_such_channel, disconnection_by, disconnection_answer, information_answer}
 use Rattle.channel_laws.specs.OwnTalk.{response_as}

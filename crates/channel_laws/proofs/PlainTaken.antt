@@ -3,19 +3,19 @@ use Rattle.std.proofs.Common.{◌≡◌, ℕ, ◌<◌, List, [], ◌∷◌, ◌+
 use Rattle.std.specs.Prelude.{unwrap_or}
 use Rattle.std.proofs.lemmas.Bool.{eqb-true}
 use Rattle.std.proofs.lemmas.List.Sums.{fold-append}
-use Rattle.bt_base.proofs.OctetLemmas.{le16-number}
-use Rattle.acl_fragments.specs.Pieces.{channel_of}
-use Rattle.capture.specs.declared.flow.Flow.TheVariants.{Out, Into}
-use Rattle.capture.specs.Histories.{EachAfter}
-use Rattle.capture.proofs.HistoryLaws.{given_by-more}
-use Rattle.l2cap_signal.specs.Reading.{answers}
-use Rattle.l2cap_config.specs.declared.wish.Mode.{Mode}
-use Rattle.l2cap_config.specs.declared.wish.Mode.TheVariants.{Basic, Enhanced}
-use Rattle.link_talk.specs.declared.channel.Channel.{Channel}
-use Rattle.link_talk.specs.Sayings.{Saying, Carried}
-use Rattle.link_talk.specs.Setups.{is_set}
-use Rattle.link_talk.specs.Channels.{Entry, is_there, reading}
-use Rattle.link_talk.specs.Carriages.{is_held, is_passed, takes as takes_on_it, pdus_of, entry_mode, mode_of}
+use Rattle.talk_laws.specs.bt_base.proofs.OctetLemmas.{le16-number}
+use Rattle.talk_laws.specs.acl_fragments.specs.Pieces.{channel_of}
+use Rattle.talk_laws.specs.capture.specs.declared.flow.Flow.TheVariants.{Out, Into}
+use Rattle.talk_laws.specs.capture.specs.Histories.{EachAfter}
+use Rattle.talk_laws.specs.capture.proofs.HistoryLaws.{given_by-more}
+use Rattle.talk_laws.specs.l2cap_signal.specs.Reading.{answers}
+use Rattle.talk_laws.specs.l2cap_config.specs.declared.wish.Mode.{Mode}
+use Rattle.talk_laws.specs.l2cap_config.specs.declared.wish.Mode.TheVariants.{Basic, Enhanced}
+use Rattle.talk_laws.specs.link_talk.specs.declared.channel.Channel.{Channel}
+use Rattle.talk_laws.specs.link_talk.specs.Sayings.{Saying, Carried}
+use Rattle.talk_laws.specs.link_talk.specs.Setups.{is_set}
+use Rattle.talk_laws.specs.link_talk.specs.Channels.{Entry, is_there, reading}
+use Rattle.talk_laws.specs.link_talk.specs.Carriages.{is_held, is_passed, takes as takes_on_it, pdus_of, entry_mode, mode_of}
 use Rattle.channel_model.specs.Value.{Carrier, Plain, Retransmitting, Setup, Held, Channels}
 use Rattle.channel_model.specs.Policies.{Policy}
 use Rattle.channel_model.specs.Changing.{held_at, is_open, setup_of}

@@ -2,8 +2,8 @@
 use Rattle.std.proofs.Common.{◌≡◌, ℕ, ◌+◌, ◌<◌, ◌≤◌, List, [], ◌∷◌, ◌++◌, Bool, true, false, eqb, Option, Some, None, Ok, refl, sym, ap, ◌∙◌, ◌⊎◌, inl, inr, arith}
 use Rattle.std.specs.Prelude.{find, nat_lt, option_map}
 use Rattle.std.proofs.lemmas.Bool.{eqb-true, ltb-false, ltb-true}
-use Rattle.l2cap_signal.specs.Commands.{Content}
-use Rattle.link_talk.specs.Sayings.{Saying}
+use Rattle.talk_laws.specs.l2cap_signal.specs.Commands.{Content}
+use Rattle.talk_laws.specs.link_talk.specs.Sayings.{Saying}
 use Rattle.channel_model.specs.declared.event.ChannelEvent.{ChannelEvent}
 use Rattle.channel_model.specs.Value.{Request, Carrier, Stage, Requested, Held, Channels}
 use Rattle.channel_model.specs.Policies.{Policy}

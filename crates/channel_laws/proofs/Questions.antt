@@ -2,12 +2,12 @@
 use Rattle.std.proofs.Common.{◌≡◌, ℕ, List, [], ◌∷◌, ◌++◌, fold, map, Bool, true, false, cond, eqb, Option, Some, None, refl, sym, ap, subst, ◌∙◌}
 use Rattle.std.specs.Prelude.{option_to_list}
 use Rattle.std.proofs.lemmas.Bool.{eqb-true}
-use Rattle.capture.specs.declared.flow.Flow.TheVariants.{Into}
-use Rattle.l2cap_signal.specs.Commands.{Content}
-use Rattle.l2cap_signal.specs.Reading.{Answer as Read}
-use Rattle.link_talk.specs.Sayings.{Saying}
-use Rattle.link_talk.specs.Sayings as sayings
-use Rattle.link_talk.specs.Channels.{Reading, read_on}
+use Rattle.talk_laws.specs.capture.specs.declared.flow.Flow.TheVariants.{Into}
+use Rattle.talk_laws.specs.l2cap_signal.specs.Commands.{Content}
+use Rattle.talk_laws.specs.l2cap_signal.specs.Reading.{Answer as Read}
+use Rattle.talk_laws.specs.link_talk.specs.Sayings.{Saying}
+use Rattle.talk_laws.specs.link_talk.specs.Sayings as sayings
+use Rattle.talk_laws.specs.link_talk.specs.Channels.{Reading, read_on}
 use Rattle.channel_model.specs.declared.request_kind.RequestKind.{RequestKind}
 use Rattle.channel_model.specs.declared.request_kind.RequestKind.TheVariants as kinds
 use Rattle.channel_model.specs.Value.{Remembered, Channels}

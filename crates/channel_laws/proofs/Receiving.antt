@@ -3,21 +3,21 @@ use Rattle.std.proofs.Common.{◌≡◌, ℕ, List, [], ◌∷◌, ◌++◌, Boo
 use Rattle.std.specs.Prelude.{find, drop, option_map, option_to_list, is_some}
 use Rattle.std.specs.List.{list_any, filter_map, cons_option}
 use Rattle.std.proofs.lemmas.List.Elements.{filter_map-append}
-use Rattle.ertm_frames.specs.Answers.{Answer}
-use Rattle.ertm_frames.specs.Reading.{frame_by, frame_in, frames_in}
-use Rattle.ertm_model.specs.declared.reason.ErtmReason.{ErtmReason}
-use Rattle.ertm_model.specs.declared.reason.ErtmReason.TheVariants as machines
-use Rattle.ertm_model.specs.Value.{Ertm}
-use Rattle.l2cap_config.specs.declared.wish.Mode.{Mode}
-use Rattle.l2cap_config.specs.declared.wish.Mode.TheVariants.{Basic, Enhanced}
-use Rattle.l2cap_config.specs.declared.wish.Wish.{Wish}
-use Rattle.l2cap_config.specs.declared.wish.Agreed.{Agreed}
-use Rattle.link_talk.specs.declared.party.Party.{Party}
-use Rattle.link_talk.specs.Setups as read
-use Rattle.link_talk.specs.Setups.{is_set, is_enhanced, agreed_mode}
-use Rattle.link_talk.specs.Channels.{is_alive, Entry}
-use Rattle.link_talk.specs.Carriages.{entry_mode}
-use Rattle.link_talk.specs.Sdus.{sdus_by}
+use Rattle.talk_laws.specs.ertm_frames.specs.Answers.{Answer}
+use Rattle.talk_laws.specs.ertm_frames.specs.Reading.{frame_by, frame_in, frames_in}
+use Rattle.channel_model.specs.ertm_model.specs.declared.reason.ErtmReason.{ErtmReason}
+use Rattle.channel_model.specs.ertm_model.specs.declared.reason.ErtmReason.TheVariants as machines
+use Rattle.channel_model.specs.ertm_model.specs.Value.{Ertm}
+use Rattle.talk_laws.specs.l2cap_config.specs.declared.wish.Mode.{Mode}
+use Rattle.talk_laws.specs.l2cap_config.specs.declared.wish.Mode.TheVariants.{Basic, Enhanced}
+use Rattle.talk_laws.specs.l2cap_config.specs.declared.wish.Wish.{Wish}
+use Rattle.talk_laws.specs.l2cap_config.specs.declared.wish.Agreed.{Agreed}
+use Rattle.talk_laws.specs.link_talk.specs.declared.party.Party.{Party}
+use Rattle.talk_laws.specs.link_talk.specs.Setups as read
+use Rattle.talk_laws.specs.link_talk.specs.Setups.{is_set, is_enhanced, agreed_mode}
+use Rattle.talk_laws.specs.link_talk.specs.Channels.{is_alive, Entry}
+use Rattle.talk_laws.specs.link_talk.specs.Carriages.{entry_mode}
+use Rattle.talk_laws.specs.link_talk.specs.Sdus.{sdus_by}
 use Rattle.channel_model.specs.declared.event.ChannelEvent.{ChannelEvent}
 use Rattle.channel_model.specs.declared.event.ChannelEvent.TheVariants.{Opened, Closed, Features, FeaturesLost, DisconnectLost}
 use Rattle.channel_model.specs.Value.{Own, Unasked, Asking, Granted, Carrier, Plain, Retransmitting, Setup, Stage, Connected, Leaving, Closing, Held, Channels}

@@ -1,15 +1,15 @@
 -- What the peer responds.
 use Rattle.std.proofs.Common.{◌≡◌, ℕ, List, Bool, true, false, cond, ◌&&◌, eqb, not, Some, refl, sym, ap, subst, ◌∙◌}
 use Rattle.std.specs.Prelude.{find, is_some}
-use Rattle.capture.specs.declared.flow.Flow.TheVariants.{Into}
-use Rattle.l2cap_config.specs.declared.options.Options.{Options}
-use Rattle.l2cap_config.specs.declared.wish.Wish.{Wish}
-use Rattle.l2cap_config.specs.Reading.{options_read}
-use Rattle.link_talk.specs.Sayings.{Saying}
-use Rattle.link_talk.specs.Senses.{Opens, OnOptions, sense}
-use Rattle.link_talk.specs.Requests.{requests_after}
-use Rattle.link_talk.specs.Meanings.{Nothing, Settles, meant, is_read}
-use Rattle.link_talk.specs.Channels.{entries_after, Reading, read_on}
+use Rattle.talk_laws.specs.capture.specs.declared.flow.Flow.TheVariants.{Into}
+use Rattle.talk_laws.specs.l2cap_config.specs.declared.options.Options.{Options}
+use Rattle.talk_laws.specs.l2cap_config.specs.declared.wish.Wish.{Wish}
+use Rattle.talk_laws.specs.l2cap_config.specs.Reading.{options_read}
+use Rattle.talk_laws.specs.link_talk.specs.Sayings.{Saying}
+use Rattle.talk_laws.specs.link_talk.specs.Senses.{Opens, OnOptions, sense}
+use Rattle.talk_laws.specs.link_talk.specs.Requests.{requests_after}
+use Rattle.talk_laws.specs.link_talk.specs.Meanings.{Nothing, Settles, meant, is_read}
+use Rattle.talk_laws.specs.link_talk.specs.Channels.{entries_after, Reading, read_on}
 use Rattle.channel_model.specs.Value.{Own, Unasked, Asking, Granted, Setup, Held, Channels}
 use Rattle.channel_model.specs.Policies.{Policy}
 use Rattle.channel_model.specs.Changing.{has_own, stage_with, to_setup, with_setup}

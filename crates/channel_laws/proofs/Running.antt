@@ -3,12 +3,12 @@ use Rattle.std.proofs.Common.{◌≡◌, ℕ, List, [], ◌∷◌, fold, map, dr
 use Rattle.std.specs.Prelude.{is_some}
 use Rattle.std.specs.List.{AllByRecursion}
 use Rattle.std.proofs.lemmas.List.Sums.{fold-append}
-use Rattle.acl_fragments.specs.Pieces.{channel_of}
-use Rattle.capture.specs.declared.flow.Flow.TheVariants.{Out, Into}
-use Rattle.l2cap_signal.specs.Commands.{information_request}
-use Rattle.l2cap_signal.specs.Reading.{Answer as Read, answers}
-use Rattle.link_talk.specs.Sayings.{Carried}
-use Rattle.link_talk.specs.Channels.{Reading, nothing_read, read_on, reading}
+use Rattle.talk_laws.specs.acl_fragments.specs.Pieces.{channel_of}
+use Rattle.talk_laws.specs.capture.specs.declared.flow.Flow.TheVariants.{Out, Into}
+use Rattle.talk_laws.specs.l2cap_signal.specs.Commands.{information_request}
+use Rattle.talk_laws.specs.l2cap_signal.specs.Reading.{Answer as Read, answers}
+use Rattle.talk_laws.specs.link_talk.specs.Sayings.{Carried}
+use Rattle.talk_laws.specs.link_talk.specs.Channels.{Reading, nothing_read, read_on, reading}
 use Rattle.channel_model.specs.declared.errand.Errand.TheVariants.{Features, Connection}
 use Rattle.channel_model.specs.Value.{Request, Carrier, Plain, Retransmitting, Channels, Requested}
 use Rattle.channel_model.specs.Policies.{Policy}

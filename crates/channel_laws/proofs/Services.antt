@@ -7,32 +7,32 @@ use Rattle.std.proofs.lemmas.List.{map-append}
 use Rattle.std.proofs.lemmas.List.Elements.{filter_map-append}
 use Rattle.std.proofs.lemmas.List.Sums.{fold-append}
 use Rattle.std.proofs.Math.Seq.{drop-append_seam}
-use Rattle.acl_fragments.specs.Pieces.{channel_of}
-use Rattle.capture.specs.declared.flow.Flow.{Flow}
-use Rattle.capture.specs.declared.flow.Flow.TheVariants.{Out, Into}
-use Rattle.capture.specs.Histories.{each_after, given_by, EachAfter}
-use Rattle.capture.specs.Pdus.{same_flow}
-use Rattle.l2cap_signal.specs.Commands.{Command}
-use Rattle.l2cap_signal.specs.Reading.{answers}
-use Rattle.l2cap_config.specs.declared.wish.Mode.{Mode}
-use Rattle.l2cap_config.specs.declared.wish.Mode.TheVariants.{Basic, Enhanced}
-use Rattle.l2cap_config.specs.declared.wish.Wish.{Wish}
-use Rattle.ertm_frames.specs.Frames.{PlainFrame}
-use Rattle.ertm_model.specs.Value.{Ertm}
-use Rattle.ertm_model.specs.Giving.{next_frame}
-use Rattle.sdp_elements.specs.Pdus.{pdu_in}
-use Rattle.link_talk.specs.declared.channel.Channel.{Channel}
-use Rattle.link_talk.specs.declared.party.Party.{Party}
-use Rattle.link_talk.specs.Sayings.{Saying, Command as Said, Carried, GaveUp}
-use Rattle.link_talk.specs.Setups.{is_set, is_enhanced, agreed_mode}
-use Rattle.link_talk.specs.Channels.{is_there, Entry, Reading, nothing_read, read_on, reading}
-use Rattle.link_talk.specs.Carriages.{Carriage, is_held, is_heard, takes, taker, is_on, carried, stretch, pdus_of, one_way, entry_mode, mode_of, has_own as is_of}
-use Rattle.link_talk.specs.Gains.{gained}
-use Rattle.link_talk.specs.GrowingLaws.{has_opened}
-use Rattle.link_talk.specs.Sdus.{Spoken, spoken_as, sdus_of, spoken_with, spoken}
-use Rattle.link_talk.specs.ServiceAnswers.{transaction_of, asked_by, waiting_after}
-use Rattle.link_talk.specs.Waits.{query_waits}
-use Rattle.link_talk.proofs.Growing.{stretch-grows, mode-stands}
+use Rattle.talk_laws.specs.acl_fragments.specs.Pieces.{channel_of}
+use Rattle.talk_laws.specs.capture.specs.declared.flow.Flow.{Flow}
+use Rattle.talk_laws.specs.capture.specs.declared.flow.Flow.TheVariants.{Out, Into}
+use Rattle.talk_laws.specs.capture.specs.Histories.{each_after, given_by, EachAfter}
+use Rattle.talk_laws.specs.capture.specs.Pdus.{same_flow}
+use Rattle.talk_laws.specs.l2cap_signal.specs.Commands.{Command}
+use Rattle.talk_laws.specs.l2cap_signal.specs.Reading.{answers}
+use Rattle.talk_laws.specs.l2cap_config.specs.declared.wish.Mode.{Mode}
+use Rattle.talk_laws.specs.l2cap_config.specs.declared.wish.Mode.TheVariants.{Basic, Enhanced}
+use Rattle.talk_laws.specs.l2cap_config.specs.declared.wish.Wish.{Wish}
+use Rattle.talk_laws.specs.ertm_frames.specs.Frames.{PlainFrame}
+use Rattle.channel_model.specs.ertm_model.specs.Value.{Ertm}
+use Rattle.channel_model.specs.ertm_model.specs.Giving.{next_frame}
+use Rattle.talk_laws.specs.sdp_elements.specs.Pdus.{pdu_in}
+use Rattle.talk_laws.specs.link_talk.specs.declared.channel.Channel.{Channel}
+use Rattle.talk_laws.specs.link_talk.specs.declared.party.Party.{Party}
+use Rattle.talk_laws.specs.link_talk.specs.Sayings.{Saying, Command as Said, Carried, GaveUp}
+use Rattle.talk_laws.specs.link_talk.specs.Setups.{is_set, is_enhanced, agreed_mode}
+use Rattle.talk_laws.specs.link_talk.specs.Channels.{is_there, Entry, Reading, nothing_read, read_on, reading}
+use Rattle.talk_laws.specs.link_talk.specs.Carriages.{Carriage, is_held, is_heard, takes, taker, is_on, carried, stretch, pdus_of, one_way, entry_mode, mode_of, has_own as is_of}
+use Rattle.talk_laws.specs.link_talk.specs.Gains.{gained}
+use Rattle.talk_laws.specs.link_talk.specs.GrowingLaws.{has_opened}
+use Rattle.talk_laws.specs.link_talk.specs.Sdus.{Spoken, spoken_as, sdus_of, spoken_with, spoken}
+use Rattle.talk_laws.specs.link_talk.specs.ServiceAnswers.{transaction_of, asked_by, waiting_after}
+use Rattle.talk_laws.specs.link_talk.specs.Waits.{query_waits}
+use Rattle.talk_laws.specs.link_talk.proofs.Growing.{stretch-grows, mode-stands}
 use Rattle.channel_model.specs.Value.{Queued, Answer, Ask, Own, Unasked, Asking, Granted, Carrier, Plain, Retransmitting, Setup, Stage, Requested, Connected, Leaving, Closing, Crossed, Held, Channels}
 use Rattle.channel_model.specs.Policies.{Policy}
 use Rattle.channel_model.specs.Changing.{held_at, is_stated, setup_of}

@@ -2,26 +2,26 @@
 use Rattle.std.proofs.Common.{◌≡◌, ℕ, List, [], ◌∷◌, fold, Bool, true, false, cond, ◌&&◌, eqb, Option, Some, None, Result, Ok, Err, refl, sym, ap, subst, ◌∙◌, ◌||◌}
 use Rattle.std.specs.Prelude.{find, option_map, nat_le}
 use Rattle.std.proofs.lemmas.Bool.{eqb-true}
-use Rattle.capture.specs.declared.flow.Flow.TheVariants.{Into}
-use Rattle.l2cap_signal.specs.Commands.{Command, configuration_request}
-use Rattle.l2cap_config.specs.declared.options.Options.{Options}
-use Rattle.l2cap_config.specs.declared.options.ConfigRefusal.{ConfigRefusal}
-use Rattle.l2cap_config.specs.declared.agreement.Settled.{Settled}
-use Rattle.l2cap_config.specs.declared.agreement.Settled.TheVariants.{Accepted, Again, Wait, Never}
-use Rattle.l2cap_config.specs.declared.wish.Wish.{Wish}
-use Rattle.l2cap_config.specs.Reading.{options_read}
-use Rattle.l2cap_config.specs.Agreement.{settled, requested, keeps_mode}
-use Rattle.l2cap_config.specs.Writing.{written}
-use Rattle.link_talk.specs.declared.life.Life.{Life}
-use Rattle.link_talk.specs.declared.life.Life.TheVariants as lives
-use Rattle.link_talk.specs.declared.word.Word.{Word}
-use Rattle.link_talk.specs.declared.word.Word.TheVariants.{EndAnswered}
-use Rattle.link_talk.specs.Sayings.{Saying}
-use Rattle.link_talk.specs.Senses.{Ends, Opens, OnOptions, sense}
-use Rattle.link_talk.specs.Requests.{requests_after}
-use Rattle.link_talk.specs.Meanings.{Parts, meant}
-use Rattle.link_talk.specs.Setups.{setup_after}
-use Rattle.link_talk.specs.Channels.{life_after, is_there, Entry, entry_after, entries_after, Reading, read_on}
+use Rattle.talk_laws.specs.capture.specs.declared.flow.Flow.TheVariants.{Into}
+use Rattle.talk_laws.specs.l2cap_signal.specs.Commands.{Command, configuration_request}
+use Rattle.talk_laws.specs.l2cap_config.specs.declared.options.Options.{Options}
+use Rattle.talk_laws.specs.l2cap_config.specs.declared.options.ConfigRefusal.{ConfigRefusal}
+use Rattle.talk_laws.specs.l2cap_config.specs.declared.agreement.Settled.{Settled}
+use Rattle.talk_laws.specs.l2cap_config.specs.declared.agreement.Settled.TheVariants.{Accepted, Again, Wait, Never}
+use Rattle.talk_laws.specs.l2cap_config.specs.declared.wish.Wish.{Wish}
+use Rattle.talk_laws.specs.l2cap_config.specs.Reading.{options_read}
+use Rattle.talk_laws.specs.l2cap_config.specs.Agreement.{settled, requested, keeps_mode}
+use Rattle.talk_laws.specs.l2cap_config.specs.Writing.{written}
+use Rattle.talk_laws.specs.link_talk.specs.declared.life.Life.{Life}
+use Rattle.talk_laws.specs.link_talk.specs.declared.life.Life.TheVariants as lives
+use Rattle.talk_laws.specs.link_talk.specs.declared.word.Word.{Word}
+use Rattle.talk_laws.specs.link_talk.specs.declared.word.Word.TheVariants.{EndAnswered}
+use Rattle.talk_laws.specs.link_talk.specs.Sayings.{Saying}
+use Rattle.talk_laws.specs.link_talk.specs.Senses.{Ends, Opens, OnOptions, sense}
+use Rattle.talk_laws.specs.link_talk.specs.Requests.{requests_after}
+use Rattle.talk_laws.specs.link_talk.specs.Meanings.{Parts, meant}
+use Rattle.talk_laws.specs.link_talk.specs.Setups.{setup_after}
+use Rattle.talk_laws.specs.link_talk.specs.Channels.{life_after, is_there, Entry, entry_after, entries_after, Reading, read_on}
 use Rattle.channel_model.specs.declared.errand.Errand.TheVariants.{Configuration}
 use Rattle.channel_model.specs.declared.event.CloseReason.TheVariants.{NoAgreement, OwnClosed}
 use Rattle.channel_model.specs.Value.{Asking, Setup, Stage, Requested, Connected, Leaving, Closing, Crossed, Held, Channels}

@@ -2,11 +2,11 @@
 use Rattle.std.proofs.Common.{◌≡◌, ℕ, List, [], ◌∷◌, ◌++◌, map, Bool, true, false, cond, ◌||◌, Option, Some, None, refl, ap, ◌∙◌}
 use Rattle.std.specs.Prelude.{option_map, option_to_list}
 use Rattle.std.specs.List.{list_any}
-use Rattle.capture.specs.declared.flow.Flow.TheVariants.{Into}
-use Rattle.l2cap_signal.specs.Commands.{Command}
-use Rattle.l2cap_signal.specs.Reading.{Answer as Read}
-use Rattle.link_talk.specs.Sayings.{Saying, Carried}
-use Rattle.link_talk.specs.Sayings as sayings
+use Rattle.talk_laws.specs.capture.specs.declared.flow.Flow.TheVariants.{Into}
+use Rattle.talk_laws.specs.l2cap_signal.specs.Commands.{Command}
+use Rattle.talk_laws.specs.l2cap_signal.specs.Reading.{Answer as Read}
+use Rattle.talk_laws.specs.link_talk.specs.Sayings.{Saying, Carried}
+use Rattle.talk_laws.specs.link_talk.specs.Sayings as sayings
 use Rattle.channel_model.specs.Following.{can_say}
 use Rattle.channel_model.specs.declared.errand.Errand.TheVariants as errands
 use Rattle.channel_model.specs.Value.{Request, Channels}
@@ -18,7 +18,7 @@ use Rattle.channel_laws.specs.OwnTalk.{spoken, reply_to, exchanged, asked_betwee
 use Rattle.channel_laws.specs.Runs.{given_up, features_given_up, said_again, said_on_firing, said_by_channel, fired_channel, said_by_channels}
 use Rattle.channel_laws.proofs.Words.{Words, words-asked, words-again, words-left, words-firing}
 use Rattle.channel_laws.proofs.Stretching.{NoneComes, comes_in}
-use Rattle.link_talk.specs.Sayings.{Command as Said, GaveUp}
+use Rattle.talk_laws.specs.link_talk.specs.Sayings.{Command as Said, GaveUp}
 
 -- a PDU on a channel
 abbrev pub is_carried : Saying → Bool

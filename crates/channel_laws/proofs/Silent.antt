@@ -1,10 +1,10 @@
 -- What is held of a channel changes without a word.
 use Rattle.std.proofs.Common.{◌≡◌, ℕ, false, eqb, Option, Some, None, sym, ap, subst, ◌∙◌, arith}
 use Rattle.std.specs.Prelude.{find}
-use Rattle.link_talk.specs.Requests.{Requests}
-use Rattle.link_talk.specs.Meanings.{Part}
-use Rattle.link_talk.specs.Setups as read
-use Rattle.link_talk.specs.Channels.{Entry, Reading}
+use Rattle.talk_laws.specs.link_talk.specs.Requests.{Requests}
+use Rattle.talk_laws.specs.link_talk.specs.Meanings.{Part}
+use Rattle.talk_laws.specs.link_talk.specs.Setups as read
+use Rattle.talk_laws.specs.link_talk.specs.Channels.{Entry, Reading}
 use Rattle.channel_model.specs.Value.{Held, Channels}
 use Rattle.channel_model.specs.Policies.{Policy}
 use Rattle.channel_model.specs.Changing.{has_own}

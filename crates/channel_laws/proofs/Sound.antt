@@ -4,24 +4,24 @@ use Rattle.std.specs.Prelude.{find, filter, is_some, option_map}
 use Rattle.std.specs.Option.{option_or}
 use Rattle.std.specs.List.{list_any}
 use Rattle.std.proofs.lemmas.Bool.{eqb-true}
-use Rattle.capture.specs.declared.flow.Flow.TheVariants.{Out, Into}
-use Rattle.l2cap_signal.specs.Commands.{Content, reject, connection_request, connection_response, configuration_request, configuration_response, disconnection_request, disconnection_response, echo_request, echo_response, information_request, information_response}
-use Rattle.l2cap_config.specs.declared.options.ModeOption.{ModeOption}
-use Rattle.l2cap_config.specs.declared.options.Options.{Options}
-use Rattle.l2cap_config.specs.declared.wish.Mode.{Mode}
-use Rattle.l2cap_config.specs.declared.wish.Mode.TheVariants.{Basic, Enhanced}
-use Rattle.l2cap_config.specs.declared.wish.Wish.{Wish}
-use Rattle.l2cap_config.specs.Reading.{options_read}
-use Rattle.l2cap_config.specs.Agreement.{requested}
-use Rattle.link_talk.specs.declared.call.Wanted.{Wanted}
-use Rattle.link_talk.specs.declared.call.Call.{Call}
-use Rattle.link_talk.specs.Senses.{Quiet, sense_of}
-use Rattle.link_talk.specs.Requests.{Requests, Query, Terms, went, is_own_call, answered_call, answered_query, has_failed}
-use Rattle.link_talk.specs.Meanings.{Meaning, Part}
-use Rattle.link_talk.specs.Setups as read
-use Rattle.link_talk.specs.Setups.{is_enhanced}
-use Rattle.link_talk.specs.declared.life.Life.TheVariants.{Over}
-use Rattle.link_talk.specs.Channels.{word, is_there, Entry, entry_after, made_by, entries_after, Reading}
+use Rattle.talk_laws.specs.capture.specs.declared.flow.Flow.TheVariants.{Out, Into}
+use Rattle.talk_laws.specs.l2cap_signal.specs.Commands.{Content, reject, connection_request, connection_response, configuration_request, configuration_response, disconnection_request, disconnection_response, echo_request, echo_response, information_request, information_response}
+use Rattle.talk_laws.specs.l2cap_config.specs.declared.options.ModeOption.{ModeOption}
+use Rattle.talk_laws.specs.l2cap_config.specs.declared.options.Options.{Options}
+use Rattle.talk_laws.specs.l2cap_config.specs.declared.wish.Mode.{Mode}
+use Rattle.talk_laws.specs.l2cap_config.specs.declared.wish.Mode.TheVariants.{Basic, Enhanced}
+use Rattle.talk_laws.specs.l2cap_config.specs.declared.wish.Wish.{Wish}
+use Rattle.talk_laws.specs.l2cap_config.specs.Reading.{options_read}
+use Rattle.talk_laws.specs.l2cap_config.specs.Agreement.{requested}
+use Rattle.talk_laws.specs.link_talk.specs.declared.call.Wanted.{Wanted}
+use Rattle.talk_laws.specs.link_talk.specs.declared.call.Call.{Call}
+use Rattle.talk_laws.specs.link_talk.specs.Senses.{Quiet, sense_of}
+use Rattle.talk_laws.specs.link_talk.specs.Requests.{Requests, Query, Terms, went, is_own_call, answered_call, answered_query, has_failed}
+use Rattle.talk_laws.specs.link_talk.specs.Meanings.{Meaning, Part}
+use Rattle.talk_laws.specs.link_talk.specs.Setups as read
+use Rattle.talk_laws.specs.link_talk.specs.Setups.{is_enhanced}
+use Rattle.talk_laws.specs.link_talk.specs.declared.life.Life.TheVariants.{Over}
+use Rattle.talk_laws.specs.link_talk.specs.Channels.{word, is_there, Entry, entry_after, made_by, entries_after, Reading}
 use Rattle.channel_model.specs.Value.{Own, Unasked, Asking, Granted, Carrier, Plain, Retransmitting, Setup, Stage, Requested, Connected, Leaving, Closing, Crossed, Held, Remembered, Memory, Channels, Request}
 use Rattle.channel_model.specs.Policies.{Policy}
 use Rattle.channel_model.specs.Changing.{has_own, has_fcs_by, is_stated, is_retransmitting, setup_of}

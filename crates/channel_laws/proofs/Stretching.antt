@@ -3,22 +3,22 @@ use Rattle.std.proofs.Common.{◌≡◌, ℕ, ◌%◌, List, [], ◌∷◌, ◌+
 use Rattle.std.specs.Prelude.{find, drop}
 use Rattle.std.specs.List.{list_any, filter_map}
 use Rattle.std.proofs.lemmas.List.Elements.{filter_map-append}
-use Rattle.capture.specs.declared.flow.Flow.TheVariants.{Out, Into}
-use Rattle.ertm_frames.specs.Segments.{Segment}
-use Rattle.ertm_frames.specs.Joining.{Joining, At, Stopped, Misplaced, Begins, Ends, ended, ended_by, joint, joined_by}
-use Rattle.ertm_frames.specs.Frames.{PlainFrame, information, supervisory}
-use Rattle.ertm_frames.specs.Reading.{frame_in}
-use Rattle.link_talk.specs.Picks.{pick, pick_in}
-use Rattle.l2cap_config.specs.declared.wish.Mode.{Mode}
-use Rattle.l2cap_config.specs.declared.wish.Mode.TheVariants.{Basic, Enhanced}
-use Rattle.link_talk.specs.declared.channel.Channel.{Channel}
-use Rattle.link_talk.specs.declared.party.Party.{Party}
-use Rattle.link_talk.specs.Sayings.{Saying, Command, Carried, GaveUp}
-use Rattle.link_talk.specs.Channels.{Entry, reading}
-use Rattle.link_talk.specs.Carriages.{Carriage, one_way, is_heard, taker, is_on, carried, stretch, pdus_of, has_own, mode_of}
-use Rattle.link_talk.specs.Sdus.{sdus_by, sdus}
-use Rattle.link_talk.specs.GrowingLaws.{has_opened}
-use Rattle.link_talk.proofs.Growing.{stretch-grows, mode-stands}
+use Rattle.talk_laws.specs.capture.specs.declared.flow.Flow.TheVariants.{Out, Into}
+use Rattle.talk_laws.specs.ertm_frames.specs.Segments.{Segment}
+use Rattle.talk_laws.specs.ertm_frames.specs.Joining.{Joining, At, Stopped, Misplaced, Begins, Ends, ended, ended_by, joint, joined_by}
+use Rattle.talk_laws.specs.ertm_frames.specs.Frames.{PlainFrame, information, supervisory}
+use Rattle.talk_laws.specs.ertm_frames.specs.Reading.{frame_in}
+use Rattle.talk_laws.specs.link_talk.specs.Picks.{pick, pick_in}
+use Rattle.talk_laws.specs.l2cap_config.specs.declared.wish.Mode.{Mode}
+use Rattle.talk_laws.specs.l2cap_config.specs.declared.wish.Mode.TheVariants.{Basic, Enhanced}
+use Rattle.talk_laws.specs.link_talk.specs.declared.channel.Channel.{Channel}
+use Rattle.talk_laws.specs.link_talk.specs.declared.party.Party.{Party}
+use Rattle.talk_laws.specs.link_talk.specs.Sayings.{Saying, Command, Carried, GaveUp}
+use Rattle.talk_laws.specs.link_talk.specs.Channels.{Entry, reading}
+use Rattle.talk_laws.specs.link_talk.specs.Carriages.{Carriage, one_way, is_heard, taker, is_on, carried, stretch, pdus_of, has_own, mode_of}
+use Rattle.talk_laws.specs.link_talk.specs.Sdus.{sdus_by, sdus}
+use Rattle.talk_laws.specs.link_talk.specs.GrowingLaws.{has_opened}
+use Rattle.talk_laws.specs.link_talk.proofs.Growing.{stretch-grows, mode-stands}
 use Rattle.talk_laws.specs.Sdus.{sdus_with, heard_so_far, segment_of}
 use Rattle.talk_laws.proofs.Passes.{from_end}
 use Rattle.talk_laws.proofs.Owning.{alone, unopened-carries}

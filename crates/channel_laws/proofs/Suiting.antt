@@ -4,20 +4,20 @@ use Rattle.std.specs.Prelude.{min, nat_lt, unwrap_or, IfSome, zero, suc, Result}
 use Rattle.std.specs.List.{AllByRecursion}
 use Rattle.std.proofs.Math.Nat.{min-le_right}
 use Rattle.std.proofs.lemmas.Bool.{ltb-false}
-use Rattle.l2cap_config.specs.declared.options.ModeOption.{ModeOption}
-use Rattle.l2cap_config.specs.declared.options.Options.{Options}
-use Rattle.l2cap_config.specs.declared.options.ConfigRefusal.{ConfigRefusal}
-use Rattle.l2cap_config.specs.declared.agreement.ConfigAnswer.{ConfigAnswer}
-use Rattle.l2cap_config.specs.declared.agreement.ConfigAnswer.TheVariants.{Accept, Unacceptable}
-use Rattle.l2cap_config.specs.declared.wish.Mode.{Mode}
-use Rattle.l2cap_config.specs.declared.wish.Mode.TheVariants.{Basic, Enhanced}
-use Rattle.l2cap_config.specs.declared.wish.Wish.{Wish}
-use Rattle.l2cap_config.specs.Laws.{FitsMode, Fits}
-use Rattle.l2cap_config.specs.Items.{no_options, joined}
-use Rattle.l2cap_config.specs.Reading.{options_read}
-use Rattle.l2cap_config.specs.Agreement.{mode_number, own_mode, bounded, requested_mode, requested, answered_values, answered, sent_mps, sent_window, agreed_on}
-use Rattle.l2cap_config.proofs.Written.{written_read}
-use Rattle.link_talk.specs.Sayings.{Saying}
+use Rattle.talk_laws.specs.l2cap_config.specs.declared.options.ModeOption.{ModeOption}
+use Rattle.talk_laws.specs.l2cap_config.specs.declared.options.Options.{Options}
+use Rattle.talk_laws.specs.l2cap_config.specs.declared.options.ConfigRefusal.{ConfigRefusal}
+use Rattle.talk_laws.specs.l2cap_config.specs.declared.agreement.ConfigAnswer.{ConfigAnswer}
+use Rattle.talk_laws.specs.l2cap_config.specs.declared.agreement.ConfigAnswer.TheVariants.{Accept, Unacceptable}
+use Rattle.talk_laws.specs.l2cap_config.specs.declared.wish.Mode.{Mode}
+use Rattle.talk_laws.specs.l2cap_config.specs.declared.wish.Mode.TheVariants.{Basic, Enhanced}
+use Rattle.talk_laws.specs.l2cap_config.specs.declared.wish.Wish.{Wish}
+use Rattle.talk_laws.specs.l2cap_config.specs.Laws.{FitsMode, Fits}
+use Rattle.talk_laws.specs.l2cap_config.specs.Items.{no_options, joined}
+use Rattle.talk_laws.specs.l2cap_config.specs.Reading.{options_read}
+use Rattle.talk_laws.specs.l2cap_config.specs.Agreement.{mode_number, own_mode, bounded, requested_mode, requested, answered_values, answered, sent_mps, sent_window, agreed_on}
+use Rattle.talk_laws.specs.l2cap_config.proofs.Written.{written_read}
+use Rattle.talk_laws.specs.link_talk.specs.Sayings.{Saying}
 use Rattle.channel_model.specs.Configuring.{bounded_agreement}
 use Rattle.channel_laws.specs.Agreements.{IsHeard, joined_parts}
 use Rattle.channel_laws.specs.Pairs.{pair_of}

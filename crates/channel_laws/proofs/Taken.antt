@@ -3,23 +3,23 @@ use Rattle.std.proofs.Common.{◌≡◌, ℕ, List, [], ◌∷◌, ◌++◌, map
 use Rattle.std.specs.Prelude.{find, option_map, drop}
 use Rattle.std.specs.List.{filter_map, cons_option}
 use Rattle.std.proofs.lemmas.List.Sums.{fold-append}
-use Rattle.acl_fragments.specs.Pieces.{channel_of}
-use Rattle.capture.specs.declared.flow.Flow.TheVariants.{Into}
-use Rattle.capture.specs.Histories.{EachAfter}
-use Rattle.capture.proofs.HistoryLaws.{given_by-more, each_after-both}
-use Rattle.l2cap_signal.specs.Reading.{answers}
-use Rattle.l2cap_config.specs.declared.wish.Mode.TheVariants.{Enhanced}
-use Rattle.ertm_frames.specs.Frames.{PlainFrame}
-use Rattle.ertm_frames.specs.Reading.{frame_in}
-use Rattle.ertm_frames.specs.Joining.{sdus_of}
-use Rattle.ertm_frames.specs.Picking.{picked, outs, In}
-use Rattle.ertm_frames.proofs.Telling.{outs-same}
-use Rattle.link_talk.specs.declared.channel.Channel.{Channel}
-use Rattle.link_talk.specs.declared.party.Party.{Party}
-use Rattle.link_talk.specs.Sayings.{Saying, Carried}
-use Rattle.link_talk.specs.Channels.{Entry, reading}
-use Rattle.link_talk.specs.Carriages.{Carriage, is_passed, is_on, taker, entry_mode, mode_of}
-use Rattle.link_talk.specs.Accounts.{passage_in}
+use Rattle.talk_laws.specs.acl_fragments.specs.Pieces.{channel_of}
+use Rattle.talk_laws.specs.capture.specs.declared.flow.Flow.TheVariants.{Into}
+use Rattle.talk_laws.specs.capture.specs.Histories.{EachAfter}
+use Rattle.talk_laws.specs.capture.proofs.HistoryLaws.{given_by-more, each_after-both}
+use Rattle.talk_laws.specs.l2cap_signal.specs.Reading.{answers}
+use Rattle.talk_laws.specs.l2cap_config.specs.declared.wish.Mode.TheVariants.{Enhanced}
+use Rattle.talk_laws.specs.ertm_frames.specs.Frames.{PlainFrame}
+use Rattle.talk_laws.specs.ertm_frames.specs.Reading.{frame_in}
+use Rattle.talk_laws.specs.ertm_frames.specs.Joining.{sdus_of}
+use Rattle.talk_laws.specs.ertm_frames.specs.Picking.{picked, outs, In}
+use Rattle.talk_laws.specs.ertm_frames.proofs.Telling.{outs-same}
+use Rattle.talk_laws.specs.link_talk.specs.declared.channel.Channel.{Channel}
+use Rattle.talk_laws.specs.link_talk.specs.declared.party.Party.{Party}
+use Rattle.talk_laws.specs.link_talk.specs.Sayings.{Saying, Carried}
+use Rattle.talk_laws.specs.link_talk.specs.Channels.{Entry, reading}
+use Rattle.talk_laws.specs.link_talk.specs.Carriages.{Carriage, is_passed, is_on, taker, entry_mode, mode_of}
+use Rattle.talk_laws.specs.link_talk.specs.Accounts.{passage_in}
 use Rattle.channel_model.specs.Value.{Carrier, Plain, Retransmitting, Setup, Held, Channels}
 use Rattle.channel_model.specs.Policies.{Policy}
 use Rattle.channel_model.specs.Changing.{has_own, is_open, setup_of}

@@ -1,9 +1,9 @@
 -- What a PDU on a channel does to it, by what carries its SDUs.
 use Rattle.std.proofs.Common.{◌≡◌, ℕ, List, Bool, true, false, cond, eqb, Option, Some, None, refl, sym, ap, ◌∙◌}
 use Rattle.std.specs.Prelude.{find, is_some}
-use Rattle.ertm_model.specs.declared.reason.ErtmReason.{ErtmReason}
-use Rattle.ertm_model.specs.Value.{Ertm}
-use Rattle.l2cap_config.specs.declared.wish.Agreed.{Agreed}
+use Rattle.channel_model.specs.ertm_model.specs.declared.reason.ErtmReason.{ErtmReason}
+use Rattle.channel_model.specs.ertm_model.specs.Value.{Ertm}
+use Rattle.talk_laws.specs.l2cap_config.specs.declared.wish.Agreed.{Agreed}
 use Rattle.channel_model.specs.declared.errand.Errand.TheVariants as errands
 use Rattle.channel_model.specs.declared.event.CloseReason.{CloseReason}
 use Rattle.channel_model.specs.Value.{Own, Unasked, Asking, Granted, Carrier, Plain, Retransmitting, Setup, Stage, Requested, Connected, Leaving, Closing, Crossed, Held, Channels}

@@ -3,9 +3,9 @@ use Rattle.std.proofs.Common.{◌≡◌, ℕ, zero, suc, ◌<◌, List, [], ◌�
 use Rattle.std.specs.Prelude.{take, drop, nat_lt, slice_index, slice_get}
 use Rattle.std.specs.List.{AllByRecursion}
 use Rattle.std.proofs.lemmas.Bool.{eqb-true, ltb-true}
-use Rattle.l2cap_signal.specs.Commands.{Content}
-use Rattle.l2cap_signal.specs.Reading.{Answer, read_as, content_of, judged, word_at, first, answers_within, answers}
-use Rattle.l2cap_signal.specs.declared.refusal.SignalRefusal.TheVariants.{ZeroIdentifier, BadLength, UnknownCode, AboveMtu}
+use Rattle.talk_laws.specs.l2cap_signal.specs.Commands.{Content}
+use Rattle.talk_laws.specs.l2cap_signal.specs.Reading.{Answer, read_as, content_of, judged, word_at, first, answers_within, answers}
+use Rattle.talk_laws.specs.l2cap_signal.specs.declared.refusal.SignalRefusal.TheVariants.{ZeroIdentifier, BadLength, UnknownCode, AboveMtu}
 use Rattle.channel_model.specs.Answers.{kind_of_code}
 use Rattle.channel_model.specs.Hearing.{is_kind}
 use Rattle.channel_laws.proofs.Commands.{IsTold, no_kind}

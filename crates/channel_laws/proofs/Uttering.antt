@@ -1,12 +1,12 @@
 -- What is given is read as what it is.
 use Rattle.std.proofs.Common.{◌≤◌, [], ◌∷◌, ◌++◌, drop, length, eqb, sym, ap, subst, ◌∙◌, append-nil}
-use Rattle.bt_base.proofs.OctetLemmas.{le16-number}
-use Rattle.bt_base.specs.Octets.{le16}
-use Rattle.acl_fragments.specs.Pieces.{channel_of}
-use Rattle.ertm_frames.specs.Frames.{control_of, body_of}
-use Rattle.l2cap_signal.specs.Commands.{spelling}
-use Rattle.l2cap_signal.specs.Reading.{answers}
-use Rattle.l2cap_signal.proofs.Payloads.{written_read}
+use Rattle.talk_laws.specs.bt_base.proofs.OctetLemmas.{le16-number}
+use Rattle.talk_laws.specs.bt_base.specs.Octets.{le16}
+use Rattle.talk_laws.specs.acl_fragments.specs.Pieces.{channel_of}
+use Rattle.talk_laws.specs.ertm_frames.specs.Frames.{control_of, body_of}
+use Rattle.talk_laws.specs.l2cap_signal.specs.Commands.{spelling}
+use Rattle.talk_laws.specs.l2cap_signal.specs.Reading.{answers}
+use Rattle.talk_laws.specs.l2cap_signal.proofs.Payloads.{written_read}
 use Rattle.channel_model.specs.Giving.{Signal, Whole, Framed}
 use Rattle.channel_laws.specs.Belonging.{UtteredIsRead}
 

@@ -2,20 +2,20 @@
 use Rattle.std.proofs.Common.{◌≡◌, ℕ, List, ◌++◌, fold, Bool, true, false, ◌&&◌, eqb, Option, Some, None, Ok, refl, sym, ap, subst, ◌∙◌}
 use Rattle.std.specs.Prelude.{find, option_map, is_some}
 use Rattle.std.specs.Option.{option_or}
-use Rattle.l2cap_signal.specs.Commands.{Content, configuration_response}
-use Rattle.l2cap_signal.specs.Reading.{Answer as Read}
-use Rattle.l2cap_config.specs.declared.options.ModeOption.{ModeOption}
-use Rattle.l2cap_config.specs.declared.options.Options.{Options}
-use Rattle.l2cap_config.specs.declared.agreement.ConfigAnswer.TheVariants.{Accept}
-use Rattle.l2cap_config.specs.declared.wish.Wish.{Wish}
-use Rattle.l2cap_config.specs.Items.{joined}
-use Rattle.l2cap_config.specs.Reading.{options_read}
-use Rattle.l2cap_config.specs.Agreement.{answered as answer_on}
-use Rattle.link_talk.specs.Requests.{Terms, has_identifier, last_run, query_terms, answered_query}
-use Rattle.link_talk.specs.Meanings.{Part}
-use Rattle.link_talk.specs.Setups as read
-use Rattle.link_talk.specs.Setups.{is_set, setup_after, Answered}
-use Rattle.link_talk.specs.Channels.{Reading, read_on}
+use Rattle.talk_laws.specs.l2cap_signal.specs.Commands.{Content, configuration_response}
+use Rattle.talk_laws.specs.l2cap_signal.specs.Reading.{Answer as Read}
+use Rattle.talk_laws.specs.l2cap_config.specs.declared.options.ModeOption.{ModeOption}
+use Rattle.talk_laws.specs.l2cap_config.specs.declared.options.Options.{Options}
+use Rattle.talk_laws.specs.l2cap_config.specs.declared.agreement.ConfigAnswer.TheVariants.{Accept}
+use Rattle.talk_laws.specs.l2cap_config.specs.declared.wish.Wish.{Wish}
+use Rattle.talk_laws.specs.l2cap_config.specs.Items.{joined}
+use Rattle.talk_laws.specs.l2cap_config.specs.Reading.{options_read}
+use Rattle.talk_laws.specs.l2cap_config.specs.Agreement.{answered as answer_on}
+use Rattle.talk_laws.specs.link_talk.specs.Requests.{Terms, has_identifier, last_run, query_terms, answered_query}
+use Rattle.talk_laws.specs.link_talk.specs.Meanings.{Part}
+use Rattle.talk_laws.specs.link_talk.specs.Setups as read
+use Rattle.talk_laws.specs.link_talk.specs.Setups.{is_set, setup_after, Answered}
+use Rattle.talk_laws.specs.link_talk.specs.Channels.{Reading, read_on}
 use Rattle.channel_model.specs.declared.request_kind.RequestKind.TheVariants as kinds
 use Rattle.channel_model.specs.Value.{Own, Unasked, Asking, Granted, Carrier, Setup, Held, Channels}
 use Rattle.channel_model.specs.Policies.{Policy}

@@ -2,30 +2,30 @@
 use Rattle.std.proofs.Common.{◌≡◌, ℕ, List, [], ◌∷◌, ◌++◌, length, drop, fold, Bool, true, false, cond, eqb, ◌&&◌, Option, Some, None, Ok, Err, refl, sym, ap, subst, ◌∙◌, ◌⊎◌, inl, inr, append_assoc, append-nil}
 use Rattle.std.specs.Prelude.{nat_lt}
 use Rattle.std.proofs.lemmas.List.Sums.{fold-append}
-use Rattle.acl_fragments.specs.Pieces.{channel_of}
-use Rattle.capture.specs.Histories.{EachAfter}
-use Rattle.capture.proofs.HistoryLaws.{each_after-more}
-use Rattle.l2cap_config.specs.declared.wish.Agreed.{Agreed}
-use Rattle.l2cap_config.specs.declared.wish.Mode.TheVariants.{Enhanced}
-use Rattle.ertm_frames.specs.Frames.{PlainFrame, information, supervisory}
-use Rattle.ertm_frames.specs.Segments.{Segment}
-use Rattle.ertm_frames.specs.Joining.{Joint, Misplaced, Begins, Ends, joint}
-use Rattle.ertm_frames.specs.Reading.{answer_in}
-use Rattle.ertm_frames.specs.declared.refusal.FrameRefusal.TheVariants.{Short, BadFcs}
-use Rattle.ertm_model.specs.declared.reason.ErtmReason.{ErtmReason}
-use Rattle.ertm_model.specs.declared.reason.ErtmReason.TheVariants.{BadReqSeq, RetryLimit, TooLongSdu}
-use Rattle.ertm_model.specs.Value.{Ertm, Poll, NoPoll, Due, Waits, Receiver}
-use Rattle.ertm_model.specs.Hearing.{Place, Expected, Ahead, Other, stated, joint_fault, place_fault, place_in, segment_of, acknowledged, asks_again, is_spent, receiver_fault, or_else, fault, heard_by, open_heard, heard}
-use Rattle.ertm_model.specs.Pair.{Sent, hearing}
-use Rattle.ertm_model.specs.Order.{OnlyRetries}
-use Rattle.ertm_model.proofs.Hearing.{hearing-stands}
-use Rattle.ertm_model.proofs.Ordering.{front-flies}
-use Rattle.ertm_model.proofs.Standing.{swapped}
-use Rattle.link_talk.specs.declared.channel.Channel.{Channel}
-use Rattle.link_talk.specs.declared.party.Party.{Party}
-use Rattle.link_talk.specs.Channels.{reading}
-use Rattle.link_talk.specs.Sdus.{sdus}
-use Rattle.capture.specs.declared.flow.Flow.TheVariants.{Into}
+use Rattle.talk_laws.specs.acl_fragments.specs.Pieces.{channel_of}
+use Rattle.talk_laws.specs.capture.specs.Histories.{EachAfter}
+use Rattle.talk_laws.specs.capture.proofs.HistoryLaws.{each_after-more}
+use Rattle.talk_laws.specs.l2cap_config.specs.declared.wish.Agreed.{Agreed}
+use Rattle.talk_laws.specs.l2cap_config.specs.declared.wish.Mode.TheVariants.{Enhanced}
+use Rattle.talk_laws.specs.ertm_frames.specs.Frames.{PlainFrame, information, supervisory}
+use Rattle.talk_laws.specs.ertm_frames.specs.Segments.{Segment}
+use Rattle.talk_laws.specs.ertm_frames.specs.Joining.{Joint, Misplaced, Begins, Ends, joint}
+use Rattle.talk_laws.specs.ertm_frames.specs.Reading.{answer_in}
+use Rattle.talk_laws.specs.ertm_frames.specs.declared.refusal.FrameRefusal.TheVariants.{Short, BadFcs}
+use Rattle.channel_model.specs.ertm_model.specs.declared.reason.ErtmReason.{ErtmReason}
+use Rattle.channel_model.specs.ertm_model.specs.declared.reason.ErtmReason.TheVariants.{BadReqSeq, RetryLimit, TooLongSdu}
+use Rattle.channel_model.specs.ertm_model.specs.Value.{Ertm, Poll, NoPoll, Due, Waits, Receiver}
+use Rattle.channel_model.specs.ertm_model.specs.Hearing.{Place, Expected, Ahead, Other, stated, joint_fault, place_fault, place_in, segment_of, acknowledged, asks_again, is_spent, receiver_fault, or_else, fault, heard_by, open_heard, heard}
+use Rattle.channel_model.specs.ertm_model.specs.Pair.{Sent, hearing}
+use Rattle.channel_model.specs.ertm_model.specs.Order.{OnlyRetries}
+use Rattle.channel_model.specs.ertm_model.proofs.Hearing.{hearing-stands}
+use Rattle.channel_model.specs.ertm_model.proofs.Ordering.{front-flies}
+use Rattle.channel_model.specs.ertm_model.proofs.Standing.{swapped}
+use Rattle.talk_laws.specs.link_talk.specs.declared.channel.Channel.{Channel}
+use Rattle.talk_laws.specs.link_talk.specs.declared.party.Party.{Party}
+use Rattle.talk_laws.specs.link_talk.specs.Channels.{reading}
+use Rattle.talk_laws.specs.link_talk.specs.Sdus.{sdus}
+use Rattle.talk_laws.specs.capture.specs.declared.flow.Flow.TheVariants.{Into}
 use Rattle.channel_model.proofs.Lookups.{eqb-same}
 use Rattle.channel_model.specs.Value.{Carrier, Retransmitting, Setup, Held, Channels}
 use Rattle.channel_model.specs.Policies.{Policy}

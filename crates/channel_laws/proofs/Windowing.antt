@@ -3,33 +3,33 @@ use Rattle.std.proofs.Common.{◌≡◌, ℕ, ◌+◌, ◌-◌, ◌≤◌, List,
 use Rattle.std.specs.Prelude.{option_map, option_to_list, is_some}
 use Rattle.std.proofs.lemmas.Bool.{eqb-true}
 use Rattle.std.proofs.lemmas.List.Sums.{fold-append}
-use Rattle.acl_fragments.specs.Pieces.{channel_of}
-use Rattle.capture.specs.Histories.{EachAfter, AtEach}
-use Rattle.capture.proofs.HistoryLaws.{at_each-more, at_each-none}
-use Rattle.capture.specs.declared.flow.Flow.TheVariants.{Out, Into}
-use Rattle.l2cap_signal.specs.Reading.{answers}
-use Rattle.l2cap_config.specs.declared.wish.Agreed.{Agreed}
-use Rattle.l2cap_config.specs.declared.wish.Mode.{Mode}
-use Rattle.l2cap_config.specs.declared.wish.Mode.TheVariants.{Enhanced}
-use Rattle.ertm_frames.specs.declared.refusal.FrameRefusal.TheVariants.{Short, BadFcs}
-use Rattle.ertm_frames.specs.Frames.{PlainFrame}
-use Rattle.ertm_frames.specs.Reading.{answer_in, frame_by, frame_in}
-use Rattle.ertm_frames.specs.Picking.{Passage, Out as Gave, In, outs, ins, picked, last_req, req_of}
-use Rattle.ertm_frames.proofs.Telling.{outs-more, outs-same, req-more}
-use Rattle.ertm_model.specs.Value.{Ertm}
-use Rattle.ertm_model.specs.Giving.{Giving, giving, given_frame, frame_by as given_by, after_by, next_frame, after_frame}
-use Rattle.ertm_model.specs.Pair.{Sent, End as MachineEnd, Pair as Machines, gave}
-use Rattle.ertm_model.specs.Order.{Rises, Stands}
-use Rattle.ertm_model.proofs.Ordering.{front-flies}
-use Rattle.ertm_model.proofs.Queues.{rises-between}
-use Rattle.ertm_model.proofs.Saying.{gives-stands}
-use Rattle.ertm_model.proofs.Standing.{swapped}
-use Rattle.link_talk.specs.declared.channel.Channel.{Channel}
-use Rattle.link_talk.specs.declared.party.Party.{Party}
-use Rattle.link_talk.specs.Sayings.{Saying, Carried}
-use Rattle.link_talk.specs.Channels.{Entry, is_there, reading}
-use Rattle.link_talk.specs.Carriages.{is_passed, entry_mode, mode_of}
-use Rattle.link_talk.specs.Accounts.{frames_passed}
+use Rattle.talk_laws.specs.acl_fragments.specs.Pieces.{channel_of}
+use Rattle.talk_laws.specs.capture.specs.Histories.{EachAfter, AtEach}
+use Rattle.talk_laws.specs.capture.proofs.HistoryLaws.{at_each-more, at_each-none}
+use Rattle.talk_laws.specs.capture.specs.declared.flow.Flow.TheVariants.{Out, Into}
+use Rattle.talk_laws.specs.l2cap_signal.specs.Reading.{answers}
+use Rattle.talk_laws.specs.l2cap_config.specs.declared.wish.Agreed.{Agreed}
+use Rattle.talk_laws.specs.l2cap_config.specs.declared.wish.Mode.{Mode}
+use Rattle.talk_laws.specs.l2cap_config.specs.declared.wish.Mode.TheVariants.{Enhanced}
+use Rattle.talk_laws.specs.ertm_frames.specs.declared.refusal.FrameRefusal.TheVariants.{Short, BadFcs}
+use Rattle.talk_laws.specs.ertm_frames.specs.Frames.{PlainFrame}
+use Rattle.talk_laws.specs.ertm_frames.specs.Reading.{answer_in, frame_by, frame_in}
+use Rattle.talk_laws.specs.ertm_frames.specs.Picking.{Passage, Out as Gave, In, outs, ins, picked, last_req, req_of}
+use Rattle.talk_laws.specs.ertm_frames.proofs.Telling.{outs-more, outs-same, req-more}
+use Rattle.channel_model.specs.ertm_model.specs.Value.{Ertm}
+use Rattle.channel_model.specs.ertm_model.specs.Giving.{Giving, giving, given_frame, frame_by as given_by, after_by, next_frame, after_frame}
+use Rattle.channel_model.specs.ertm_model.specs.Pair.{Sent, End as MachineEnd, Pair as Machines, gave}
+use Rattle.channel_model.specs.ertm_model.specs.Order.{Rises, Stands}
+use Rattle.channel_model.specs.ertm_model.proofs.Ordering.{front-flies}
+use Rattle.channel_model.specs.ertm_model.proofs.Queues.{rises-between}
+use Rattle.channel_model.specs.ertm_model.proofs.Saying.{gives-stands}
+use Rattle.channel_model.specs.ertm_model.proofs.Standing.{swapped}
+use Rattle.talk_laws.specs.link_talk.specs.declared.channel.Channel.{Channel}
+use Rattle.talk_laws.specs.link_talk.specs.declared.party.Party.{Party}
+use Rattle.talk_laws.specs.link_talk.specs.Sayings.{Saying, Carried}
+use Rattle.talk_laws.specs.link_talk.specs.Channels.{Entry, is_there, reading}
+use Rattle.talk_laws.specs.link_talk.specs.Carriages.{is_passed, entry_mode, mode_of}
+use Rattle.talk_laws.specs.link_talk.specs.Accounts.{frames_passed}
 use Rattle.channel_model.specs.Value.{Carrier, Plain, Retransmitting, Held, Channels}
 use Rattle.channel_model.specs.Policies.{Policy}
 use Rattle.channel_model.specs.Changing.{held_at, is_open}

@@ -3,20 +3,20 @@ use Rattle.std.proofs.Common.{◌≡◌, ℕ, List, [], ◌∷◌, ◌++◌, map
 use Rattle.std.specs.Prelude.{find, option_to_list}
 use Rattle.std.proofs.lemmas.Bool.{eqb-true}
 use Rattle.std.proofs.lemmas.List.Sums.{fold-append}
-use Rattle.capture.specs.Histories.{given_by}
-use Rattle.capture.proofs.HistoryLaws.{given_by-more}
-use Rattle.l2cap_signal.specs.Commands.{connection_request, configuration_request, disconnection_request, information_request}
-use Rattle.l2cap_config.specs.Writing.{written}
-use Rattle.link_talk.specs.declared.channel.Channel.{Channel}
-use Rattle.link_talk.specs.declared.party.Party.{Party}
-use Rattle.link_talk.specs.Sayings.{Saying, GaveUp}
-use Rattle.link_talk.specs.Sayings as sayings
-use Rattle.link_talk.specs.Senses.{sense}
-use Rattle.link_talk.specs.Requests.{Requests}
-use Rattle.link_talk.specs.Meanings.{Meaning, meant}
-use Rattle.link_talk.specs.Channels.{word, Entry, is_there, entry_after, made_by, reading}
-use Rattle.link_talk.specs.Carriages.{has_own as is_of}
-use Rattle.link_talk.specs.Waits.{AsksOptions, demand_of_saying, demand_at, demand, demanded}
+use Rattle.talk_laws.specs.capture.specs.Histories.{given_by}
+use Rattle.talk_laws.specs.capture.proofs.HistoryLaws.{given_by-more}
+use Rattle.talk_laws.specs.l2cap_signal.specs.Commands.{connection_request, configuration_request, disconnection_request, information_request}
+use Rattle.talk_laws.specs.l2cap_config.specs.Writing.{written}
+use Rattle.talk_laws.specs.link_talk.specs.declared.channel.Channel.{Channel}
+use Rattle.talk_laws.specs.link_talk.specs.declared.party.Party.{Party}
+use Rattle.talk_laws.specs.link_talk.specs.Sayings.{Saying, GaveUp}
+use Rattle.talk_laws.specs.link_talk.specs.Sayings as sayings
+use Rattle.talk_laws.specs.link_talk.specs.Senses.{sense}
+use Rattle.talk_laws.specs.link_talk.specs.Requests.{Requests}
+use Rattle.talk_laws.specs.link_talk.specs.Meanings.{Meaning, meant}
+use Rattle.talk_laws.specs.link_talk.specs.Channels.{word, Entry, is_there, entry_after, made_by, reading}
+use Rattle.talk_laws.specs.link_talk.specs.Carriages.{has_own as is_of}
+use Rattle.talk_laws.specs.link_talk.specs.Waits.{AsksOptions, demand_of_saying, demand_at, demand, demanded}
 use Rattle.channel_model.specs.declared.errand.Errand.TheVariants as errands
 use Rattle.channel_model.specs.Value.{Request, Own, Unasked, Asking, Granted, Stage, Requested, Connected, Leaving, Closing, Crossed, Held, Channels}
 use Rattle.channel_model.specs.Policies.{Policy}
@@ -30,7 +30,7 @@ use Rattle.channel_laws.proofs.Entries.{read-after, there-before}
 use Rattle.channel_laws.proofs.Sound.{ReadsBy, Reads, Sound, some-of_map}
 use Rattle.channel_laws.proofs.Lasting.{asked_by}
 use Rattle.channel_laws.proofs.Demanding.{asked_at, asked_on}
-use Rattle.l2cap_config.specs.declared.options.Options.{Options}
+use Rattle.talk_laws.specs.l2cap_config.specs.declared.options.Options.{Options}
 use Rattle.channel_model.specs.Value.{Setup}
 use Rattle.channel_model.specs.Changing.{setup_of}
 use Rattle.channel_laws.proofs.Words.{Words, words-asked}

@@ -1,11 +1,11 @@
 -- All that a host says of its own accord, word by word.
 use Rattle.std.proofs.Common.{◌≡◌, ℕ, List, [], ◌∷◌, ◌++◌, map, Bool, true, false, cond, eqb, Option, Some, None, refl, ap}
 use Rattle.std.specs.Prelude.{option_to_list}
-use Rattle.l2cap_signal.specs.Commands.{connection_request, configuration_request, disconnection_request, information_request}
-use Rattle.l2cap_config.specs.declared.options.Options.{Options}
-use Rattle.l2cap_config.specs.Writing.{written}
-use Rattle.link_talk.specs.Sayings.{Saying, GaveUp}
-use Rattle.link_talk.specs.Sayings as sayings
+use Rattle.talk_laws.specs.l2cap_signal.specs.Commands.{connection_request, configuration_request, disconnection_request, information_request}
+use Rattle.talk_laws.specs.l2cap_config.specs.declared.options.Options.{Options}
+use Rattle.talk_laws.specs.l2cap_config.specs.Writing.{written}
+use Rattle.talk_laws.specs.link_talk.specs.Sayings.{Saying, GaveUp}
+use Rattle.talk_laws.specs.link_talk.specs.Sayings as sayings
 use Rattle.channel_model.specs.declared.errand.Errand.{Errand}
 use Rattle.channel_model.specs.declared.errand.Errand.TheVariants as errands
 use Rattle.channel_model.specs.Value.{Request, Own, Unasked, Asking, Granted, Setup, Stage, Requested, Connected, Leaving, Closing, Crossed, Held, Channels}

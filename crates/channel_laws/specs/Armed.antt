@@ -1,10 +1,10 @@
 -- What a timer of a host finds on a link (Core 5.1, Volume 3 Part A, 4.1, 6.2 and 8.6).
 use Rattle.std.specs.Prelude.{◌≡◌, ◌||◌, ◌&&◌, Bool, List}
 use Rattle.std.specs.List.{list_any}
-use Rattle.link_talk.specs.declared.party.Party.{Party}
-use Rattle.link_talk.specs.Sayings.{Saying}
-use Rattle.link_talk.specs.Channels.{Entry, is_there, reading}
-use Rattle.link_talk.specs.Waits.{query_waits, waits}
+use Rattle.talk_laws.specs.link_talk.specs.declared.party.Party.{Party}
+use Rattle.talk_laws.specs.link_talk.specs.Sayings.{Saying}
+use Rattle.talk_laws.specs.link_talk.specs.Channels.{Entry, is_there, reading}
+use Rattle.talk_laws.specs.link_talk.specs.Waits.{query_waits, waits}
 use Rattle.channel_model.specs.Policies.{Policy}
 use Rattle.channel_model.specs.Calls.{armed}
 use Rattle.channel_laws.specs.Runs.{Occurrence, run_of}

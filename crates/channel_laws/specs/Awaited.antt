@@ -1,11 +1,11 @@
 -- Which requests of a host wait for their answer: what its timer finds of them (Core 5.1, Volume 3 Part A, 4.1, 4.2, 4.6 and 4.10).
 use Rattle.std.specs.Prelude.{ℕ, ◌≡◌, ◌&&◌, Bool, true, false, is_some, List, Option, Some, None}
 use Rattle.std.specs.List.{list_any}
-use Rattle.link_talk.specs.Requests.{has_source}
-use Rattle.link_talk.specs.Channels.{Entry, waits_for_end, Reading, reading}
-use Rattle.link_talk.specs.declared.channel.Channel.{Channel}
-use Rattle.link_talk.specs.declared.party.Party.{Party}
-use Rattle.link_talk.specs.Waits.{call_waits, information_waits, options_wait}
+use Rattle.talk_laws.specs.link_talk.specs.Requests.{has_source}
+use Rattle.talk_laws.specs.link_talk.specs.Channels.{Entry, waits_for_end, Reading, reading}
+use Rattle.talk_laws.specs.link_talk.specs.declared.channel.Channel.{Channel}
+use Rattle.talk_laws.specs.link_talk.specs.declared.party.Party.{Party}
+use Rattle.talk_laws.specs.link_talk.specs.Waits.{call_waits, information_waits, options_wait}
 use Rattle.channel_model.specs.Value.{Setup, Stage, Requested, Connected, Leaving, Closing, Crossed, Held}
 use Rattle.channel_model.specs.Policies.{Policy}
 use Rattle.channel_model.specs.Changing.{held_at}

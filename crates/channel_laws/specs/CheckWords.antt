@@ -1,8 +1,8 @@
 -- Check words: which frames that come in for an own endpoint have one (Core 5.1, Volume 3 Part A, 3.3.5 and 5.5).
 use Rattle.std.specs.Prelude.{ℕ, ◌≡◌, List, true, Some}
-use Rattle.l2cap_config.specs.declared.wish.Mode.TheVariants.{Enhanced}
-use Rattle.link_talk.specs.Channels.{Entry, reading}
-use Rattle.link_talk.specs.Waits.{has_check_word}
+use Rattle.talk_laws.specs.l2cap_config.specs.declared.wish.Mode.TheVariants.{Enhanced}
+use Rattle.talk_laws.specs.link_talk.specs.Channels.{Entry, reading}
+use Rattle.talk_laws.specs.link_talk.specs.Waits.{has_check_word}
 use Rattle.channel_model.specs.Policies.{Policy}
 use Rattle.channel_model.specs.Calls.{has_fcs}
 use Rattle.channel_laws.specs.Runs.{Occurrence, Run, run_of}

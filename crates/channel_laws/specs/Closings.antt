@@ -1,7 +1,7 @@
 -- The channels whose closing a host is told, as its talk is read (Core 5.1, Volume 3 Part A, 4.6 and 4.7).
 use Rattle.std.specs.Prelude.{ℕ, List}
 use Rattle.std.specs.List.{AllByRecursion}
-use Rattle.link_talk.specs.Channels.{Entry, reading}
+use Rattle.talk_laws.specs.link_talk.specs.Channels.{Entry, reading}
 use Rattle.channel_model.specs.declared.event.ChannelEvent.{ChannelEvent}
 use Rattle.channel_model.specs.declared.event.ChannelEvent.TheVariants as events
 use Rattle.channel_model.specs.Policies.{Policy}

@@ -1,7 +1,7 @@
 -- That a channel of one end of a link is one of the other (Core 5.1, Volume 3 Part A, 4.2 to 4.5).
 use Rattle.std.specs.Prelude.{ℕ, ◌≡◌, true, List, is_some, Some}
-use Rattle.link_talk.specs.declared.channel.Channel.{Channel}
-use Rattle.link_talk.specs.Channels.{Entry, reading}
+use Rattle.talk_laws.specs.link_talk.specs.declared.channel.Channel.{Channel}
+use Rattle.talk_laws.specs.link_talk.specs.Channels.{Entry, reading}
 use Rattle.channel_model.specs.Policies.{Policy}
 use Rattle.channel_laws.specs.Views.{read_at}
 use Rattle.channel_laws.specs.Pairs.{Side, turned, Turn, pair_of}

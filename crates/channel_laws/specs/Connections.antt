@@ -1,8 +1,8 @@
 -- That a request for a channel is responded to, and that the response ends its wait (Core 5.1, Volume 3 Part A, 4, 4.2 and 4.3).
 use Rattle.std.specs.Prelude.{ℕ, ◌≡◌, ◌≤◌, ◌+◌, Bool, false, List, [], ◌∷◌}
-use Rattle.capture.specs.Histories.{EachAfter}
-use Rattle.link_talk.specs.declared.call.Call.{Call}
-use Rattle.link_talk.specs.Sayings.{Saying}
+use Rattle.talk_laws.specs.capture.specs.Histories.{EachAfter}
+use Rattle.talk_laws.specs.link_talk.specs.declared.call.Call.{Call}
+use Rattle.talk_laws.specs.link_talk.specs.Sayings.{Saying}
 use Rattle.channel_model.specs.declared.errand.Errand.TheVariants.{Connection}
 use Rattle.channel_model.specs.Policies.{Policy}
 use Rattle.channel_laws.specs.Adverse.{AreRoomy}

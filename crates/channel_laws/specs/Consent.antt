@@ -1,12 +1,12 @@
 -- That a host sends on a channel only where its peer has accepted its request for options (Core 5.1, Volume 3 Part A, 4.5, 6.1.3 and
 -- 6.1.4).
 use Rattle.std.specs.Prelude.{ℕ, ◌≡◌, ◌==◌, ◌%◌, true, List, Some, Ok, is_some, ◌⊎◌}
-use Rattle.acl_fragments.specs.Pieces.{channel_of}
-use Rattle.capture.specs.declared.flow.Flow.TheVariants.{Into}
-use Rattle.l2cap_signal.specs.Commands.{configuration_request, configuration_response}
-use Rattle.link_talk.specs.Sayings.{Saying, Carried}
-use Rattle.link_talk.specs.Sayings as sayings
-use Rattle.link_talk.specs.Channels.{Entry, reading}
+use Rattle.talk_laws.specs.acl_fragments.specs.Pieces.{channel_of}
+use Rattle.talk_laws.specs.capture.specs.declared.flow.Flow.TheVariants.{Into}
+use Rattle.talk_laws.specs.l2cap_signal.specs.Commands.{configuration_request, configuration_response}
+use Rattle.talk_laws.specs.link_talk.specs.Sayings.{Saying, Carried}
+use Rattle.talk_laws.specs.link_talk.specs.Sayings as sayings
+use Rattle.talk_laws.specs.link_talk.specs.Channels.{Entry, reading}
 use Rattle.channel_model.specs.Value.{Granted, Setup, Carrier}
 use Rattle.channel_model.specs.Policies.{Policy}
 use Rattle.channel_model.specs.Changing.{held_at}

@@ -1,6 +1,6 @@
 -- That no response of a host says that another one follows (Core 5.1, Volume 3 Part A, 4.3 and 4.5).
 use Rattle.std.specs.Prelude.{◌≡◌, ◌==◌, false, List}
-use Rattle.l2cap_signal.specs.Commands.{Content, Command, reject, connection_request, connection_response, configuration_request, configuration_response, disconnection_request, disconnection_response, echo_request, echo_response, information_request, information_response}
+use Rattle.talk_laws.specs.l2cap_signal.specs.Commands.{Content, Command, reject, connection_request, connection_response, configuration_request, configuration_response, disconnection_request, disconnection_response, echo_request, echo_response, information_request, information_response}
 use Rattle.channel_model.specs.Value.{Answer}
 use Rattle.channel_model.specs.Policies.{Policy}
 use Rattle.channel_laws.specs.Runs.{Occurrence, run_of}

@@ -1,9 +1,9 @@
 -- What comes up of an enhanced channel is what the other host's channel took, in its order (Core 5.1, Volume 3 Part A, 7.3 and 8.6).
 use Rattle.std.specs.Prelude.{ℕ, ◌≡◌, List}
-use Rattle.l2cap_config.specs.declared.wish.Mode.TheVariants.{Enhanced}
-use Rattle.link_talk.specs.declared.channel.Channel.{Channel}
-use Rattle.link_talk.specs.declared.party.Party.{Party}
-use Rattle.link_talk.specs.Carriages.{mode_of}
+use Rattle.talk_laws.specs.l2cap_config.specs.declared.wish.Mode.TheVariants.{Enhanced}
+use Rattle.talk_laws.specs.link_talk.specs.declared.channel.Channel.{Channel}
+use Rattle.talk_laws.specs.link_talk.specs.declared.party.Party.{Party}
+use Rattle.talk_laws.specs.link_talk.specs.Carriages.{mode_of}
 use Rattle.channel_model.specs.Policies.{Policy}
 use Rattle.channel_model.specs.Carrying.{Up}
 use Rattle.channel_laws.specs.Runs.{Occurrence, Run, run_of, sdus_up}

@@ -1,6 +1,6 @@
 -- What a host is told of the end of its channels (Core 5.1, Volume 3 Part A, 4.6 and 4.7).
 use Rattle.std.specs.Prelude.{ℕ, ◌≡◌, true, false, List, Option, Some, None}
-use Rattle.link_talk.specs.Channels.{Entry, is_there, reading}
+use Rattle.talk_laws.specs.link_talk.specs.Channels.{Entry, is_there, reading}
 use Rattle.channel_model.specs.Policies.{Policy}
 use Rattle.channel_model.specs.Telling.{is_told_closed}
 use Rattle.channel_laws.specs.Runs.{Occurrence, run_of, arisen}

@@ -1,6 +1,6 @@
 -- What the two ends of a link utter (this project's own).
 use Rattle.std.specs.Prelude.{◌≡◌, List, []}
-use Rattle.capture.specs.Histories.{EachAfter}
+use Rattle.talk_laws.specs.capture.specs.Histories.{EachAfter}
 use Rattle.channel_model.specs.Value.{Channels}
 use Rattle.channel_model.specs.Policies.{Policy}
 use Rattle.channel_laws.specs.Runs.{Occurrence, Gives, Run, run_of}

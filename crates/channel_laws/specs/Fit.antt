@@ -1,8 +1,8 @@
 -- What a host gives is fit for a link (Core 5.1, Volume 3 Part A, 2.1, 3.1 and 4).
 use Rattle.std.specs.Prelude.{ℕ, ◌≡◌, ◌^◌, ◌<◌, List, Some}
 use Rattle.std.specs.List.{AllByRecursion}
-use Rattle.acl_fragments.specs.Pieces.{channel_of}
-use Rattle.bt_base.specs.Octets.{IsOctets}
+use Rattle.talk_laws.specs.acl_fragments.specs.Pieces.{channel_of}
+use Rattle.talk_laws.specs.bt_base.specs.Octets.{IsOctets}
 use Rattle.channel_model.specs.Policies.{Policy}
 use Rattle.channel_model.specs.Giving.{Given, IsPdu, next_given}
 use Rattle.channel_laws.specs.Belonging.{IsFit}

@@ -1,12 +1,12 @@
 -- The frames of enhanced channels (Core 5.1, Volume 3 Part A, 3.3, 8.3 and 8.6).
 use Rattle.std.specs.Prelude.{ℕ, ◌≡◌, ◌<◌, List, [], Option, Some, None}
-use Rattle.bt_base.specs.Octets.{IsOctets}
-use Rattle.capture.specs.Histories.{EachAfter}
-use Rattle.link_talk.specs.declared.channel.Channel.{Channel}
-use Rattle.link_talk.specs.declared.party.Party.{Party}
-use Rattle.link_talk.specs.Sayings.{Saying}
-use Rattle.link_talk.specs.Accounts.{window_used}
-use Rattle.link_talk.specs.Waits.{frames_wait}
+use Rattle.talk_laws.specs.bt_base.specs.Octets.{IsOctets}
+use Rattle.talk_laws.specs.capture.specs.Histories.{EachAfter}
+use Rattle.talk_laws.specs.link_talk.specs.declared.channel.Channel.{Channel}
+use Rattle.talk_laws.specs.link_talk.specs.declared.party.Party.{Party}
+use Rattle.talk_laws.specs.link_talk.specs.Sayings.{Saying}
+use Rattle.talk_laws.specs.link_talk.specs.Accounts.{window_used}
+use Rattle.talk_laws.specs.link_talk.specs.Waits.{frames_wait}
 use Rattle.channel_model.specs.Value.{Setup, Channels}
 use Rattle.channel_model.specs.Policies.{Policy}
 use Rattle.channel_model.specs.Changing.{held_at}

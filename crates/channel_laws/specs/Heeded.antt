@@ -1,9 +1,9 @@
 -- That a request of a host is responded to, and that the response ends its wait (Core 5.1, Volume 3 Part A, 4.1 to 4.11).
 use Rattle.std.specs.Prelude.{ℕ, ◌≡◌, ◌==◌, false, true, List, [], ◌∷◌, drop, Option, Some, None, Ok}
-use Rattle.acl_fragments.specs.Pieces.{channel_of}
-use Rattle.capture.specs.Histories.{EachAfter}
-use Rattle.l2cap_signal.specs.Commands.{Command}
-use Rattle.l2cap_signal.specs.Reading.{answers}
+use Rattle.talk_laws.specs.acl_fragments.specs.Pieces.{channel_of}
+use Rattle.talk_laws.specs.capture.specs.Histories.{EachAfter}
+use Rattle.talk_laws.specs.l2cap_signal.specs.Commands.{Command}
+use Rattle.talk_laws.specs.l2cap_signal.specs.Reading.{answers}
 use Rattle.channel_model.specs.declared.errand.Errand.{Errand}
 use Rattle.channel_model.specs.Value.{Request, Channels}
 use Rattle.channel_model.specs.Policies.{Policy}

@@ -1,6 +1,6 @@
 -- The local law of channels.
 use Rattle.std.specs.Prelude.{ℕ, ◌≡◌, ◌≤◌, List, None}
-use Rattle.link_talk.specs.Channels.{reading}
+use Rattle.talk_laws.specs.link_talk.specs.Channels.{reading}
 use Rattle.channel_model.specs.Policies.{Policy}
 use Rattle.channel_model.specs.Changing.{held_at}
 use Rattle.channel_laws.specs.Runs.{Occurrence, Run, run_of}

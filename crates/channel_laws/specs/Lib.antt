@@ -1,3 +1,13 @@
+pub use Rattle.talk_laws.specs.acl_fragments
+pub use Rattle.talk_laws.specs.bt_base
+pub use Rattle.talk_laws.specs.capture
+pub use Rattle.channel_model
+pub use Rattle.talk_laws.specs.ertm_frames
+pub use Rattle.channel_model.specs.ertm_model
+pub use Rattle.talk_laws.specs.l2cap_config
+pub use Rattle.talk_laws.specs.l2cap_signal
+pub use Rattle.talk_laws.specs.link_talk
+pub use Rattle.talk_laws
 pub mod Views
 pub mod OwnTalk
 pub mod Runs

@@ -1,7 +1,7 @@
 -- In what mode the two ends of a link have a channel (Core 5.1, Volume 3 Part A, 5.4 and 7.1).
 use Rattle.std.specs.Prelude.{ℕ, ◌≡◌, List, Some, ◌⊎◌}
-use Rattle.l2cap_config.specs.declared.wish.Mode.{Mode}
-use Rattle.link_talk.specs.Channels.{Entry, reading}
+use Rattle.talk_laws.specs.l2cap_config.specs.declared.wish.Mode.{Mode}
+use Rattle.talk_laws.specs.link_talk.specs.Channels.{Entry, reading}
 use Rattle.channel_model.specs.Policies.{Policy}
 use Rattle.channel_laws.specs.Runs.{Occurrence, run_of}
 use Rattle.channel_laws.specs.Views.{read_at}

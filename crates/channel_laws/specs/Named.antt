@@ -1,6 +1,6 @@
 -- The identifiers of the requests of a host that wait for their answers (Core 5.1, Volume 3 Part A, 4).
 use Rattle.std.specs.Prelude.{ℕ, ◌≡◌, ◌<◌, ◌≤◌, false, List, Some}
-use Rattle.l2cap_signal.specs.Commands.{Command}
+use Rattle.talk_laws.specs.l2cap_signal.specs.Commands.{Command}
 use Rattle.channel_model.specs.declared.errand.Errand.{Errand}
 use Rattle.channel_model.specs.Giving.{command_of}
 use Rattle.channel_model.specs.Policies.{Policy}

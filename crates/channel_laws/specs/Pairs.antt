@@ -1,6 +1,6 @@
 -- Two hosts on a link that keeps the order of what is under way, and loses, repeats and damages (this project's own).
 use Rattle.std.specs.Prelude.{ℕ, ◌≡◌, Bool, true, false, List, [], ◌∷◌, ◌++◌, fold, Option, Some, None, if◌then◌else◌}
-use Rattle.acl_fragments.specs.Pieces.{channel_of}
+use Rattle.talk_laws.specs.acl_fragments.specs.Pieces.{channel_of}
 use Rattle.channel_model.specs.Policies.{Policy}
 use Rattle.channel_model.specs.Calls.{has_fcs}
 use Rattle.channel_model.specs.Giving.{Given, next_given}

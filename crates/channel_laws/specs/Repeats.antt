@@ -1,6 +1,6 @@
 -- Requests that are sent again (Core 5.1, Volume 3 Part A, 4).
 use Rattle.std.specs.Prelude.{◌≡◌, true, option_map, Ok}
-use Rattle.l2cap_signal.specs.Commands.{Command}
+use Rattle.talk_laws.specs.l2cap_signal.specs.Commands.{Command}
 use Rattle.channel_model.specs.Value.{Channels}
 use Rattle.channel_model.specs.Policies.{Policy}
 use Rattle.channel_model.specs.Following.{can_say}

@@ -1,11 +1,11 @@
 -- What may happen to the channels of a link while it is up, what of it is own talk, and runs of it.
 use Rattle.std.specs.Prelude.{ℕ, ◌==◌, ◌&&◌, not, is_some, List, [], ◌∷◌, ◌++◌, map, drop, fold, Option, Some, None, unwrap_or, option_to_list, if◌then◌else◌}
 use Rattle.std.specs.List.{filter_map}
-use Rattle.acl_fragments.specs.Pieces.{channel_of}
-use Rattle.l2cap_signal.specs.Reading.{answers}
-use Rattle.capture.specs.declared.flow.Flow.TheVariants.{Out, Into}
-use Rattle.link_talk.specs.Sayings.{Saying, Forgone, Carried, GaveUp}
-use Rattle.link_talk.specs.Sayings as sayings
+use Rattle.talk_laws.specs.acl_fragments.specs.Pieces.{channel_of}
+use Rattle.talk_laws.specs.l2cap_signal.specs.Reading.{answers}
+use Rattle.talk_laws.specs.capture.specs.declared.flow.Flow.TheVariants.{Out, Into}
+use Rattle.talk_laws.specs.link_talk.specs.Sayings.{Saying, Forgone, Carried, GaveUp}
+use Rattle.talk_laws.specs.link_talk.specs.Sayings as sayings
 use Rattle.channel_model.specs.declared.errand.Errand.{Errand}
 use Rattle.channel_model.specs.declared.errand.Errand.TheVariants as errands
 use Rattle.channel_model.specs.declared.event.ChannelEvent.{ChannelEvent}

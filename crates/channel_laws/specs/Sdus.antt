@@ -1,9 +1,9 @@
 -- The SDUs that are handed up of a channel (Core 5.1, Volume 3 Part A, 3.1, 3.3, 7.3 and 8.4).
 use Rattle.std.specs.Prelude.{ℕ, ◌≡◌, true, Bool, List, [], ◌∷◌, ◌++◌, ◌⊎◌}
-use Rattle.capture.specs.declared.flow.Flow.TheVariants.{Into}
-use Rattle.link_talk.specs.declared.channel.Channel.{Channel}
-use Rattle.link_talk.specs.declared.party.Party.{Party}
-use Rattle.link_talk.specs.Sdus.{sdus}
+use Rattle.talk_laws.specs.capture.specs.declared.flow.Flow.TheVariants.{Into}
+use Rattle.talk_laws.specs.link_talk.specs.declared.channel.Channel.{Channel}
+use Rattle.talk_laws.specs.link_talk.specs.declared.party.Party.{Party}
+use Rattle.talk_laws.specs.link_talk.specs.Sdus.{sdus}
 use Rattle.channel_model.specs.Policies.{Policy}
 use Rattle.channel_model.specs.Telling.{is_told_broken}
 use Rattle.channel_laws.specs.Runs.{Occurrence, run_of, arisen, sdus_up}

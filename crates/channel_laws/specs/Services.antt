@@ -1,11 +1,11 @@
 -- Hosts that ask for no services (Core 5.1, Volume 3 Part B, 4.2 and 4.7): their channels know of all that they wait for.
 use Rattle.std.specs.Prelude.{◌≡◌, List, None}
 use Rattle.std.specs.List.{AllByRecursion}
-use Rattle.l2cap_config.specs.declared.wish.Mode.TheVariants.{Basic}
-use Rattle.sdp_elements.specs.Pdus.{pdu_in}
-use Rattle.link_talk.specs.declared.party.Party.{Party}
-use Rattle.link_talk.specs.ServiceAnswers.{transaction_of}
-use Rattle.link_talk.specs.Waits.{waits}
+use Rattle.talk_laws.specs.l2cap_config.specs.declared.wish.Mode.TheVariants.{Basic}
+use Rattle.talk_laws.specs.sdp_elements.specs.Pdus.{pdu_in}
+use Rattle.talk_laws.specs.link_talk.specs.declared.party.Party.{Party}
+use Rattle.talk_laws.specs.link_talk.specs.ServiceAnswers.{transaction_of}
+use Rattle.talk_laws.specs.link_talk.specs.Waits.{waits}
 use Rattle.channel_model.specs.Policies.{Policy}
 use Rattle.channel_model.specs.Calls.{armed}
 use Rattle.channel_laws.specs.Runs.{Occurrence, Comes, Connects, AsksFeatures, Disconnects, Sends, Gives, Fires, Tells, run_of}

@@ -1,6 +1,6 @@
 -- What a host gives on the signalling channel (Core 5.1, Volume 3 Part A, 4).
 use Rattle.std.specs.Prelude.{◌≡◌, List, [], ◌∷◌, ◌⊎◌}
-use Rattle.l2cap_signal.specs.Commands.{Command}
+use Rattle.talk_laws.specs.l2cap_signal.specs.Commands.{Command}
 use Rattle.channel_model.specs.Value.{Answer}
 use Rattle.channel_model.specs.Policies.{Policy}
 use Rattle.channel_laws.specs.OwnTalk.{spoken}

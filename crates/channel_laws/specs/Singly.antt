@@ -1,14 +1,14 @@
 -- Requests for channels that come one after the other, and what is granted to them (Core 5.1, Volume 3 Part A, 2.1, 4.1 to 4.3).
 use Rattle.std.specs.Prelude.{ℕ, ◌≡◌, Bool, true, false, List, [], ◌∷◌, filter, Some, ◌⊎◌}
 use Rattle.std.specs.List.{AllByRecursion, list_any}
-use Rattle.capture.specs.Histories.{EachAfter}
-use Rattle.capture.specs.declared.flow.Flow.{Flow}
-use Rattle.capture.specs.declared.flow.Flow.TheVariants.{Out, Into}
-use Rattle.link_talk.specs.declared.call.Call.{Call}
-use Rattle.link_talk.specs.declared.call.Wanted.{Wanted}
-use Rattle.link_talk.specs.Channels.{reading}
-use Rattle.link_talk.specs.Requests.{went, has_source}
-use Rattle.link_talk.specs.Sayings.{Saying}
+use Rattle.talk_laws.specs.capture.specs.Histories.{EachAfter}
+use Rattle.talk_laws.specs.capture.specs.declared.flow.Flow.{Flow}
+use Rattle.talk_laws.specs.capture.specs.declared.flow.Flow.TheVariants.{Out, Into}
+use Rattle.talk_laws.specs.link_talk.specs.declared.call.Call.{Call}
+use Rattle.talk_laws.specs.link_talk.specs.declared.call.Wanted.{Wanted}
+use Rattle.talk_laws.specs.link_talk.specs.Channels.{reading}
+use Rattle.talk_laws.specs.link_talk.specs.Requests.{went, has_source}
+use Rattle.talk_laws.specs.link_talk.specs.Sayings.{Saying}
 use Rattle.channel_model.specs.Value.{Requested, Request, Held, Channels}
 use Rattle.channel_model.specs.Policies.{Policy}
 use Rattle.channel_model.specs.Changing.{held_at}

@@ -1,12 +1,12 @@
 -- That what one end of a link accepts is within what the other receives by (Core 5.1, Volume 3 Part A, 5.1, 5.4 and 7.1).
 use Rattle.std.specs.Prelude.{ℕ, ◌≡◌, List, ◌++◌, Some}
-use Rattle.l2cap_config.specs.declared.options.Options.{Options}
-use Rattle.l2cap_config.specs.declared.wish.Agreed.{Agreed}
-use Rattle.l2cap_config.specs.declared.wish.Mode.TheVariants.{Enhanced}
-use Rattle.l2cap_config.specs.declared.wish.Wish.{Wish}
-use Rattle.l2cap_config.specs.Agreement.{agreed_on}
-use Rattle.link_talk.specs.Channels.{Entry, reading}
-use Rattle.ertm_model.specs.Value.{Ertm}
+use Rattle.talk_laws.specs.l2cap_config.specs.declared.options.Options.{Options}
+use Rattle.talk_laws.specs.l2cap_config.specs.declared.wish.Agreed.{Agreed}
+use Rattle.talk_laws.specs.l2cap_config.specs.declared.wish.Mode.TheVariants.{Enhanced}
+use Rattle.talk_laws.specs.l2cap_config.specs.declared.wish.Wish.{Wish}
+use Rattle.talk_laws.specs.l2cap_config.specs.Agreement.{agreed_on}
+use Rattle.talk_laws.specs.link_talk.specs.Channels.{Entry, reading}
+use Rattle.channel_model.specs.ertm_model.specs.Value.{Ertm}
 use Rattle.channel_model.specs.Value.{Retransmitting}
 use Rattle.channel_model.specs.Policies.{Policy}
 use Rattle.channel_model.specs.Calls.{carrier_at}

@@ -1,12 +1,12 @@
 -- That an enhanced channel carries what its host gave it, in its order (Core 5.1, Volume 3 Part A, 7.3, 8.4 and 8.6).
 use Rattle.std.specs.Prelude.{ℕ, ◌≡◌, ◌==◌, ◌&&◌, not, Bool, false, List, [], ◌∷◌, Option, Some, None, if◌then◌else◌}
-use Rattle.capture.specs.declared.flow.Flow.TheVariants.{Out}
-use Rattle.capture.specs.Histories.{given_by}
-use Rattle.l2cap_config.specs.declared.wish.Mode.TheVariants.{Enhanced}
-use Rattle.link_talk.specs.declared.channel.Channel.{Channel}
-use Rattle.link_talk.specs.declared.party.Party.{Party}
-use Rattle.link_talk.specs.Carriages.{mode_of}
-use Rattle.link_talk.specs.Sdus.{sdus}
+use Rattle.talk_laws.specs.capture.specs.declared.flow.Flow.TheVariants.{Out}
+use Rattle.talk_laws.specs.capture.specs.Histories.{given_by}
+use Rattle.talk_laws.specs.l2cap_config.specs.declared.wish.Mode.TheVariants.{Enhanced}
+use Rattle.talk_laws.specs.link_talk.specs.declared.channel.Channel.{Channel}
+use Rattle.talk_laws.specs.link_talk.specs.declared.party.Party.{Party}
+use Rattle.talk_laws.specs.link_talk.specs.Carriages.{mode_of}
+use Rattle.talk_laws.specs.link_talk.specs.Sdus.{sdus}
 use Rattle.channel_model.specs.Value.{Carrier, Channels}
 use Rattle.channel_model.specs.Policies.{Policy}
 use Rattle.channel_model.specs.Calls.{carrier_at, carrier_waits}

@@ -1,13 +1,13 @@
 -- The windows of two hosts that have a channel in common, at each moment (Core 5.1, Volume 3 Part A, 8.3 and 8.6).
 use Rattle.std.specs.Prelude.{ℕ, ◌≡◌, ◌+◌, ◌%◌, ◌≤◌, List, length}
-use Rattle.capture.specs.Histories.{AtEach}
-use Rattle.ertm_frames.specs.Picking.{Passage, outs, ins, picked, last_req}
-use Rattle.l2cap_config.specs.declared.wish.Mode.TheVariants.{Enhanced}
-use Rattle.link_talk.specs.Accounts.{frames_passed}
-use Rattle.link_talk.specs.Carriages.{mode_of}
-use Rattle.link_talk.specs.Channels.{reading}
-use Rattle.link_talk.specs.declared.channel.Channel.{Channel}
-use Rattle.link_talk.specs.declared.party.Party.{Party}
+use Rattle.talk_laws.specs.capture.specs.Histories.{AtEach}
+use Rattle.talk_laws.specs.ertm_frames.specs.Picking.{Passage, outs, ins, picked, last_req}
+use Rattle.talk_laws.specs.l2cap_config.specs.declared.wish.Mode.TheVariants.{Enhanced}
+use Rattle.talk_laws.specs.link_talk.specs.Accounts.{frames_passed}
+use Rattle.talk_laws.specs.link_talk.specs.Carriages.{mode_of}
+use Rattle.talk_laws.specs.link_talk.specs.Channels.{reading}
+use Rattle.talk_laws.specs.link_talk.specs.declared.channel.Channel.{Channel}
+use Rattle.talk_laws.specs.link_talk.specs.declared.party.Party.{Party}
 use Rattle.channel_model.specs.Policies.{Policy}
 use Rattle.channel_laws.specs.Belonging.{AreRead}
 use Rattle.channel_laws.specs.Endpoints.{IsOf}

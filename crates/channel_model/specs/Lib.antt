@@ -1,3 +1,7 @@
+pub use Rattle.ertm_frames
+pub use Rattle.ertm_model
+pub use Rattle.l2cap_config
+pub use Rattle.l2cap_signal
 pub mod Value
 pub mod Policies
 pub mod Changing

@@ -1,25 +1,25 @@
 -- A frame of the peer leaves the connections of a side as near to those that the frames say as they were.
 use Rattle.std.proofs.Common.{◌≡◌, ◌≤◌, ◌⊎◌, inl, inr, ℕ, ◌==◌, Bool, true, false, ◌&&◌, ◌||◌, cond, List, [], ◌∷◌, Some, None, refl, sym, ap, subst, ◌∙◌}
 use Rattle.std.specs.Prelude.{not}
-use Rattle.rfcomm_frames.specs.declared.frame.MuxKind.{MuxKind}
-use Rattle.rfcomm_frames.specs.declared.frame.MuxKind.TheVariants.{Sabm, Ua, Dm, Disc, Uih}
-use Rattle.rfcomm_frames.specs.declared.connection.Role.{Role}
-use Rattle.rfcomm_frames.specs.declared.connection.Role.TheVariants.{Initiator, Responder}
-use Rattle.rfcomm_frames.specs.declared.connection.Dlc.{Dlc}
-use Rattle.rfcomm_frames.specs.declared.connection.Dlc.TheVariants.{Idle, Asked, Open, Ended}
-use Rattle.rfcomm_frames.specs.Frames.{PlainFrame}
-use Rattle.rfcomm_frames.specs.Connections.{other_role, asked, turned, is_ended, is_left}
-use Rattle.rfcomm_frames.specs.Multiplexing.{Connections}
-use Rattle.rfcomm_model.specs.declared.state.MuxReason.{MuxReason}
-use Rattle.rfcomm_model.specs.declared.state.MuxReason.TheVariants as reasons
-use Rattle.rfcomm_model.specs.declared.state.Command.TheVariants.{OpenControl, Agree, OpenUser, Signal, LeaveUser, LeaveControl}
-use Rattle.rfcomm_model.specs.declared.state.Asks.{Asks}
-use Rattle.rfcomm_model.specs.declared.state.Asks.TheVariants.{Nothing, Due, Awaited}
-use Rattle.rfcomm_model.specs.Machine.{Mux, closes}
-use Rattle.rfcomm_model.specs.Written.{response_frame}
-use Rattle.rfcomm_model.specs.Hearing.{has_room, answering, says_dm, hears_disc, control_answered, control_refused, user_refused, ends}
-use Rattle.rfcomm_model.proofs.Closing.{keep_cond}
-use Rattle.rfcomm_model.proofs.Stepping.{all_more}
+use Rattle.inbox_laws.specs.rfcomm_frames.specs.declared.frame.MuxKind.{MuxKind}
+use Rattle.inbox_laws.specs.rfcomm_frames.specs.declared.frame.MuxKind.TheVariants.{Sabm, Ua, Dm, Disc, Uih}
+use Rattle.inbox_laws.specs.rfcomm_frames.specs.declared.connection.Role.{Role}
+use Rattle.inbox_laws.specs.rfcomm_frames.specs.declared.connection.Role.TheVariants.{Initiator, Responder}
+use Rattle.inbox_laws.specs.rfcomm_frames.specs.declared.connection.Dlc.{Dlc}
+use Rattle.inbox_laws.specs.rfcomm_frames.specs.declared.connection.Dlc.TheVariants.{Idle, Asked, Open, Ended}
+use Rattle.inbox_laws.specs.rfcomm_frames.specs.Frames.{PlainFrame}
+use Rattle.inbox_laws.specs.rfcomm_frames.specs.Connections.{other_role, asked, turned, is_ended, is_left}
+use Rattle.inbox_laws.specs.rfcomm_frames.specs.Multiplexing.{Connections}
+use Rattle.inbox_laws.specs.rfcomm_model.specs.declared.state.MuxReason.{MuxReason}
+use Rattle.inbox_laws.specs.rfcomm_model.specs.declared.state.MuxReason.TheVariants as reasons
+use Rattle.inbox_laws.specs.rfcomm_model.specs.declared.state.Command.TheVariants.{OpenControl, Agree, OpenUser, Signal, LeaveUser, LeaveControl}
+use Rattle.inbox_laws.specs.rfcomm_model.specs.declared.state.Asks.{Asks}
+use Rattle.inbox_laws.specs.rfcomm_model.specs.declared.state.Asks.TheVariants.{Nothing, Due, Awaited}
+use Rattle.inbox_laws.specs.rfcomm_model.specs.Machine.{Mux, closes}
+use Rattle.inbox_laws.specs.rfcomm_model.specs.Written.{response_frame}
+use Rattle.inbox_laws.specs.rfcomm_model.specs.Hearing.{has_room, answering, says_dm, hears_disc, control_answered, control_refused, user_refused, ends}
+use Rattle.inbox_laws.specs.rfcomm_model.proofs.Closing.{keep_cond}
+use Rattle.inbox_laws.specs.rfcomm_model.proofs.Stepping.{all_more}
 use Rattle.credit_laws.proofs.Granting.{is_idle, agrees, IsAwaited, AllAwaited}
 
 -- ---- a connection, as it is held and as it is read

@@ -2,21 +2,21 @@
 use Rattle.std.proofs.Common.{◌≡◌, ℕ, List, [], true, Option, subst}
 use Rattle.std.specs.Prelude.{get_or}
 use Rattle.std.specs.List.{AllByRecursion}
-use Rattle.bt_base.specs.Objects.{Contents}
-use Rattle.bt_base.specs.declared.settings.Transport.{Transport}
-use Rattle.bt_base.specs.declared.settings.Transport.TheVariants.{Rfcomm}
-use Rattle.push_script.specs.declared.scenario.Scenario.{Scenario}
-use Rattle.push_terms.specs.declared.word.Side.TheVariants as sides
-use Rattle.capture.specs.Entries.{Entry}
-use Rattle.push_model.specs.Server.{rfcomm_psm}
-use Rattle.channel_model.specs.Policies.{policy}
-use Rattle.host_model.specs.Servers.{server_profile}
-use Rattle.host_laws.specs.OneOnLinks.{packets_psm, CarriesOneOn}
-use Rattle.host_laws.proofs.Asking.{hosts_ask}
-use Rattle.host_laws.proofs.InOrder.{asks-nothing}
-use Rattle.scenario_laws.specs.Captures.{Ran}
-use Rattle.scenario_laws.proofs.Alone.{runs-carry_alone}
-use Rattle.pair_laws.specs.OnLinks.{LivedOver}
+use Rattle.inbox_laws.specs.bt_base.specs.Objects.{Contents}
+use Rattle.inbox_laws.specs.bt_base.specs.declared.settings.Transport.{Transport}
+use Rattle.inbox_laws.specs.bt_base.specs.declared.settings.Transport.TheVariants.{Rfcomm}
+use Rattle.inbox_laws.specs.push_script.specs.declared.scenario.Scenario.{Scenario}
+use Rattle.inbox_laws.specs.push_terms.specs.declared.word.Side.TheVariants as sides
+use Rattle.inbox_laws.specs.capture.specs.Entries.{Entry}
+use Rattle.inbox_laws.specs.push_model.specs.Server.{rfcomm_psm}
+use Rattle.inbox_laws.specs.channel_model.specs.Policies.{policy}
+use Rattle.inbox_laws.specs.host_model.specs.Servers.{server_profile}
+use Rattle.inbox_laws.specs.host_laws.specs.OneOnLinks.{packets_psm, CarriesOneOn}
+use Rattle.inbox_laws.specs.host_laws.proofs.Asking.{hosts_ask}
+use Rattle.inbox_laws.specs.host_laws.proofs.InOrder.{asks-nothing}
+use Rattle.inbox_laws.specs.scenario_laws.specs.Captures.{Ran}
+use Rattle.inbox_laws.specs.scenario_laws.proofs.Alone.{runs-carry_alone}
+use Rattle.inbox_laws.specs.pair_laws.specs.OnLinks.{LivedOver}
 use Rattle.request_laws.proofs.AlongStreams.{at_place, none_carry}
 use Rattle.request_laws.proofs.Paired.{lists_of}
 

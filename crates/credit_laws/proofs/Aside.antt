@@ -4,31 +4,31 @@ use Rattle.std.proofs.Common.{arith, ◌≡◌, ◌<◌, ◌⊎◌, inl, inr, �
 use Rattle.std.specs.Prelude.{not, nat_lt, is_none, length, take}
 use Rattle.std.specs.List.{AllByRecursion, cons_option}
 use Rattle.std.proofs.lemmas.Bool.{eqb-true}
-use Rattle.rfcomm_frames.specs.declared.frame.MuxKind.{MuxKind}
-use Rattle.rfcomm_frames.specs.declared.frame.MuxKind.TheVariants.{Sabm, Ua, Dm, Disc, Uih}
-use Rattle.rfcomm_frames.specs.declared.connection.Dlc.{Dlc}
-use Rattle.rfcomm_frames.specs.declared.connection.Dlc.TheVariants.{Idle}
-use Rattle.rfcomm_frames.specs.declared.connection.Role.TheVariants.{Initiator, Responder}
-use Rattle.rfcomm_frames.specs.Answers.{Answer}
-use Rattle.rfcomm_frames.specs.Connections.{turned}
-use Rattle.rfcomm_frames.specs.Ending.{no_course, is_last}
-use Rattle.rfcomm_frames.specs.Frames.{PlainFrame}
-use Rattle.rfcomm_frames.specs.FrameReading.{frame_answer, is_empty}
-use Rattle.rfcomm_frames.specs.Multiplexing.{Framed, framed, no_connections, Connections}
-use Rattle.rfcomm_credits.specs.Accounts.{grant_of}
-use Rattle.rfcomm_model.specs.declared.state.Command.TheVariants.{OpenControl, Agree, OpenUser, Signal, LeaveUser, LeaveControl}
-use Rattle.rfcomm_model.specs.declared.state.Asks.{Asks}
-use Rattle.rfcomm_model.specs.declared.state.Asks.TheVariants.{Nothing, Due, Awaited}
-use Rattle.rfcomm_model.specs.Hearing.{hears}
-use Rattle.rfcomm_model.specs.Machine.{Mux, new_mux, may_pass, is_leaving, is_ready, taken_count, sends, leaves}
-use Rattle.rfcomm_model.specs.Saying.{Said, says, says_grant, says_data, first_of, says_command, says_answer, next}
-use Rattle.rfcomm_model.specs.Sides.{heard_frame, connections_of}
-use Rattle.rfcomm_model.specs.Written.{grant_frame, data_frame}
-use Rattle.rfcomm_model.proofs.Giving.{on_control, spent_none}
-use Rattle.rfcomm_model.proofs.Keeping.{hears_keeps, SaysKept, answers_keep}
-use Rattle.rfcomm_model.proofs.Reading.{lines_more, granted_more, spent_more, peer_spends}
-use Rattle.rfcomm_model.proofs.Stepping.{IsQuiet, AllQuiet, and_false}
-use Rattle.talk_laws.proofs.Passes.{from_end}
+use Rattle.inbox_laws.specs.rfcomm_frames.specs.declared.frame.MuxKind.{MuxKind}
+use Rattle.inbox_laws.specs.rfcomm_frames.specs.declared.frame.MuxKind.TheVariants.{Sabm, Ua, Dm, Disc, Uih}
+use Rattle.inbox_laws.specs.rfcomm_frames.specs.declared.connection.Dlc.{Dlc}
+use Rattle.inbox_laws.specs.rfcomm_frames.specs.declared.connection.Dlc.TheVariants.{Idle}
+use Rattle.inbox_laws.specs.rfcomm_frames.specs.declared.connection.Role.TheVariants.{Initiator, Responder}
+use Rattle.inbox_laws.specs.rfcomm_frames.specs.Answers.{Answer}
+use Rattle.inbox_laws.specs.rfcomm_frames.specs.Connections.{turned}
+use Rattle.inbox_laws.specs.rfcomm_frames.specs.Ending.{no_course, is_last}
+use Rattle.inbox_laws.specs.rfcomm_frames.specs.Frames.{PlainFrame}
+use Rattle.inbox_laws.specs.rfcomm_frames.specs.FrameReading.{frame_answer, is_empty}
+use Rattle.inbox_laws.specs.rfcomm_frames.specs.Multiplexing.{Framed, framed, no_connections, Connections}
+use Rattle.inbox_laws.specs.rfcomm_credits.specs.Accounts.{grant_of}
+use Rattle.inbox_laws.specs.rfcomm_model.specs.declared.state.Command.TheVariants.{OpenControl, Agree, OpenUser, Signal, LeaveUser, LeaveControl}
+use Rattle.inbox_laws.specs.rfcomm_model.specs.declared.state.Asks.{Asks}
+use Rattle.inbox_laws.specs.rfcomm_model.specs.declared.state.Asks.TheVariants.{Nothing, Due, Awaited}
+use Rattle.inbox_laws.specs.rfcomm_model.specs.Hearing.{hears}
+use Rattle.inbox_laws.specs.rfcomm_model.specs.Machine.{Mux, new_mux, may_pass, is_leaving, is_ready, taken_count, sends, leaves}
+use Rattle.inbox_laws.specs.rfcomm_model.specs.Saying.{Said, says, says_grant, says_data, first_of, says_command, says_answer, next}
+use Rattle.inbox_laws.specs.rfcomm_model.specs.Sides.{heard_frame, connections_of}
+use Rattle.inbox_laws.specs.rfcomm_model.specs.Written.{grant_frame, data_frame}
+use Rattle.inbox_laws.specs.rfcomm_model.proofs.Giving.{on_control, spent_none}
+use Rattle.inbox_laws.specs.rfcomm_model.proofs.Keeping.{hears_keeps, SaysKept, answers_keep}
+use Rattle.inbox_laws.specs.rfcomm_model.proofs.Reading.{lines_more, granted_more, spent_more, peer_spends}
+use Rattle.inbox_laws.specs.rfcomm_model.proofs.Stepping.{IsQuiet, AllQuiet, and_false}
+use Rattle.inbox_laws.specs.talk_laws.proofs.Passes.{from_end}
 use Rattle.credit_laws.specs.Clients.{own_frame}
 use Rattle.credit_laws.proofs.Affording.{Near, IsNear}
 use Rattle.credit_laws.proofs.Paying.{Paid, free_more, heard_more, pays_paid, Pays, Owes, Over, course_of, last_more, over_stays, heard_over, quiet_heard, hears_pays, says_pays, sends_pays, leaves_pays, new_pays}

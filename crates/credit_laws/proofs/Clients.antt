@@ -2,34 +2,34 @@
 use Rattle.std.proofs.Common.{◌≡◌, ◌<◌, ℕ, ◌==◌, Bool, true, false, ◌&&◌, cond, List, [], ◌∷◌, ◌++◌, map, drop, length, Option, Some, None, Result, Ok, Err, refl, sym, ap, subst, ◌∙◌, append-nil, append_assoc}
 use Rattle.std.specs.Prelude.{not}
 use Rattle.std.specs.List.{flat_map}
-use Rattle.bt_base.specs.declared.ports.PortFault.{PortFault}
-use Rattle.bt_base.specs.declared.settings.Transport.{Transport}
-use Rattle.bt_base.specs.declared.settings.Transport.TheVariants.{L2cap, Rfcomm}
-use Rattle.push_terms.specs.declared.outcome.Outcome.{Outcome}
-use Rattle.rfcomm_frames.specs.declared.connection.Role.TheVariants.{Initiator, Responder}
-use Rattle.rfcomm_frames.specs.Frames.{PlainFrame}
-use Rattle.rfcomm_frames.specs.FrameReading.{frame_answer, is_empty}
-use Rattle.rfcomm_frames.specs.Multiplexing.{Framed}
-use Rattle.rfcomm_model.specs.Hearing.{up, hears}
-use Rattle.rfcomm_model.specs.Machine.{Mux, is_ready, taken_count, sends, leaves}
-use Rattle.rfcomm_model.specs.Saying.{Said, next}
-use Rattle.rfcomm_model.specs.Sides.{heard_frame}
-use Rattle.push_model.specs.declared.course.Contact.TheVariants.{Closing}
-use Rattle.push_model.specs.declared.course.Point.{Point}
-use Rattle.push_model.specs.declared.course.Point.TheVariants.{Due, Asked}
-use Rattle.push_model.specs.declared.course.Stage.{Stage}
-use Rattle.push_model.specs.declared.course.Stage.TheVariants.{Rest, Object, ObjectEnd, LinkEnd, Over}
-use Rattle.push_model.specs.Client.{Client}
-use Rattle.push_model.specs.Events as events
-use Rattle.push_model.specs.Laws.{Deed, Hears, Asks, Finishes, Cancels, done}
-use Rattle.push_model.specs.Responding.{is_object, hears_up}
-use Rattle.push_model.specs.Server.{rfcomm_psm}
-use Rattle.push_model.specs.Steps as steps
-use Rattle.push_model.specs.Steps.{Part, Stepped, Made, Ask, Connect, Put, Abort, Disconnect, Close, Nothing, requests, filled, said_by, says, sends_muxed, takes_some, asks_through, asks_muxed, goes_muxed, steps_muxed, steps_object, steps_at, tells_end, rests, may_ask, next_ask}
-use Rattle.push_laws.specs.Carriage.{frames_of, frames_by}
-use Rattle.push_laws.specs.Parties.{sdu_if}
-use Rattle.push_laws.proofs.Driving.{Stays, up_stays, news_stays, cancels_stays, requests_same}
-use Rattle.push_laws.proofs.Late.{IsLate, by_late, Anchor, anchor_of, all_late}
+use Rattle.inbox_laws.specs.bt_base.specs.declared.ports.PortFault.{PortFault}
+use Rattle.inbox_laws.specs.bt_base.specs.declared.settings.Transport.{Transport}
+use Rattle.inbox_laws.specs.bt_base.specs.declared.settings.Transport.TheVariants.{L2cap, Rfcomm}
+use Rattle.inbox_laws.specs.push_terms.specs.declared.outcome.Outcome.{Outcome}
+use Rattle.inbox_laws.specs.rfcomm_frames.specs.declared.connection.Role.TheVariants.{Initiator, Responder}
+use Rattle.inbox_laws.specs.rfcomm_frames.specs.Frames.{PlainFrame}
+use Rattle.inbox_laws.specs.rfcomm_frames.specs.FrameReading.{frame_answer, is_empty}
+use Rattle.inbox_laws.specs.rfcomm_frames.specs.Multiplexing.{Framed}
+use Rattle.inbox_laws.specs.rfcomm_model.specs.Hearing.{up, hears}
+use Rattle.inbox_laws.specs.rfcomm_model.specs.Machine.{Mux, is_ready, taken_count, sends, leaves}
+use Rattle.inbox_laws.specs.rfcomm_model.specs.Saying.{Said, next}
+use Rattle.inbox_laws.specs.rfcomm_model.specs.Sides.{heard_frame}
+use Rattle.inbox_laws.specs.push_model.specs.declared.course.Contact.TheVariants.{Closing}
+use Rattle.inbox_laws.specs.push_model.specs.declared.course.Point.{Point}
+use Rattle.inbox_laws.specs.push_model.specs.declared.course.Point.TheVariants.{Due, Asked}
+use Rattle.inbox_laws.specs.push_model.specs.declared.course.Stage.{Stage}
+use Rattle.inbox_laws.specs.push_model.specs.declared.course.Stage.TheVariants.{Rest, Object, ObjectEnd, LinkEnd, Over}
+use Rattle.inbox_laws.specs.push_model.specs.Client.{Client}
+use Rattle.inbox_laws.specs.push_model.specs.Events as events
+use Rattle.inbox_laws.specs.push_model.specs.Laws.{Deed, Hears, Asks, Finishes, Cancels, done}
+use Rattle.inbox_laws.specs.push_model.specs.Responding.{is_object, hears_up}
+use Rattle.inbox_laws.specs.push_model.specs.Server.{rfcomm_psm}
+use Rattle.inbox_laws.specs.push_model.specs.Steps as steps
+use Rattle.inbox_laws.specs.push_model.specs.Steps.{Part, Stepped, Made, Ask, Connect, Put, Abort, Disconnect, Close, Nothing, requests, filled, said_by, says, sends_muxed, takes_some, asks_through, asks_muxed, goes_muxed, steps_muxed, steps_object, steps_at, tells_end, rests, may_ask, next_ask}
+use Rattle.inbox_laws.specs.push_laws.specs.Carriage.{frames_of, frames_by}
+use Rattle.inbox_laws.specs.push_laws.specs.Parties.{sdu_if}
+use Rattle.inbox_laws.specs.push_laws.proofs.Driving.{Stays, up_stays, news_stays, cancels_stays, requests_same}
+use Rattle.inbox_laws.specs.push_laws.proofs.Late.{IsLate, by_late, Anchor, anchor_of, all_late}
 use Rattle.credit_laws.specs.Clients.{own_frame, framed_by, all_framed, ClientsAreCovered}
 use Rattle.credit_laws.proofs.Paying.{Paid}
 use Rattle.credit_laws.proofs.Aside.{heard_paid, PaysOn, hears_on, says_on, sends_on, leaves_on, on_paid, new_on}

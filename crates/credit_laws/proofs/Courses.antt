@@ -2,23 +2,23 @@
 use Rattle.std.proofs.Common.{◌≡◌, ◌<◌, ℕ, ◌*◌, true, List, [], ◌∷◌, ◌++◌, map, Ok, Err, refl, sym, ap, ap₂, subst, ◌∙◌, append-nil, append_assoc}
 use Rattle.std.specs.List.{AllByRecursion, flat_map}
 use Rattle.std.proofs.lemmas.List.{map-append}
-use Rattle.bt_base.specs.declared.settings.Transport.{Transport}
-use Rattle.bt_base.specs.declared.settings.Transport.TheVariants.{Rfcomm}
-use Rattle.rfcomm_frames.specs.declared.connection.Role.TheVariants.{Initiator, Responder}
-use Rattle.rfcomm_frames.specs.Answers.{Answer}
-use Rattle.rfcomm_frames.specs.Frames.{PlainFrame}
-use Rattle.rfcomm_frames.specs.FrameReading.{frame_answer}
-use Rattle.rfcomm_frames.specs.Multiplexing.{Framed}
-use Rattle.rfcomm_model.specs.Machine.{Mux, new_mux}
-use Rattle.rfcomm_model.specs.Sides.{heard_frame}
-use Rattle.push_model.specs.Client.{Client}
-use Rattle.push_model.specs.Events as events
-use Rattle.push_model.specs.Laws.{Deed, done, all_done}
-use Rattle.push_model.specs.Responding.{is_object}
-use Rattle.push_laws.specs.Carriage.{frames_by, heard_by}
-use Rattle.push_laws.proofs.Early.{IsEarly, IsOpened, Begun, Early, Opened, early_deed, early_frames}
-use Rattle.push_laws.proofs.Late.{IsLate}
-use Rattle.push_laws.proofs.Opening.{Walk, Stands, psm_over, course_of, behind_deed, deed_stands, opened_at}
+use Rattle.inbox_laws.specs.bt_base.specs.declared.settings.Transport.{Transport}
+use Rattle.inbox_laws.specs.bt_base.specs.declared.settings.Transport.TheVariants.{Rfcomm}
+use Rattle.inbox_laws.specs.rfcomm_frames.specs.declared.connection.Role.TheVariants.{Initiator, Responder}
+use Rattle.inbox_laws.specs.rfcomm_frames.specs.Answers.{Answer}
+use Rattle.inbox_laws.specs.rfcomm_frames.specs.Frames.{PlainFrame}
+use Rattle.inbox_laws.specs.rfcomm_frames.specs.FrameReading.{frame_answer}
+use Rattle.inbox_laws.specs.rfcomm_frames.specs.Multiplexing.{Framed}
+use Rattle.inbox_laws.specs.rfcomm_model.specs.Machine.{Mux, new_mux}
+use Rattle.inbox_laws.specs.rfcomm_model.specs.Sides.{heard_frame}
+use Rattle.inbox_laws.specs.push_model.specs.Client.{Client}
+use Rattle.inbox_laws.specs.push_model.specs.Events as events
+use Rattle.inbox_laws.specs.push_model.specs.Laws.{Deed, done, all_done}
+use Rattle.inbox_laws.specs.push_model.specs.Responding.{is_object}
+use Rattle.inbox_laws.specs.push_laws.specs.Carriage.{frames_by, heard_by}
+use Rattle.inbox_laws.specs.push_laws.proofs.Early.{IsEarly, IsOpened, Begun, Early, Opened, early_deed, early_frames}
+use Rattle.inbox_laws.specs.push_laws.proofs.Late.{IsLate}
+use Rattle.inbox_laws.specs.push_laws.proofs.Opening.{Walk, Stands, psm_over, course_of, behind_deed, deed_stands, opened_at}
 use Rattle.request_laws.specs.Carried.{frames_over}
 use Rattle.request_laws.proofs.Feeding.{all_both}
 use Rattle.credit_laws.specs.Clients.{own_frame, framed_by, all_framed}

@@ -1,26 +1,26 @@
 -- A host to which nothing comes has no channel.
 use Rattle.std.proofs.Common.{◌≡◌, ℕ, Bool, true, false, cond, eqb, ◌&&◌, not, List, [], ◌∷◌, map, fold, Option, Some, None, option_to_list, subst, inl, inr}
 use Rattle.std.specs.List.{AllByRecursion}
-use Rattle.capture.specs.declared.flow.Flow.TheVariants.{Into}
-use Rattle.l2cap_signal.specs.Commands.{Command as Content}
-use Rattle.l2cap_signal.specs.Reading.{Answer}
-use Rattle.link_talk.specs.declared.channel.Channel.{Channel}
-use Rattle.link_talk.specs.declared.party.Party.{Party}
-use Rattle.link_talk.specs.Channels.{Entry, reading}
-use Rattle.link_talk.specs.Sayings.{Saying, Command}
-use Rattle.channel_model.specs.declared.errand.Errand.{Errand}
-use Rattle.channel_model.specs.declared.errand.Errand.TheVariants as errands
-use Rattle.channel_model.specs.Value.{Request, Carrier, Plain, Retransmitting, Stage, Requested, Connected, Leaving, Closing, Crossed, Held, Channels}
-use Rattle.channel_model.specs.Policies.{Policy}
-use Rattle.channel_model.specs.Changing.{held_at, is_due}
-use Rattle.channel_model.specs.Calls.{carrier_at, connected, asks_features, disconnected}
-use Rattle.channel_model.specs.Giving.{Given, Signal, Whole, Framed, next_given}
-use Rattle.channel_model.specs.Timing.{times_held, times_end, times_features}
-use Rattle.channel_laws.specs.OwnTalk.{spoken, newest, said_of, asked_between}
-use Rattle.channel_laws.specs.Runs.{Occurrence, Comes, Connects, AsksFeatures, Disconnects, Sends, Gives, Fires, Tells, forgone_at, forgone_between, given_up, features_given_up, said_again, said_on_firing, said_by_channel, fired_channel, said_by_channels, peer_at, said_by_carrier, said_as, said_in, Run, run_on, run_of}
-use Rattle.channel_laws.specs.Signals.{StandsIn}
-use Rattle.channel_laws.proofs.Origins.{Origin}
-use Rattle.host_laws.proofs.Seeking.{all-from}
+use Rattle.inbox_laws.specs.capture.specs.declared.flow.Flow.TheVariants.{Into}
+use Rattle.inbox_laws.specs.l2cap_signal.specs.Commands.{Command as Content}
+use Rattle.inbox_laws.specs.l2cap_signal.specs.Reading.{Answer}
+use Rattle.inbox_laws.specs.link_talk.specs.declared.channel.Channel.{Channel}
+use Rattle.inbox_laws.specs.link_talk.specs.declared.party.Party.{Party}
+use Rattle.inbox_laws.specs.link_talk.specs.Channels.{Entry, reading}
+use Rattle.inbox_laws.specs.link_talk.specs.Sayings.{Saying, Command}
+use Rattle.inbox_laws.specs.channel_model.specs.declared.errand.Errand.{Errand}
+use Rattle.inbox_laws.specs.channel_model.specs.declared.errand.Errand.TheVariants as errands
+use Rattle.inbox_laws.specs.channel_model.specs.Value.{Request, Carrier, Plain, Retransmitting, Stage, Requested, Connected, Leaving, Closing, Crossed, Held, Channels}
+use Rattle.inbox_laws.specs.channel_model.specs.Policies.{Policy}
+use Rattle.inbox_laws.specs.channel_model.specs.Changing.{held_at, is_due}
+use Rattle.inbox_laws.specs.channel_model.specs.Calls.{carrier_at, connected, asks_features, disconnected}
+use Rattle.inbox_laws.specs.channel_model.specs.Giving.{Given, Signal, Whole, Framed, next_given}
+use Rattle.inbox_laws.specs.channel_model.specs.Timing.{times_held, times_end, times_features}
+use Rattle.inbox_laws.specs.channel_laws.specs.OwnTalk.{spoken, newest, said_of, asked_between}
+use Rattle.inbox_laws.specs.channel_laws.specs.Runs.{Occurrence, Comes, Connects, AsksFeatures, Disconnects, Sends, Gives, Fires, Tells, forgone_at, forgone_between, given_up, features_given_up, said_again, said_on_firing, said_by_channel, fired_channel, said_by_channels, peer_at, said_by_carrier, said_as, said_in, Run, run_on, run_of}
+use Rattle.inbox_laws.specs.channel_laws.specs.Signals.{StandsIn}
+use Rattle.inbox_laws.specs.channel_laws.proofs.Origins.{Origin}
+use Rattle.inbox_laws.specs.host_laws.proofs.Seeking.{all-from}
 use Rattle.request_laws.proofs.Feeding.{all_both}
 use Rattle.request_laws.proofs.Timely.{HearsNothing}
 use Rattle.credit_laws.specs.Seen.{IsCoveredOn, AreCovered, IsSaidOut}

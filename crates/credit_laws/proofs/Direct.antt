@@ -1,28 +1,28 @@
 -- Over L2CAP no link of host b has a channel of RFCOMM, so it holds no credits.
 use Rattle.std.proofs.Common.{◌≡◌, ◌==◌, Bool, true, false, List, [], ◌∷◌, Option, refl, sym, ap, subst, ◌∙◌}
 use Rattle.std.specs.List.{AllByRecursion}
-use Rattle.bt_base.specs.Objects.{Contents}
-use Rattle.bt_base.specs.declared.settings.Transport.{Transport}
-use Rattle.bt_base.specs.declared.settings.Transport.TheVariants.{L2cap}
-use Rattle.push_script.specs.declared.scenario.Scenario.{Scenario}
-use Rattle.push_terms.specs.declared.word.Side.TheVariants.{B}
-use Rattle.capture.specs.Entries.{Entry}
-use Rattle.link_talk.specs.Channels.{Entry as Known, reading}
-use Rattle.link_talk.specs.declared.channel.Channel.{Channel}
-use Rattle.link_talk.specs.declared.party.Party.{Party}
-use Rattle.link_talk.specs.Sayings.{Saying}
-use Rattle.channel_model.specs.Policies.{Policy, policy}
-use Rattle.channel_laws.specs.Runs.{Occurrence, run_of}
-use Rattle.push_model.specs.Server.{object_psm}
-use Rattle.host_laws.specs.OneCarrier.{IsFor}
-use Rattle.host_laws.specs.OneOnLinks.{packets_psm, CarriesOneOn}
-use Rattle.host_laws.proofs.Asking.{hosts_ask}
-use Rattle.host_laws.proofs.InOrder.{asks-nothing}
+use Rattle.inbox_laws.specs.bt_base.specs.Objects.{Contents}
+use Rattle.inbox_laws.specs.bt_base.specs.declared.settings.Transport.{Transport}
+use Rattle.inbox_laws.specs.bt_base.specs.declared.settings.Transport.TheVariants.{L2cap}
+use Rattle.inbox_laws.specs.push_script.specs.declared.scenario.Scenario.{Scenario}
+use Rattle.inbox_laws.specs.push_terms.specs.declared.word.Side.TheVariants.{B}
+use Rattle.inbox_laws.specs.capture.specs.Entries.{Entry}
+use Rattle.inbox_laws.specs.link_talk.specs.Channels.{Entry as Known, reading}
+use Rattle.inbox_laws.specs.link_talk.specs.declared.channel.Channel.{Channel}
+use Rattle.inbox_laws.specs.link_talk.specs.declared.party.Party.{Party}
+use Rattle.inbox_laws.specs.link_talk.specs.Sayings.{Saying}
+use Rattle.inbox_laws.specs.channel_model.specs.Policies.{Policy, policy}
+use Rattle.inbox_laws.specs.channel_laws.specs.Runs.{Occurrence, run_of}
+use Rattle.inbox_laws.specs.push_model.specs.Server.{object_psm}
+use Rattle.inbox_laws.specs.host_laws.specs.OneCarrier.{IsFor}
+use Rattle.inbox_laws.specs.host_laws.specs.OneOnLinks.{packets_psm, CarriesOneOn}
+use Rattle.inbox_laws.specs.host_laws.proofs.Asking.{hosts_ask}
+use Rattle.inbox_laws.specs.host_laws.proofs.InOrder.{asks-nothing}
 use Rattle.request_laws.proofs.Paired.{lists_of}
-use Rattle.scenario_laws.specs.Captures.{Ran}
-use Rattle.scenario_laws.specs.Parties.{party_of}
-use Rattle.scenario_laws.proofs.Alone.{runs-carry_alone}
-use Rattle.pair_laws.proofs.Pairing.{hosts-are_pairs}
+use Rattle.inbox_laws.specs.scenario_laws.specs.Captures.{Ran}
+use Rattle.inbox_laws.specs.scenario_laws.specs.Parties.{party_of}
+use Rattle.inbox_laws.specs.scenario_laws.proofs.Alone.{runs-carry_alone}
+use Rattle.inbox_laws.specs.pair_laws.proofs.Pairing.{hosts-are_pairs}
 use Rattle.credit_laws.specs.Kept.{IsSolvent}
 use Rattle.credit_laws.specs.Seen.{IsCoveredOn, AreCovered}
 use Rattle.credit_laws.proofs.Landing.{capture_holds}

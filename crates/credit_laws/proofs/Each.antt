@@ -1,10 +1,10 @@
 -- What holds of each channel that was read.
 use Rattle.std.proofs.Common.{◌≡◌, List, [], ◌∷◌, find, Bool, false, cond, Some, ap, ◌∙◌}
 use Rattle.std.specs.List.{AllByRecursion, list_any}
-use Rattle.link_talk.specs.Channels.{Entry}
-use Rattle.link_talk.specs.Carriages.{has_own}
-use Rattle.channel_model.proofs.Lookups.{eqb-same}
-use Rattle.talk_laws.proofs.Owning.{Alone, either_false, eqb_other}
+use Rattle.inbox_laws.specs.link_talk.specs.Channels.{Entry}
+use Rattle.inbox_laws.specs.link_talk.specs.Carriages.{has_own}
+use Rattle.inbox_laws.specs.channel_model.proofs.Lookups.{eqb-same}
+use Rattle.inbox_laws.specs.talk_laws.proofs.Owning.{Alone, either_false, eqb_other}
 
 each_none : (test : Entry → Bool) (entries : List Entry) → list_any test entries ≡ false → AllByRecursion (λ (entry : Entry). test entry ≡ false) entries
 each_none test [] none = tt

@@ -4,38 +4,38 @@ use Rattle.std.proofs.Common.{◌≡◌, ℕ, List, [], ◌∷◌, ◌++◌, Boo
 use Rattle.std.specs.List.{list_any}
 use Rattle.std.proofs.lemmas.Bool.{eqb-true, eq-eqb}
 use Rattle.std.proofs.lemmas.List.Folds.{list_any-append}
-use Rattle.acl_fragments.specs.Pieces.{channel_of}
-use Rattle.capture.specs.declared.flow.Flow.{Flow}
-use Rattle.capture.specs.declared.flow.Flow.TheVariants.{Out, Into}
-use Rattle.link_talk.specs.declared.channel.Channel.{Channel}
-use Rattle.link_talk.specs.declared.call.Call.{Call}
-use Rattle.link_talk.specs.declared.call.Failure.{Failure}
-use Rattle.link_talk.specs.Sayings.{Saying, Command, Carried, GaveUp, Forgone, Connection, Disconnection, Information}
-use Rattle.link_talk.specs.Senses.{sense}
-use Rattle.link_talk.specs.Requests.{Requests, Query, requests_after, call, query, failure, counted, is_own_call, has_failed, is_failure}
-use Rattle.link_talk.specs.Meanings.{Meaning, meant}
-use Rattle.link_talk.specs.declared.life.Life.{Life}
-use Rattle.link_talk.specs.declared.life.Life.TheVariants.{Alive, Leaving, Crossed, Over}
-use Rattle.link_talk.specs.declared.word.Word.{Word}
-use Rattle.link_talk.specs.declared.word.Word.TheVariants.{AsksEnd, AnswersEnd, EndAnswered, EndForgone}
-use Rattle.link_talk.specs.Setups.{Setup}
-use Rattle.link_talk.specs.Channels.{Entry, life_after, word, fresh, entry_after, is_alive, made_by, Reading, reading}
-use Rattle.link_talk.specs.Carriages.{Carriage, is_heard, is_held, takes, taker, carried, stretch}
-use Rattle.link_talk.specs.GrowingLaws.{has_opened}
-use Rattle.link_talk.proofs.Growing.{stretch-grows}
-use Rattle.link_talk.proofs.OnePass.{reading-more}
-use Rattle.talk_laws.proofs.Owning.{alone, found_one}
-use Rattle.talk_laws.proofs.Passes.{from_end}
-use Rattle.channel_model.proofs.Lookups.{eqb-same, and_off}
-use Rattle.channel_laws.specs.Views.{read_at}
-use Rattle.channel_laws.proofs.Both.{and-right}
-use Rattle.channel_laws.proofs.Carriages.{goes_over, carried-none, carried-one}
-use Rattle.channel_laws.proofs.Entries.{read-after, read-own}
-use Rattle.channel_laws.proofs.Origins.{Origin, entries-from}
-use Rattle.channel_laws.proofs.Sound.{has_called}
-use Rattle.channel_laws.proofs.Stretching.{unopened-stretch}
-use Rattle.host_laws.specs.Seen.{spoken_of}
-use Rattle.host_laws.proofs.Moving.{spoken-both}
+use Rattle.inbox_laws.specs.acl_fragments.specs.Pieces.{channel_of}
+use Rattle.inbox_laws.specs.capture.specs.declared.flow.Flow.{Flow}
+use Rattle.inbox_laws.specs.capture.specs.declared.flow.Flow.TheVariants.{Out, Into}
+use Rattle.inbox_laws.specs.link_talk.specs.declared.channel.Channel.{Channel}
+use Rattle.inbox_laws.specs.link_talk.specs.declared.call.Call.{Call}
+use Rattle.inbox_laws.specs.link_talk.specs.declared.call.Failure.{Failure}
+use Rattle.inbox_laws.specs.link_talk.specs.Sayings.{Saying, Command, Carried, GaveUp, Forgone, Connection, Disconnection, Information}
+use Rattle.inbox_laws.specs.link_talk.specs.Senses.{sense}
+use Rattle.inbox_laws.specs.link_talk.specs.Requests.{Requests, Query, requests_after, call, query, failure, counted, is_own_call, has_failed, is_failure}
+use Rattle.inbox_laws.specs.link_talk.specs.Meanings.{Meaning, meant}
+use Rattle.inbox_laws.specs.link_talk.specs.declared.life.Life.{Life}
+use Rattle.inbox_laws.specs.link_talk.specs.declared.life.Life.TheVariants.{Alive, Leaving, Crossed, Over}
+use Rattle.inbox_laws.specs.link_talk.specs.declared.word.Word.{Word}
+use Rattle.inbox_laws.specs.link_talk.specs.declared.word.Word.TheVariants.{AsksEnd, AnswersEnd, EndAnswered, EndForgone}
+use Rattle.inbox_laws.specs.link_talk.specs.Setups.{Setup}
+use Rattle.inbox_laws.specs.link_talk.specs.Channels.{Entry, life_after, word, fresh, entry_after, is_alive, made_by, Reading, reading}
+use Rattle.inbox_laws.specs.link_talk.specs.Carriages.{Carriage, is_heard, is_held, takes, taker, carried, stretch}
+use Rattle.inbox_laws.specs.link_talk.specs.GrowingLaws.{has_opened}
+use Rattle.inbox_laws.specs.link_talk.proofs.Growing.{stretch-grows}
+use Rattle.inbox_laws.specs.link_talk.proofs.OnePass.{reading-more}
+use Rattle.inbox_laws.specs.talk_laws.proofs.Owning.{alone, found_one}
+use Rattle.inbox_laws.specs.talk_laws.proofs.Passes.{from_end}
+use Rattle.inbox_laws.specs.channel_model.proofs.Lookups.{eqb-same, and_off}
+use Rattle.inbox_laws.specs.channel_laws.specs.Views.{read_at}
+use Rattle.inbox_laws.specs.channel_laws.proofs.Both.{and-right}
+use Rattle.inbox_laws.specs.channel_laws.proofs.Carriages.{goes_over, carried-none, carried-one}
+use Rattle.inbox_laws.specs.channel_laws.proofs.Entries.{read-after, read-own}
+use Rattle.inbox_laws.specs.channel_laws.proofs.Origins.{Origin, entries-from}
+use Rattle.inbox_laws.specs.channel_laws.proofs.Sound.{has_called}
+use Rattle.inbox_laws.specs.channel_laws.proofs.Stretching.{unopened-stretch}
+use Rattle.inbox_laws.specs.host_laws.specs.Seen.{spoken_of}
+use Rattle.inbox_laws.specs.host_laws.proofs.Moving.{spoken-both}
 use Rattle.credit_laws.specs.Moved.{PeersApart, IsSole}
 use Rattle.credit_laws.proofs.Meant.{requests_more, called_after, failed_after, apart_before, sole_before, within_apart, stands_spoken, read_more, made_at, after_at, Meant, Alike, Adds, meant_both, made_both, none_made}
 

@@ -1,29 +1,29 @@
 -- What is so of each run on the way is so at each moment of the capture of the run.
 use Rattle.std.proofs.Common.{◌≡◌, false, List, [], ◌∷◌, ◌++◌, Option, refl, sym, ap, subst, ◌∙◌, append_assoc, append-nil}
 use Rattle.std.proofs.lemmas.List.Concat.{flat_map-append}
-use Rattle.bt_base.specs.Objects.{Contents}
-use Rattle.push_script.specs.declared.scenario.Scenario.{Scenario}
-use Rattle.push_script.specs.Runs.{is_lossy}
-use Rattle.push_terms.specs.declared.outcome.Outcome.{Outcome}
-use Rattle.push_terms.specs.declared.word.Side.{Side}
-use Rattle.push_terms.specs.declared.word.Word.{Word}
-use Rattle.capture.specs.Entries.{Entry, Ended}
-use Rattle.capture.specs.Histories.{AtEach}
-use Rattle.capture.specs.Links.{Linking}
-use Rattle.capture.proofs.HistoryLaws.{at_each-more, at_each-none, at_each-whole}
+use Rattle.inbox_laws.specs.bt_base.specs.Objects.{Contents}
+use Rattle.inbox_laws.specs.push_script.specs.declared.scenario.Scenario.{Scenario}
+use Rattle.inbox_laws.specs.push_script.specs.Runs.{is_lossy}
+use Rattle.inbox_laws.specs.push_terms.specs.declared.outcome.Outcome.{Outcome}
+use Rattle.inbox_laws.specs.push_terms.specs.declared.word.Side.{Side}
+use Rattle.inbox_laws.specs.push_terms.specs.declared.word.Word.{Word}
+use Rattle.inbox_laws.specs.capture.specs.Entries.{Entry, Ended}
+use Rattle.inbox_laws.specs.capture.specs.Histories.{AtEach}
+use Rattle.inbox_laws.specs.capture.specs.Links.{Linking}
+use Rattle.inbox_laws.specs.capture.proofs.HistoryLaws.{at_each-more, at_each-none, at_each-whole}
 use Rattle.std.specs.Prelude.{ℕ, pos, map, option_to_list}
-use Rattle.link_talk.specs.Accounts.{credits}
-use Rattle.link_talk.specs.Captures.{last_talk}
-use Rattle.link_talk.specs.Sayings.{talk}
-use Rattle.world_model.specs.Machines.{News, Upper}
-use Rattle.host_model.specs.Circumstances.{Circumstance}
-use Rattle.world_model.specs.Worlds.{World, Happening, Tries, Departure, GivingBack, Piecemeal, Answering, Turns, Misses, Opens, Closes, Runs, entries_of, all_entries, words_in, all_words}
-use Rattle.scenario_laws.specs.Captures.{client_of, server_of, BothHosts, beginning, Ran}
-use Rattle.scenario_laws.specs.Parties.{party_of}
-use Rattle.scenario_laws.proofs.Fronts.{ended_links, with_ends}
-use Rattle.pair_laws.specs.Granted.{answered_by}
-use Rattle.pair_laws.specs.Keeping.{LosesNothing}
-use Rattle.pair_laws.proofs.Answered.{runs-so}
+use Rattle.inbox_laws.specs.link_talk.specs.Accounts.{credits}
+use Rattle.inbox_laws.specs.link_talk.specs.Captures.{last_talk}
+use Rattle.inbox_laws.specs.link_talk.specs.Sayings.{talk}
+use Rattle.inbox_laws.specs.world_model.specs.Machines.{News, Upper}
+use Rattle.inbox_laws.specs.host_model.specs.Circumstances.{Circumstance}
+use Rattle.inbox_laws.specs.world_model.specs.Worlds.{World, Happening, Tries, Departure, GivingBack, Piecemeal, Answering, Turns, Misses, Opens, Closes, Runs, entries_of, all_entries, words_in, all_words}
+use Rattle.inbox_laws.specs.scenario_laws.specs.Captures.{client_of, server_of, BothHosts, beginning, Ran}
+use Rattle.inbox_laws.specs.scenario_laws.specs.Parties.{party_of}
+use Rattle.inbox_laws.specs.scenario_laws.proofs.Fronts.{ended_links, with_ends}
+use Rattle.inbox_laws.specs.pair_laws.specs.Granted.{answered_by}
+use Rattle.inbox_laws.specs.pair_laws.specs.Keeping.{LosesNothing}
+use Rattle.inbox_laws.specs.pair_laws.proofs.Answered.{runs-so}
 use Rattle.request_laws.proofs.Feeding.{all_ahead}
 use Rattle.credit_laws.specs.Fronts.{HappenedWith, IsGentle, CreditsAreKept}
 use Rattle.credit_laws.specs.Kept.{IsSolvent, StaysSolvent}

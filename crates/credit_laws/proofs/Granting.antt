@@ -3,25 +3,25 @@ use Rattle.std.proofs.Common.{arith, ◌≡◌, ◌≤◌, ℕ, ◌==◌, ◌+�
 use Rattle.std.specs.Prelude.{not, nat_lt, nat_le, sum_by, length}
 use Rattle.std.specs.List.{AllByRecursion}
 use Rattle.std.proofs.lemmas.List.Sums.{sum_by-cons}
-use Rattle.rfcomm_frames.specs.declared.frame.MuxKind.{MuxKind}
-use Rattle.rfcomm_frames.specs.declared.frame.MuxKind.TheVariants.{Sabm, Ua, Dm, Disc, Uih}
-use Rattle.rfcomm_frames.specs.declared.connection.Dlc.{Dlc}
-use Rattle.rfcomm_frames.specs.declared.connection.Dlc.TheVariants.{Idle, Asked, Open, Ended}
-use Rattle.rfcomm_frames.specs.Frames.{PlainFrame}
-use Rattle.rfcomm_frames.specs.Controls.{PlainControl, pn, msc, test, rpn, rls, nsc, other, written}
-use Rattle.rfcomm_frames.specs.FrameReading.{MessageAnswer, messages}
-use Rattle.rfcomm_frames.specs.Connections.{is_ended}
-use Rattle.rfcomm_frames.specs.Multiplexing.{stated_by, credit_octet}
-use Rattle.rfcomm_model.specs.declared.state.MuxReason.{MuxReason}
-use Rattle.rfcomm_model.specs.declared.state.MuxReason.TheVariants as reasons
-use Rattle.rfcomm_model.specs.declared.state.Command.TheVariants.{OpenControl, Agree, OpenUser, Signal, LeaveUser, LeaveControl}
-use Rattle.rfcomm_model.specs.declared.state.Asks.{Asks}
-use Rattle.rfcomm_model.specs.declared.state.Asks.TheVariants.{Nothing, Due, Awaited}
-use Rattle.rfcomm_model.specs.Machine.{Mux, may_pass, closes}
-use Rattle.rfcomm_model.specs.Written.{response_frame, control_frame}
-use Rattle.rfcomm_model.specs.Hearing.{has_room, answering, says_dm, tells, lesser, own_credits, terms_agreed, peer_answered, settings_of, credited, charged, with_credits, hears_data, counts, pn_credited, hears_offer, hears_acceptance, hears_other_offer, hears_pn, signals_answered, hears_msc, hears_message, hears_messages, if_stands, hears_uih}
-use Rattle.rfcomm_model.proofs.Closing.{keep_cond}
-use Rattle.rfcomm_model.proofs.Stepping.{all_more}
+use Rattle.inbox_laws.specs.rfcomm_frames.specs.declared.frame.MuxKind.{MuxKind}
+use Rattle.inbox_laws.specs.rfcomm_frames.specs.declared.frame.MuxKind.TheVariants.{Sabm, Ua, Dm, Disc, Uih}
+use Rattle.inbox_laws.specs.rfcomm_frames.specs.declared.connection.Dlc.{Dlc}
+use Rattle.inbox_laws.specs.rfcomm_frames.specs.declared.connection.Dlc.TheVariants.{Idle, Asked, Open, Ended}
+use Rattle.inbox_laws.specs.rfcomm_frames.specs.Frames.{PlainFrame}
+use Rattle.inbox_laws.specs.rfcomm_frames.specs.Controls.{PlainControl, pn, msc, test, rpn, rls, nsc, other, written}
+use Rattle.inbox_laws.specs.rfcomm_frames.specs.FrameReading.{MessageAnswer, messages}
+use Rattle.inbox_laws.specs.rfcomm_frames.specs.Connections.{is_ended}
+use Rattle.inbox_laws.specs.rfcomm_frames.specs.Multiplexing.{stated_by, credit_octet}
+use Rattle.inbox_laws.specs.rfcomm_model.specs.declared.state.MuxReason.{MuxReason}
+use Rattle.inbox_laws.specs.rfcomm_model.specs.declared.state.MuxReason.TheVariants as reasons
+use Rattle.inbox_laws.specs.rfcomm_model.specs.declared.state.Command.TheVariants.{OpenControl, Agree, OpenUser, Signal, LeaveUser, LeaveControl}
+use Rattle.inbox_laws.specs.rfcomm_model.specs.declared.state.Asks.{Asks}
+use Rattle.inbox_laws.specs.rfcomm_model.specs.declared.state.Asks.TheVariants.{Nothing, Due, Awaited}
+use Rattle.inbox_laws.specs.rfcomm_model.specs.Machine.{Mux, may_pass, closes}
+use Rattle.inbox_laws.specs.rfcomm_model.specs.Written.{response_frame, control_frame}
+use Rattle.inbox_laws.specs.rfcomm_model.specs.Hearing.{has_room, answering, says_dm, tells, lesser, own_credits, terms_agreed, peer_answered, settings_of, credited, charged, with_credits, hears_data, counts, pn_credited, hears_offer, hears_acceptance, hears_other_offer, hears_pn, signals_answered, hears_msc, hears_message, hears_messages, if_stands, hears_uih}
+use Rattle.inbox_laws.specs.rfcomm_model.proofs.Closing.{keep_cond}
+use Rattle.inbox_laws.specs.rfcomm_model.proofs.Stepping.{all_more}
 
 -- ---- answers that agree to a connection
 

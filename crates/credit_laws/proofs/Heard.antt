@@ -4,32 +4,32 @@ use Rattle.std.specs.Prelude.{ℤ, pos, ◌+ℤ◌, not, if◌then◌else◌}
 use Rattle.std.specs.List.{AllByRecursion, flat_map, filter_map, cons_option}
 use Rattle.std.proofs.Math.IntN.{pos-+ℤ-pos, -ℤ-+ℤ_cancel}
 use Rattle.std.proofs.lemmas.List.Elements.{filter_map-append}
-use Rattle.bt_base.specs.declared.settings.Settings.{Settings}
-use Rattle.bt_base.specs.declared.settings.Transport.{Transport}
-use Rattle.bt_base.specs.Objects.{Object, Contents}
-use Rattle.obex_session.specs.InboxCalls.{Answer as Granting}
-use Rattle.rfcomm_frames.specs.declared.connection.Role.{Role}
-use Rattle.rfcomm_frames.specs.declared.connection.Role.TheVariants.{Responder}
-use Rattle.rfcomm_frames.specs.Answers.{Answer}
-use Rattle.rfcomm_frames.specs.Ending.{is_closed_by, Course, no_course, course_after, is_last, has_last, to_closing}
-use Rattle.rfcomm_frames.specs.FrameReading.{frame_answer}
-use Rattle.rfcomm_frames.specs.Frames.{PlainFrame}
-use Rattle.rfcomm_frames.specs.Multiplexing.{Passed, Framed, framed, frames, Connections, no_connections, connections_after, is_role, granted_by, granted, spent_by, spent}
-use Rattle.rfcomm_frames.specs.UserChannel.{live_frames, credits_held}
-use Rattle.rfcomm_model.specs.ClosedSides.{IsOrderly}
-use Rattle.rfcomm_model.specs.Machine.{new_mux}
-use Rattle.rfcomm_model.proofs.Ended.{to_all, to_more, to_over}
-use Rattle.rfcomm_model.proofs.Reading.{granted_more, spent_more, own_grants}
-use Rattle.push_model.specs.Server.{Reacted, rfcomm_psm}
-use Rattle.push_model.specs.Service.{Service}
-use Rattle.push_laws.specs.Faults.{unmarked}
-use Rattle.push_laws.specs.Laws.{new_over}
-use Rattle.push_laws.specs.Occurrences.{Occurrence, Came, Went, Closed, LinkDown, Asked, Answering, done, all_done, begun}
-use Rattle.push_laws.specs.Parties.{sdu_if}
-use Rattle.push_laws.specs.Premises.{AllGranted, NoneShort, IsHeard, IsAlone, AllCome, AllMayCome, AllMayMiss}
-use Rattle.push_laws.specs.Readings.{closes, since, since_from, passed_by}
-use Rattle.push_laws.proofs.Frames.{carries_credits}
-use Rattle.push_laws.proofs.Gaining.{clean, clean_same, clear_all, first_holds, credits-are_read}
+use Rattle.inbox_laws.specs.bt_base.specs.declared.settings.Settings.{Settings}
+use Rattle.inbox_laws.specs.bt_base.specs.declared.settings.Transport.{Transport}
+use Rattle.inbox_laws.specs.bt_base.specs.Objects.{Object, Contents}
+use Rattle.inbox_laws.specs.obex_session.specs.InboxCalls.{Answer as Granting}
+use Rattle.inbox_laws.specs.rfcomm_frames.specs.declared.connection.Role.{Role}
+use Rattle.inbox_laws.specs.rfcomm_frames.specs.declared.connection.Role.TheVariants.{Responder}
+use Rattle.inbox_laws.specs.rfcomm_frames.specs.Answers.{Answer}
+use Rattle.inbox_laws.specs.rfcomm_frames.specs.Ending.{is_closed_by, Course, no_course, course_after, is_last, has_last, to_closing}
+use Rattle.inbox_laws.specs.rfcomm_frames.specs.FrameReading.{frame_answer}
+use Rattle.inbox_laws.specs.rfcomm_frames.specs.Frames.{PlainFrame}
+use Rattle.inbox_laws.specs.rfcomm_frames.specs.Multiplexing.{Passed, Framed, framed, frames, Connections, no_connections, connections_after, is_role, granted_by, granted, spent_by, spent}
+use Rattle.inbox_laws.specs.rfcomm_frames.specs.UserChannel.{live_frames, credits_held}
+use Rattle.inbox_laws.specs.rfcomm_model.specs.ClosedSides.{IsOrderly}
+use Rattle.inbox_laws.specs.rfcomm_model.specs.Machine.{new_mux}
+use Rattle.inbox_laws.specs.rfcomm_model.proofs.Ended.{to_all, to_more, to_over}
+use Rattle.inbox_laws.specs.rfcomm_model.proofs.Reading.{granted_more, spent_more, own_grants}
+use Rattle.inbox_laws.specs.push_model.specs.Server.{Reacted, rfcomm_psm}
+use Rattle.inbox_laws.specs.push_model.specs.Service.{Service}
+use Rattle.inbox_laws.specs.push_laws.specs.Faults.{unmarked}
+use Rattle.inbox_laws.specs.push_laws.specs.Laws.{new_over}
+use Rattle.inbox_laws.specs.push_laws.specs.Occurrences.{Occurrence, Came, Went, Closed, LinkDown, Asked, Answering, done, all_done, begun}
+use Rattle.inbox_laws.specs.push_laws.specs.Parties.{sdu_if}
+use Rattle.inbox_laws.specs.push_laws.specs.Premises.{AllGranted, NoneShort, IsHeard, IsAlone, AllCome, AllMayCome, AllMayMiss}
+use Rattle.inbox_laws.specs.push_laws.specs.Readings.{closes, since, since_from, passed_by}
+use Rattle.inbox_laws.specs.push_laws.proofs.Frames.{carries_credits}
+use Rattle.inbox_laws.specs.push_laws.proofs.Gaining.{clean, clean_same, clear_all, first_holds, credits-are_read}
 use Rattle.request_laws.specs.Carried.{NoneComesBehind}
 use Rattle.request_laws.specs.Streams.{come_on}
 use Rattle.credit_laws.specs.Covered.{IsCovered}

@@ -2,44 +2,44 @@
 use Rattle.std.proofs.Common.{suc, arith, ◌≡◌, ℕ, List, [], ◌∷◌, true, false, Option, None, refl, sym, subst, ◌∙◌}
 use Rattle.std.specs.Prelude.{get_or}
 use Rattle.std.specs.List.{AllByRecursion, flat_map}
-use Rattle.bt_base.specs.declared.settings.Transport.{Transport}
-use Rattle.bt_base.specs.declared.settings.Transport.TheVariants.{L2cap, Rfcomm}
-use Rattle.bt_base.specs.Objects.{Object}
-use Rattle.capture.specs.Entries.{Entry as Capture}
-use Rattle.push_script.specs.declared.scenario.Scenario.{Scenario}
-use Rattle.push_terms.specs.declared.word.Side.TheVariants as sides
-use Rattle.channel_model.specs.Policies.{Policy, policy}
-use Rattle.channel_laws.specs.Frames.{AreUttered}
-use Rattle.channel_laws.specs.Runs.{Occurrence, run_of}
-use Rattle.channel_laws.specs.Singly.{AsksForNoChannel}
-use Rattle.channel_laws.proofs.OneByOne.{calls-are_one_by_one}
-use Rattle.push_model.specs.Steps.{steps}
-use Rattle.shelf_model.specs.Held.{longest_octets}
-use Rattle.host_model.specs.Clients.{client_profile, fitted}
-use Rattle.host_model.specs.Shelves.{unused}
-use Rattle.host_laws.specs.ClientCalls.{AsksWell}
-use Rattle.host_laws.specs.InOrder.{may_ask}
-use Rattle.host_laws.specs.OneOnLinks.{packets_psm, CarriesOneOn}
-use Rattle.host_laws.specs.OverLinks.{AreTimely, talk_marks}
-use Rattle.host_laws.specs.Pushing.{pushed_from}
-use Rattle.host_laws.specs.Searching.{AsksAsItSteps}
-use Rattle.host_laws.specs.Woven.{TalksWoven}
-use Rattle.host_laws.proofs.Answered.{clients_are_answered}
-use Rattle.host_laws.proofs.ClientCalls.{clients-ask_in_order}
-use Rattle.host_laws.proofs.InOrder.{asks-nothing, links-ask_none}
-use Rattle.host_laws.proofs.OverLinks.{fed_woven}
-use Rattle.host_laws.proofs.Asking.{clients-call}
-use Rattle.host_laws.proofs.Stepping.{asked_is}
-use Rattle.host_laws.specs.ShelfAnswers.{AnswersOf}
-use Rattle.scenario_laws.specs.Captures.{Ran}
-use Rattle.scenario_laws.specs.Gains.{holding, serving, asked_by}
-use Rattle.scenario_laws.specs.Parties.{party_of}
-use Rattle.scenario_laws.proofs.Alone.{runs-carry_alone}
-use Rattle.push_model.specs.Server.{object_psm}
-use Rattle.pair_laws.specs.Enough.{HappenedEnough}
-use Rattle.pair_laws.specs.Keeping.{PairsKeepOrder}
-use Rattle.pair_laws.specs.OnLinks.{ArePairs}
-use Rattle.pair_laws.proofs.Pairing.{hosts-are_pairs, enough-keep_order}
+use Rattle.inbox_laws.specs.bt_base.specs.declared.settings.Transport.{Transport}
+use Rattle.inbox_laws.specs.bt_base.specs.declared.settings.Transport.TheVariants.{L2cap, Rfcomm}
+use Rattle.inbox_laws.specs.bt_base.specs.Objects.{Object}
+use Rattle.inbox_laws.specs.capture.specs.Entries.{Entry as Capture}
+use Rattle.inbox_laws.specs.push_script.specs.declared.scenario.Scenario.{Scenario}
+use Rattle.inbox_laws.specs.push_terms.specs.declared.word.Side.TheVariants as sides
+use Rattle.inbox_laws.specs.channel_model.specs.Policies.{Policy, policy}
+use Rattle.inbox_laws.specs.channel_laws.specs.Frames.{AreUttered}
+use Rattle.inbox_laws.specs.channel_laws.specs.Runs.{Occurrence, run_of}
+use Rattle.inbox_laws.specs.channel_laws.specs.Singly.{AsksForNoChannel}
+use Rattle.inbox_laws.specs.channel_laws.proofs.OneByOne.{calls-are_one_by_one}
+use Rattle.inbox_laws.specs.push_model.specs.Steps.{steps}
+use Rattle.inbox_laws.specs.shelf_model.specs.Held.{longest_octets}
+use Rattle.inbox_laws.specs.host_model.specs.Clients.{client_profile, fitted}
+use Rattle.inbox_laws.specs.host_model.specs.Shelves.{unused}
+use Rattle.inbox_laws.specs.host_laws.specs.ClientCalls.{AsksWell}
+use Rattle.inbox_laws.specs.host_laws.specs.InOrder.{may_ask}
+use Rattle.inbox_laws.specs.host_laws.specs.OneOnLinks.{packets_psm, CarriesOneOn}
+use Rattle.inbox_laws.specs.host_laws.specs.OverLinks.{AreTimely, talk_marks}
+use Rattle.inbox_laws.specs.host_laws.specs.Pushing.{pushed_from}
+use Rattle.inbox_laws.specs.host_laws.specs.Searching.{AsksAsItSteps}
+use Rattle.inbox_laws.specs.host_laws.specs.Woven.{TalksWoven}
+use Rattle.inbox_laws.specs.host_laws.proofs.Answered.{clients_are_answered}
+use Rattle.inbox_laws.specs.host_laws.proofs.ClientCalls.{clients-ask_in_order}
+use Rattle.inbox_laws.specs.host_laws.proofs.InOrder.{asks-nothing, links-ask_none}
+use Rattle.inbox_laws.specs.host_laws.proofs.OverLinks.{fed_woven}
+use Rattle.inbox_laws.specs.host_laws.proofs.Asking.{clients-call}
+use Rattle.inbox_laws.specs.host_laws.proofs.Stepping.{asked_is}
+use Rattle.inbox_laws.specs.host_laws.specs.ShelfAnswers.{AnswersOf}
+use Rattle.inbox_laws.specs.scenario_laws.specs.Captures.{Ran}
+use Rattle.inbox_laws.specs.scenario_laws.specs.Gains.{holding, serving, asked_by}
+use Rattle.inbox_laws.specs.scenario_laws.specs.Parties.{party_of}
+use Rattle.inbox_laws.specs.scenario_laws.proofs.Alone.{runs-carry_alone}
+use Rattle.inbox_laws.specs.push_model.specs.Server.{object_psm}
+use Rattle.inbox_laws.specs.pair_laws.specs.Enough.{HappenedEnough}
+use Rattle.inbox_laws.specs.pair_laws.specs.Keeping.{PairsKeepOrder}
+use Rattle.inbox_laws.specs.pair_laws.specs.OnLinks.{ArePairs}
+use Rattle.inbox_laws.specs.pair_laws.proofs.Pairing.{hosts-are_pairs, enough-keep_order}
 use Rattle.request_laws.proofs.AlongStreams.{at_place, none_carry, all_carry}
 use Rattle.request_laws.proofs.Beginning.{good_first}
 use Rattle.request_laws.proofs.GivenOctets.{affairs-given}

@@ -2,38 +2,38 @@
 use Rattle.std.proofs.Common.{◌≡◌, ℕ, List, [], ◌∷◌, ◌++◌, map, true, Option, refl, sym, ap, subst, ◌∙◌, append_assoc, inl, inr}
 use Rattle.std.specs.List.{AllByRecursion, AllZip, flat_map}
 use Rattle.std.proofs.lemmas.List.Concat.{flat_map-append}
-use Rattle.bt_base.specs.declared.settings.Settings.{Settings}
-use Rattle.bt_base.specs.declared.settings.Transport.{Transport}
-use Rattle.bt_base.specs.Objects.{Contents}
-use Rattle.capture.specs.Entries.{Entry as Capture}
-use Rattle.capture.specs.Links.{Link, links}
-use Rattle.capture.specs.Pdus.{Pdu, pdus}
-use Rattle.push_script.specs.declared.scenario.Scenario.{Scenario}
-use Rattle.push_terms.specs.declared.word.Side.{Side}
-use Rattle.push_terms.specs.declared.word.Side.TheVariants as sides
-use Rattle.link_talk.specs.Captures.{last_talk}
-use Rattle.link_talk.specs.declared.party.Party.{Party}
-use Rattle.link_talk.specs.Sayings.{Saying, said_by, talk}
-use Rattle.channel_model.specs.Policies.{Policy, policy}
-use Rattle.channel_laws.specs.Frames.{AreUttered}
-use Rattle.channel_laws.specs.Runs.{Occurrence, run_of}
-use Rattle.channel_laws.specs.Singly.{AsksForNoChannel}
-use Rattle.world_model.specs.Talks.{Talk}
-use Rattle.host_model.specs.Hosts.{Host}
-use Rattle.host_model.specs.Profiles.{Profile}
-use Rattle.host_model.specs.Servers.{server_profile}
-use Rattle.host_laws.specs.Calls.{Asks}
-use Rattle.host_laws.specs.Calm.{pdus_in}
-use Rattle.host_laws.specs.InOrder.{AsksForOneObject, AsksNoChannels}
-use Rattle.host_laws.specs.Lives.{Span}
-use Rattle.host_laws.specs.OverLinks.{IsTalkOf, parts, moved_in, talk_marks}
-use Rattle.host_laws.specs.Seen.{spoken_of}
-use Rattle.host_laws.proofs.InOrder.{links-ask_none}
-use Rattle.scenario_laws.specs.Captures.{Ran}
-use Rattle.scenario_laws.specs.Coming.{out_of, FallTo}
-use Rattle.scenario_laws.specs.Parties.{party_of}
-use Rattle.scenario_laws.proofs.Orderly.{parts-are_asked}
-use Rattle.pair_laws.specs.OnLinks.{LivedOver}
+use Rattle.inbox_laws.specs.bt_base.specs.declared.settings.Settings.{Settings}
+use Rattle.inbox_laws.specs.bt_base.specs.declared.settings.Transport.{Transport}
+use Rattle.inbox_laws.specs.bt_base.specs.Objects.{Contents}
+use Rattle.inbox_laws.specs.capture.specs.Entries.{Entry as Capture}
+use Rattle.inbox_laws.specs.capture.specs.Links.{Link, links}
+use Rattle.inbox_laws.specs.capture.specs.Pdus.{Pdu, pdus}
+use Rattle.inbox_laws.specs.push_script.specs.declared.scenario.Scenario.{Scenario}
+use Rattle.inbox_laws.specs.push_terms.specs.declared.word.Side.{Side}
+use Rattle.inbox_laws.specs.push_terms.specs.declared.word.Side.TheVariants as sides
+use Rattle.inbox_laws.specs.link_talk.specs.Captures.{last_talk}
+use Rattle.inbox_laws.specs.link_talk.specs.declared.party.Party.{Party}
+use Rattle.inbox_laws.specs.link_talk.specs.Sayings.{Saying, said_by, talk}
+use Rattle.inbox_laws.specs.channel_model.specs.Policies.{Policy, policy}
+use Rattle.inbox_laws.specs.channel_laws.specs.Frames.{AreUttered}
+use Rattle.inbox_laws.specs.channel_laws.specs.Runs.{Occurrence, run_of}
+use Rattle.inbox_laws.specs.channel_laws.specs.Singly.{AsksForNoChannel}
+use Rattle.inbox_laws.specs.world_model.specs.Talks.{Talk}
+use Rattle.inbox_laws.specs.host_model.specs.Hosts.{Host}
+use Rattle.inbox_laws.specs.host_model.specs.Profiles.{Profile}
+use Rattle.inbox_laws.specs.host_model.specs.Servers.{server_profile}
+use Rattle.inbox_laws.specs.host_laws.specs.Calls.{Asks}
+use Rattle.inbox_laws.specs.host_laws.specs.Calm.{pdus_in}
+use Rattle.inbox_laws.specs.host_laws.specs.InOrder.{AsksForOneObject, AsksNoChannels}
+use Rattle.inbox_laws.specs.host_laws.specs.Lives.{Span}
+use Rattle.inbox_laws.specs.host_laws.specs.OverLinks.{IsTalkOf, parts, moved_in, talk_marks}
+use Rattle.inbox_laws.specs.host_laws.specs.Seen.{spoken_of}
+use Rattle.inbox_laws.specs.host_laws.proofs.InOrder.{links-ask_none}
+use Rattle.inbox_laws.specs.scenario_laws.specs.Captures.{Ran}
+use Rattle.inbox_laws.specs.scenario_laws.specs.Coming.{out_of, FallTo}
+use Rattle.inbox_laws.specs.scenario_laws.specs.Parties.{party_of}
+use Rattle.inbox_laws.specs.scenario_laws.proofs.Orderly.{parts-are_asked}
+use Rattle.inbox_laws.specs.pair_laws.specs.OnLinks.{LivedOver}
 use Rattle.request_laws.proofs.Feeding.{all_both}
 use Rattle.request_laws.proofs.Paired.{lists_of}
 use Rattle.credit_laws.specs.Kept.{IsSolvent}

@@ -5,29 +5,29 @@ use Rattle.std.specs.Option.{option_or}
 use Rattle.std.specs.List.{AllByRecursion, list_any}
 use Rattle.std.proofs.lemmas.Bool.{eqb-true, eq-eqb}
 use Rattle.std.proofs.lemmas.List.Folds.{list_any-append}
-use Rattle.capture.specs.declared.flow.Flow.TheVariants.{Out, Into}
-use Rattle.link_talk.specs.declared.channel.Channel.{Channel}
-use Rattle.link_talk.specs.declared.call.Call.{Call}
-use Rattle.link_talk.specs.declared.call.Failure.{Failure}
-use Rattle.link_talk.specs.declared.call.Wanted.{Wanted}
-use Rattle.l2cap_config.specs.Reading.{options_read}
-use Rattle.link_talk.specs.Sayings.{Saying}
-use Rattle.link_talk.specs.Senses.{Sense, Asks, Opens, Ends, Quiet, Reply, OnChannel, OnOptions, sense}
-use Rattle.link_talk.specs.Senses as senses
-use Rattle.link_talk.specs.Requests.{Requests, Query, Terms, requests_after, call, failure, counted, is_own_call, answered_call, answered_query, has_failed, is_failure}
-use Rattle.link_talk.specs.Meanings.{Meaning, Makes, Settles, Nothing, granted, answered, is_read, meant}
-use Rattle.link_talk.specs.Channels.{Entry, word, fresh, entry_after, entries_after, with_fresh, is_owner, is_there, made_by, Reading, reading}
-use Rattle.link_talk.proofs.OnePass.{reading-more}
-use Rattle.talk_laws.proofs.Passes.{from_end}
-use Rattle.channel_laws.specs.Signals.{StandsIn}
-use Rattle.channel_laws.specs.Views.{read_at}
-use Rattle.channel_laws.proofs.Calling.{no-answer}
-use Rattle.channel_laws.proofs.Entries.{entry-same, makes-fresh, read-after, read-append}
-use Rattle.channel_laws.proofs.Origins.{Origin, answered-asked, older-origin, made-from, makes-it}
-use Rattle.channel_laws.proofs.Saying.{stands-left}
-use Rattle.channel_laws.proofs.Sound.{has_called}
-use Rattle.host_laws.specs.Seen.{is_spoken, spoken_of}
-use Rattle.host_laws.proofs.Seeking.{all-from}
+use Rattle.inbox_laws.specs.capture.specs.declared.flow.Flow.TheVariants.{Out, Into}
+use Rattle.inbox_laws.specs.link_talk.specs.declared.channel.Channel.{Channel}
+use Rattle.inbox_laws.specs.link_talk.specs.declared.call.Call.{Call}
+use Rattle.inbox_laws.specs.link_talk.specs.declared.call.Failure.{Failure}
+use Rattle.inbox_laws.specs.link_talk.specs.declared.call.Wanted.{Wanted}
+use Rattle.inbox_laws.specs.l2cap_config.specs.Reading.{options_read}
+use Rattle.inbox_laws.specs.link_talk.specs.Sayings.{Saying}
+use Rattle.inbox_laws.specs.link_talk.specs.Senses.{Sense, Asks, Opens, Ends, Quiet, Reply, OnChannel, OnOptions, sense}
+use Rattle.inbox_laws.specs.link_talk.specs.Senses as senses
+use Rattle.inbox_laws.specs.link_talk.specs.Requests.{Requests, Query, Terms, requests_after, call, failure, counted, is_own_call, answered_call, answered_query, has_failed, is_failure}
+use Rattle.inbox_laws.specs.link_talk.specs.Meanings.{Meaning, Makes, Settles, Nothing, granted, answered, is_read, meant}
+use Rattle.inbox_laws.specs.link_talk.specs.Channels.{Entry, word, fresh, entry_after, entries_after, with_fresh, is_owner, is_there, made_by, Reading, reading}
+use Rattle.inbox_laws.specs.link_talk.proofs.OnePass.{reading-more}
+use Rattle.inbox_laws.specs.talk_laws.proofs.Passes.{from_end}
+use Rattle.inbox_laws.specs.channel_laws.specs.Signals.{StandsIn}
+use Rattle.inbox_laws.specs.channel_laws.specs.Views.{read_at}
+use Rattle.inbox_laws.specs.channel_laws.proofs.Calling.{no-answer}
+use Rattle.inbox_laws.specs.channel_laws.proofs.Entries.{entry-same, makes-fresh, read-after, read-append}
+use Rattle.inbox_laws.specs.channel_laws.proofs.Origins.{Origin, answered-asked, older-origin, made-from, makes-it}
+use Rattle.inbox_laws.specs.channel_laws.proofs.Saying.{stands-left}
+use Rattle.inbox_laws.specs.channel_laws.proofs.Sound.{has_called}
+use Rattle.inbox_laws.specs.host_laws.specs.Seen.{is_spoken, spoken_of}
+use Rattle.inbox_laws.specs.host_laws.proofs.Seeking.{all-from}
 use Rattle.credit_laws.specs.Moved.{PeersApart, IsSole}
 
 -- ---- what is asked of a talk

@@ -3,34 +3,34 @@ use Rattle.std.proofs.Common.{◌≡◌, ℕ, Bool, true, false, cond, List, [],
 use Rattle.std.specs.List.{AllByRecursion}
 use Rattle.std.proofs.lemmas.Bool.{eqb-true}
 use Rattle.std.proofs.lemmas.List.{map-append}
-use Rattle.acl_fragments.specs.Pieces.{channel_of}
-use Rattle.capture.specs.Histories.{each_after}
-use Rattle.capture.specs.declared.flow.Flow.{Flow}
-use Rattle.capture.specs.declared.flow.Flow.TheVariants.{Out, Into}
-use Rattle.l2cap_config.specs.declared.wish.Mode.{Mode}
-use Rattle.rfcomm_frames.specs.FrameReading.{frame_answer}
-use Rattle.rfcomm_frames.specs.Multiplexing.{frames}
-use Rattle.rfcomm_frames.specs.UserChannel.{credits_held}
-use Rattle.link_talk.specs.declared.channel.Channel.{Channel}
-use Rattle.link_talk.specs.declared.party.Party.{Party}
-use Rattle.link_talk.specs.Carriages.{Carriage, is_heard, takes, taker, is_on, carried, stretch, has_own, entry_mode, mode_of}
-use Rattle.link_talk.specs.Channels.{Entry, is_alive, reading}
-use Rattle.link_talk.specs.Packets.{passed}
-use Rattle.link_talk.specs.Sayings.{Saying, Command, Carried, GaveUp}
-use Rattle.link_talk.specs.Sdus.{Spoken, spoken_as, spoken_with, sdus_of, spoken}
-use Rattle.link_talk.specs.Gains.{gained}
-use Rattle.link_talk.proofs.Growing.{stretch-grows}
-use Rattle.talk_laws.proofs.Owning.{alone, found_passes, some_is}
-use Rattle.talk_laws.proofs.Passes.{from_end}
-use Rattle.channel_laws.specs.Endpoints.{IsOf}
-use Rattle.channel_laws.specs.Signals.{StandsIn}
-use Rattle.channel_laws.specs.Views.{read_at}
-use Rattle.channel_laws.proofs.Both.{and-right}
-use Rattle.channel_laws.proofs.Entries.{read-own}
-use Rattle.channel_laws.proofs.Origins.{Origin, entries-from}
-use Rattle.channel_laws.proofs.Saying.{stands-left, stands-right}
-use Rattle.host_laws.specs.Seen.{spoken_of}
-use Rattle.host_laws.proofs.Gaining.{found_in}
+use Rattle.inbox_laws.specs.acl_fragments.specs.Pieces.{channel_of}
+use Rattle.inbox_laws.specs.capture.specs.Histories.{each_after}
+use Rattle.inbox_laws.specs.capture.specs.declared.flow.Flow.{Flow}
+use Rattle.inbox_laws.specs.capture.specs.declared.flow.Flow.TheVariants.{Out, Into}
+use Rattle.inbox_laws.specs.l2cap_config.specs.declared.wish.Mode.{Mode}
+use Rattle.inbox_laws.specs.rfcomm_frames.specs.FrameReading.{frame_answer}
+use Rattle.inbox_laws.specs.rfcomm_frames.specs.Multiplexing.{frames}
+use Rattle.inbox_laws.specs.rfcomm_frames.specs.UserChannel.{credits_held}
+use Rattle.inbox_laws.specs.link_talk.specs.declared.channel.Channel.{Channel}
+use Rattle.inbox_laws.specs.link_talk.specs.declared.party.Party.{Party}
+use Rattle.inbox_laws.specs.link_talk.specs.Carriages.{Carriage, is_heard, takes, taker, is_on, carried, stretch, has_own, entry_mode, mode_of}
+use Rattle.inbox_laws.specs.link_talk.specs.Channels.{Entry, is_alive, reading}
+use Rattle.inbox_laws.specs.link_talk.specs.Packets.{passed}
+use Rattle.inbox_laws.specs.link_talk.specs.Sayings.{Saying, Command, Carried, GaveUp}
+use Rattle.inbox_laws.specs.link_talk.specs.Sdus.{Spoken, spoken_as, spoken_with, sdus_of, spoken}
+use Rattle.inbox_laws.specs.link_talk.specs.Gains.{gained}
+use Rattle.inbox_laws.specs.link_talk.proofs.Growing.{stretch-grows}
+use Rattle.inbox_laws.specs.talk_laws.proofs.Owning.{alone, found_passes, some_is}
+use Rattle.inbox_laws.specs.talk_laws.proofs.Passes.{from_end}
+use Rattle.inbox_laws.specs.channel_laws.specs.Endpoints.{IsOf}
+use Rattle.inbox_laws.specs.channel_laws.specs.Signals.{StandsIn}
+use Rattle.inbox_laws.specs.channel_laws.specs.Views.{read_at}
+use Rattle.inbox_laws.specs.channel_laws.proofs.Both.{and-right}
+use Rattle.inbox_laws.specs.channel_laws.proofs.Entries.{read-own}
+use Rattle.inbox_laws.specs.channel_laws.proofs.Origins.{Origin, entries-from}
+use Rattle.inbox_laws.specs.channel_laws.proofs.Saying.{stands-left, stands-right}
+use Rattle.inbox_laws.specs.host_laws.specs.Seen.{spoken_of}
+use Rattle.inbox_laws.specs.host_laws.proofs.Gaining.{found_in}
 use Rattle.request_laws.proofs.Feeding.{all_both}
 use Rattle.credit_laws.specs.Moved.{IsSole, GoesOver, IsCarriedOver, MovedHoldSome}
 use Rattle.credit_laws.specs.Seen.{IsCoveredOn, AreCovered, IsSaidOut, HoldsSome}

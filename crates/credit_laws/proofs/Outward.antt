@@ -3,27 +3,27 @@ use Rattle.std.proofs.Common.{◌≡◌, ℕ, ◌<◌, List, [], ◌∷◌, ◌+
 use Rattle.std.specs.Prelude.{unwrap_or}
 use Rattle.std.specs.List.{AllByRecursion}
 use Rattle.std.proofs.lemmas.List.Sums.{fold-append}
-use Rattle.bt_base.proofs.OctetLemmas.{le16-number}
-use Rattle.acl_fragments.specs.Pieces.{channel_of}
-use Rattle.capture.specs.Histories.{EachAfter}
-use Rattle.capture.specs.declared.flow.Flow.TheVariants.{Into}
-use Rattle.l2cap_signal.specs.Reading.{answers}
-use Rattle.link_talk.specs.Sayings.{Saying, Command, Carried, GaveUp}
-use Rattle.channel_model.specs.Value.{Carrier, Plain, Retransmitting, Setup, Held, Channels}
-use Rattle.channel_model.specs.Policies.{Policy}
-use Rattle.channel_model.specs.Changing.{held_at, is_open, setup_of}
-use Rattle.channel_model.specs.Carrying.{takes}
-use Rattle.channel_model.specs.Giving.{Given, Signal, Whole, Framed, headed, next_given}
-use Rattle.channel_model.specs.Calls.{setup_on, carrier_if, open_carrier, carrier_at, connected, asks_features, disconnected}
-use Rattle.channel_laws.specs.Frames.{IsSpelled, IsUttered, AreUttered}
-use Rattle.channel_laws.specs.OwnTalk.{asked_between, said_with_all}
-use Rattle.channel_laws.specs.Runs.{Occurrence, Comes, Connects, AsksFeatures, Disconnects, Sends, Gives, Fires, Tells, peer_at, said_by_carrier, said_as, said_in, Run, new_link, run_on, run_of}
-use Rattle.channel_laws.proofs.Holding.{IsRead, is-read}
-use Rattle.channel_laws.proofs.Naming.{endpoints-name_one}
-use Rattle.channel_laws.proofs.Passages.{both-false, spelled-frame}
-use Rattle.channel_laws.proofs.Running.{all-sound}
-use Rattle.channel_laws.proofs.Signalling.{is_carried, IsBare, bare-asked, bare-left, bare-with_all, bare-fired}
-use Rattle.channel_laws.proofs.Trusting.{Gives_out, queue-out}
+use Rattle.inbox_laws.specs.bt_base.proofs.OctetLemmas.{le16-number}
+use Rattle.inbox_laws.specs.acl_fragments.specs.Pieces.{channel_of}
+use Rattle.inbox_laws.specs.capture.specs.Histories.{EachAfter}
+use Rattle.inbox_laws.specs.capture.specs.declared.flow.Flow.TheVariants.{Into}
+use Rattle.inbox_laws.specs.l2cap_signal.specs.Reading.{answers}
+use Rattle.inbox_laws.specs.link_talk.specs.Sayings.{Saying, Command, Carried, GaveUp}
+use Rattle.inbox_laws.specs.channel_model.specs.Value.{Carrier, Plain, Retransmitting, Setup, Held, Channels}
+use Rattle.inbox_laws.specs.channel_model.specs.Policies.{Policy}
+use Rattle.inbox_laws.specs.channel_model.specs.Changing.{held_at, is_open, setup_of}
+use Rattle.inbox_laws.specs.channel_model.specs.Carrying.{takes}
+use Rattle.inbox_laws.specs.channel_model.specs.Giving.{Given, Signal, Whole, Framed, headed, next_given}
+use Rattle.inbox_laws.specs.channel_model.specs.Calls.{setup_on, carrier_if, open_carrier, carrier_at, connected, asks_features, disconnected}
+use Rattle.inbox_laws.specs.channel_laws.specs.Frames.{IsSpelled, IsUttered, AreUttered}
+use Rattle.inbox_laws.specs.channel_laws.specs.OwnTalk.{asked_between, said_with_all}
+use Rattle.inbox_laws.specs.channel_laws.specs.Runs.{Occurrence, Comes, Connects, AsksFeatures, Disconnects, Sends, Gives, Fires, Tells, peer_at, said_by_carrier, said_as, said_in, Run, new_link, run_on, run_of}
+use Rattle.inbox_laws.specs.channel_laws.proofs.Holding.{IsRead, is-read}
+use Rattle.inbox_laws.specs.channel_laws.proofs.Naming.{endpoints-name_one}
+use Rattle.inbox_laws.specs.channel_laws.proofs.Passages.{both-false, spelled-frame}
+use Rattle.inbox_laws.specs.channel_laws.proofs.Running.{all-sound}
+use Rattle.inbox_laws.specs.channel_laws.proofs.Signalling.{is_carried, IsBare, bare-asked, bare-left, bare-with_all, bare-fired}
+use Rattle.inbox_laws.specs.channel_laws.proofs.Trusting.{Gives_out, queue-out}
 use Rattle.request_laws.proofs.Feeding.{all_both}
 use Rattle.credit_laws.specs.Moved.{GoesOver, IsCarriedOver}
 

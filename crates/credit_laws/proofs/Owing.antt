@@ -2,25 +2,25 @@
 use Rattle.std.proofs.Common.{arith, ◌≡◌, ◌≤◌, ◌<◌, ◌⊎◌, inl, inr, ℕ, ◌==◌, ◌+◌, Bool, true, false, ◌&&◌, ◌||◌, cond, None, refl, sym, ap, subst, ◌∙◌}
 use Rattle.std.specs.Prelude.{not, is_none, sum_by}
 use Rattle.std.proofs.lemmas.Bool.{ne_eqb}
-use Rattle.rfcomm_frames.specs.declared.frame.MuxKind.{MuxKind}
-use Rattle.rfcomm_frames.specs.declared.frame.MuxKind.TheVariants.{Sabm, Ua, Dm, Disc, Uih}
-use Rattle.rfcomm_frames.specs.declared.connection.Role.{Role}
-use Rattle.rfcomm_frames.specs.declared.connection.Role.TheVariants.{Initiator, Responder}
-use Rattle.rfcomm_frames.specs.declared.connection.Dlc.{Dlc}
-use Rattle.rfcomm_frames.specs.declared.closing.Closing.{Closing}
-use Rattle.rfcomm_frames.specs.Ending.{is_closed_by}
-use Rattle.rfcomm_frames.specs.Frames.{PlainFrame, carries}
-use Rattle.rfcomm_frames.specs.FrameReading.{messages}
-use Rattle.rfcomm_frames.specs.Connections.{other_role, asked, turned, is_open, is_ended, is_left}
-use Rattle.rfcomm_frames.specs.Multiplexing.{Connections, carries_on, is_over, is_data, stated_by, credit_octet, granted_by}
-use Rattle.rfcomm_model.specs.Machine.{Mux, may_pass}
-use Rattle.rfcomm_model.specs.Written.{response_frame}
-use Rattle.rfcomm_model.specs.Hearing.{has_room, answering, says_dm, signals_next, opens_control, opens_user, hears_sabm, user_answered, hears_ua, hears_dm, control_answered, control_refused, user_refused, hears_disc, hears_kind, hears_uih}
-use Rattle.rfcomm_model.specs.Machine.{closes}
-use Rattle.rfcomm_model.specs.declared.state.MuxReason.TheVariants as reasons
-use Rattle.rfcomm_model.proofs.Closing.{keep_cond}
-use Rattle.rfcomm_model.proofs.Stepping.{apart, and_false, turning}
-use Rattle.rfcomm_model.proofs.Talking.{same_role}
+use Rattle.inbox_laws.specs.rfcomm_frames.specs.declared.frame.MuxKind.{MuxKind}
+use Rattle.inbox_laws.specs.rfcomm_frames.specs.declared.frame.MuxKind.TheVariants.{Sabm, Ua, Dm, Disc, Uih}
+use Rattle.inbox_laws.specs.rfcomm_frames.specs.declared.connection.Role.{Role}
+use Rattle.inbox_laws.specs.rfcomm_frames.specs.declared.connection.Role.TheVariants.{Initiator, Responder}
+use Rattle.inbox_laws.specs.rfcomm_frames.specs.declared.connection.Dlc.{Dlc}
+use Rattle.inbox_laws.specs.rfcomm_frames.specs.declared.closing.Closing.{Closing}
+use Rattle.inbox_laws.specs.rfcomm_frames.specs.Ending.{is_closed_by}
+use Rattle.inbox_laws.specs.rfcomm_frames.specs.Frames.{PlainFrame, carries}
+use Rattle.inbox_laws.specs.rfcomm_frames.specs.FrameReading.{messages}
+use Rattle.inbox_laws.specs.rfcomm_frames.specs.Connections.{other_role, asked, turned, is_open, is_ended, is_left}
+use Rattle.inbox_laws.specs.rfcomm_frames.specs.Multiplexing.{Connections, carries_on, is_over, is_data, stated_by, credit_octet, granted_by}
+use Rattle.inbox_laws.specs.rfcomm_model.specs.Machine.{Mux, may_pass}
+use Rattle.inbox_laws.specs.rfcomm_model.specs.Written.{response_frame}
+use Rattle.inbox_laws.specs.rfcomm_model.specs.Hearing.{has_room, answering, says_dm, signals_next, opens_control, opens_user, hears_sabm, user_answered, hears_ua, hears_dm, control_answered, control_refused, user_refused, hears_disc, hears_kind, hears_uih}
+use Rattle.inbox_laws.specs.rfcomm_model.specs.Machine.{closes}
+use Rattle.inbox_laws.specs.rfcomm_model.specs.declared.state.MuxReason.TheVariants as reasons
+use Rattle.inbox_laws.specs.rfcomm_model.proofs.Closing.{keep_cond}
+use Rattle.inbox_laws.specs.rfcomm_model.proofs.Stepping.{apart, and_false, turning}
+use Rattle.inbox_laws.specs.rfcomm_model.proofs.Talking.{same_role}
 use Rattle.credit_laws.proofs.Granting.{is_idle, IsAwaited, AllAwaited, Bound, uih_bound}
 use Rattle.credit_laws.proofs.Affording.{Near, peer_near, late_near, near_ended, near_if, near_left, stays, asked_some, not_idle, all_awaited, IsNear, After, kept, closed_after, answered, dm_after, control_ua, control_dm, user_dm, disc_after}
 

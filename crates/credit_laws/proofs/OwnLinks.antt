@@ -2,52 +2,52 @@
 use Rattle.std.proofs.Common.{suc, ◌≡◌, ℕ, Bool, true, false, ◌&&◌, not, List, [], ◌∷◌, ◌++◌, map, Some, None, Ok, refl, sym, ap, subst, ◌∙◌, inl, arith, find}
 use Rattle.std.specs.Prelude.{get_or}
 use Rattle.std.specs.List.{AllByRecursion, flat_map}
-use Rattle.bt_base.specs.declared.settings.Settings.{Settings}
-use Rattle.bt_base.specs.declared.settings.Transport.TheVariants.{Rfcomm}
-use Rattle.bt_base.specs.Objects.{Object}
-use Rattle.capture.specs.Histories.{each_after}
-use Rattle.push_terms.specs.declared.word.Side.TheVariants as sides
-use Rattle.rfcomm_frames.specs.declared.connection.Role.TheVariants.{Initiator}
-use Rattle.rfcomm_frames.specs.Frames.{PlainFrame}
-use Rattle.rfcomm_frames.specs.Multiplexing.{frames}
-use Rattle.link_talk.specs.declared.channel.Channel.{Channel}
-use Rattle.link_talk.specs.declared.party.Party.{Party}
-use Rattle.link_talk.specs.Carriages.{Carriage, mode_of, has_own}
-use Rattle.link_talk.specs.Channels.{Entry, reading}
-use Rattle.link_talk.specs.GrowingLaws.{has_opened}
-use Rattle.link_talk.specs.Packets.{passed}
-use Rattle.link_talk.specs.Sayings.{Saying}
-use Rattle.link_talk.specs.Sdus.{Spoken, spoken_with, spoken}
-use Rattle.talk_laws.proofs.Owning.{alone}
-use Rattle.channel_model.specs.Policies.{policy}
-use Rattle.channel_model.specs.Value.{Channels, no_channels}
-use Rattle.channel_laws.specs.Endpoints.{IsOf}
-use Rattle.channel_laws.specs.Exchanged.{exchanged_of}
-use Rattle.channel_laws.specs.Frames.{AreUttered}
-use Rattle.channel_laws.specs.Runs.{Occurrence, run_of}
-use Rattle.channel_laws.specs.Views.{read_at}
-use Rattle.channel_laws.proofs.Both.{and-right}
-use Rattle.channel_laws.proofs.Exchanged.{exchanged-is_spoken}
-use Rattle.channel_laws.proofs.Stretching.{unopened-stretch}
-use Rattle.push_model.specs.Client.{Client, is_idle, with_object}
-use Rattle.push_model.specs.Events as events
-use Rattle.push_model.specs.Laws.{Deed, Hears, done, all_done}
-use Rattle.push_model.specs.Server.{rfcomm_psm}
-use Rattle.push_laws.specs.Carriage.{frames_by, heard_by}
-use Rattle.world_model.specs.Machines.{LinkEvent, Up, Down}
-use Rattle.host_model.specs.Circumstances.{Circumstance}
-use Rattle.host_model.specs.Clients.{ClientProfile, is_paging, client_profile}
-use Rattle.host_laws.specs.Asked.{AreAsked}
-use Rattle.host_laws.specs.Calls.{values_after}
-use Rattle.host_laws.specs.Fed.{WovenFed, FedSpan, span_feeds, behind_span, AreFed}
-use Rattle.host_laws.specs.Feeds.{Feed, all_fed}
-use Rattle.host_laws.specs.Lives.{Span, all_marks}
-use Rattle.host_laws.specs.OverLinks.{AreTimely}
-use Rattle.host_laws.specs.Pushing.{Affair, Begins, Does, client_behind, pushed_from, AllAsked}
-use Rattle.host_laws.specs.Woven.{Strand, turned}
-use Rattle.host_laws.proofs.Pushing.{all_pushed}
+use Rattle.inbox_laws.specs.bt_base.specs.declared.settings.Settings.{Settings}
+use Rattle.inbox_laws.specs.bt_base.specs.declared.settings.Transport.TheVariants.{Rfcomm}
+use Rattle.inbox_laws.specs.bt_base.specs.Objects.{Object}
+use Rattle.inbox_laws.specs.capture.specs.Histories.{each_after}
+use Rattle.inbox_laws.specs.push_terms.specs.declared.word.Side.TheVariants as sides
+use Rattle.inbox_laws.specs.rfcomm_frames.specs.declared.connection.Role.TheVariants.{Initiator}
+use Rattle.inbox_laws.specs.rfcomm_frames.specs.Frames.{PlainFrame}
+use Rattle.inbox_laws.specs.rfcomm_frames.specs.Multiplexing.{frames}
+use Rattle.inbox_laws.specs.link_talk.specs.declared.channel.Channel.{Channel}
+use Rattle.inbox_laws.specs.link_talk.specs.declared.party.Party.{Party}
+use Rattle.inbox_laws.specs.link_talk.specs.Carriages.{Carriage, mode_of, has_own}
+use Rattle.inbox_laws.specs.link_talk.specs.Channels.{Entry, reading}
+use Rattle.inbox_laws.specs.link_talk.specs.GrowingLaws.{has_opened}
+use Rattle.inbox_laws.specs.link_talk.specs.Packets.{passed}
+use Rattle.inbox_laws.specs.link_talk.specs.Sayings.{Saying}
+use Rattle.inbox_laws.specs.link_talk.specs.Sdus.{Spoken, spoken_with, spoken}
+use Rattle.inbox_laws.specs.talk_laws.proofs.Owning.{alone}
+use Rattle.inbox_laws.specs.channel_model.specs.Policies.{policy}
+use Rattle.inbox_laws.specs.channel_model.specs.Value.{Channels, no_channels}
+use Rattle.inbox_laws.specs.channel_laws.specs.Endpoints.{IsOf}
+use Rattle.inbox_laws.specs.channel_laws.specs.Exchanged.{exchanged_of}
+use Rattle.inbox_laws.specs.channel_laws.specs.Frames.{AreUttered}
+use Rattle.inbox_laws.specs.channel_laws.specs.Runs.{Occurrence, run_of}
+use Rattle.inbox_laws.specs.channel_laws.specs.Views.{read_at}
+use Rattle.inbox_laws.specs.channel_laws.proofs.Both.{and-right}
+use Rattle.inbox_laws.specs.channel_laws.proofs.Exchanged.{exchanged-is_spoken}
+use Rattle.inbox_laws.specs.channel_laws.proofs.Stretching.{unopened-stretch}
+use Rattle.inbox_laws.specs.push_model.specs.Client.{Client, is_idle, with_object}
+use Rattle.inbox_laws.specs.push_model.specs.Events as events
+use Rattle.inbox_laws.specs.push_model.specs.Laws.{Deed, Hears, done, all_done}
+use Rattle.inbox_laws.specs.push_model.specs.Server.{rfcomm_psm}
+use Rattle.inbox_laws.specs.push_laws.specs.Carriage.{frames_by, heard_by}
+use Rattle.inbox_laws.specs.world_model.specs.Machines.{LinkEvent, Up, Down}
+use Rattle.inbox_laws.specs.host_model.specs.Circumstances.{Circumstance}
+use Rattle.inbox_laws.specs.host_model.specs.Clients.{ClientProfile, is_paging, client_profile}
+use Rattle.inbox_laws.specs.host_laws.specs.Asked.{AreAsked}
+use Rattle.inbox_laws.specs.host_laws.specs.Calls.{values_after}
+use Rattle.inbox_laws.specs.host_laws.specs.Fed.{WovenFed, FedSpan, span_feeds, behind_span, AreFed}
+use Rattle.inbox_laws.specs.host_laws.specs.Feeds.{Feed, all_fed}
+use Rattle.inbox_laws.specs.host_laws.specs.Lives.{Span, all_marks}
+use Rattle.inbox_laws.specs.host_laws.specs.OverLinks.{AreTimely}
+use Rattle.inbox_laws.specs.host_laws.specs.Pushing.{Affair, Begins, Does, client_behind, pushed_from, AllAsked}
+use Rattle.inbox_laws.specs.host_laws.specs.Woven.{Strand, turned}
+use Rattle.inbox_laws.specs.host_laws.proofs.Pushing.{all_pushed}
 use Rattle.request_laws.specs.BothFed.{over_stored}
-use Rattle.host_laws.proofs.StrandsFed.{here_so}
+use Rattle.inbox_laws.specs.host_laws.proofs.StrandsFed.{here_so}
 use Rattle.request_laws.specs.Carried.{frames_over, IsReadSo}
 use Rattle.request_laws.specs.Twists.{Set, all_deeds, OpensNone}
 use Rattle.request_laws.proofs.Accepted.{Accepted}
@@ -65,7 +65,7 @@ use Rattle.request_laws.proofs.Silent.{AllSilent}
 use Rattle.request_laws.proofs.Summing.{both_ask}
 use Rattle.request_laws.proofs.Takes.{AllEndpoints}
 use Rattle.request_laws.proofs.Timely.{HearsNothing, is_up, goes_down, is_deaf, is_deaf_now, is_down}
-use Rattle.scenario_laws.specs.Parties.{party_of}
+use Rattle.inbox_laws.specs.scenario_laws.specs.Parties.{party_of}
 use Rattle.credit_laws.specs.Clients.{own_frame, all_framed}
 use Rattle.credit_laws.specs.Seen.{IsCoveredOn, AreCovered}
 use Rattle.credit_laws.proofs.Courses.{Course, Ahead, course_deeds, quiet_framed}

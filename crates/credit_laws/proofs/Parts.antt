@@ -3,41 +3,41 @@ use Rattle.std.proofs.Common.{◌≡◌, ℕ, ◌==◌, List, [], ◌∷◌, ◌
 use Rattle.std.specs.Prelude.{drop, option_to_list}
 use Rattle.std.specs.List.{AllByRecursion, filter_map, flat_map, cons_option, list_any}
 use Rattle.std.proofs.lemmas.List.{map-append}
-use Rattle.bt_base.specs.Objects.{Contents}
-use Rattle.bt_base.specs.declared.settings.Settings.{Settings}
-use Rattle.capture.specs.declared.flow.Flow.TheVariants.{Out, Into}
-use Rattle.acl_fragments.specs.Pieces.{channel_of}
-use Rattle.l2cap_signal.specs.Reading.{Answer, answers}
-use Rattle.link_talk.specs.Channels.{Entry, fresh, entry_after, is_owner, with_fresh, made_by, reading}
-use Rattle.link_talk.specs.Meanings.{Meaning, meant}
-use Rattle.link_talk.specs.Senses.{sense}
-use Rattle.link_talk.specs.declared.channel.Channel.{Channel}
-use Rattle.link_talk.specs.declared.party.Party.{Party}
-use Rattle.link_talk.specs.Packets.{passed}
-use Rattle.link_talk.specs.Sayings.{Saying, Command, Carried, GaveUp, said_by}
-use Rattle.link_talk.specs.Sdus.{Spoken, spoken, spoken_as}
-use Rattle.link_talk.proofs.Growing.{reading-grows}
-use Rattle.push_terms.specs.declared.word.Side.TheVariants as sides
-use Rattle.rfcomm_frames.specs.declared.connection.Role.TheVariants.{Initiator, Responder}
-use Rattle.rfcomm_frames.specs.Multiplexing.{Passed}
-use Rattle.channel_model.specs.Policies.{policy}
-use Rattle.channel_laws.specs.Frames.{AreUttered}
-use Rattle.channel_laws.specs.Runs.{Occurrence, run_of}
-use Rattle.push_model.specs.Server.{rfcomm_psm}
-use Rattle.push_laws.specs.Occurrences as served
-use Rattle.push_laws.specs.Readings.{passed_by}
-use Rattle.host_laws.specs.Carriers.{move_on}
-use Rattle.host_laws.specs.OneCarrier.{IsFor}
-use Rattle.host_laws.specs.OverLinks.{GoesOut}
-use Rattle.scenario_laws.specs.Coming.{out_of}
-use Rattle.scenario_laws.specs.Parties.{party_of}
-use Rattle.host_laws.specs.OneOnLinks.{CarriesOneOn}
-use Rattle.host_laws.specs.Fed.{WovenFed}
-use Rattle.host_laws.specs.Feeds.{Feed}
-use Rattle.host_laws.specs.Serving.{served_from}
-use Rattle.host_laws.proofs.Asking.{hosts_ask}
-use Rattle.host_laws.specs.Seen.{spoken_of}
-use Rattle.host_model.specs.Servers.{ServerProfile, server_profile}
+use Rattle.inbox_laws.specs.bt_base.specs.Objects.{Contents}
+use Rattle.inbox_laws.specs.bt_base.specs.declared.settings.Settings.{Settings}
+use Rattle.inbox_laws.specs.capture.specs.declared.flow.Flow.TheVariants.{Out, Into}
+use Rattle.inbox_laws.specs.acl_fragments.specs.Pieces.{channel_of}
+use Rattle.inbox_laws.specs.l2cap_signal.specs.Reading.{Answer, answers}
+use Rattle.inbox_laws.specs.link_talk.specs.Channels.{Entry, fresh, entry_after, is_owner, with_fresh, made_by, reading}
+use Rattle.inbox_laws.specs.link_talk.specs.Meanings.{Meaning, meant}
+use Rattle.inbox_laws.specs.link_talk.specs.Senses.{sense}
+use Rattle.inbox_laws.specs.link_talk.specs.declared.channel.Channel.{Channel}
+use Rattle.inbox_laws.specs.link_talk.specs.declared.party.Party.{Party}
+use Rattle.inbox_laws.specs.link_talk.specs.Packets.{passed}
+use Rattle.inbox_laws.specs.link_talk.specs.Sayings.{Saying, Command, Carried, GaveUp, said_by}
+use Rattle.inbox_laws.specs.link_talk.specs.Sdus.{Spoken, spoken, spoken_as}
+use Rattle.inbox_laws.specs.link_talk.proofs.Growing.{reading-grows}
+use Rattle.inbox_laws.specs.push_terms.specs.declared.word.Side.TheVariants as sides
+use Rattle.inbox_laws.specs.rfcomm_frames.specs.declared.connection.Role.TheVariants.{Initiator, Responder}
+use Rattle.inbox_laws.specs.rfcomm_frames.specs.Multiplexing.{Passed}
+use Rattle.inbox_laws.specs.channel_model.specs.Policies.{policy}
+use Rattle.inbox_laws.specs.channel_laws.specs.Frames.{AreUttered}
+use Rattle.inbox_laws.specs.channel_laws.specs.Runs.{Occurrence, run_of}
+use Rattle.inbox_laws.specs.push_model.specs.Server.{rfcomm_psm}
+use Rattle.inbox_laws.specs.push_laws.specs.Occurrences as served
+use Rattle.inbox_laws.specs.push_laws.specs.Readings.{passed_by}
+use Rattle.inbox_laws.specs.host_laws.specs.Carriers.{move_on}
+use Rattle.inbox_laws.specs.host_laws.specs.OneCarrier.{IsFor}
+use Rattle.inbox_laws.specs.host_laws.specs.OverLinks.{GoesOut}
+use Rattle.inbox_laws.specs.scenario_laws.specs.Coming.{out_of}
+use Rattle.inbox_laws.specs.scenario_laws.specs.Parties.{party_of}
+use Rattle.inbox_laws.specs.host_laws.specs.OneOnLinks.{CarriesOneOn}
+use Rattle.inbox_laws.specs.host_laws.specs.Fed.{WovenFed}
+use Rattle.inbox_laws.specs.host_laws.specs.Feeds.{Feed}
+use Rattle.inbox_laws.specs.host_laws.specs.Serving.{served_from}
+use Rattle.inbox_laws.specs.host_laws.proofs.Asking.{hosts_ask}
+use Rattle.inbox_laws.specs.host_laws.specs.Seen.{spoken_of}
+use Rattle.inbox_laws.specs.host_model.specs.Servers.{ServerProfile, server_profile}
 use Rattle.request_laws.proofs.Feeding.{all_both, all_ahead}
 use Rattle.request_laws.proofs.Moved.{moves_in, link-moves}
 use Rattle.credit_laws.specs.Covered.{IsCovered}

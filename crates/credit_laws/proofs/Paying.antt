@@ -4,38 +4,38 @@ use Rattle.std.specs.Prelude.{not, nat_lt, is_none, pos, ◌-ℤ◌, take, lengt
 use Rattle.std.specs.List.{cons_option}
 use Rattle.std.proofs.Math.IntN.{pos-+ℤ-pos, +ℤ-neg_ℤ_cancel}
 use Rattle.std.proofs.lemmas.List.Elements.{filter_map-append}
-use Rattle.rfcomm_frames.specs.declared.frame.MuxKind.{MuxKind}
-use Rattle.rfcomm_frames.specs.declared.frame.MuxKind.TheVariants.{Sabm, Ua, Dm, Disc, Uih}
-use Rattle.rfcomm_frames.specs.declared.connection.Role.{Role}
-use Rattle.rfcomm_frames.specs.declared.connection.Dlc.{Dlc}
-use Rattle.rfcomm_frames.specs.declared.connection.Dlc.TheVariants.{Ended}
-use Rattle.rfcomm_frames.specs.Answers.{Answer}
-use Rattle.rfcomm_frames.specs.Frames.{PlainFrame}
-use Rattle.rfcomm_frames.specs.FrameReading.{frame_answer, is_empty}
-use Rattle.rfcomm_frames.specs.Connections.{other_role, is_left}
-use Rattle.rfcomm_frames.specs.Ending.{is_closed_by, Course, no_course, course_after, is_last, has_last, to_closing}
-use Rattle.rfcomm_frames.specs.Multiplexing.{Passed, Framed, framed, frames, Connections, no_connections, connections_after, granted_by, granted, spent, spent_by}
-use Rattle.rfcomm_frames.specs.UserChannel.{live_frames}
-use Rattle.rfcomm_frames.proofs.FrameReading.{spelled_answered}
-use Rattle.rfcomm_model.specs.declared.state.MuxReason.{MuxReason}
-use Rattle.rfcomm_model.specs.declared.state.MuxReason.TheVariants as reasons
-use Rattle.rfcomm_model.specs.declared.state.Command.TheVariants.{OpenControl, Agree, OpenUser, Signal, LeaveUser, LeaveControl}
-use Rattle.rfcomm_model.specs.declared.state.Asks.{Asks}
-use Rattle.rfcomm_model.specs.declared.state.Asks.TheVariants.{Nothing, Due, Awaited}
-use Rattle.rfcomm_model.specs.Captured.{sdu_from, Goes, Passes, AllPass}
-use Rattle.rfcomm_model.specs.Machine.{Mux, new_mux, may_pass, is_leaving, taken_count, sends, leaves, closes}
-use Rattle.rfcomm_model.specs.Hearing.{has_room, answering, says_dm, ends, hears_disc, if_stands, hears_settled, hears_frame, hears_answer, hears}
-use Rattle.rfcomm_model.specs.Saying.{Said, says_grant, says_data, first_of, says_command, says_answer, next}
-use Rattle.rfcomm_model.specs.Sides.{Deed, Hears, Says, Sends, Leaves, Side, said_by, done, all_done, new_side, given, connections_of}
-use Rattle.rfcomm_model.specs.Written.{response_frame}
-use Rattle.rfcomm_model.proofs.Closing.{keep_cond, done_shut, closed-for_good}
-use Rattle.rfcomm_model.proofs.Ended.{to_all, to_more, to_over}
-use Rattle.rfcomm_model.proofs.Giving.{Gives, SaysGives, next_gives}
-use Rattle.rfcomm_model.proofs.Keeping.{hears_keeps, answers_keep, SaysKept}
-use Rattle.rfcomm_model.proofs.Reading.{lines_more, granted_more, spent_more, own_grants, peer_spends, not_other}
-use Rattle.rfcomm_model.proofs.Stepping.{AllQuiet, IsReply, all_more, turning}
-use Rattle.rfcomm_model.proofs.Talking.{same_role}
-use Rattle.rfcomm_model.proofs.Walking.{answer_walks}
+use Rattle.inbox_laws.specs.rfcomm_frames.specs.declared.frame.MuxKind.{MuxKind}
+use Rattle.inbox_laws.specs.rfcomm_frames.specs.declared.frame.MuxKind.TheVariants.{Sabm, Ua, Dm, Disc, Uih}
+use Rattle.inbox_laws.specs.rfcomm_frames.specs.declared.connection.Role.{Role}
+use Rattle.inbox_laws.specs.rfcomm_frames.specs.declared.connection.Dlc.{Dlc}
+use Rattle.inbox_laws.specs.rfcomm_frames.specs.declared.connection.Dlc.TheVariants.{Ended}
+use Rattle.inbox_laws.specs.rfcomm_frames.specs.Answers.{Answer}
+use Rattle.inbox_laws.specs.rfcomm_frames.specs.Frames.{PlainFrame}
+use Rattle.inbox_laws.specs.rfcomm_frames.specs.FrameReading.{frame_answer, is_empty}
+use Rattle.inbox_laws.specs.rfcomm_frames.specs.Connections.{other_role, is_left}
+use Rattle.inbox_laws.specs.rfcomm_frames.specs.Ending.{is_closed_by, Course, no_course, course_after, is_last, has_last, to_closing}
+use Rattle.inbox_laws.specs.rfcomm_frames.specs.Multiplexing.{Passed, Framed, framed, frames, Connections, no_connections, connections_after, granted_by, granted, spent, spent_by}
+use Rattle.inbox_laws.specs.rfcomm_frames.specs.UserChannel.{live_frames}
+use Rattle.inbox_laws.specs.rfcomm_frames.proofs.FrameReading.{spelled_answered}
+use Rattle.inbox_laws.specs.rfcomm_model.specs.declared.state.MuxReason.{MuxReason}
+use Rattle.inbox_laws.specs.rfcomm_model.specs.declared.state.MuxReason.TheVariants as reasons
+use Rattle.inbox_laws.specs.rfcomm_model.specs.declared.state.Command.TheVariants.{OpenControl, Agree, OpenUser, Signal, LeaveUser, LeaveControl}
+use Rattle.inbox_laws.specs.rfcomm_model.specs.declared.state.Asks.{Asks}
+use Rattle.inbox_laws.specs.rfcomm_model.specs.declared.state.Asks.TheVariants.{Nothing, Due, Awaited}
+use Rattle.inbox_laws.specs.rfcomm_model.specs.Captured.{sdu_from, Goes, Passes, AllPass}
+use Rattle.inbox_laws.specs.rfcomm_model.specs.Machine.{Mux, new_mux, may_pass, is_leaving, taken_count, sends, leaves, closes}
+use Rattle.inbox_laws.specs.rfcomm_model.specs.Hearing.{has_room, answering, says_dm, ends, hears_disc, if_stands, hears_settled, hears_frame, hears_answer, hears}
+use Rattle.inbox_laws.specs.rfcomm_model.specs.Saying.{Said, says_grant, says_data, first_of, says_command, says_answer, next}
+use Rattle.inbox_laws.specs.rfcomm_model.specs.Sides.{Deed, Hears, Says, Sends, Leaves, Side, said_by, done, all_done, new_side, given, connections_of}
+use Rattle.inbox_laws.specs.rfcomm_model.specs.Written.{response_frame}
+use Rattle.inbox_laws.specs.rfcomm_model.proofs.Closing.{keep_cond, done_shut, closed-for_good}
+use Rattle.inbox_laws.specs.rfcomm_model.proofs.Ended.{to_all, to_more, to_over}
+use Rattle.inbox_laws.specs.rfcomm_model.proofs.Giving.{Gives, SaysGives, next_gives}
+use Rattle.inbox_laws.specs.rfcomm_model.proofs.Keeping.{hears_keeps, answers_keep, SaysKept}
+use Rattle.inbox_laws.specs.rfcomm_model.proofs.Reading.{lines_more, granted_more, spent_more, own_grants, peer_spends, not_other}
+use Rattle.inbox_laws.specs.rfcomm_model.proofs.Stepping.{AllQuiet, IsReply, all_more, turning}
+use Rattle.inbox_laws.specs.rfcomm_model.proofs.Talking.{same_role}
+use Rattle.inbox_laws.specs.rfcomm_model.proofs.Walking.{answer_walks}
 use Rattle.credit_laws.specs.Covered.{IsCovered, GrantsCoverSpending}
 use Rattle.credit_laws.proofs.Granting.{is_idle, agrees, IsAwaited, AllAwaited}
 use Rattle.credit_laws.proofs.Affording.{Near, own_near, all_awaited, less_idle, IsNear, After}

@@ -2,44 +2,44 @@
 use Rattle.std.proofs.Common.{◌≡◌, ℕ, suc, Bool, true, false, cond, List, [], ◌∷◌, ◌++◌, Option, refl, sym, ap, subst, ◌∙◌, append_assoc}
 use Rattle.std.specs.Prelude.{get_or}
 use Rattle.std.specs.List.{AllByRecursion}
-use Rattle.bt_base.specs.declared.settings.Settings.{Settings}
-use Rattle.bt_base.specs.declared.settings.Transport.TheVariants.{Rfcomm}
-use Rattle.bt_base.specs.Objects.{Object, Contents}
-use Rattle.push_script.specs.declared.scenario.Scenario.{Scenario}
-use Rattle.push_terms.specs.declared.word.Side.TheVariants as sides
-use Rattle.capture.specs.Entries.{Entry}
-use Rattle.channel_model.specs.Policies.{policy}
-use Rattle.channel_model.specs.Value.{no_channels}
-use Rattle.channel_laws.specs.Frames.{AreUttered}
-use Rattle.channel_laws.specs.Runs as channels
-use Rattle.channel_laws.specs.Runs.{run_of}
-use Rattle.push_model.specs.Server.{rfcomm_psm}
-use Rattle.push_laws.specs.Occurrences.{Occurrence, LinkDown}
-use Rattle.push_laws.specs.Readings.{closes, since, since_from}
-use Rattle.world_model.specs.Machines.{Up}
-use Rattle.host_model.specs.Servers.{ServerProfile, server_profile}
-use Rattle.host_laws.specs.Calls.{values_after}
-use Rattle.host_laws.specs.Fed.{WovenFed, FedSpan, behind_span, span_feeds, AreFed}
-use Rattle.host_laws.specs.Feeds.{Feed}
-use Rattle.host_laws.specs.Lives.{Span, all_marks}
-use Rattle.host_laws.specs.OverLinks.{AreTimely}
-use Rattle.host_laws.specs.Serving.{served_from}
-use Rattle.host_laws.proofs.Asking.{hosts_ask}
-use Rattle.host_laws.proofs.InOrder.{asks-nothing}
-use Rattle.host_laws.proofs.StrandsFed.{span_so}
+use Rattle.inbox_laws.specs.bt_base.specs.declared.settings.Settings.{Settings}
+use Rattle.inbox_laws.specs.bt_base.specs.declared.settings.Transport.TheVariants.{Rfcomm}
+use Rattle.inbox_laws.specs.bt_base.specs.Objects.{Object, Contents}
+use Rattle.inbox_laws.specs.push_script.specs.declared.scenario.Scenario.{Scenario}
+use Rattle.inbox_laws.specs.push_terms.specs.declared.word.Side.TheVariants as sides
+use Rattle.inbox_laws.specs.capture.specs.Entries.{Entry}
+use Rattle.inbox_laws.specs.channel_model.specs.Policies.{policy}
+use Rattle.inbox_laws.specs.channel_model.specs.Value.{no_channels}
+use Rattle.inbox_laws.specs.channel_laws.specs.Frames.{AreUttered}
+use Rattle.inbox_laws.specs.channel_laws.specs.Runs as channels
+use Rattle.inbox_laws.specs.channel_laws.specs.Runs.{run_of}
+use Rattle.inbox_laws.specs.push_model.specs.Server.{rfcomm_psm}
+use Rattle.inbox_laws.specs.push_laws.specs.Occurrences.{Occurrence, LinkDown}
+use Rattle.inbox_laws.specs.push_laws.specs.Readings.{closes, since, since_from}
+use Rattle.inbox_laws.specs.world_model.specs.Machines.{Up}
+use Rattle.inbox_laws.specs.host_model.specs.Servers.{ServerProfile, server_profile}
+use Rattle.inbox_laws.specs.host_laws.specs.Calls.{values_after}
+use Rattle.inbox_laws.specs.host_laws.specs.Fed.{WovenFed, FedSpan, behind_span, span_feeds, AreFed}
+use Rattle.inbox_laws.specs.host_laws.specs.Feeds.{Feed}
+use Rattle.inbox_laws.specs.host_laws.specs.Lives.{Span, all_marks}
+use Rattle.inbox_laws.specs.host_laws.specs.OverLinks.{AreTimely}
+use Rattle.inbox_laws.specs.host_laws.specs.Serving.{served_from}
+use Rattle.inbox_laws.specs.host_laws.proofs.Asking.{hosts_ask}
+use Rattle.inbox_laws.specs.host_laws.proofs.InOrder.{asks-nothing}
+use Rattle.inbox_laws.specs.host_laws.proofs.StrandsFed.{span_so}
 use Rattle.request_laws.specs.BothFed.{IsDown}
-use Rattle.host_laws.specs.OneOnLinks.{CarriesOneOn}
+use Rattle.inbox_laws.specs.host_laws.specs.OneOnLinks.{CarriesOneOn}
 use Rattle.request_laws.proofs.Between.{between_still}
 use Rattle.request_laws.proofs.Feeding.{served-both}
 use Rattle.request_laws.proofs.Paired.{lists_of}
 use Rattle.request_laws.proofs.Silent.{IsStill}
 use Rattle.request_laws.proofs.Summing.{both_ask}
 use Rattle.request_laws.proofs.Timely.{HearsNothing, is_up, goes_down, is_deaf, is_down}
-use Rattle.scenario_laws.specs.Captures.{Ran}
-use Rattle.scenario_laws.specs.Gains.{holding}
-use Rattle.scenario_laws.specs.Parties.{party_of}
-use Rattle.pair_laws.specs.Keeping.{PairsKeepOrder}
-use Rattle.pair_laws.specs.OnLinks.{LivedOver}
+use Rattle.inbox_laws.specs.scenario_laws.specs.Captures.{Ran}
+use Rattle.inbox_laws.specs.scenario_laws.specs.Gains.{holding}
+use Rattle.inbox_laws.specs.scenario_laws.specs.Parties.{party_of}
+use Rattle.inbox_laws.specs.pair_laws.specs.Keeping.{PairsKeepOrder}
+use Rattle.inbox_laws.specs.pair_laws.specs.OnLinks.{LivedOver}
 use Rattle.request_laws.specs.GainsCarried.{AllAreHeard}
 use Rattle.credit_laws.specs.Kept.{IsSolvent}
 use Rattle.credit_laws.specs.Runs.{RunsHoldCredits, AllAreMissed, HeardRunsHoldCredits}

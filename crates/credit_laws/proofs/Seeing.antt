@@ -5,28 +5,28 @@ use Rattle.std.specs.List.{AllByRecursion, filter_map, cons_option}
 use Rattle.std.proofs.lemmas.Bool.{eqb-true}
 use Rattle.std.proofs.lemmas.List.{map-append}
 use Rattle.std.specs.Option.{option_or}
-use Rattle.capture.specs.Histories.{last_of}
-use Rattle.capture.specs.declared.flow.Flow.TheVariants.{Out, Into}
-use Rattle.link_talk.specs.Accounts.{carries_rfcomm, credits_on}
-use Rattle.link_talk.specs.Carriages.{Carriage, is_heard, is_on, taker, carried, stretch, mode_of}
-use Rattle.link_talk.specs.Channels.{Entry, is_alive, reading}
-use Rattle.link_talk.specs.declared.channel.Channel.{Channel}
-use Rattle.link_talk.specs.declared.party.Party.{Party}
-use Rattle.link_talk.specs.Packets.{passed}
-use Rattle.link_talk.specs.Sayings.{Saying, Command, Carried, GaveUp}
-use Rattle.link_talk.specs.Sdus.{Spoken, spoken_as, spoken, longest}
-use Rattle.l2cap_config.specs.declared.wish.Mode.{Mode}
-use Rattle.talk_laws.specs.Sdus.{Ears, ear_of, sdus_with, spoken_from, ears_so_far}
-use Rattle.talk_laws.proofs.Waits.{spoken-more}
-use Rattle.rfcomm_frames.specs.declared.connection.Role.{Role}
-use Rattle.rfcomm_frames.specs.Answers.{Answer}
-use Rattle.rfcomm_frames.specs.Ending.{no_course, has_last}
-use Rattle.rfcomm_frames.specs.Frames.{PlainFrame}
-use Rattle.rfcomm_frames.specs.FrameReading.{frame_answer}
-use Rattle.rfcomm_frames.specs.Multiplexing.{Passed, Framed, framed, frames, no_connections, granted, spent}
-use Rattle.rfcomm_model.specs.Sides.{connections_of}
-use Rattle.rfcomm_model.proofs.Ended.{to_all, to_more, to_over}
-use Rattle.rfcomm_model.proofs.Reading.{granted_more, spent_more, own_grants}
+use Rattle.inbox_laws.specs.capture.specs.Histories.{last_of}
+use Rattle.inbox_laws.specs.capture.specs.declared.flow.Flow.TheVariants.{Out, Into}
+use Rattle.inbox_laws.specs.link_talk.specs.Accounts.{carries_rfcomm, credits_on}
+use Rattle.inbox_laws.specs.link_talk.specs.Carriages.{Carriage, is_heard, is_on, taker, carried, stretch, mode_of}
+use Rattle.inbox_laws.specs.link_talk.specs.Channels.{Entry, is_alive, reading}
+use Rattle.inbox_laws.specs.link_talk.specs.declared.channel.Channel.{Channel}
+use Rattle.inbox_laws.specs.link_talk.specs.declared.party.Party.{Party}
+use Rattle.inbox_laws.specs.link_talk.specs.Packets.{passed}
+use Rattle.inbox_laws.specs.link_talk.specs.Sayings.{Saying, Command, Carried, GaveUp}
+use Rattle.inbox_laws.specs.link_talk.specs.Sdus.{Spoken, spoken_as, spoken, longest}
+use Rattle.inbox_laws.specs.l2cap_config.specs.declared.wish.Mode.{Mode}
+use Rattle.inbox_laws.specs.talk_laws.specs.Sdus.{Ears, ear_of, sdus_with, spoken_from, ears_so_far}
+use Rattle.inbox_laws.specs.talk_laws.proofs.Waits.{spoken-more}
+use Rattle.inbox_laws.specs.rfcomm_frames.specs.declared.connection.Role.{Role}
+use Rattle.inbox_laws.specs.rfcomm_frames.specs.Answers.{Answer}
+use Rattle.inbox_laws.specs.rfcomm_frames.specs.Ending.{no_course, has_last}
+use Rattle.inbox_laws.specs.rfcomm_frames.specs.Frames.{PlainFrame}
+use Rattle.inbox_laws.specs.rfcomm_frames.specs.FrameReading.{frame_answer}
+use Rattle.inbox_laws.specs.rfcomm_frames.specs.Multiplexing.{Passed, Framed, framed, frames, no_connections, granted, spent}
+use Rattle.inbox_laws.specs.rfcomm_model.specs.Sides.{connections_of}
+use Rattle.inbox_laws.specs.rfcomm_model.proofs.Ended.{to_all, to_more, to_over}
+use Rattle.inbox_laws.specs.rfcomm_model.proofs.Reading.{granted_more, spent_more, own_grants}
 use Rattle.credit_laws.specs.Seen.{IsCoveredOn, IsSaidOut, EarlierIsCovered, HoldsSome, CoveredHoldSome}
 use Rattle.credit_laws.proofs.Paying.{Paid, frames_more, paid_covers}
 

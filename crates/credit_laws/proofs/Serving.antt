@@ -4,28 +4,28 @@ use Rattle.std.specs.Prelude.{not}
 use Rattle.std.specs.List.{filter_map}
 use Rattle.std.proofs.lemmas.Bool.{cond-false}
 use Rattle.std.proofs.lemmas.List.Elements.{filter_map-append}
-use Rattle.bt_base.specs.declared.settings.Transport.TheVariants.{L2cap, Rfcomm}
-use Rattle.bt_base.specs.Octets.{IsOctets}
-use Rattle.rfcomm_frames.specs.declared.connection.Role.{Role}
-use Rattle.rfcomm_frames.specs.declared.connection.Role.TheVariants.{Initiator, Responder}
-use Rattle.rfcomm_frames.specs.Frames.{PlainFrame}
-use Rattle.rfcomm_frames.specs.FrameReading.{is_empty}
-use Rattle.rfcomm_frames.specs.Multiplexing.{Passed, frames}
-use Rattle.rfcomm_frames.proofs.FrameReading.{spelled_answered}
-use Rattle.rfcomm_model.specs.Hearing.{Up, nothing, opened, bytes, closed, up, hears}
-use Rattle.rfcomm_model.specs.Machine.{Mux, new_mux, reset, is_ready, sends, leaves, taken_count}
-use Rattle.rfcomm_model.specs.Saying.{Said, next}
-use Rattle.rfcomm_model.proofs.Keeping.{SaysKept, answers_keep}
-use Rattle.push_model.specs.declared.outlet.Outlet.{Outlet}
-use Rattle.push_model.specs.declared.outlet.Outlet.TheVariants.{Records, Direct, Muxed}
-use Rattle.push_model.specs.Listening.{Received, hears_stream}
-use Rattle.push_model.specs.Payloads.{Framed as FramedIn, IsSaid}
-use Rattle.push_model.specs.Service.{Service, answer_cut}
-use Rattle.push_model.specs.Sessions.{Gift}
-use Rattle.push_model.specs.Server.{Server, Reacted, Lent, with_service, hears_search, received_by, hears_up, hears_on, unless_failed, filled, said_on, breaks_now, left_by, leaves_with, framed_by, framed, outlet_of, lends_by, lends, frame_lent, lent_by, taken_by, remuxed, unanswered, unreplied, lets_go_on, closed_on, lets_go_twice, rfcomm_psm}
-use Rattle.push_laws.specs.Occurrences.{Occurrence, Came, Went, Closed, LinkDown, Asked, Answering, done, begun}
-use Rattle.push_laws.specs.Readings.{closes, since_from, passed_by}
-use Rattle.push_laws.proofs.Servers.{by_psm, up_keeps}
+use Rattle.inbox_laws.specs.bt_base.specs.declared.settings.Transport.TheVariants.{L2cap, Rfcomm}
+use Rattle.inbox_laws.specs.bt_base.specs.Octets.{IsOctets}
+use Rattle.inbox_laws.specs.rfcomm_frames.specs.declared.connection.Role.{Role}
+use Rattle.inbox_laws.specs.rfcomm_frames.specs.declared.connection.Role.TheVariants.{Initiator, Responder}
+use Rattle.inbox_laws.specs.rfcomm_frames.specs.Frames.{PlainFrame}
+use Rattle.inbox_laws.specs.rfcomm_frames.specs.FrameReading.{is_empty}
+use Rattle.inbox_laws.specs.rfcomm_frames.specs.Multiplexing.{Passed, frames}
+use Rattle.inbox_laws.specs.rfcomm_frames.proofs.FrameReading.{spelled_answered}
+use Rattle.inbox_laws.specs.rfcomm_model.specs.Hearing.{Up, nothing, opened, bytes, closed, up, hears}
+use Rattle.inbox_laws.specs.rfcomm_model.specs.Machine.{Mux, new_mux, reset, is_ready, sends, leaves, taken_count}
+use Rattle.inbox_laws.specs.rfcomm_model.specs.Saying.{Said, next}
+use Rattle.inbox_laws.specs.rfcomm_model.proofs.Keeping.{SaysKept, answers_keep}
+use Rattle.inbox_laws.specs.push_model.specs.declared.outlet.Outlet.{Outlet}
+use Rattle.inbox_laws.specs.push_model.specs.declared.outlet.Outlet.TheVariants.{Records, Direct, Muxed}
+use Rattle.inbox_laws.specs.push_model.specs.Listening.{Received, hears_stream}
+use Rattle.inbox_laws.specs.push_model.specs.Payloads.{Framed as FramedIn, IsSaid}
+use Rattle.inbox_laws.specs.push_model.specs.Service.{Service, answer_cut}
+use Rattle.inbox_laws.specs.push_model.specs.Sessions.{Gift}
+use Rattle.inbox_laws.specs.push_model.specs.Server.{Server, Reacted, Lent, with_service, hears_search, received_by, hears_up, hears_on, unless_failed, filled, said_on, breaks_now, left_by, leaves_with, framed_by, framed, outlet_of, lends_by, lends, frame_lent, lent_by, taken_by, remuxed, unanswered, unreplied, lets_go_on, closed_on, lets_go_twice, rfcomm_psm}
+use Rattle.inbox_laws.specs.push_laws.specs.Occurrences.{Occurrence, Came, Went, Closed, LinkDown, Asked, Answering, done, begun}
+use Rattle.inbox_laws.specs.push_laws.specs.Readings.{closes, since_from, passed_by}
+use Rattle.inbox_laws.specs.push_laws.proofs.Servers.{by_psm, up_keeps}
 use Rattle.credit_laws.specs.Covered.{IsCovered}
 use Rattle.credit_laws.specs.Serving.{GoesQuietly, AllGoQuietly, ServersAreCovered}
 use Rattle.credit_laws.proofs.Paying.{Pays, hears_pays, sdu_pays, sends_pays, leaves_pays, new_pays, pays_covered, frames_more}

@@ -3,45 +3,45 @@ use Rattle.std.proofs.Common.{◌≡◌, ℕ, ◌⊎◌, inl, inr, List, [], ◌
 use Rattle.std.specs.Prelude.{filter, option_to_list}
 use Rattle.std.specs.List.{AllByRecursion, list_any}
 use Rattle.std.proofs.lemmas.Bool.{eqb-true, eq-eqb}
-use Rattle.bt_base.specs.declared.settings.Transport.{Transport}
-use Rattle.capture.specs.declared.flow.Flow.TheVariants.{Out, Into}
-use Rattle.l2cap_signal.specs.Commands.{connection_request, connection_response}
-use Rattle.link_talk.specs.declared.call.Call.{Call}
-use Rattle.link_talk.specs.declared.channel.Channel.{Channel}
-use Rattle.link_talk.specs.Sayings.{Saying, Command}
-use Rattle.link_talk.specs.Senses.{sense}
-use Rattle.link_talk.specs.Requests.{call, went, has_source, is_call, is_own_call}
-use Rattle.link_talk.specs.Channels.{Entry, Reading, read_on, reading}
-use Rattle.talk_laws.proofs.Passes.{from_end}
-use Rattle.channel_model.specs.Policies.{Policy}
-use Rattle.channel_model.proofs.Lookups.{eqb-same}
-use Rattle.channel_laws.specs.Belonging.{said_at, HasAsked, HasGranted, Belongs}
-use Rattle.channel_laws.specs.Common.{mirrored}
-use Rattle.channel_laws.specs.Endpoints.{IsOf}
-use Rattle.channel_laws.specs.Granted.{IsFor as IsForPeer}
-use Rattle.channel_laws.specs.OwnTalk.{spoken, command_with}
-use Rattle.channel_laws.specs.Pairs.{Near, turned, pair_of}
-use Rattle.channel_laws.specs.Runs.{Occurrence, Run, run_of}
-use Rattle.channel_laws.specs.Signals.{StandsIn}
-use Rattle.channel_laws.specs.Singly.{calls_that_went, names, IsAgain, IsFresh, AreOneByOne, AsksForNoChannel}
-use Rattle.channel_laws.specs.Views.{channel_by, read_at}
-use Rattle.channel_laws.proofs.Belonging.{pledges-were_said, channels-belong}
-use Rattle.channel_laws.proofs.Bestowing.{endpoints-are_granted_once, endpoints-ask_for_one_psm}
-use Rattle.channel_laws.proofs.Conversing.{reading-on}
-use Rattle.channel_laws.proofs.OneByOne.{none-is_called}
-use Rattle.channel_laws.proofs.Origins.{Asked, Origin}
-use Rattle.channel_laws.proofs.Saying.{stands-either}
-use Rattle.channel_laws.proofs.Sharing.{channels-are_common}
-use Rattle.channel_laws.proofs.Singling.{calls-more, grants-are_single}
-use Rattle.channel_laws.proofs.Sound.{has_called}
-use Rattle.pair_laws.specs.Pairs.{PairOnLink}
-use Rattle.push_model.specs.Server.{object_psm, rfcomm_psm}
-use Rattle.world_model.specs.Talks.{Talk}
-use Rattle.host_laws.specs.InOrder.{may_ask, AsksForOneObject}
-use Rattle.host_laws.specs.OneCarrier.{IsFor}
-use Rattle.host_laws.specs.OneOnLinks.{CarriesOneOn}
-use Rattle.host_laws.specs.OverLinks.{IsTalkOf, moved_in}
-use Rattle.host_laws.proofs.Seeking.{calls-spoken, out-calls}
+use Rattle.inbox_laws.specs.bt_base.specs.declared.settings.Transport.{Transport}
+use Rattle.inbox_laws.specs.capture.specs.declared.flow.Flow.TheVariants.{Out, Into}
+use Rattle.inbox_laws.specs.l2cap_signal.specs.Commands.{connection_request, connection_response}
+use Rattle.inbox_laws.specs.link_talk.specs.declared.call.Call.{Call}
+use Rattle.inbox_laws.specs.link_talk.specs.declared.channel.Channel.{Channel}
+use Rattle.inbox_laws.specs.link_talk.specs.Sayings.{Saying, Command}
+use Rattle.inbox_laws.specs.link_talk.specs.Senses.{sense}
+use Rattle.inbox_laws.specs.link_talk.specs.Requests.{call, went, has_source, is_call, is_own_call}
+use Rattle.inbox_laws.specs.link_talk.specs.Channels.{Entry, Reading, read_on, reading}
+use Rattle.inbox_laws.specs.talk_laws.proofs.Passes.{from_end}
+use Rattle.inbox_laws.specs.channel_model.specs.Policies.{Policy}
+use Rattle.inbox_laws.specs.channel_model.proofs.Lookups.{eqb-same}
+use Rattle.inbox_laws.specs.channel_laws.specs.Belonging.{said_at, HasAsked, HasGranted, Belongs}
+use Rattle.inbox_laws.specs.channel_laws.specs.Common.{mirrored}
+use Rattle.inbox_laws.specs.channel_laws.specs.Endpoints.{IsOf}
+use Rattle.inbox_laws.specs.channel_laws.specs.Granted.{IsFor as IsForPeer}
+use Rattle.inbox_laws.specs.channel_laws.specs.OwnTalk.{spoken, command_with}
+use Rattle.inbox_laws.specs.channel_laws.specs.Pairs.{Near, turned, pair_of}
+use Rattle.inbox_laws.specs.channel_laws.specs.Runs.{Occurrence, Run, run_of}
+use Rattle.inbox_laws.specs.channel_laws.specs.Signals.{StandsIn}
+use Rattle.inbox_laws.specs.channel_laws.specs.Singly.{calls_that_went, names, IsAgain, IsFresh, AreOneByOne, AsksForNoChannel}
+use Rattle.inbox_laws.specs.channel_laws.specs.Views.{channel_by, read_at}
+use Rattle.inbox_laws.specs.channel_laws.proofs.Belonging.{pledges-were_said, channels-belong}
+use Rattle.inbox_laws.specs.channel_laws.proofs.Bestowing.{endpoints-are_granted_once, endpoints-ask_for_one_psm}
+use Rattle.inbox_laws.specs.channel_laws.proofs.Conversing.{reading-on}
+use Rattle.inbox_laws.specs.channel_laws.proofs.OneByOne.{none-is_called}
+use Rattle.inbox_laws.specs.channel_laws.proofs.Origins.{Asked, Origin}
+use Rattle.inbox_laws.specs.channel_laws.proofs.Saying.{stands-either}
+use Rattle.inbox_laws.specs.channel_laws.proofs.Sharing.{channels-are_common}
+use Rattle.inbox_laws.specs.channel_laws.proofs.Singling.{calls-more, grants-are_single}
+use Rattle.inbox_laws.specs.channel_laws.proofs.Sound.{has_called}
+use Rattle.inbox_laws.specs.pair_laws.specs.Pairs.{PairOnLink}
+use Rattle.inbox_laws.specs.push_model.specs.Server.{object_psm, rfcomm_psm}
+use Rattle.inbox_laws.specs.world_model.specs.Talks.{Talk}
+use Rattle.inbox_laws.specs.host_laws.specs.InOrder.{may_ask, AsksForOneObject}
+use Rattle.inbox_laws.specs.host_laws.specs.OneCarrier.{IsFor}
+use Rattle.inbox_laws.specs.host_laws.specs.OneOnLinks.{CarriesOneOn}
+use Rattle.inbox_laws.specs.host_laws.specs.OverLinks.{IsTalkOf, moved_in}
+use Rattle.inbox_laws.specs.host_laws.proofs.Seeking.{calls-spoken, out-calls}
 use Rattle.request_laws.proofs.Accepted.{Accepted, Opened}
 use Rattle.request_laws.proofs.Sole.{IsSole as IsOnly, sole, for_of}
 use Rattle.credit_laws.specs.Moved.{HasCalled, IsSole}

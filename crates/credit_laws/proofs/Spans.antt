@@ -2,38 +2,38 @@
 use Rattle.std.proofs.Common.{◌≡◌, ℕ, ◌==◌, List, [], ◌∷◌, ◌++◌, Bool, true, false, cond, Option, Some, None, refl, sym, ap, subst, ◌∙◌, append_assoc, append-nil}
 use Rattle.std.specs.List.{AllByRecursion, filter_map, cons_option}
 use Rattle.std.proofs.lemmas.List.Elements.{filter_map-append}
-use Rattle.bt_base.specs.declared.settings.Settings.{Settings}
-use Rattle.bt_base.specs.Objects.{Contents}
-use Rattle.rfcomm_frames.specs.Multiplexing.{Passed}
-use Rattle.channel_model.specs.declared.event.ChannelEvent.{ChannelEvent}
-use Rattle.channel_model.specs.declared.event.ChannelEvent.TheVariants as events
-use Rattle.channel_model.specs.Carrying.{Up as Handed, Nothing, Received}
-use Rattle.channel_model.specs.Hearing.{up}
-use Rattle.acl_fragments.specs.Pieces.{channel_of}
-use Rattle.channel_model.specs.Policies.{policy}
-use Rattle.channel_model.specs.Value.{Channels, no_channels}
-use Rattle.channel_laws.specs.Runs as channels
-use Rattle.channel_laws.specs.Runs.{run_of}
-use Rattle.push_model.specs.Server.{Lent, lends, lent_sdu, rfcomm_psm}
-use Rattle.push_laws.specs.Occurrences.{Occurrence, Came, Went, Closed, LinkDown, Asked, Answering}
-use Rattle.push_laws.specs.Readings.{passed_by}
-use Rattle.world_model.specs.Machines.{LinkEvent, News, Linked, Up, Down, Failed, Heard, TimerFired, Cancelled, Opening}
-use Rattle.host_model.specs.Circumstances.{Circumstance}
-use Rattle.host_model.specs.Endpoints.{endpoint_of, takes_sdu}
-use Rattle.host_model.specs.Pdus.{sdu_of}
-use Rattle.host_model.specs.Servers.{ServerProfile, is_told, server_profile}
-use Rattle.host_laws.specs.Calls.{values_after}
-use Rattle.host_laws.specs.Fed.{feeds_up, next_happening, strand_feeds, woven_feeds, WovenFed, turned_feeds, FedSpan, span_feeds}
-use Rattle.host_laws.specs.Feeds.{Feed, tidings_by}
-use Rattle.host_laws.specs.Lives.{Span}
-use Rattle.host_laws.specs.Serving.{news_served, event_served, taken_by, lent_by, served_from}
-use Rattle.host_laws.specs.Woven.{Strand, IsOnLink, Hearing, Giving, Firing, Telling, Gifting, Learning, Checking, Stepping, strand_list, strand_profile, turned}
-use Rattle.host_laws.proofs.Asking.{hosts_ask}
-use Rattle.host_laws.proofs.InOrder.{asks-nothing}
-use Rattle.host_laws.proofs.StrandsFed.{strand_so, here_so}
+use Rattle.inbox_laws.specs.bt_base.specs.declared.settings.Settings.{Settings}
+use Rattle.inbox_laws.specs.bt_base.specs.Objects.{Contents}
+use Rattle.inbox_laws.specs.rfcomm_frames.specs.Multiplexing.{Passed}
+use Rattle.inbox_laws.specs.channel_model.specs.declared.event.ChannelEvent.{ChannelEvent}
+use Rattle.inbox_laws.specs.channel_model.specs.declared.event.ChannelEvent.TheVariants as events
+use Rattle.inbox_laws.specs.channel_model.specs.Carrying.{Up as Handed, Nothing, Received}
+use Rattle.inbox_laws.specs.channel_model.specs.Hearing.{up}
+use Rattle.inbox_laws.specs.acl_fragments.specs.Pieces.{channel_of}
+use Rattle.inbox_laws.specs.channel_model.specs.Policies.{policy}
+use Rattle.inbox_laws.specs.channel_model.specs.Value.{Channels, no_channels}
+use Rattle.inbox_laws.specs.channel_laws.specs.Runs as channels
+use Rattle.inbox_laws.specs.channel_laws.specs.Runs.{run_of}
+use Rattle.inbox_laws.specs.push_model.specs.Server.{Lent, lends, lent_sdu, rfcomm_psm}
+use Rattle.inbox_laws.specs.push_laws.specs.Occurrences.{Occurrence, Came, Went, Closed, LinkDown, Asked, Answering}
+use Rattle.inbox_laws.specs.push_laws.specs.Readings.{passed_by}
+use Rattle.inbox_laws.specs.world_model.specs.Machines.{LinkEvent, News, Linked, Up, Down, Failed, Heard, TimerFired, Cancelled, Opening}
+use Rattle.inbox_laws.specs.host_model.specs.Circumstances.{Circumstance}
+use Rattle.inbox_laws.specs.host_model.specs.Endpoints.{endpoint_of, takes_sdu}
+use Rattle.inbox_laws.specs.host_model.specs.Pdus.{sdu_of}
+use Rattle.inbox_laws.specs.host_model.specs.Servers.{ServerProfile, is_told, server_profile}
+use Rattle.inbox_laws.specs.host_laws.specs.Calls.{values_after}
+use Rattle.inbox_laws.specs.host_laws.specs.Fed.{feeds_up, next_happening, strand_feeds, woven_feeds, WovenFed, turned_feeds, FedSpan, span_feeds}
+use Rattle.inbox_laws.specs.host_laws.specs.Feeds.{Feed, tidings_by}
+use Rattle.inbox_laws.specs.host_laws.specs.Lives.{Span}
+use Rattle.inbox_laws.specs.host_laws.specs.Serving.{news_served, event_served, taken_by, lent_by, served_from}
+use Rattle.inbox_laws.specs.host_laws.specs.Woven.{Strand, IsOnLink, Hearing, Giving, Firing, Telling, Gifting, Learning, Checking, Stepping, strand_list, strand_profile, turned}
+use Rattle.inbox_laws.specs.host_laws.proofs.Asking.{hosts_ask}
+use Rattle.inbox_laws.specs.host_laws.proofs.InOrder.{asks-nothing}
+use Rattle.inbox_laws.specs.host_laws.proofs.StrandsFed.{strand_so, here_so}
 use Rattle.request_laws.specs.BothFed.{IsDown}
-use Rattle.host_laws.specs.OneOnLinks.{CarriesOneOn}
-use Rattle.push_laws.specs.Parties.{sdu_if}
+use Rattle.inbox_laws.specs.host_laws.specs.OneOnLinks.{CarriesOneOn}
+use Rattle.inbox_laws.specs.push_laws.specs.Parties.{sdu_if}
 use Rattle.request_laws.specs.Carried.{NoneComesBehind}
 use Rattle.request_laws.proofs.Behind.{muxes_end_last}
 use Rattle.request_laws.proofs.Feeding.{all_both, served-both, up_served, down_served}

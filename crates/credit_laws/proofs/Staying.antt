@@ -1,31 +1,31 @@
 -- Both hosts hold credits at each moment of a run whose inbox does not lack memory.
 use Rattle.std.proofs.Common.{◌≡◌, List, [], map, Option, refl, sym, ap, subst}
-use Rattle.bt_base.specs.declared.settings.Transport.{Transport}
-use Rattle.bt_base.specs.declared.settings.Transport.TheVariants.{L2cap, Rfcomm}
-use Rattle.bt_base.specs.Objects.{Object}
-use Rattle.push_script.specs.declared.scenario.Scenario.{Scenario}
-use Rattle.push_terms.specs.declared.word.Side.{Side}
-use Rattle.push_terms.specs.declared.word.Side.TheVariants.{A, B}
-use Rattle.capture.specs.Entries.{Entry}
-use Rattle.push_laws.specs.Laws.{new_over}
-use Rattle.push_laws.specs.Occurrences.{Occurrence}
-use Rattle.push_laws.specs.Premises.{NoneShort, AllMayFail}
-use Rattle.push_laws.specs.Searches.{AllServe}
-use Rattle.push_laws.proofs.Gaining.{all_alone}
-use Rattle.push_laws.proofs.Pushed.{pushed-are_taken}
-use Rattle.air_laws.specs.AirLaws.{IsLastEnd}
-use Rattle.world_model.specs.Machines.{News}
-use Rattle.world_model.specs.Pushes.{Pushes}
-use Rattle.world_model.specs.Worlds.{all_words}
-use Rattle.host_model.specs.Circumstances.{Circumstance}
-use Rattle.shelf_model.specs.Held.{held_by}
-use Rattle.host_laws.specs.Serving.{served_from}
-use Rattle.scenario_laws.specs.Captures.{client_of, server_of, BothHosts, beginning, Ran}
-use Rattle.scenario_laws.specs.Gains.{holding, serving}
-use Rattle.pair_laws.specs.Enough.{remembered, HappenedEnough}
-use Rattle.pair_laws.specs.Keeping.{LosesNothing}
-use Rattle.pair_laws.proofs.Answered.{runs-so}
-use Rattle.pair_laws.proofs.Pairing.{enough-keep_order}
+use Rattle.inbox_laws.specs.bt_base.specs.declared.settings.Transport.{Transport}
+use Rattle.inbox_laws.specs.bt_base.specs.declared.settings.Transport.TheVariants.{L2cap, Rfcomm}
+use Rattle.inbox_laws.specs.bt_base.specs.Objects.{Object}
+use Rattle.inbox_laws.specs.push_script.specs.declared.scenario.Scenario.{Scenario}
+use Rattle.inbox_laws.specs.push_terms.specs.declared.word.Side.{Side}
+use Rattle.inbox_laws.specs.push_terms.specs.declared.word.Side.TheVariants.{A, B}
+use Rattle.inbox_laws.specs.capture.specs.Entries.{Entry}
+use Rattle.inbox_laws.specs.push_laws.specs.Laws.{new_over}
+use Rattle.inbox_laws.specs.push_laws.specs.Occurrences.{Occurrence}
+use Rattle.inbox_laws.specs.push_laws.specs.Premises.{NoneShort, AllMayFail}
+use Rattle.inbox_laws.specs.push_laws.specs.Searches.{AllServe}
+use Rattle.inbox_laws.specs.push_laws.proofs.Gaining.{all_alone}
+use Rattle.inbox_laws.specs.push_laws.proofs.Pushed.{pushed-are_taken}
+use Rattle.inbox_laws.specs.air_laws.specs.AirLaws.{IsLastEnd}
+use Rattle.inbox_laws.specs.world_model.specs.Machines.{News}
+use Rattle.inbox_laws.specs.world_model.specs.Pushes.{Pushes}
+use Rattle.inbox_laws.specs.world_model.specs.Worlds.{all_words}
+use Rattle.inbox_laws.specs.host_model.specs.Circumstances.{Circumstance}
+use Rattle.inbox_laws.specs.shelf_model.specs.Held.{held_by}
+use Rattle.inbox_laws.specs.host_laws.specs.Serving.{served_from}
+use Rattle.inbox_laws.specs.scenario_laws.specs.Captures.{client_of, server_of, BothHosts, beginning, Ran}
+use Rattle.inbox_laws.specs.scenario_laws.specs.Gains.{holding, serving}
+use Rattle.inbox_laws.specs.pair_laws.specs.Enough.{remembered, HappenedEnough}
+use Rattle.inbox_laws.specs.pair_laws.specs.Keeping.{LosesNothing}
+use Rattle.inbox_laws.specs.pair_laws.proofs.Answered.{runs-so}
+use Rattle.inbox_laws.specs.pair_laws.proofs.Pairing.{enough-keep_order}
 use Rattle.request_laws.proofs.HeardTogether.{pushed_over, serves_over}
 use Rattle.request_laws.proofs.Summing.{both_ask}
 use Rattle.request_laws.proofs.Told.{none_longer, gives_octets, all_answer}

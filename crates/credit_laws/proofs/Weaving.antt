@@ -2,38 +2,38 @@
 use Rattle.std.proofs.Common.{◌≡◌, ℕ, Bool, true, false, cond, eqb, List, [], ◌∷◌, ◌++◌, map, Option, Some, None, refl, sym, ap, subst, ◌∙◌, arith, inr, append-nil, append_assoc}
 use Rattle.std.specs.List.{AllByRecursion, flat_map, cons_option}
 use Rattle.std.proofs.lemmas.List.{map-append}
-use Rattle.acl_fragments.specs.Pieces.{channel_of}
-use Rattle.bt_base.specs.declared.settings.Settings.{Settings}
-use Rattle.bt_base.specs.declared.settings.Transport.TheVariants.{Rfcomm}
-use Rattle.capture.specs.declared.flow.Flow.TheVariants.{Out, Into}
-use Rattle.push_terms.specs.declared.word.Side.TheVariants as sides
-use Rattle.rfcomm_frames.specs.declared.connection.Role.TheVariants.{Initiator, Responder}
-use Rattle.rfcomm_frames.specs.Answers.{Answer}
-use Rattle.rfcomm_frames.specs.Frames.{PlainFrame}
-use Rattle.rfcomm_frames.specs.FrameReading.{frame_answer}
-use Rattle.rfcomm_frames.specs.Multiplexing.{Framed, framed, frames}
-use Rattle.rfcomm_model.specs.Sides.{heard_frame}
-use Rattle.link_talk.specs.Packets.{passed}
-use Rattle.link_talk.specs.Sdus.{Spoken, spoken_as}
-use Rattle.channel_model.specs.Carrying.{Up as Handed, Nothing, Received}
-use Rattle.channel_model.specs.Hearing.{up}
-use Rattle.channel_model.specs.Policies.{policy}
-use Rattle.channel_model.specs.Value.{Channels}
-use Rattle.channel_laws.specs.Exchanged.{heard_in}
-use Rattle.channel_laws.specs.Runs.{Occurrence, Comes, run_of}
-use Rattle.push_model.specs.Client.{Client}
-use Rattle.push_model.specs.Laws.{Deed, all_done}
-use Rattle.push_model.specs.Server.{rfcomm_psm}
-use Rattle.push_laws.specs.Parties.{sdu_if}
-use Rattle.push_laws.proofs.Staying.{multiplexers-stay}
-use Rattle.host_model.specs.Clients.{ClientProfile, client_profile}
-use Rattle.host_model.specs.Pdus.{mux_octets}
-use Rattle.host_laws.specs.Calls.{Call, Connect, AskFeatures, Disconnect, Send, from_call, values_after}
-use Rattle.host_laws.specs.Fed.{feeds_up, strand_feeds, woven_feeds}
-use Rattle.host_laws.specs.Pushing.{Affair, pushed_from}
-use Rattle.host_laws.specs.Woven.{Strand, Hearing, Giving, Firing, Telling, Gifting, Learning, Checking, Stepping, strand_list, strand_profile, woven_list}
-use Rattle.host_laws.proofs.Asking.{clients_ask}
-use Rattle.host_laws.proofs.StrandsFed.{strand_so}
+use Rattle.inbox_laws.specs.acl_fragments.specs.Pieces.{channel_of}
+use Rattle.inbox_laws.specs.bt_base.specs.declared.settings.Settings.{Settings}
+use Rattle.inbox_laws.specs.bt_base.specs.declared.settings.Transport.TheVariants.{Rfcomm}
+use Rattle.inbox_laws.specs.capture.specs.declared.flow.Flow.TheVariants.{Out, Into}
+use Rattle.inbox_laws.specs.push_terms.specs.declared.word.Side.TheVariants as sides
+use Rattle.inbox_laws.specs.rfcomm_frames.specs.declared.connection.Role.TheVariants.{Initiator, Responder}
+use Rattle.inbox_laws.specs.rfcomm_frames.specs.Answers.{Answer}
+use Rattle.inbox_laws.specs.rfcomm_frames.specs.Frames.{PlainFrame}
+use Rattle.inbox_laws.specs.rfcomm_frames.specs.FrameReading.{frame_answer}
+use Rattle.inbox_laws.specs.rfcomm_frames.specs.Multiplexing.{Framed, framed, frames}
+use Rattle.inbox_laws.specs.rfcomm_model.specs.Sides.{heard_frame}
+use Rattle.inbox_laws.specs.link_talk.specs.Packets.{passed}
+use Rattle.inbox_laws.specs.link_talk.specs.Sdus.{Spoken, spoken_as}
+use Rattle.inbox_laws.specs.channel_model.specs.Carrying.{Up as Handed, Nothing, Received}
+use Rattle.inbox_laws.specs.channel_model.specs.Hearing.{up}
+use Rattle.inbox_laws.specs.channel_model.specs.Policies.{policy}
+use Rattle.inbox_laws.specs.channel_model.specs.Value.{Channels}
+use Rattle.inbox_laws.specs.channel_laws.specs.Exchanged.{heard_in}
+use Rattle.inbox_laws.specs.channel_laws.specs.Runs.{Occurrence, Comes, run_of}
+use Rattle.inbox_laws.specs.push_model.specs.Client.{Client}
+use Rattle.inbox_laws.specs.push_model.specs.Laws.{Deed, all_done}
+use Rattle.inbox_laws.specs.push_model.specs.Server.{rfcomm_psm}
+use Rattle.inbox_laws.specs.push_laws.specs.Parties.{sdu_if}
+use Rattle.inbox_laws.specs.push_laws.proofs.Staying.{multiplexers-stay}
+use Rattle.inbox_laws.specs.host_model.specs.Clients.{ClientProfile, client_profile}
+use Rattle.inbox_laws.specs.host_model.specs.Pdus.{mux_octets}
+use Rattle.inbox_laws.specs.host_laws.specs.Calls.{Call, Connect, AskFeatures, Disconnect, Send, from_call, values_after}
+use Rattle.inbox_laws.specs.host_laws.specs.Fed.{feeds_up, strand_feeds, woven_feeds}
+use Rattle.inbox_laws.specs.host_laws.specs.Pushing.{Affair, pushed_from}
+use Rattle.inbox_laws.specs.host_laws.specs.Woven.{Strand, Hearing, Giving, Firing, Telling, Gifting, Learning, Checking, Stepping, strand_list, strand_profile, woven_list}
+use Rattle.inbox_laws.specs.host_laws.proofs.Asking.{clients_ask}
+use Rattle.inbox_laws.specs.host_laws.proofs.StrandsFed.{strand_so}
 use Rattle.request_laws.specs.Carried.{frames_over, IsReadSo}
 use Rattle.request_laws.specs.Streams.{taken_at}
 use Rattle.request_laws.specs.Twists.{all_deeds, OpensNone}
@@ -49,7 +49,7 @@ use Rattle.request_laws.proofs.OnPsm.{mux_heard_is}
 use Rattle.request_laws.proofs.Pushes.{deeds_both}
 use Rattle.request_laws.proofs.Summing.{strand_hears}
 use Rattle.request_laws.proofs.Takes.{value_behind}
-use Rattle.scenario_laws.specs.Parties.{party_of}
+use Rattle.inbox_laws.specs.scenario_laws.specs.Parties.{party_of}
 use Rattle.credit_laws.specs.Clients.{own_frame, all_framed}
 use Rattle.credit_laws.proofs.Aside.{heard_paid, frame_is}
 use Rattle.credit_laws.proofs.Courses.{Course, course_paid, course_muxed, course_deeds, quiet_framed}

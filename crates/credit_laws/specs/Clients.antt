@@ -1,19 +1,19 @@
 -- The credits of a client over the frames that came to its multiplexer and went from it, from the opening of its channel on (RFCOMM 1.2, 6.5).
 use Rattle.std.specs.Prelude.{ℕ, ◌<◌, ◌≤◌, ◌≡◌, List, [], ◌∷◌, ◌++◌, map}
 use Rattle.std.specs.List.{flat_map}
-use Rattle.bt_base.specs.declared.settings.Transport.TheVariants.{Rfcomm}
-use Rattle.rfcomm_frames.specs.declared.connection.Role.TheVariants.{Initiator, Responder}
-use Rattle.rfcomm_frames.specs.Ending.{no_course, to_closing}
-use Rattle.rfcomm_frames.specs.Frames.{PlainFrame}
-use Rattle.rfcomm_frames.specs.FrameReading.{frame_answer}
-use Rattle.rfcomm_frames.specs.Multiplexing.{Framed, no_connections, granted, spent}
-use Rattle.rfcomm_model.specs.Machine.{new_mux}
-use Rattle.rfcomm_model.specs.Sides.{heard_frame}
-use Rattle.push_model.specs.declared.course.Stage.TheVariants.{Object}
-use Rattle.push_model.specs.Client.{Client}
-use Rattle.push_model.specs.Laws.{Deed, done}
-use Rattle.push_model.specs.Server.{rfcomm_psm}
-use Rattle.push_laws.specs.Carriage.{frames_by, heard_by}
+use Rattle.inbox_laws.specs.bt_base.specs.declared.settings.Transport.TheVariants.{Rfcomm}
+use Rattle.inbox_laws.specs.rfcomm_frames.specs.declared.connection.Role.TheVariants.{Initiator, Responder}
+use Rattle.inbox_laws.specs.rfcomm_frames.specs.Ending.{no_course, to_closing}
+use Rattle.inbox_laws.specs.rfcomm_frames.specs.Frames.{PlainFrame}
+use Rattle.inbox_laws.specs.rfcomm_frames.specs.FrameReading.{frame_answer}
+use Rattle.inbox_laws.specs.rfcomm_frames.specs.Multiplexing.{Framed, no_connections, granted, spent}
+use Rattle.inbox_laws.specs.rfcomm_model.specs.Machine.{new_mux}
+use Rattle.inbox_laws.specs.rfcomm_model.specs.Sides.{heard_frame}
+use Rattle.inbox_laws.specs.push_model.specs.declared.course.Stage.TheVariants.{Object}
+use Rattle.inbox_laws.specs.push_model.specs.Client.{Client}
+use Rattle.inbox_laws.specs.push_model.specs.Laws.{Deed, done}
+use Rattle.inbox_laws.specs.push_model.specs.Server.{rfcomm_psm}
+use Rattle.inbox_laws.specs.push_laws.specs.Carriage.{frames_by, heard_by}
 
 abbrev pub own_frame : PlainFrame → Framed
 own_frame frame = record { from = Initiator; frame = frame }

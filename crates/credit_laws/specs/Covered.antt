@@ -1,10 +1,10 @@
 -- That a side spends no credit which the SDUs on its channel do not grant it, whatever its peer sends (RFCOMM 1.2, 6.5).
 use Rattle.std.specs.Prelude.{ℕ, pos, ◌<◌, ◌≤◌, ◌≡◌, List}
-use Rattle.rfcomm_frames.specs.declared.connection.Role.{Role}
-use Rattle.rfcomm_frames.specs.Multiplexing.{Passed, no_connections, granted, spent}
-use Rattle.rfcomm_frames.specs.UserChannel.{live_frames, credits_held}
-use Rattle.rfcomm_model.specs.Captured.{AllPass}
-use Rattle.rfcomm_model.specs.Sides.{Deed, new_side}
+use Rattle.inbox_laws.specs.rfcomm_frames.specs.declared.connection.Role.{Role}
+use Rattle.inbox_laws.specs.rfcomm_frames.specs.Multiplexing.{Passed, no_connections, granted, spent}
+use Rattle.inbox_laws.specs.rfcomm_frames.specs.UserChannel.{live_frames, credits_held}
+use Rattle.inbox_laws.specs.rfcomm_model.specs.Captured.{AllPass}
+use Rattle.inbox_laws.specs.rfcomm_model.specs.Sides.{Deed, new_side}
 
 -- what it spent is no more than what it was granted: so the credits that it holds are never below nothing
 pub record IsCovered (dlci : ℕ) (role : Role) (passed : List Passed) : Type 0 where

@@ -1,16 +1,16 @@
 -- That what each run holds is kept at each moment of a run (this project's own).
 use Rattle.std.specs.Prelude.{◌≡◌, List, Option}
-use Rattle.bt_base.specs.declared.settings.Transport.TheVariants.{Rfcomm}
-use Rattle.bt_base.specs.Objects.{Contents}
-use Rattle.push_script.specs.declared.scenario.Scenario.{Scenario}
-use Rattle.push_terms.specs.declared.word.Side.{Side}
-use Rattle.capture.specs.Entries.{Entry}
-use Rattle.world_model.specs.Machines.{News}
-use Rattle.world_model.specs.Worlds.{Happening, Runs, all_words}
-use Rattle.host_model.specs.Circumstances.{Circumstance}
-use Rattle.scenario_laws.specs.Captures.{client_of, server_of, BothHosts, beginning, Ran}
-use Rattle.pair_laws.specs.Granted.{answered_by}
-use Rattle.pair_laws.specs.Keeping.{LosesNothing}
+use Rattle.inbox_laws.specs.bt_base.specs.declared.settings.Transport.TheVariants.{Rfcomm}
+use Rattle.inbox_laws.specs.bt_base.specs.Objects.{Contents}
+use Rattle.inbox_laws.specs.push_script.specs.declared.scenario.Scenario.{Scenario}
+use Rattle.inbox_laws.specs.push_terms.specs.declared.word.Side.{Side}
+use Rattle.inbox_laws.specs.capture.specs.Entries.{Entry}
+use Rattle.inbox_laws.specs.world_model.specs.Machines.{News}
+use Rattle.inbox_laws.specs.world_model.specs.Worlds.{Happening, Runs, all_words}
+use Rattle.inbox_laws.specs.host_model.specs.Circumstances.{Circumstance}
+use Rattle.inbox_laws.specs.scenario_laws.specs.Captures.{client_of, server_of, BothHosts, beginning, Ran}
+use Rattle.inbox_laws.specs.pair_laws.specs.Granted.{answered_by}
+use Rattle.inbox_laws.specs.pair_laws.specs.Keeping.{LosesNothing}
 use Rattle.credit_laws.specs.Kept.{IsSolvent, StaysSolvent}
 
 -- all that happened, where the ports of both hosts give these answers in place of those

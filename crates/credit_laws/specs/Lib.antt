@@ -1,3 +1,4 @@
+pub use Rattle.request_laws
 pub mod Covered
 pub mod Seen
 pub mod Moved

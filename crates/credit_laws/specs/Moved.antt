@@ -1,20 +1,20 @@
 -- What a host gave up takes none of the credits that it holds, by what moved (Core 5.1, Volume 3 Part A, 4.2 and 4.3; RFCOMM 1.2, 6.5).
 use Rattle.std.specs.Prelude.{ℕ, ◌≡◌, ◌⊎◌, true, List, ◌++◌, Ok}
 use Rattle.std.specs.List.{AllByRecursion, list_any}
-use Rattle.acl_fragments.specs.Pieces.{channel_of}
-use Rattle.capture.specs.declared.flow.Flow.{Flow}
-use Rattle.capture.specs.declared.flow.Flow.TheVariants.{Out, Into}
-use Rattle.l2cap_signal.specs.Commands.{connection_request, connection_response}
-use Rattle.link_talk.specs.declared.channel.Channel.{Channel}
-use Rattle.link_talk.specs.declared.party.Party.{Party}
-use Rattle.link_talk.specs.Channels.{reading}
-use Rattle.link_talk.specs.Requests.{is_own_call}
-use Rattle.link_talk.specs.Sayings.{Saying, Command, Carried, GaveUp}
-use Rattle.channel_laws.specs.Endpoints.{IsOf}
-use Rattle.channel_laws.specs.OwnTalk.{command_with}
-use Rattle.channel_laws.specs.Signals.{StandsIn}
-use Rattle.channel_laws.specs.Views.{read_at}
-use Rattle.host_laws.specs.Seen.{spoken_of}
+use Rattle.inbox_laws.specs.acl_fragments.specs.Pieces.{channel_of}
+use Rattle.inbox_laws.specs.capture.specs.declared.flow.Flow.{Flow}
+use Rattle.inbox_laws.specs.capture.specs.declared.flow.Flow.TheVariants.{Out, Into}
+use Rattle.inbox_laws.specs.l2cap_signal.specs.Commands.{connection_request, connection_response}
+use Rattle.inbox_laws.specs.link_talk.specs.declared.channel.Channel.{Channel}
+use Rattle.inbox_laws.specs.link_talk.specs.declared.party.Party.{Party}
+use Rattle.inbox_laws.specs.link_talk.specs.Channels.{reading}
+use Rattle.inbox_laws.specs.link_talk.specs.Requests.{is_own_call}
+use Rattle.inbox_laws.specs.link_talk.specs.Sayings.{Saying, Command, Carried, GaveUp}
+use Rattle.inbox_laws.specs.channel_laws.specs.Endpoints.{IsOf}
+use Rattle.inbox_laws.specs.channel_laws.specs.OwnTalk.{command_with}
+use Rattle.inbox_laws.specs.channel_laws.specs.Signals.{StandsIn}
+use Rattle.inbox_laws.specs.channel_laws.specs.Views.{read_at}
+use Rattle.inbox_laws.specs.host_laws.specs.Seen.{spoken_of}
 use Rattle.credit_laws.specs.Seen.{AreCovered, IsSaidOut, HoldsSome}
 
 -- a request for a channel, which went one way; and a response that granted one

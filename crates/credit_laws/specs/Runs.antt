@@ -1,20 +1,20 @@
 -- The credits of host b in a run of a scenario over RFCOMM, over its capture (Core 5.1, Volume 3 Part A, 3.1; RFCOMM 1.2, 6.5).
 use Rattle.std.specs.Prelude.{◌≡◌, List, [], Option}
-use Rattle.bt_base.specs.declared.settings.Transport.TheVariants.{Rfcomm}
-use Rattle.bt_base.specs.Objects.{Object, Contents}
-use Rattle.push_script.specs.declared.scenario.Scenario.{Scenario}
-use Rattle.push_terms.specs.declared.word.Side.TheVariants as sides
-use Rattle.capture.specs.Entries.{Entry}
-use Rattle.push_laws.specs.Laws.{new_over}
-use Rattle.push_laws.specs.Occurrences.{begun}
-use Rattle.push_laws.specs.Premises.{AllMayMiss}
-use Rattle.host_model.specs.Servers.{server_profile}
-use Rattle.host_laws.specs.Calls.{HostsAsk}
-use Rattle.host_laws.specs.Serving.{served_from}
-use Rattle.scenario_laws.specs.Captures.{Ran}
-use Rattle.scenario_laws.specs.Gains.{holding, serving}
-use Rattle.pair_laws.specs.Keeping.{PairsKeepOrder}
-use Rattle.pair_laws.specs.OnLinks.{ArePairs}
+use Rattle.inbox_laws.specs.bt_base.specs.declared.settings.Transport.TheVariants.{Rfcomm}
+use Rattle.inbox_laws.specs.bt_base.specs.Objects.{Object, Contents}
+use Rattle.inbox_laws.specs.push_script.specs.declared.scenario.Scenario.{Scenario}
+use Rattle.inbox_laws.specs.push_terms.specs.declared.word.Side.TheVariants as sides
+use Rattle.inbox_laws.specs.capture.specs.Entries.{Entry}
+use Rattle.inbox_laws.specs.push_laws.specs.Laws.{new_over}
+use Rattle.inbox_laws.specs.push_laws.specs.Occurrences.{begun}
+use Rattle.inbox_laws.specs.push_laws.specs.Premises.{AllMayMiss}
+use Rattle.inbox_laws.specs.host_model.specs.Servers.{server_profile}
+use Rattle.inbox_laws.specs.host_laws.specs.Calls.{HostsAsk}
+use Rattle.inbox_laws.specs.host_laws.specs.Serving.{served_from}
+use Rattle.inbox_laws.specs.scenario_laws.specs.Captures.{Ran}
+use Rattle.inbox_laws.specs.scenario_laws.specs.Gains.{holding, serving}
+use Rattle.inbox_laws.specs.pair_laws.specs.Keeping.{PairsKeepOrder}
+use Rattle.inbox_laws.specs.pair_laws.specs.OnLinks.{ArePairs}
 use Rattle.request_laws.specs.GainsCarried.{AllAreHeard}
 use Rattle.credit_laws.specs.Kept.{IsSolvent}
 use Rattle.credit_laws.specs.Serving.{AllGoQuietly}

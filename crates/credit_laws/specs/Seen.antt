@@ -2,14 +2,14 @@
 -- 3.1; RFCOMM 1.2, 6.5).
 use Rattle.std.specs.Prelude.{ℕ, pos, ◌≡◌, List, ◌++◌, map}
 use Rattle.std.specs.List.{AllByRecursion}
-use Rattle.capture.specs.declared.flow.Flow.TheVariants.{Out, Into}
-use Rattle.link_talk.specs.Accounts.{credits}
-use Rattle.link_talk.specs.Channels.{Entry, reading}
-use Rattle.link_talk.specs.declared.channel.Channel.{Channel}
-use Rattle.link_talk.specs.declared.party.Party.{Party}
-use Rattle.link_talk.specs.Packets.{passed}
-use Rattle.link_talk.specs.Sayings.{Saying, Command, Carried, GaveUp}
-use Rattle.link_talk.specs.Sdus.{spoken}
+use Rattle.inbox_laws.specs.capture.specs.declared.flow.Flow.TheVariants.{Out, Into}
+use Rattle.inbox_laws.specs.link_talk.specs.Accounts.{credits}
+use Rattle.inbox_laws.specs.link_talk.specs.Channels.{Entry, reading}
+use Rattle.inbox_laws.specs.link_talk.specs.declared.channel.Channel.{Channel}
+use Rattle.inbox_laws.specs.link_talk.specs.declared.party.Party.{Party}
+use Rattle.inbox_laws.specs.link_talk.specs.Packets.{passed}
+use Rattle.inbox_laws.specs.link_talk.specs.Sayings.{Saying, Command, Carried, GaveUp}
+use Rattle.inbox_laws.specs.link_talk.specs.Sdus.{spoken}
 use Rattle.credit_laws.specs.Covered.{IsCovered}
 
 -- the SDUs on a channel of a talk grant the host at least what it spent

@@ -1,12 +1,12 @@
 -- The credits of a server over what came and went on the channel of its multiplexer (RFCOMM 1.2, 6.5).
 use Rattle.std.specs.Prelude.{ℕ, ◌≡◌, false, List, [], ◌∷◌, Option, None}
 use Rattle.std.specs.List.{filter_map}
-use Rattle.bt_base.specs.declared.settings.Settings.{Settings}
-use Rattle.bt_base.specs.Objects.{Contents}
-use Rattle.rfcomm_frames.specs.declared.connection.Role.TheVariants.{Responder}
-use Rattle.push_model.specs.Server.{Reacted, rfcomm_psm}
-use Rattle.push_laws.specs.Occurrences.{Occurrence, Came, done, begun, IsOwn}
-use Rattle.push_laws.specs.Readings.{since, passed_by, user_dlci}
+use Rattle.inbox_laws.specs.bt_base.specs.declared.settings.Settings.{Settings}
+use Rattle.inbox_laws.specs.bt_base.specs.Objects.{Contents}
+use Rattle.inbox_laws.specs.rfcomm_frames.specs.declared.connection.Role.TheVariants.{Responder}
+use Rattle.inbox_laws.specs.push_model.specs.Server.{Reacted, rfcomm_psm}
+use Rattle.inbox_laws.specs.push_laws.specs.Occurrences.{Occurrence, Came, done, begun, IsOwn}
+use Rattle.inbox_laws.specs.push_laws.specs.Readings.{since, passed_by, user_dlci}
 use Rattle.credit_laws.specs.Covered.{IsCovered}
 
 -- What goes is what the server lends; no call of its inbox answered want of memory; and an SDU comes to its multiplexer where no frame of that waits.

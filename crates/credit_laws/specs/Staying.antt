@@ -1,11 +1,11 @@
 -- That both hosts hold credits at each moment of a run (RFCOMM 1.2, 6.5).
 use Rattle.std.specs.Prelude.{List, Option}
-use Rattle.bt_base.specs.Objects.{Object, Contents}
-use Rattle.push_script.specs.declared.scenario.Scenario.{Scenario}
-use Rattle.push_terms.specs.declared.word.Side.{Side}
-use Rattle.capture.specs.Entries.{Entry}
-use Rattle.scenario_laws.specs.Captures.{Ran}
-use Rattle.pair_laws.specs.Enough.{HappenedEnough}
+use Rattle.inbox_laws.specs.bt_base.specs.Objects.{Object, Contents}
+use Rattle.inbox_laws.specs.push_script.specs.declared.scenario.Scenario.{Scenario}
+use Rattle.inbox_laws.specs.push_terms.specs.declared.word.Side.{Side}
+use Rattle.inbox_laws.specs.capture.specs.Entries.{Entry}
+use Rattle.inbox_laws.specs.scenario_laws.specs.Captures.{Ran}
+use Rattle.inbox_laws.specs.pair_laws.specs.Enough.{HappenedEnough}
 use Rattle.credit_laws.specs.Fronts.{IsGentle}
 use Rattle.credit_laws.specs.Kept.{StaysSolvent}
 

@@ -2,25 +2,25 @@
 use Rattle.std.proofs.Common.{◌≡◌, ◌≤◌, arith, ℕ, List, [], ◌∷◌, ◌++◌, drop, Bool, true, false, cond, eqb, Option, Some, None, Ok, refl, sym, ap, subst, ◌∙◌, ◌⊎◌, inl, inr, append_assoc}
 use Rattle.std.proofs.lemmas.Bool.{eqb-true}
 use Rattle.std.proofs.lemmas.List.Sums.{fold-append}
-use Rattle.acl_fragments.specs.Pieces.{channel_of}
-use Rattle.capture.specs.Histories.{EachAfter}
-use Rattle.capture.proofs.HistoryLaws.{each_after-more}
-use Rattle.capture.specs.declared.flow.Flow.TheVariants.{Into}
-use Rattle.l2cap_signal.specs.Commands.{Content, Command, reject, connection_request, connection_response, configuration_request, configuration_response, disconnection_request, disconnection_response, echo_request, echo_response, information_request, information_response}
-use Rattle.l2cap_signal.specs.Reading.{answers}
-use Rattle.link_talk.specs.declared.channel.Channel.{Channel}
-use Rattle.link_talk.specs.declared.life.Life.TheVariants as lives
-use Rattle.link_talk.specs.Channels.{Entry, reading}
-use Rattle.link_talk.specs.Sayings.{Saying, Carried}
-use Rattle.channel_model.specs.declared.errand.Errand.TheVariants as errands
-use Rattle.channel_model.specs.Calls.{has_fcs}
-use Rattle.channel_model.specs.Carrying.{takes}
-use Rattle.channel_model.specs.Changing.{held_at, is_peer, has_room}
-use Rattle.channel_model.specs.Giving.{Given, Signal, Whole, Framed, disconnection_at, on_held, next_given}
-use Rattle.channel_model.specs.Hearing.{hears_command, hears_commands}
-use Rattle.channel_model.specs.Policies.{Policy}
-use Rattle.channel_model.specs.Value.{Request, Answer, Stage, Requested, Connected, Leaving, Closing, Crossed, Held, Remembered, Memory, Channels, no_channels}
-use Rattle.channel_model.proofs.Lookups.{eqb-same}
+use Rattle.channel_laws.specs.acl_fragments.specs.Pieces.{channel_of}
+use Rattle.channel_laws.specs.capture.specs.Histories.{EachAfter}
+use Rattle.channel_laws.specs.capture.proofs.HistoryLaws.{each_after-more}
+use Rattle.channel_laws.specs.capture.specs.declared.flow.Flow.TheVariants.{Into}
+use Rattle.channel_laws.specs.l2cap_signal.specs.Commands.{Content, Command, reject, connection_request, connection_response, configuration_request, configuration_response, disconnection_request, disconnection_response, echo_request, echo_response, information_request, information_response}
+use Rattle.channel_laws.specs.l2cap_signal.specs.Reading.{answers}
+use Rattle.channel_laws.specs.link_talk.specs.declared.channel.Channel.{Channel}
+use Rattle.channel_laws.specs.link_talk.specs.declared.life.Life.TheVariants as lives
+use Rattle.channel_laws.specs.link_talk.specs.Channels.{Entry, reading}
+use Rattle.channel_laws.specs.link_talk.specs.Sayings.{Saying, Carried}
+use Rattle.channel_laws.specs.channel_model.specs.declared.errand.Errand.TheVariants as errands
+use Rattle.channel_laws.specs.channel_model.specs.Calls.{has_fcs}
+use Rattle.channel_laws.specs.channel_model.specs.Carrying.{takes}
+use Rattle.channel_laws.specs.channel_model.specs.Changing.{held_at, is_peer, has_room}
+use Rattle.channel_laws.specs.channel_model.specs.Giving.{Given, Signal, Whole, Framed, disconnection_at, on_held, next_given}
+use Rattle.channel_laws.specs.channel_model.specs.Hearing.{hears_command, hears_commands}
+use Rattle.channel_laws.specs.channel_model.specs.Policies.{Policy}
+use Rattle.channel_laws.specs.channel_model.specs.Value.{Request, Answer, Stage, Requested, Connected, Leaving, Closing, Crossed, Held, Remembered, Memory, Channels, no_channels}
+use Rattle.channel_laws.specs.channel_model.proofs.Lookups.{eqb-same}
 use Rattle.channel_laws.specs.Adverse.{asks_with, asks_for, IsRoomy}
 use Rattle.channel_laws.specs.Awaited.{is_at, asks_for_end, end_waits}
 use Rattle.channel_laws.specs.Belonging.{IsReadAs, IsRead, AreRead, said_at, HasAsked, HasGranted, Belongs}

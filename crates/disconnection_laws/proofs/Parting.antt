@@ -4,24 +4,24 @@ use Rattle.std.specs.Prelude.{nat_le, option_to_list}
 use Rattle.std.specs.Option.{option_or}
 use Rattle.std.specs.List.{list_any}
 use Rattle.std.proofs.lemmas.Bool.{eqb-true}
-use Rattle.capture.specs.declared.flow.Flow.{Flow}
-use Rattle.capture.specs.declared.flow.Flow.TheVariants.{Into, Out}
-use Rattle.l2cap_signal.specs.Commands.{Content, reject, connection_request, connection_response, configuration_request, configuration_response, disconnection_request, disconnection_response, echo_request, echo_response, information_request, information_response}
-use Rattle.l2cap_signal.specs.declared.refusal.SignalRefusal.TheVariants.{ZeroIdentifier, BadLength, UnknownCode, AboveMtu}
-use Rattle.l2cap_config.specs.Reading.{options_read}
-use Rattle.link_talk.specs.declared.call.Wanted.{Wanted}
-use Rattle.link_talk.specs.declared.channel.Channel.{Channel}
-use Rattle.link_talk.specs.declared.life.Life.{Life}
-use Rattle.link_talk.specs.declared.life.Life.TheVariants as lives
-use Rattle.link_talk.specs.declared.word.Word.TheVariants as words
-use Rattle.link_talk.specs.Channels.{Entry, fresh, is_owner, life_after, word, entry_after, with_fresh, made_by, entries_after, Reading, reading}
-use Rattle.link_talk.specs.Meanings.{Meaning, Nothing, Settles, Parts, granted, made, answered, is_read, meant}
-use Rattle.link_talk.specs.Requests.{Terms, Requests, answered_call, answered_query, has_failed}
-use Rattle.link_talk.specs.Senses.{Asks, Quiet, Unread, sense}
-use Rattle.link_talk.specs.Sayings.{Saying, Carried, GaveUp, Connection, Disconnection, Information}
-use Rattle.link_talk.specs.Sayings as sayings
-use Rattle.talk_laws.proofs.Passes.{from_end}
-use Rattle.channel_model.proofs.Lookups.{find-map}
+use Rattle.channel_laws.specs.capture.specs.declared.flow.Flow.{Flow}
+use Rattle.channel_laws.specs.capture.specs.declared.flow.Flow.TheVariants.{Into, Out}
+use Rattle.channel_laws.specs.l2cap_signal.specs.Commands.{Content, reject, connection_request, connection_response, configuration_request, configuration_response, disconnection_request, disconnection_response, echo_request, echo_response, information_request, information_response}
+use Rattle.channel_laws.specs.l2cap_signal.specs.declared.refusal.SignalRefusal.TheVariants.{ZeroIdentifier, BadLength, UnknownCode, AboveMtu}
+use Rattle.channel_laws.specs.l2cap_config.specs.Reading.{options_read}
+use Rattle.channel_laws.specs.link_talk.specs.declared.call.Wanted.{Wanted}
+use Rattle.channel_laws.specs.link_talk.specs.declared.channel.Channel.{Channel}
+use Rattle.channel_laws.specs.link_talk.specs.declared.life.Life.{Life}
+use Rattle.channel_laws.specs.link_talk.specs.declared.life.Life.TheVariants as lives
+use Rattle.channel_laws.specs.link_talk.specs.declared.word.Word.TheVariants as words
+use Rattle.channel_laws.specs.link_talk.specs.Channels.{Entry, fresh, is_owner, life_after, word, entry_after, with_fresh, made_by, entries_after, Reading, reading}
+use Rattle.channel_laws.specs.link_talk.specs.Meanings.{Meaning, Nothing, Settles, Parts, granted, made, answered, is_read, meant}
+use Rattle.channel_laws.specs.link_talk.specs.Requests.{Terms, Requests, answered_call, answered_query, has_failed}
+use Rattle.channel_laws.specs.link_talk.specs.Senses.{Asks, Quiet, Unread, sense}
+use Rattle.channel_laws.specs.link_talk.specs.Sayings.{Saying, Carried, GaveUp, Connection, Disconnection, Information}
+use Rattle.channel_laws.specs.link_talk.specs.Sayings as sayings
+use Rattle.channel_laws.specs.talk_laws.proofs.Passes.{from_end}
+use Rattle.channel_laws.specs.channel_model.proofs.Lookups.{find-map}
 use Rattle.channel_laws.specs.OwnTalk.{spoken, command_with}
 use Rattle.channel_laws.specs.Signals.{StandsIn}
 use Rattle.channel_laws.specs.Views.{read_at}

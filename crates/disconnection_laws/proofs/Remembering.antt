@@ -1,19 +1,19 @@
 -- What the side that responds to requests for ends remembers, as a command comes in.
 use Rattle.std.proofs.Common.{◌≡◌, ◌≤◌, arith, ℕ, List, [], ◌∷◌, ◌++◌, Bool, true, false, cond, eqb, Option, Some, None, Ok, refl, sym, ap, subst, ◌∙◌, ◌⊎◌, inl, inr}
 use Rattle.std.proofs.lemmas.Bool.{eqb-true}
-use Rattle.l2cap_signal.specs.Commands.{Content, Command, reject, connection_request, connection_response, configuration_request, configuration_response, disconnection_request, disconnection_response, echo_request, echo_response, information_request, information_response}
-use Rattle.link_talk.specs.Channels.{reading}
-use Rattle.link_talk.specs.Sayings.{Saying}
-use Rattle.channel_model.specs.declared.errand.Errand.TheVariants as errands
-use Rattle.channel_model.specs.declared.request_kind.RequestKind.TheVariants as kinds
-use Rattle.channel_model.specs.Answers.{disconnection_by, disconnection_answer, answer_to}
-use Rattle.channel_model.specs.Changing.{held_at, is_peer}
-use Rattle.channel_model.specs.Following.{follows, remembers, says, can_say, hears_new, hears_again, hears_kind}
-use Rattle.channel_model.specs.Hearing.{hears_content, hears_command}
-use Rattle.channel_model.specs.Policies.{Policy}
-use Rattle.channel_model.specs.Responses.{features_in}
-use Rattle.channel_model.specs.Value.{Stage, Requested, Connected, Leaving, Closing, Crossed, Held, Remembered, Memory, Channels}
-use Rattle.channel_model.proofs.Lookups.{eqb-same}
+use Rattle.channel_laws.specs.l2cap_signal.specs.Commands.{Content, Command, reject, connection_request, connection_response, configuration_request, configuration_response, disconnection_request, disconnection_response, echo_request, echo_response, information_request, information_response}
+use Rattle.channel_laws.specs.link_talk.specs.Channels.{reading}
+use Rattle.channel_laws.specs.link_talk.specs.Sayings.{Saying}
+use Rattle.channel_laws.specs.channel_model.specs.declared.errand.Errand.TheVariants as errands
+use Rattle.channel_laws.specs.channel_model.specs.declared.request_kind.RequestKind.TheVariants as kinds
+use Rattle.channel_laws.specs.channel_model.specs.Answers.{disconnection_by, disconnection_answer, answer_to}
+use Rattle.channel_laws.specs.channel_model.specs.Changing.{held_at, is_peer}
+use Rattle.channel_laws.specs.channel_model.specs.Following.{follows, remembers, says, can_say, hears_new, hears_again, hears_kind}
+use Rattle.channel_laws.specs.channel_model.specs.Hearing.{hears_content, hears_command}
+use Rattle.channel_laws.specs.channel_model.specs.Policies.{Policy}
+use Rattle.channel_laws.specs.channel_model.specs.Responses.{features_in}
+use Rattle.channel_laws.specs.channel_model.specs.Value.{Stage, Requested, Connected, Leaving, Closing, Crossed, Held, Remembered, Memory, Channels}
+use Rattle.channel_laws.specs.channel_model.proofs.Lookups.{eqb-same}
 use Rattle.channel_laws.specs.OwnTalk.{spoken, command_with, reply_to, exchanged, asked_between, said_with_all}
 use Rattle.channel_laws.specs.Responding.{Recalls, HasPeer}
 use Rattle.channel_laws.specs.Signals.{StandsIn}

@@ -1,22 +1,22 @@
 -- What is under way of requests for ends, and what is remembered of them, where one waits at a time.
 use Rattle.std.proofs.Common.{◌≡◌, ◌<◌, ◌≤◌, arith, ℕ, List, [], ◌∷◌, ◌++◌, drop, true, false, eqb, Option, Some, None, Ok, refl, sym, ap, subst, ◌∙◌, ◌⊎◌, inl, inr}
 use Rattle.std.specs.Prelude.{find, option_map}
-use Rattle.acl_fragments.specs.Pieces.{channel_of}
-use Rattle.l2cap_signal.specs.Commands.{Command, connection_request, configuration_request, disconnection_request, disconnection_response, information_request}
-use Rattle.l2cap_signal.specs.Reading.{answers}
-use Rattle.link_talk.specs.declared.life.Life.{Life}
-use Rattle.link_talk.specs.declared.life.Life.TheVariants as lives
-use Rattle.link_talk.specs.declared.word.Word.{Word}
-use Rattle.link_talk.specs.declared.word.Word.TheVariants as words
-use Rattle.link_talk.specs.Channels.{Entry, waits_for_end, life_after, word, reading}
-use Rattle.link_talk.specs.Sayings.{Saying}
-use Rattle.channel_model.specs.declared.errand.Errand.{Errand}
-use Rattle.channel_model.specs.declared.errand.Errand.TheVariants as errands
-use Rattle.channel_model.specs.Changing.{has_own, held_at}
-use Rattle.channel_model.specs.Giving.{Given, Signal, Whole, Framed, command_of, connection_at, configuration_by, configuration_at, disconnection_at, on_held, features_command, gives, held_gives, stage_gives, some_carrier_gives, queue_gives, next_given}
-use Rattle.channel_model.specs.Value.{Request, Queued, Answer, Ask, Own, Unasked, Asking, Granted, Carrier, Plain, Retransmitting, Stage, Requested, Connected, Leaving, Closing, Crossed, Held, Remembered, Channels}
-use Rattle.channel_model.proofs.Lookups.{own_of, found-has}
-use Rattle.ertm_model.specs.Giving.{next_frame}
+use Rattle.channel_laws.specs.acl_fragments.specs.Pieces.{channel_of}
+use Rattle.channel_laws.specs.l2cap_signal.specs.Commands.{Command, connection_request, configuration_request, disconnection_request, disconnection_response, information_request}
+use Rattle.channel_laws.specs.l2cap_signal.specs.Reading.{answers}
+use Rattle.channel_laws.specs.link_talk.specs.declared.life.Life.{Life}
+use Rattle.channel_laws.specs.link_talk.specs.declared.life.Life.TheVariants as lives
+use Rattle.channel_laws.specs.link_talk.specs.declared.word.Word.{Word}
+use Rattle.channel_laws.specs.link_talk.specs.declared.word.Word.TheVariants as words
+use Rattle.channel_laws.specs.link_talk.specs.Channels.{Entry, waits_for_end, life_after, word, reading}
+use Rattle.channel_laws.specs.link_talk.specs.Sayings.{Saying}
+use Rattle.channel_laws.specs.channel_model.specs.declared.errand.Errand.{Errand}
+use Rattle.channel_laws.specs.channel_model.specs.declared.errand.Errand.TheVariants as errands
+use Rattle.channel_laws.specs.channel_model.specs.Changing.{has_own, held_at}
+use Rattle.channel_laws.specs.channel_model.specs.Giving.{Given, Signal, Whole, Framed, command_of, connection_at, configuration_by, configuration_at, disconnection_at, on_held, features_command, gives, held_gives, stage_gives, some_carrier_gives, queue_gives, next_given}
+use Rattle.channel_laws.specs.channel_model.specs.Value.{Request, Queued, Answer, Ask, Own, Unasked, Asking, Granted, Carrier, Plain, Retransmitting, Stage, Requested, Connected, Leaving, Closing, Crossed, Held, Remembered, Channels}
+use Rattle.channel_laws.specs.channel_model.proofs.Lookups.{own_of, found-has}
+use Rattle.channel_laws.specs.ertm_model.specs.Giving.{next_frame}
 use Rattle.channel_laws.specs.Awaited.{asks_for_end, is_at, end_waits}
 use Rattle.channel_laws.specs.Belonging.{IsReadAs}
 use Rattle.channel_laws.specs.OwnTalk.{spoken, command_with}

@@ -3,16 +3,16 @@ use Rattle.std.proofs.Common.{◌≡◌, ℕ, List, [], ◌∷◌, ◌++◌, fol
 use Rattle.std.specs.Prelude.{option_map, option_to_list}
 use Rattle.std.specs.Option.{option_or}
 use Rattle.std.specs.List.{list_any}
-use Rattle.link_talk.specs.declared.channel.Channel.{Channel}
-use Rattle.link_talk.specs.declared.life.Life.{Life}
-use Rattle.link_talk.specs.declared.life.Life.TheVariants as lives
-use Rattle.link_talk.specs.declared.word.Word.{Word}
-use Rattle.link_talk.specs.declared.word.Word.TheVariants as words
-use Rattle.link_talk.specs.Channels.{Entry, fresh, is_there, is_owner, life_after, word, entry_after, with_fresh, made_by, entries_after, Reading, read_on, reading}
-use Rattle.link_talk.specs.Meanings.{Meaning, meant}
-use Rattle.link_talk.specs.Senses.{sense}
-use Rattle.link_talk.specs.Sayings.{Saying}
-use Rattle.channel_model.proofs.Lookups.{find-map}
+use Rattle.channel_laws.specs.link_talk.specs.declared.channel.Channel.{Channel}
+use Rattle.channel_laws.specs.link_talk.specs.declared.life.Life.{Life}
+use Rattle.channel_laws.specs.link_talk.specs.declared.life.Life.TheVariants as lives
+use Rattle.channel_laws.specs.link_talk.specs.declared.word.Word.{Word}
+use Rattle.channel_laws.specs.link_talk.specs.declared.word.Word.TheVariants as words
+use Rattle.channel_laws.specs.link_talk.specs.Channels.{Entry, fresh, is_there, is_owner, life_after, word, entry_after, with_fresh, made_by, entries_after, Reading, read_on, reading}
+use Rattle.channel_laws.specs.link_talk.specs.Meanings.{Meaning, meant}
+use Rattle.channel_laws.specs.link_talk.specs.Senses.{sense}
+use Rattle.channel_laws.specs.link_talk.specs.Sayings.{Saying}
+use Rattle.channel_laws.specs.channel_model.proofs.Lookups.{find-map}
 use Rattle.channel_laws.specs.Endpoints.{IsOf}
 use Rattle.channel_laws.specs.Granted.{IsFor}
 use Rattle.channel_laws.specs.Views.{read_at}

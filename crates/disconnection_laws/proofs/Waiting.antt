@@ -3,23 +3,23 @@ use Rattle.std.proofs.Common.{◌≡◌, ℕ, List, [], ◌∷◌, ◌++◌, dro
 use Rattle.std.specs.Prelude.{find}
 use Rattle.std.proofs.lemmas.Bool.{eqb-true}
 use Rattle.std.proofs.lemmas.List.Sums.{fold-append}
-use Rattle.acl_fragments.specs.Pieces.{channel_of}
-use Rattle.capture.specs.Histories.{EachAfter}
-use Rattle.capture.proofs.HistoryLaws.{each_after-more}
-use Rattle.capture.specs.declared.flow.Flow.TheVariants.{Into}
-use Rattle.l2cap_signal.specs.Commands.{Content, Command, reject, connection_request, connection_response, configuration_request, configuration_response, disconnection_request, disconnection_response, echo_request, echo_response, information_request, information_response}
-use Rattle.l2cap_signal.specs.Reading.{answers}
-use Rattle.link_talk.specs.declared.channel.Channel.{Channel}
-use Rattle.link_talk.specs.Channels.{Entry, reading}
-use Rattle.link_talk.specs.Sayings.{Saying, Carried}
-use Rattle.link_talk.specs.Sayings as sayings
-use Rattle.channel_model.specs.declared.errand.Errand.TheVariants.{Disconnection}
-use Rattle.channel_model.specs.Carrying.{takes}
-use Rattle.channel_model.specs.Changing.{has_own, held_at, is_peer}
-use Rattle.channel_model.specs.Hearing.{hears_command}
-use Rattle.channel_model.specs.Policies.{Policy}
-use Rattle.channel_model.specs.Value.{Request, Stage, Requested, Connected, Leaving, Closing, Crossed, Held, Channels}
-use Rattle.channel_model.proofs.Lookups.{own_of, eqb-same, found-has}
+use Rattle.channel_laws.specs.acl_fragments.specs.Pieces.{channel_of}
+use Rattle.channel_laws.specs.capture.specs.Histories.{EachAfter}
+use Rattle.channel_laws.specs.capture.proofs.HistoryLaws.{each_after-more}
+use Rattle.channel_laws.specs.capture.specs.declared.flow.Flow.TheVariants.{Into}
+use Rattle.channel_laws.specs.l2cap_signal.specs.Commands.{Content, Command, reject, connection_request, connection_response, configuration_request, configuration_response, disconnection_request, disconnection_response, echo_request, echo_response, information_request, information_response}
+use Rattle.channel_laws.specs.l2cap_signal.specs.Reading.{answers}
+use Rattle.channel_laws.specs.link_talk.specs.declared.channel.Channel.{Channel}
+use Rattle.channel_laws.specs.link_talk.specs.Channels.{Entry, reading}
+use Rattle.channel_laws.specs.link_talk.specs.Sayings.{Saying, Carried}
+use Rattle.channel_laws.specs.link_talk.specs.Sayings as sayings
+use Rattle.channel_laws.specs.channel_model.specs.declared.errand.Errand.TheVariants.{Disconnection}
+use Rattle.channel_laws.specs.channel_model.specs.Carrying.{takes}
+use Rattle.channel_laws.specs.channel_model.specs.Changing.{has_own, held_at, is_peer}
+use Rattle.channel_laws.specs.channel_model.specs.Hearing.{hears_command}
+use Rattle.channel_laws.specs.channel_model.specs.Policies.{Policy}
+use Rattle.channel_laws.specs.channel_model.specs.Value.{Request, Stage, Requested, Connected, Leaving, Closing, Crossed, Held, Channels}
+use Rattle.channel_laws.specs.channel_model.proofs.Lookups.{own_of, eqb-same, found-has}
 use Rattle.channel_laws.specs.Adverse.{responds_with, responds_to}
 use Rattle.channel_laws.specs.Belonging.{IsRead as IsReadBehind, AreRead, is_pledge, said_at, HasAsked, HasGranted, Belongs}
 use Rattle.channel_laws.specs.Ends.{end_at}

@@ -1,11 +1,11 @@
 -- The channels whose end a host answered (Core 5.1, Volume 3 Part A, 4.6 and 4.7).
 use Rattle.std.specs.Prelude.{ℕ, ◌≡◌, false, List, Option, Some, None, Ok}
-use Rattle.capture.specs.declared.flow.Flow.TheVariants.{Into}
-use Rattle.l2cap_signal.specs.Commands.{disconnection_request, disconnection_response}
-use Rattle.link_talk.specs.Channels.{Entry, is_there, reading}
-use Rattle.link_talk.specs.Sayings.{Saying}
-use Rattle.link_talk.specs.Sayings as sayings
-use Rattle.channel_model.specs.Policies.{Policy}
+use Rattle.channel_laws.specs.capture.specs.declared.flow.Flow.TheVariants.{Into}
+use Rattle.channel_laws.specs.l2cap_signal.specs.Commands.{disconnection_request, disconnection_response}
+use Rattle.channel_laws.specs.link_talk.specs.Channels.{Entry, is_there, reading}
+use Rattle.channel_laws.specs.link_talk.specs.Sayings.{Saying}
+use Rattle.channel_laws.specs.link_talk.specs.Sayings as sayings
+use Rattle.channel_laws.specs.channel_model.specs.Policies.{Policy}
 use Rattle.channel_laws.specs.OwnTalk.{spoken, command_with}
 use Rattle.channel_laws.specs.Runs.{Occurrence, run_of}
 use Rattle.channel_laws.specs.Signals.{StandsIn}

@@ -1,12 +1,12 @@
 -- That a request for the end of a channel is responded to, and that the response ends its wait (Core 5.1, Volume 3 Part A, 4, 4.6 and 4.7).
 use Rattle.std.specs.Prelude.{ℕ, ◌≡◌, ◌≤◌, List, [], Some, None, ◌⊎◌}
-use Rattle.capture.specs.Histories.{EachAfter}
-use Rattle.l2cap_signal.specs.Commands.{Command, disconnection_request}
-use Rattle.link_talk.specs.Sayings.{Saying}
-use Rattle.channel_model.specs.declared.errand.Errand.TheVariants.{Disconnection}
-use Rattle.channel_model.specs.Giving.{command_of}
-use Rattle.channel_model.specs.Policies.{Policy}
-use Rattle.channel_model.specs.Value.{Channels}
+use Rattle.channel_laws.specs.capture.specs.Histories.{EachAfter}
+use Rattle.channel_laws.specs.l2cap_signal.specs.Commands.{Command, disconnection_request}
+use Rattle.channel_laws.specs.link_talk.specs.Sayings.{Saying}
+use Rattle.channel_laws.specs.channel_model.specs.declared.errand.Errand.TheVariants.{Disconnection}
+use Rattle.channel_laws.specs.channel_model.specs.Giving.{command_of}
+use Rattle.channel_laws.specs.channel_model.specs.Policies.{Policy}
+use Rattle.channel_laws.specs.channel_model.specs.Value.{Channels}
 use Rattle.channel_laws.specs.Adverse.{AreRoomy}
 use Rattle.channel_laws.specs.Belonging.{AreRead, said_at, HasAsked}
 use Rattle.channel_laws.specs.Ends.{end_at}

@@ -1,10 +1,10 @@
 -- That a response to a request for the end of a channel ends its wait (Core 5.1, Volume 3 Part A, 4.6 and 4.7).
 use Rattle.std.specs.Prelude.{ℕ, ◌≡◌, List, []}
-use Rattle.capture.specs.Histories.{EachAfter}
-use Rattle.link_talk.specs.Sayings.{Saying}
-use Rattle.channel_model.specs.declared.errand.Errand.{Errand}
-use Rattle.channel_model.specs.declared.errand.Errand.TheVariants.{Disconnection}
-use Rattle.channel_model.specs.Policies.{Policy}
+use Rattle.channel_laws.specs.capture.specs.Histories.{EachAfter}
+use Rattle.channel_laws.specs.link_talk.specs.Sayings.{Saying}
+use Rattle.channel_laws.specs.channel_model.specs.declared.errand.Errand.{Errand}
+use Rattle.channel_laws.specs.channel_model.specs.declared.errand.Errand.TheVariants.{Disconnection}
+use Rattle.channel_laws.specs.channel_model.specs.Policies.{Policy}
 use Rattle.channel_laws.specs.Adverse.{seen_from}
 use Rattle.channel_laws.specs.Belonging.{AreRead, said_at, HasGranted}
 use Rattle.channel_laws.specs.Heeded.{EndsWait}

@@ -2,46 +2,46 @@
 use Rattle.std.proofs.Common.{inl, inr, ◌⊎◌, Bool, true, false, ◌||◌, ◌&&◌, ◌≡◌, ◌==◌, ℕ, ◌≤◌, List, [], ◌∷◌, ◌++◌, map, Option, Some, None, is_some, Result, Ok, Err, refl, sym, ap, subst, ◌∙◌, arith, if◌then◌else◌}
 use Rattle.std.specs.Prelude.{slice_index, not}
 use Rattle.std.proofs.lemmas.Bool.{cond-true, eqb-true, eq-eqb}
-use Rattle.bt_base.specs.declared.settings.Transport.{Transport}
-use Rattle.bt_base.specs.declared.settings.Transport.TheVariants.{L2cap}
-use Rattle.bt_base.specs.Objects.{Object}
-use Rattle.push_terms.specs.declared.outcome.Outcome.{Outcome}
-use Rattle.push_terms.specs.declared.outcome.Outcome.TheVariants as outcomes
-use Rattle.obex_headers.specs.declared.fault.ObexRefusal.{ObexRefusal}
-use Rattle.obex_headers.specs.declared.packet.Phase.TheVariants as phase
-use Rattle.obex_headers.specs.Packets.{PlainHeader, PlainPacket, packet_octets}
-use Rattle.obex_headers.specs.Reading.{packet_in}
-use Rattle.obex_session.specs.declared.asking.Request.{Request}
-use Rattle.obex_session.specs.declared.asking.Request.TheVariants as requests
-use Rattle.obex_session.specs.declared.client.Answered.{Answered}
-use Rattle.obex_session.specs.declared.client.Answered.TheVariants.{Go, Done, Refused, Bad, Srmp}
-use Rattle.obex_session.specs.Asking.{Asking, answer_read}
-use Rattle.obex_session.specs.Marks.{marks_of}
-use Rattle.obex_session.specs.NextPut.{put_request}
-use Rattle.obex_session.specs.PutPackets.{units_in, head_of, put_packet, packets_from}
-use Rattle.obex_session.specs.Views.{asks_connect, answer_at, after_at}
-use Rattle.push_model.specs.declared.course.Contact.{Contact}
-use Rattle.push_model.specs.declared.course.Contact.TheVariants.{Unmet, Met, Left, Closing}
-use Rattle.push_model.specs.declared.course.Stage.{Stage}
-use Rattle.push_model.specs.Causes.{cause_of_obex, unknown_parameters, unawaited_response}
-use Rattle.push_model.specs.Client.{Client, ends, ends_by, may_cancel}
-use Rattle.push_model.specs.Events as events
-use Rattle.push_model.specs.Laws as deeds
-use Rattle.push_model.specs.Laws.{Deed, Hears, Asks, Finishes, Cancels}
-use Rattle.push_model.specs.Responding.{met, takes, is_early, is_object, hears_answer, hears_response}
-use Rattle.push_model.specs.Server.{object_psm}
-use Rattle.push_model.proofs.CauseLaws.{first_causes_stay}
-use Rattle.push_laws.specs.Exchanges.{is_response}
-use Rattle.push_laws.specs.Faults.{counted}
-use Rattle.push_laws.specs.Parties.{told_by, heard_by}
-use Rattle.push_laws.specs.Sending.{AnswersTo, packets_by}
-use Rattle.push_laws.specs.Success.{Brings, HearsSuccess}
-use Rattle.push_laws.proofs.Inverting.{Sends, Rests, Connects, Puts, Aborts, Leaves, asks_send}
-use Rattle.push_laws.proofs.OnObject.{IsOnObject}
-use Rattle.push_laws.proofs.Pushing as state
-use Rattle.push_laws.proofs.Pushing.{Task, State, Stands, MayPutOn, connect_of}
-use Rattle.push_laws.proofs.Success.{done-exactly}
-use Rattle.push_laws.proofs.Talks.{Talk, talk_of, Unheard, object_of, news_quiet}
+use Rattle.tape_laws.specs.bt_base.specs.declared.settings.Transport.{Transport}
+use Rattle.tape_laws.specs.bt_base.specs.declared.settings.Transport.TheVariants.{L2cap}
+use Rattle.tape_laws.specs.bt_base.specs.Objects.{Object}
+use Rattle.tape_laws.specs.push_terms.specs.declared.outcome.Outcome.{Outcome}
+use Rattle.tape_laws.specs.push_terms.specs.declared.outcome.Outcome.TheVariants as outcomes
+use Rattle.tape_laws.specs.obex_headers.specs.declared.fault.ObexRefusal.{ObexRefusal}
+use Rattle.tape_laws.specs.obex_headers.specs.declared.packet.Phase.TheVariants as phase
+use Rattle.tape_laws.specs.obex_headers.specs.Packets.{PlainHeader, PlainPacket, packet_octets}
+use Rattle.tape_laws.specs.obex_headers.specs.Reading.{packet_in}
+use Rattle.tape_laws.specs.obex_session.specs.declared.asking.Request.{Request}
+use Rattle.tape_laws.specs.obex_session.specs.declared.asking.Request.TheVariants as requests
+use Rattle.tape_laws.specs.obex_session.specs.declared.client.Answered.{Answered}
+use Rattle.tape_laws.specs.obex_session.specs.declared.client.Answered.TheVariants.{Go, Done, Refused, Bad, Srmp}
+use Rattle.tape_laws.specs.obex_session.specs.Asking.{Asking, answer_read}
+use Rattle.tape_laws.specs.obex_session.specs.Marks.{marks_of}
+use Rattle.tape_laws.specs.obex_session.specs.NextPut.{put_request}
+use Rattle.tape_laws.specs.obex_session.specs.PutPackets.{units_in, head_of, put_packet, packets_from}
+use Rattle.tape_laws.specs.obex_session.specs.Views.{asks_connect, answer_at, after_at}
+use Rattle.tape_laws.specs.push_model.specs.declared.course.Contact.{Contact}
+use Rattle.tape_laws.specs.push_model.specs.declared.course.Contact.TheVariants.{Unmet, Met, Left, Closing}
+use Rattle.tape_laws.specs.push_model.specs.declared.course.Stage.{Stage}
+use Rattle.tape_laws.specs.push_model.specs.Causes.{cause_of_obex, unknown_parameters, unawaited_response}
+use Rattle.tape_laws.specs.push_model.specs.Client.{Client, ends, ends_by, may_cancel}
+use Rattle.tape_laws.specs.push_model.specs.Events as events
+use Rattle.tape_laws.specs.push_model.specs.Laws as deeds
+use Rattle.tape_laws.specs.push_model.specs.Laws.{Deed, Hears, Asks, Finishes, Cancels}
+use Rattle.tape_laws.specs.push_model.specs.Responding.{met, takes, is_early, is_object, hears_answer, hears_response}
+use Rattle.tape_laws.specs.push_model.specs.Server.{object_psm}
+use Rattle.tape_laws.specs.push_model.proofs.CauseLaws.{first_causes_stay}
+use Rattle.tape_laws.specs.push_laws.specs.Exchanges.{is_response}
+use Rattle.tape_laws.specs.push_laws.specs.Faults.{counted}
+use Rattle.tape_laws.specs.push_laws.specs.Parties.{told_by, heard_by}
+use Rattle.tape_laws.specs.push_laws.specs.Sending.{AnswersTo, packets_by}
+use Rattle.tape_laws.specs.push_laws.specs.Success.{Brings, HearsSuccess}
+use Rattle.tape_laws.specs.push_laws.proofs.Inverting.{Sends, Rests, Connects, Puts, Aborts, Leaves, asks_send}
+use Rattle.tape_laws.specs.push_laws.proofs.OnObject.{IsOnObject}
+use Rattle.tape_laws.specs.push_laws.proofs.Pushing as state
+use Rattle.tape_laws.specs.push_laws.proofs.Pushing.{Task, State, Stands, MayPutOn, connect_of}
+use Rattle.tape_laws.specs.push_laws.proofs.Success.{done-exactly}
+use Rattle.tape_laws.specs.push_laws.proofs.Talks.{Talk, talk_of, Unheard, object_of, news_quiet}
 use Rattle.done_laws.proofs.Successes.{success_in, successes, successes_both, other_than_put, others, counted_few}
 use Rattle.done_laws.proofs.Replies.{code_front}
 

@@ -3,40 +3,40 @@ use Rattle.std.proofs.Common.{inl, inr, ◌⊎◌, Bool, true, false, ◌≡◌,
 use Rattle.std.specs.List.{AllByRecursion, flat_map}
 use Rattle.std.proofs.lemmas.Bool.{cases_Bool, eqb-true}
 use Rattle.std.proofs.lemmas.List.{length-append, append_cancel_left}
-use Rattle.bt_base.specs.declared.settings.Settings.{Settings}
-use Rattle.bt_base.specs.declared.settings.Transport.TheVariants.{L2cap}
-use Rattle.bt_base.specs.Objects.{Object}
-use Rattle.push_terms.specs.declared.outcome.Outcome.TheVariants as outcomes
-use Rattle.obex_session.specs.Past.{Heard, stored_by}
-use Rattle.link_talk.specs.ObjectsHeard.{spelled_within}
-use Rattle.push_model.specs.declared.course.Contact.TheVariants.{Unmet, Met}
-use Rattle.push_model.specs.Client.{Client, own_maximum}
-use Rattle.push_model.specs.Laws as deeds
-use Rattle.push_model.specs.Laws.{Deed}
-use Rattle.push_model.specs.Server.{Reacted, object_psm}
-use Rattle.push_laws.specs.Faults as faulty
-use Rattle.push_laws.specs.Faults.{Marked, unmarked, heard_as, heard_over, mark_of, spent_from}
-use Rattle.push_laws.specs.Gains as clear
-use Rattle.push_laws.specs.Laws.{new_over, stored_in}
-use Rattle.push_laws.specs.Losing.{LeavesOut}
-use Rattle.push_laws.specs.Marks.{AllSayMarks}
-use Rattle.push_laws.specs.Occurrences.{Occurrence, LinkDown, done, all_done}
-use Rattle.push_laws.specs.Parties.{Move, OfServer, OfClient, server_side, client_side, Pipes, no_pipes, sent_by, come_by, sdu_if, pipes_after, IsFrontOf, StayPipes, Push, IsOffered, begun_of, ended_with, over_pushes, ServesDirectly, AllServeDirectly}
-use Rattle.push_laws.specs.Premises.{NoneShort}
-use Rattle.push_laws.specs.Readings.{closes}
-use Rattle.push_laws.specs.Spelled.{ArePushed, IsOfShelf, IsOfShelfOrStill, IsOnce, name_by}
-use Rattle.push_laws.proofs.Among.{one_pushed}
-use Rattle.push_laws.proofs.Keeping.{Keeps, Brings, brings, keeps_more}
-use Rattle.push_laws.proofs.Listening.{octets_of}
-use Rattle.push_laws.proofs.Losing.{pushes-gain_less}
-use Rattle.push_laws.proofs.Marking.{gains-all_but_refusals}
-use Rattle.push_laws.proofs.Missing.{Stays, marked_at, stays_more, marks_later, first_stays, all_may_miss}
-use Rattle.push_laws.proofs.OneName.{one_name_leaves, one_name_few}
-use Rattle.push_laws.proofs.OnObject.{none_sent, same_psm, none_come, on_object}
-use Rattle.push_laws.proofs.Parties.{begun_so}
-use Rattle.push_laws.proofs.Placing.{task_of}
-use Rattle.push_laws.proofs.Pushing.{Task}
-use Rattle.push_laws.proofs.Readings.{heard_more}
+use Rattle.tape_laws.specs.bt_base.specs.declared.settings.Settings.{Settings}
+use Rattle.tape_laws.specs.bt_base.specs.declared.settings.Transport.TheVariants.{L2cap}
+use Rattle.tape_laws.specs.bt_base.specs.Objects.{Object}
+use Rattle.tape_laws.specs.push_terms.specs.declared.outcome.Outcome.TheVariants as outcomes
+use Rattle.tape_laws.specs.obex_session.specs.Past.{Heard, stored_by}
+use Rattle.tape_laws.specs.link_talk.specs.ObjectsHeard.{spelled_within}
+use Rattle.tape_laws.specs.push_model.specs.declared.course.Contact.TheVariants.{Unmet, Met}
+use Rattle.tape_laws.specs.push_model.specs.Client.{Client, own_maximum}
+use Rattle.tape_laws.specs.push_model.specs.Laws as deeds
+use Rattle.tape_laws.specs.push_model.specs.Laws.{Deed}
+use Rattle.tape_laws.specs.push_model.specs.Server.{Reacted, object_psm}
+use Rattle.tape_laws.specs.push_laws.specs.Faults as faulty
+use Rattle.tape_laws.specs.push_laws.specs.Faults.{Marked, unmarked, heard_as, heard_over, mark_of, spent_from}
+use Rattle.tape_laws.specs.push_laws.specs.Gains as clear
+use Rattle.tape_laws.specs.push_laws.specs.Laws.{new_over, stored_in}
+use Rattle.tape_laws.specs.push_laws.specs.Losing.{LeavesOut}
+use Rattle.tape_laws.specs.push_laws.specs.Marks.{AllSayMarks}
+use Rattle.tape_laws.specs.push_laws.specs.Occurrences.{Occurrence, LinkDown, done, all_done}
+use Rattle.tape_laws.specs.push_laws.specs.Parties.{Move, OfServer, OfClient, server_side, client_side, Pipes, no_pipes, sent_by, come_by, sdu_if, pipes_after, IsFrontOf, StayPipes, Push, IsOffered, begun_of, ended_with, over_pushes, ServesDirectly, AllServeDirectly}
+use Rattle.tape_laws.specs.push_laws.specs.Premises.{NoneShort}
+use Rattle.tape_laws.specs.push_laws.specs.Readings.{closes}
+use Rattle.tape_laws.specs.push_laws.specs.Spelled.{ArePushed, IsOfShelf, IsOfShelfOrStill, IsOnce, name_by}
+use Rattle.tape_laws.specs.push_laws.proofs.Among.{one_pushed}
+use Rattle.tape_laws.specs.push_laws.proofs.Keeping.{Keeps, Brings, brings, keeps_more}
+use Rattle.tape_laws.specs.push_laws.proofs.Listening.{octets_of}
+use Rattle.tape_laws.specs.push_laws.proofs.Losing.{pushes-gain_less}
+use Rattle.tape_laws.specs.push_laws.proofs.Marking.{gains-all_but_refusals}
+use Rattle.tape_laws.specs.push_laws.proofs.Missing.{Stays, marked_at, stays_more, marks_later, first_stays, all_may_miss}
+use Rattle.tape_laws.specs.push_laws.proofs.OneName.{one_name_leaves, one_name_few}
+use Rattle.tape_laws.specs.push_laws.proofs.OnObject.{none_sent, same_psm, none_come, on_object}
+use Rattle.tape_laws.specs.push_laws.proofs.Parties.{begun_so}
+use Rattle.tape_laws.specs.push_laws.proofs.Placing.{task_of}
+use Rattle.tape_laws.specs.push_laws.proofs.Pushing.{Task}
+use Rattle.tape_laws.specs.push_laws.proofs.Readings.{heard_more}
 use Rattle.done_laws.specs.Kept.{client_of, IsKept, AreKept, DonePushesAreKept}
 use Rattle.done_laws.proofs.Successes.{success_in}
 use Rattle.done_laws.proofs.Servers.{stored_with, last_is, stored_later, ends_quiet}

@@ -2,10 +2,10 @@
 use Rattle.std.proofs.Common.{inl, inr, ◌≡◌, ℕ, ◌+◌, ◌-◌, ◌≤◌, List, [], ◌∷◌, ◌++◌, length, refl, sym, ap, ap₂, subst, ◌∙◌, arith, append_assoc}
 use Rattle.std.specs.List.{AllByRecursion}
 use Rattle.std.proofs.lemmas.List.{length-append}
-use Rattle.bt_base.specs.Objects.{Object}
-use Rattle.push_laws.specs.Losing.{LeavesOut}
-use Rattle.push_laws.specs.Parties.{client_side, Push}
-use Rattle.push_laws.proofs.Losing.{leaves_none, leaves_one, leaves_more, leaves_joined}
+use Rattle.tape_laws.specs.bt_base.specs.Objects.{Object}
+use Rattle.tape_laws.specs.push_laws.specs.Losing.{LeavesOut}
+use Rattle.tape_laws.specs.push_laws.specs.Parties.{client_side, Push}
+use Rattle.tape_laws.specs.push_laws.proofs.Losing.{leaves_none, leaves_one, leaves_more, leaves_joined}
 use Rattle.done_laws.specs.Kept.{IsKept, AreKept, DoneIsLast, KeptLeaveOut}
 
 -- ---- the last one

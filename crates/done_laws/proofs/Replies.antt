@@ -2,27 +2,27 @@
 use Rattle.std.proofs.Common.{Bool, true, false, ◌||◌, ◌&&◌, ◌≡◌, ◌==◌, ℕ, ◌+◌, ◌≤◌, List, [], ◌∷◌, Some, None, is_some, Result, Ok, Err, refl, sym, ap, subst, ◌∙◌, arith}
 use Rattle.std.specs.Prelude.{slice_index, not, IfSome}
 use Rattle.std.proofs.lemmas.Bool.{cond-true}
-use Rattle.bt_base.specs.declared.settings.Transport.TheVariants.{L2cap}
-use Rattle.bt_base.specs.declared.ports.PortFault.TheVariants.{Failed, NoMemory}
-use Rattle.obex_headers.specs.declared.fault.ObexRefusal.{ObexRefusal}
-use Rattle.obex_headers.specs.declared.packet.Phase.{Phase}
-use Rattle.obex_headers.specs.declared.packet.Phase.TheVariants.{Request}
-use Rattle.obex_headers.specs.Packets.{PlainPacket}
-use Rattle.obex_headers.specs.Reading.{◌>>=◌, headers_in, front_at, packet_in}
-use Rattle.obex_headers.specs.Runs.{put_of}
-use Rattle.obex_headers.proofs.HeaderLaws.{bind_ok, ok_is}
-use Rattle.obex_session.specs.InboxCalls.{Answer, come_of}
-use Rattle.obex_session.specs.Past.{Serving}
-use Rattle.obex_session.specs.Serving.{kind_heard, ruling_on, verdict_or}
-use Rattle.obex_session.specs.Turns.{said_after}
-use Rattle.obex_session.specs.Views.{octets_said}
-use Rattle.link_talk.specs.ObjectsHeard.{put_within}
-use Rattle.push_model.specs.Service.{Service, response_over}
-use Rattle.push_laws.specs.Answers.{says_success, code_due}
-use Rattle.push_laws.specs.Faults.{counted}
-use Rattle.push_laws.specs.Premises.{NoneShort}
-use Rattle.push_laws.proofs.Codes.{said_to, IsDue, said-due}
-use Rattle.push_laws.proofs.Sessions.{come_enough}
+use Rattle.tape_laws.specs.bt_base.specs.declared.settings.Transport.TheVariants.{L2cap}
+use Rattle.tape_laws.specs.bt_base.specs.declared.ports.PortFault.TheVariants.{Failed, NoMemory}
+use Rattle.tape_laws.specs.obex_headers.specs.declared.fault.ObexRefusal.{ObexRefusal}
+use Rattle.tape_laws.specs.obex_headers.specs.declared.packet.Phase.{Phase}
+use Rattle.tape_laws.specs.obex_headers.specs.declared.packet.Phase.TheVariants.{Request}
+use Rattle.tape_laws.specs.obex_headers.specs.Packets.{PlainPacket}
+use Rattle.tape_laws.specs.obex_headers.specs.Reading.{◌>>=◌, headers_in, front_at, packet_in}
+use Rattle.tape_laws.specs.obex_headers.specs.Runs.{put_of}
+use Rattle.tape_laws.specs.obex_headers.proofs.HeaderLaws.{bind_ok, ok_is}
+use Rattle.tape_laws.specs.obex_session.specs.InboxCalls.{Answer, come_of}
+use Rattle.tape_laws.specs.obex_session.specs.Past.{Serving}
+use Rattle.tape_laws.specs.obex_session.specs.Serving.{kind_heard, ruling_on, verdict_or}
+use Rattle.tape_laws.specs.obex_session.specs.Turns.{said_after}
+use Rattle.tape_laws.specs.obex_session.specs.Views.{octets_said}
+use Rattle.tape_laws.specs.link_talk.specs.ObjectsHeard.{put_within}
+use Rattle.tape_laws.specs.push_model.specs.Service.{Service, response_over}
+use Rattle.tape_laws.specs.push_laws.specs.Answers.{says_success, code_due}
+use Rattle.tape_laws.specs.push_laws.specs.Faults.{counted}
+use Rattle.tape_laws.specs.push_laws.specs.Premises.{NoneShort}
+use Rattle.tape_laws.specs.push_laws.proofs.Codes.{said_to, IsDue, said-due}
+use Rattle.tape_laws.specs.push_laws.proofs.Sessions.{come_enough}
 use Rattle.done_laws.proofs.Successes.{success_in, is_put, other_than_put, counted_few}
 
 -- ---- the code of a packet that was read stands at its front

@@ -1,52 +1,52 @@
 -- In each run over L2CAP the object of each push of host a that is done is stored.
 use Rattle.std.proofs.Common.{arith, ◌≡◌, ◌<◌, ◌^◌, ℕ, Bool, false, List, [], ◌∷◌, ◌++◌, length, Option, Some, None, inl, inr, refl, sym, ap, subst, ◌∙◌}
 use Rattle.std.specs.List.{AllByRecursion}
-use Rattle.bt_base.specs.declared.settings.Transport.TheVariants.{L2cap}
+use Rattle.tape_laws.specs.bt_base.specs.declared.settings.Transport.TheVariants.{L2cap}
 use Rattle.std.proofs.lemmas.Str.{IsUtf8-from_is_utf8}
 use Rattle.std.specs.Option.{option_map}
-use Rattle.bt_base.specs.Objects.{Object, octets_of}
-use Rattle.obex_session.specs.PutPackets.{units_in}
-use Rattle.obex_session.proofs.UnitLaws.{names-have_units}
-use Rattle.push_script.specs.Names.{IsName}
-use Rattle.push_model.specs.Laws.{Deed}
-use Rattle.obex_session.specs.InboxCalls.{Answer}
-use Rattle.push_script.specs.declared.scenario.Scenario.{Scenario}
-use Rattle.push_terms.specs.declared.word.Side.TheVariants as sides
-use Rattle.capture.specs.Entries.{Entry}
-use Rattle.link_talk.specs.Captures.{objects_heard}
-use Rattle.push_laws.specs.Faults.{spent_from}
-use Rattle.push_laws.specs.Gains.{objects}
-use Rattle.push_laws.specs.Laws.{new_over, stored_in}
-use Rattle.push_laws.specs.Occurrences.{Occurrence, all_done}
-use Rattle.push_laws.specs.Parties.{client_side, Push, over_pushes, AllServeDirectly}
-use Rattle.push_laws.specs.Premises.{NoneShort}
-use Rattle.push_laws.specs.Spelled.{AreAmong, IsOfShelfOrStill, name_by, name_of, names_of}
-use Rattle.push_laws.proofs.Among.{all_among, ahead_among, among_all, among_trans}
-use Rattle.world_model.specs.Pushes.{Pushes}
-use Rattle.air_laws.specs.AirLaws.{IsLastEnd}
-use Rattle.alike_laws.specs.Twins.{IsOther}
-use Rattle.host_model.specs.Clients.{client_profile}
-use Rattle.host_model.specs.Hosts.{Host, first_host}
-use Rattle.host_model.specs.Servers.{ServerProfile, server_profile}
-use Rattle.host_laws.specs.Openings.{names_told, names_begun}
-use Rattle.host_laws.specs.Pushing.{pushed_from}
-use Rattle.host_laws.specs.ShelfAnswers.{AnswersOf}
-use Rattle.host_laws.proofs.Openings.{clients_begin_what_is_told}
-use Rattle.host_laws.proofs.ShelfAnswers.{clients_are_given_objects}
-use Rattle.scenario_laws.specs.Captures.{client_of, Ran}
-use Rattle.scenario_laws.specs.Gains.{holding}
-use Rattle.scenario_laws.specs.Parties.{party_of}
-use Rattle.shelf_model.specs.Held.{held_by, longest_octets}
-use Rattle.pair_laws.specs.InTurn.{PairsInTurn}
-use Rattle.pair_laws.specs.Served.{holding_on}
-use Rattle.pair_laws.proofs.Pairing.{answers_allowed}
-use Rattle.request_laws.specs.Losing.{served_in}
-use Rattle.request_laws.proofs.AllSizes.{run_offered}
-use Rattle.request_laws.proofs.Heard.{Offered, links_pushed, all_offered}
-use Rattle.request_laws.proofs.Lending.{serve_all}
-use Rattle.request_laws.proofs.Objects.{IsOfObject}
-use Rattle.request_laws.proofs.Summing.{both_ask}
-use Rattle.request_laws.proofs.Told.{none_longer, all_answer}
+use Rattle.tape_laws.specs.bt_base.specs.Objects.{Object, octets_of}
+use Rattle.tape_laws.specs.obex_session.specs.PutPackets.{units_in}
+use Rattle.tape_laws.specs.obex_session.proofs.UnitLaws.{names-have_units}
+use Rattle.tape_laws.specs.push_script.specs.Names.{IsName}
+use Rattle.tape_laws.specs.push_model.specs.Laws.{Deed}
+use Rattle.tape_laws.specs.obex_session.specs.InboxCalls.{Answer}
+use Rattle.tape_laws.specs.push_script.specs.declared.scenario.Scenario.{Scenario}
+use Rattle.tape_laws.specs.push_terms.specs.declared.word.Side.TheVariants as sides
+use Rattle.tape_laws.specs.capture.specs.Entries.{Entry}
+use Rattle.tape_laws.specs.link_talk.specs.Captures.{objects_heard}
+use Rattle.tape_laws.specs.push_laws.specs.Faults.{spent_from}
+use Rattle.tape_laws.specs.push_laws.specs.Gains.{objects}
+use Rattle.tape_laws.specs.push_laws.specs.Laws.{new_over, stored_in}
+use Rattle.tape_laws.specs.push_laws.specs.Occurrences.{Occurrence, all_done}
+use Rattle.tape_laws.specs.push_laws.specs.Parties.{client_side, Push, over_pushes, AllServeDirectly}
+use Rattle.tape_laws.specs.push_laws.specs.Premises.{NoneShort}
+use Rattle.tape_laws.specs.push_laws.specs.Spelled.{AreAmong, IsOfShelfOrStill, name_by, name_of, names_of}
+use Rattle.tape_laws.specs.push_laws.proofs.Among.{all_among, ahead_among, among_all, among_trans}
+use Rattle.tape_laws.specs.world_model.specs.Pushes.{Pushes}
+use Rattle.tape_laws.specs.air_laws.specs.AirLaws.{IsLastEnd}
+use Rattle.tape_laws.specs.alike_laws.specs.Twins.{IsOther}
+use Rattle.tape_laws.specs.host_model.specs.Clients.{client_profile}
+use Rattle.tape_laws.specs.host_model.specs.Hosts.{Host, first_host}
+use Rattle.tape_laws.specs.host_model.specs.Servers.{ServerProfile, server_profile}
+use Rattle.tape_laws.specs.host_laws.specs.Openings.{names_told, names_begun}
+use Rattle.tape_laws.specs.host_laws.specs.Pushing.{pushed_from}
+use Rattle.tape_laws.specs.host_laws.specs.ShelfAnswers.{AnswersOf}
+use Rattle.tape_laws.specs.host_laws.proofs.Openings.{clients_begin_what_is_told}
+use Rattle.tape_laws.specs.host_laws.proofs.ShelfAnswers.{clients_are_given_objects}
+use Rattle.tape_laws.specs.scenario_laws.specs.Captures.{client_of, Ran}
+use Rattle.tape_laws.specs.scenario_laws.specs.Gains.{holding}
+use Rattle.tape_laws.specs.scenario_laws.specs.Parties.{party_of}
+use Rattle.tape_laws.specs.shelf_model.specs.Held.{held_by, longest_octets}
+use Rattle.tape_laws.specs.pair_laws.specs.InTurn.{PairsInTurn}
+use Rattle.tape_laws.specs.pair_laws.specs.Served.{holding_on}
+use Rattle.tape_laws.specs.pair_laws.proofs.Pairing.{answers_allowed}
+use Rattle.tape_laws.specs.request_laws.specs.Losing.{served_in}
+use Rattle.tape_laws.specs.request_laws.proofs.AllSizes.{run_offered}
+use Rattle.tape_laws.specs.request_laws.proofs.Heard.{Offered, links_pushed, all_offered}
+use Rattle.tape_laws.specs.request_laws.proofs.Lending.{serve_all}
+use Rattle.tape_laws.specs.request_laws.proofs.Objects.{IsOfObject}
+use Rattle.tape_laws.specs.request_laws.proofs.Summing.{both_ask}
+use Rattle.tape_laws.specs.request_laws.proofs.Told.{none_longer, all_answer}
 use Rattle.tape_laws.specs.Once.{once, SpendsOnce}
 use Rattle.tape_laws.specs.Own.{own_server}
 use Rattle.tape_laws.specs.OwnPairs.{own_beginning}

@@ -3,31 +3,31 @@ use Rattle.std.proofs.Common.{Bool, true, false, ◌||◌, ◌≡◌, ℕ, ◌+�
 use Rattle.std.specs.List.{AllByRecursion}
 use Rattle.std.proofs.lemmas.Bool.{cond_both, cond-true, cond-false, eqb-true}
 use Rattle.std.proofs.lemmas.List.{length-append}
-use Rattle.bt_base.specs.declared.settings.Settings.{Settings}
-use Rattle.bt_base.specs.declared.settings.Transport.TheVariants.{L2cap, Rfcomm}
-use Rattle.bt_base.specs.Objects.{Object}
-use Rattle.capture.proofs.HistoryLaws.{given_by-more}
-use Rattle.obex_session.specs.Past.{Serving}
-use Rattle.link_talk.specs.Gains.{gained}
-use Rattle.push_model.specs.Client.{own_maximum}
-use Rattle.push_model.specs.Service.{Service, Served, response_over, is_ignored, hears_packet}
-use Rattle.push_model.specs.Sessions.{hears}
-use Rattle.push_model.specs.Server.{Reacted, hears_on, closed_on, lets_go_on, remuxed, unreplied, unanswered, object_psm}
-use Rattle.push_laws.specs.Answers.{says_success}
-use Rattle.push_laws.specs.Faults as faulty
-use Rattle.push_laws.specs.Faults.{Marked, unmarked, stored_over, counted, mark_of}
-use Rattle.push_laws.specs.Marks.{SaysMark, SayMarks}
-use Rattle.push_laws.specs.Occurrences as occurrences
-use Rattle.push_laws.specs.Occurrences.{Occurrence, Came, Closed, LinkDown, Asked, Answering, done}
-use Rattle.push_laws.specs.Parties.{come_by, gone_by, ServesDirectly}
-use Rattle.push_laws.specs.Premises.{NoneShort}
-use Rattle.push_laws.specs.Readings.{closes, packets_over}
-use Rattle.push_laws.proofs.Answering.{response_is}
-use Rattle.push_laws.proofs.Calm.{one_direct}
-use Rattle.push_laws.proofs.Codes.{said_to}
-use Rattle.push_laws.proofs.Crossings.{response_of, Kind, Apart, Comes, Went, Ends, kind_of}
-use Rattle.push_laws.proofs.Gaining.{unfailed}
-use Rattle.push_laws.proofs.Missing.{Stays, marking, marked_at, stays_more, marks_later}
+use Rattle.tape_laws.specs.bt_base.specs.declared.settings.Settings.{Settings}
+use Rattle.tape_laws.specs.bt_base.specs.declared.settings.Transport.TheVariants.{L2cap, Rfcomm}
+use Rattle.tape_laws.specs.bt_base.specs.Objects.{Object}
+use Rattle.tape_laws.specs.capture.proofs.HistoryLaws.{given_by-more}
+use Rattle.tape_laws.specs.obex_session.specs.Past.{Serving}
+use Rattle.tape_laws.specs.link_talk.specs.Gains.{gained}
+use Rattle.tape_laws.specs.push_model.specs.Client.{own_maximum}
+use Rattle.tape_laws.specs.push_model.specs.Service.{Service, Served, response_over, is_ignored, hears_packet}
+use Rattle.tape_laws.specs.push_model.specs.Sessions.{hears}
+use Rattle.tape_laws.specs.push_model.specs.Server.{Reacted, hears_on, closed_on, lets_go_on, remuxed, unreplied, unanswered, object_psm}
+use Rattle.tape_laws.specs.push_laws.specs.Answers.{says_success}
+use Rattle.tape_laws.specs.push_laws.specs.Faults as faulty
+use Rattle.tape_laws.specs.push_laws.specs.Faults.{Marked, unmarked, stored_over, counted, mark_of}
+use Rattle.tape_laws.specs.push_laws.specs.Marks.{SaysMark, SayMarks}
+use Rattle.tape_laws.specs.push_laws.specs.Occurrences as occurrences
+use Rattle.tape_laws.specs.push_laws.specs.Occurrences.{Occurrence, Came, Closed, LinkDown, Asked, Answering, done}
+use Rattle.tape_laws.specs.push_laws.specs.Parties.{come_by, gone_by, ServesDirectly}
+use Rattle.tape_laws.specs.push_laws.specs.Premises.{NoneShort}
+use Rattle.tape_laws.specs.push_laws.specs.Readings.{closes, packets_over}
+use Rattle.tape_laws.specs.push_laws.proofs.Answering.{response_is}
+use Rattle.tape_laws.specs.push_laws.proofs.Calm.{one_direct}
+use Rattle.tape_laws.specs.push_laws.proofs.Codes.{said_to}
+use Rattle.tape_laws.specs.push_laws.proofs.Crossings.{response_of, Kind, Apart, Comes, Went, Ends, kind_of}
+use Rattle.tape_laws.specs.push_laws.proofs.Gaining.{unfailed}
+use Rattle.tape_laws.specs.push_laws.proofs.Missing.{Stays, marking, marked_at, stays_more, marks_later}
 use Rattle.done_laws.proofs.Successes.{success_in, successes, other_than_put, others}
 use Rattle.done_laws.proofs.Replies.{reply_counts, over_counts}
 

@@ -1,8 +1,8 @@
 -- How many of some responses say success, and how many of some packets are no PUT.
 use Rattle.std.proofs.Common.{Bool, true, false, ◌||◌, ◌≡◌, ◌==◌, ℕ, ◌+◌, ◌≤◌, List, [], ◌∷◌, ◌++◌, ap, arith}
 use Rattle.std.specs.Prelude.{slice_index, not}
-use Rattle.push_laws.specs.Faults.{counted}
-use Rattle.push_laws.specs.Parties.{IsFrontOf}
+use Rattle.tape_laws.specs.push_laws.specs.Faults.{counted}
+use Rattle.tape_laws.specs.push_laws.specs.Parties.{IsFrontOf}
 
 -- it says success
 abbrev pub success_in : List ℕ → ℕ

@@ -2,16 +2,16 @@
 use Rattle.std.proofs.Common.{Bool, true, false, cond, ◌||◌, ◌&&◌, ◌≡◌, ◌==◌, ℕ, List, [], ◌∷◌, ◌++◌, map, Option, Some, None, Result, Ok, Err, refl, sym, ap, ◌∙◌}
 use Rattle.std.specs.Prelude.{slice_index}
 use Rattle.std.specs.List.{AllByRecursion}
-use Rattle.bt_base.specs.Objects.{Object}
-use Rattle.obex_headers.specs.declared.fault.ObexRefusal.{ObexRefusal}
-use Rattle.obex_headers.specs.declared.packet.Phase.TheVariants.{Request}
-use Rattle.obex_headers.specs.Packets.{PlainHeader, PlainPacket, packet_octets}
-use Rattle.obex_headers.specs.Reading.{packet_in}
-use Rattle.obex_headers.specs.Runs.{put_of, is_final, breaks, lacks, run_headers, object_of, objects_from}
-use Rattle.obex_session.specs.ObjectPuts.{front_packets}
-use Rattle.obex_session.specs.PutPackets.{head_of, units_in}
-use Rattle.link_talk.specs.ObjectsHeard.{put_within, spelled_within}
-use Rattle.push_laws.specs.Sending.{end_of}
+use Rattle.tape_laws.specs.bt_base.specs.Objects.{Object}
+use Rattle.tape_laws.specs.obex_headers.specs.declared.fault.ObexRefusal.{ObexRefusal}
+use Rattle.tape_laws.specs.obex_headers.specs.declared.packet.Phase.TheVariants.{Request}
+use Rattle.tape_laws.specs.obex_headers.specs.Packets.{PlainHeader, PlainPacket, packet_octets}
+use Rattle.tape_laws.specs.obex_headers.specs.Reading.{packet_in}
+use Rattle.tape_laws.specs.obex_headers.specs.Runs.{put_of, is_final, breaks, lacks, run_headers, object_of, objects_from}
+use Rattle.tape_laws.specs.obex_session.specs.ObjectPuts.{front_packets}
+use Rattle.tape_laws.specs.obex_session.specs.PutPackets.{head_of, units_in}
+use Rattle.tape_laws.specs.link_talk.specs.ObjectsHeard.{put_within, spelled_within}
+use Rattle.tape_laws.specs.push_laws.specs.Sending.{end_of}
 use Rattle.done_laws.proofs.Replies.{code_front}
 
 abbrev IsOpen : List ℕ → Type 0

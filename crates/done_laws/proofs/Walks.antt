@@ -1,38 +1,38 @@
 -- A push on a link of its own, over L2CAP: where its client is done an object was stored there.
 use Rattle.std.proofs.Common.{inl, inr, Bool, true, false, ◌≡◌, ℕ, ◌+◌, ◌≤◌, ◌||◌, List, [], ◌∷◌, ◌++◌, length, map, Option, Some, None, refl, sym, ap, subst, ◌∙◌, arith, append-nil, append_assoc}
-use Rattle.bt_base.specs.declared.settings.Settings.{Settings}
-use Rattle.bt_base.specs.declared.settings.Transport.TheVariants.{L2cap}
-use Rattle.bt_base.specs.Objects.{Object}
-use Rattle.push_terms.specs.declared.outcome.Outcome.{Outcome}
-use Rattle.push_terms.specs.declared.outcome.Outcome.TheVariants as outcomes
-use Rattle.obex_session.specs.Past.{Heard}
-use Rattle.link_talk.specs.ObjectsHeard.{spelled_within}
-use Rattle.push_model.specs.Client.{Client, own_maximum}
-use Rattle.push_model.specs.Laws as deeds
-use Rattle.push_model.specs.Laws.{Deed}
-use Rattle.push_model.specs.Server.{Reacted, object_psm}
-use Rattle.push_model.proofs.CauseLaws.{first_causes_stay}
-use Rattle.push_laws.specs.Faults.{Marked, unmarked, heard_as, mark_of}
-use Rattle.push_laws.specs.Marks.{SayMarks, AllSayMarks}
-use Rattle.push_laws.specs.Occurrences.{Occurrence, done, all_done}
-use Rattle.push_laws.specs.OneName.{HasOneName}
-use Rattle.push_laws.specs.Parties.{Move, OfServer, OfClient, server_side, client_side, Pipes, come_by, gone_by, heard_by, pipes_after, ArePipes, IsFrontOf, ComesOpen, StayPipes, ServesDirectly, AllServeDirectly}
-use Rattle.push_laws.specs.Premises.{NoneShort}
-use Rattle.push_laws.specs.Readings.{closes}
-use Rattle.push_laws.specs.Sending.{AnswersTo, AllAnswer, ArePuts, IsSent}
-use Rattle.push_laws.specs.Spelled.{IsOfShelf, IsOnce}
-use Rattle.push_laws.proofs.Keeping.{Keeps, octets_later, keeps_more}
-use Rattle.push_laws.proofs.Listening.{octets_of}
-use Rattle.push_laws.proofs.Missing.{Stays, marked_at, stays_more, marks_later}
-use Rattle.push_laws.proofs.OneName.{one_name_front}
-use Rattle.push_laws.proofs.OneObject.{sent_named, front_spells_none}
-use Rattle.push_laws.proofs.OnObject.{AllOnObject, IsOnObject, sent_same}
-use Rattle.push_laws.proofs.Parties.{deed_direct}
-use Rattle.push_laws.proofs.Pushing.{Task, Stands, connect_of, sent_of}
-use Rattle.push_laws.proofs.Sending.{deed_stands}
-use Rattle.push_laws.proofs.Spelling.{no_put_within}
-use Rattle.push_laws.proofs.SpeltOnce.{stands_once}
-use Rattle.push_laws.proofs.Talks.{talk_of}
+use Rattle.tape_laws.specs.bt_base.specs.declared.settings.Settings.{Settings}
+use Rattle.tape_laws.specs.bt_base.specs.declared.settings.Transport.TheVariants.{L2cap}
+use Rattle.tape_laws.specs.bt_base.specs.Objects.{Object}
+use Rattle.tape_laws.specs.push_terms.specs.declared.outcome.Outcome.{Outcome}
+use Rattle.tape_laws.specs.push_terms.specs.declared.outcome.Outcome.TheVariants as outcomes
+use Rattle.tape_laws.specs.obex_session.specs.Past.{Heard}
+use Rattle.tape_laws.specs.link_talk.specs.ObjectsHeard.{spelled_within}
+use Rattle.tape_laws.specs.push_model.specs.Client.{Client, own_maximum}
+use Rattle.tape_laws.specs.push_model.specs.Laws as deeds
+use Rattle.tape_laws.specs.push_model.specs.Laws.{Deed}
+use Rattle.tape_laws.specs.push_model.specs.Server.{Reacted, object_psm}
+use Rattle.tape_laws.specs.push_model.proofs.CauseLaws.{first_causes_stay}
+use Rattle.tape_laws.specs.push_laws.specs.Faults.{Marked, unmarked, heard_as, mark_of}
+use Rattle.tape_laws.specs.push_laws.specs.Marks.{SayMarks, AllSayMarks}
+use Rattle.tape_laws.specs.push_laws.specs.Occurrences.{Occurrence, done, all_done}
+use Rattle.tape_laws.specs.push_laws.specs.OneName.{HasOneName}
+use Rattle.tape_laws.specs.push_laws.specs.Parties.{Move, OfServer, OfClient, server_side, client_side, Pipes, come_by, gone_by, heard_by, pipes_after, ArePipes, IsFrontOf, ComesOpen, StayPipes, ServesDirectly, AllServeDirectly}
+use Rattle.tape_laws.specs.push_laws.specs.Premises.{NoneShort}
+use Rattle.tape_laws.specs.push_laws.specs.Readings.{closes}
+use Rattle.tape_laws.specs.push_laws.specs.Sending.{AnswersTo, AllAnswer, ArePuts, IsSent}
+use Rattle.tape_laws.specs.push_laws.specs.Spelled.{IsOfShelf, IsOnce}
+use Rattle.tape_laws.specs.push_laws.proofs.Keeping.{Keeps, octets_later, keeps_more}
+use Rattle.tape_laws.specs.push_laws.proofs.Listening.{octets_of}
+use Rattle.tape_laws.specs.push_laws.proofs.Missing.{Stays, marked_at, stays_more, marks_later}
+use Rattle.tape_laws.specs.push_laws.proofs.OneName.{one_name_front}
+use Rattle.tape_laws.specs.push_laws.proofs.OneObject.{sent_named, front_spells_none}
+use Rattle.tape_laws.specs.push_laws.proofs.OnObject.{AllOnObject, IsOnObject, sent_same}
+use Rattle.tape_laws.specs.push_laws.proofs.Parties.{deed_direct}
+use Rattle.tape_laws.specs.push_laws.proofs.Pushing.{Task, Stands, connect_of, sent_of}
+use Rattle.tape_laws.specs.push_laws.proofs.Sending.{deed_stands}
+use Rattle.tape_laws.specs.push_laws.proofs.Spelling.{no_put_within}
+use Rattle.tape_laws.specs.push_laws.proofs.SpeltOnce.{stands_once}
+use Rattle.tape_laws.specs.push_laws.proofs.Talks.{talk_of}
 use Rattle.done_laws.proofs.Successes.{success_in, successes, successes_both, successes_front, others, others_both, others_front}
 use Rattle.done_laws.proofs.Unfinished.{part_spells_none}
 use Rattle.done_laws.proofs.Clients.{HeardOne, deed_met, HearsDone, hears_done}

@@ -2,20 +2,20 @@
 -- this project's own).
 use Rattle.std.specs.Prelude.{ℕ, ◌≡◌, ◌≤◌, ◌+◌, ◌⊎◌, List, [], ◌∷◌, ◌++◌, length, Some}
 use Rattle.std.specs.List.{AllByRecursion}
-use Rattle.bt_base.specs.declared.settings.Settings.{Settings}
-use Rattle.bt_base.specs.Objects.{Object}
-use Rattle.push_terms.specs.declared.outcome.Outcome.TheVariants.{Done, Cancelled}
-use Rattle.push_model.specs.Client.{Client}
-use Rattle.push_model.specs.Laws as deeds
-use Rattle.push_model.specs.Server.{object_psm}
-use Rattle.push_laws.specs.Faults.{spent_from}
-use Rattle.push_laws.specs.Gains.{objects}
-use Rattle.push_laws.specs.Laws.{new_over, stored_in}
-use Rattle.push_laws.specs.Losing.{LeavesOut}
-use Rattle.push_laws.specs.Occurrences.{all_done}
-use Rattle.push_laws.specs.Parties.{client_side, Push, IsOffered, begun_of, over_pushes, AllServeDirectly}
-use Rattle.push_laws.specs.Premises.{NoneShort}
-use Rattle.push_laws.specs.Spelled.{ArePushed, IsOfShelfOrStill, name_of}
+use Rattle.tape_laws.specs.bt_base.specs.declared.settings.Settings.{Settings}
+use Rattle.tape_laws.specs.bt_base.specs.Objects.{Object}
+use Rattle.tape_laws.specs.push_terms.specs.declared.outcome.Outcome.TheVariants.{Done, Cancelled}
+use Rattle.tape_laws.specs.push_model.specs.Client.{Client}
+use Rattle.tape_laws.specs.push_model.specs.Laws as deeds
+use Rattle.tape_laws.specs.push_model.specs.Server.{object_psm}
+use Rattle.tape_laws.specs.push_laws.specs.Faults.{spent_from}
+use Rattle.tape_laws.specs.push_laws.specs.Gains.{objects}
+use Rattle.tape_laws.specs.push_laws.specs.Laws.{new_over, stored_in}
+use Rattle.tape_laws.specs.push_laws.specs.Losing.{LeavesOut}
+use Rattle.tape_laws.specs.push_laws.specs.Occurrences.{all_done}
+use Rattle.tape_laws.specs.push_laws.specs.Parties.{client_side, Push, IsOffered, begun_of, over_pushes, AllServeDirectly}
+use Rattle.tape_laws.specs.push_laws.specs.Premises.{NoneShort}
+use Rattle.tape_laws.specs.push_laws.specs.Spelled.{ArePushed, IsOfShelfOrStill, name_of}
 
 -- ---- a push
 

@@ -2,20 +2,20 @@
 -- object at most is this project's own).
 use Rattle.std.specs.Prelude.{◌≡◌, ◌≤◌, ◌+◌, List, ◌++◌, length, Option, Some}
 use Rattle.std.specs.List.{AllByRecursion}
-use Rattle.bt_base.specs.declared.settings.Transport.TheVariants.{L2cap}
-use Rattle.bt_base.specs.Objects.{Object}
-use Rattle.obex_session.specs.InboxCalls.{Answer}
-use Rattle.push_script.specs.declared.scenario.Scenario.{Scenario}
-use Rattle.push_terms.specs.declared.word.Side.TheVariants as sides
-use Rattle.capture.specs.Entries.{Entry}
-use Rattle.link_talk.specs.Captures.{objects_heard}
-use Rattle.push_laws.specs.Faults.{faults_of}
-use Rattle.push_laws.specs.Laws.{stored_in}
-use Rattle.push_laws.specs.Parties.{Push}
-use Rattle.push_laws.specs.Premises.{NoneShort}
-use Rattle.push_laws.specs.Spelled.{AreAmong, IsOfShelfOrStill, names_of}
-use Rattle.scenario_laws.specs.Gains.{holding}
-use Rattle.scenario_laws.specs.Parties.{party_of}
+use Rattle.tape_laws.specs.bt_base.specs.declared.settings.Transport.TheVariants.{L2cap}
+use Rattle.tape_laws.specs.bt_base.specs.Objects.{Object}
+use Rattle.tape_laws.specs.obex_session.specs.InboxCalls.{Answer}
+use Rattle.tape_laws.specs.push_script.specs.declared.scenario.Scenario.{Scenario}
+use Rattle.tape_laws.specs.push_terms.specs.declared.word.Side.TheVariants as sides
+use Rattle.tape_laws.specs.capture.specs.Entries.{Entry}
+use Rattle.tape_laws.specs.link_talk.specs.Captures.{objects_heard}
+use Rattle.tape_laws.specs.push_laws.specs.Faults.{faults_of}
+use Rattle.tape_laws.specs.push_laws.specs.Laws.{stored_in}
+use Rattle.tape_laws.specs.push_laws.specs.Parties.{Push}
+use Rattle.tape_laws.specs.push_laws.specs.Premises.{NoneShort}
+use Rattle.tape_laws.specs.push_laws.specs.Spelled.{AreAmong, IsOfShelfOrStill, names_of}
+use Rattle.tape_laws.specs.scenario_laws.specs.Gains.{holding}
+use Rattle.tape_laws.specs.scenario_laws.specs.Parties.{party_of}
 use Rattle.tape_laws.specs.OwnPairs.{RanOwn}
 use Rattle.done_laws.specs.Kept.{AreKept}
 

@@ -1,44 +1,44 @@
 -- A client that closes what it opened has an outcome: it ends its link, and takes leave, only where something ended its push.
 use Rattle.std.proofs.Common.{◌≡◌, ℕ, zero, suc, ◌-◌, ◌==◌, ◌&&◌, ◌||◌, not, min, List, [], ◌∷◌, ◌++◌, length, drop, Bool, true, false, Option, Some, None, Result, Ok, Err, refl, sym, ap, ◌∙◌, if◌then◌else◌}
 use Rattle.std.specs.Prelude.{is_some, nat_lt}
-use Rattle.bt_base.specs.declared.ports.PortFault.{PortFault}
-use Rattle.bt_base.specs.declared.ports.PortFault.TheVariants as fault
-use Rattle.bt_base.specs.declared.settings.Transport.{Transport}
-use Rattle.bt_base.specs.declared.settings.Transport.TheVariants.{L2cap, Rfcomm}
-use Rattle.push_terms.specs.declared.outcome.Outcome.{Outcome}
-use Rattle.push_terms.specs.declared.outcome.Outcome.TheVariants as outcomes
-use Rattle.rfcomm_frames.specs.FrameReading.{is_empty}
-use Rattle.rfcomm_model.specs.declared.state.MuxReason.{MuxReason}
-use Rattle.rfcomm_model.specs.Hearing as hearing
-use Rattle.rfcomm_model.specs.Hearing.{Up, nothing, opened, bytes, closed, up}
-use Rattle.rfcomm_model.specs.Machine as mux
-use Rattle.rfcomm_model.specs.Machine.{is_ready, sends, taken_count}
-use Rattle.rfcomm_model.specs.Saying.{Said, next}
-use Rattle.obex_session.specs.declared.client.Answered.{Answered}
-use Rattle.obex_session.specs.declared.client.Answered.TheVariants as answers
-use Rattle.obex_session.specs.Views.{answer_at, after_at}
-use Rattle.sdp_elements.specs.declared.target.Target.{Target}
-use Rattle.sdp_elements.specs.Targets.{is_service_psm, is_server_channel}
-use Rattle.sdp_client.specs.declared.reason.Found.{Found}
-use Rattle.sdp_client.specs.declared.reason.Found.TheVariants.{More, Service, NoService, Refused}
-use Rattle.sdp_client.specs.Asking.{is_due, after_resend, after_request, request_octets}
-use Rattle.sdp_client.specs.Hearing.{found_at, after_reply}
-use Rattle.push_model.specs.declared.closing.CloseCause.{CloseCause}
-use Rattle.push_model.specs.declared.course.Contact.{Contact}
-use Rattle.push_model.specs.declared.course.Contact.TheVariants.{Unmet, Met, Left, Closing}
-use Rattle.push_model.specs.declared.course.Point.TheVariants.{Due, Asked}
-use Rattle.push_model.specs.declared.course.Stage.{Stage}
-use Rattle.push_model.specs.declared.course.Stage.TheVariants.{Rest, Link, SearchChannel, Search, SearchEnd, Features, ObjectChannel, Object, ObjectEnd, LinkEnd, Over}
-use Rattle.push_model.specs.Causes.{cause_of_close, cause_of_link, cause_of_mux, cause_of_obex, cause_of_page, cause_of_query, small_channel, unknown_parameters, unawaited_response}
-use Rattle.push_model.specs.Client.{Client, begins, begun_by, ends_by, ends, ends_if, may_cancel, cancelled}
-use Rattle.push_model.specs.Events as events
-use Rattle.push_model.specs.Events.{News, over_by, over, kept_of, found_psm, found_channel, found_way, finds, hears_reply, hears_outside, hears_object, linked_at, object_opened, opened_at, stage_behind, search_left, search_closed, closed_at, sdu_at, fires, hears_news, is_linked, is_paging, is_asking_features}
-use Rattle.push_model.specs.Payloads.{Octets}
-use Rattle.push_model.specs.Responding as responding
-use Rattle.push_model.specs.Responding.{is_object, is_left, met, hears_answer, hears_response, hears_front, hears_stream, hears_end, hears_up, hears_frame}
-use Rattle.push_model.specs.Steps as course
-use Rattle.push_model.specs.Steps.{Part, Ask, Connect, Put, Abort, Disconnect, Close, Nothing, Made, Stepped, steps, steps_at, stepped}
-use Rattle.push_model.specs.Streams.{Front, Whole, Partial, Broken, front_of}
+use Rattle.cause_laws.specs.bt_base.specs.declared.ports.PortFault.{PortFault}
+use Rattle.cause_laws.specs.bt_base.specs.declared.ports.PortFault.TheVariants as fault
+use Rattle.cause_laws.specs.bt_base.specs.declared.settings.Transport.{Transport}
+use Rattle.cause_laws.specs.bt_base.specs.declared.settings.Transport.TheVariants.{L2cap, Rfcomm}
+use Rattle.cause_laws.specs.push_terms.specs.declared.outcome.Outcome.{Outcome}
+use Rattle.cause_laws.specs.push_terms.specs.declared.outcome.Outcome.TheVariants as outcomes
+use Rattle.cause_laws.specs.rfcomm_frames.specs.FrameReading.{is_empty}
+use Rattle.cause_laws.specs.rfcomm_model.specs.declared.state.MuxReason.{MuxReason}
+use Rattle.cause_laws.specs.rfcomm_model.specs.Hearing as hearing
+use Rattle.cause_laws.specs.rfcomm_model.specs.Hearing.{Up, nothing, opened, bytes, closed, up}
+use Rattle.cause_laws.specs.rfcomm_model.specs.Machine as mux
+use Rattle.cause_laws.specs.rfcomm_model.specs.Machine.{is_ready, sends, taken_count}
+use Rattle.cause_laws.specs.rfcomm_model.specs.Saying.{Said, next}
+use Rattle.cause_laws.specs.obex_session.specs.declared.client.Answered.{Answered}
+use Rattle.cause_laws.specs.obex_session.specs.declared.client.Answered.TheVariants as answers
+use Rattle.cause_laws.specs.obex_session.specs.Views.{answer_at, after_at}
+use Rattle.cause_laws.specs.sdp_elements.specs.declared.target.Target.{Target}
+use Rattle.cause_laws.specs.sdp_elements.specs.Targets.{is_service_psm, is_server_channel}
+use Rattle.cause_laws.specs.sdp_client.specs.declared.reason.Found.{Found}
+use Rattle.cause_laws.specs.sdp_client.specs.declared.reason.Found.TheVariants.{More, Service, NoService, Refused}
+use Rattle.cause_laws.specs.sdp_client.specs.Asking.{is_due, after_resend, after_request, request_octets}
+use Rattle.cause_laws.specs.sdp_client.specs.Hearing.{found_at, after_reply}
+use Rattle.cause_laws.specs.push_model.specs.declared.closing.CloseCause.{CloseCause}
+use Rattle.cause_laws.specs.push_model.specs.declared.course.Contact.{Contact}
+use Rattle.cause_laws.specs.push_model.specs.declared.course.Contact.TheVariants.{Unmet, Met, Left, Closing}
+use Rattle.cause_laws.specs.push_model.specs.declared.course.Point.TheVariants.{Due, Asked}
+use Rattle.cause_laws.specs.push_model.specs.declared.course.Stage.{Stage}
+use Rattle.cause_laws.specs.push_model.specs.declared.course.Stage.TheVariants.{Rest, Link, SearchChannel, Search, SearchEnd, Features, ObjectChannel, Object, ObjectEnd, LinkEnd, Over}
+use Rattle.cause_laws.specs.push_model.specs.Causes.{cause_of_close, cause_of_link, cause_of_mux, cause_of_obex, cause_of_page, cause_of_query, small_channel, unknown_parameters, unawaited_response}
+use Rattle.cause_laws.specs.push_model.specs.Client.{Client, begins, begun_by, ends_by, ends, ends_if, may_cancel, cancelled}
+use Rattle.cause_laws.specs.push_model.specs.Events as events
+use Rattle.cause_laws.specs.push_model.specs.Events.{News, over_by, over, kept_of, found_psm, found_channel, found_way, finds, hears_reply, hears_outside, hears_object, linked_at, object_opened, opened_at, stage_behind, search_left, search_closed, closed_at, sdu_at, fires, hears_news, is_linked, is_paging, is_asking_features}
+use Rattle.cause_laws.specs.push_model.specs.Payloads.{Octets}
+use Rattle.cause_laws.specs.push_model.specs.Responding as responding
+use Rattle.cause_laws.specs.push_model.specs.Responding.{is_object, is_left, met, hears_answer, hears_response, hears_front, hears_stream, hears_end, hears_up, hears_frame}
+use Rattle.cause_laws.specs.push_model.specs.Steps as course
+use Rattle.cause_laws.specs.push_model.specs.Steps.{Part, Ask, Connect, Put, Abort, Disconnect, Close, Nothing, Made, Stepped, steps, steps_at, stepped}
+use Rattle.cause_laws.specs.push_model.specs.Streams.{Front, Whole, Partial, Broken, front_of}
 
 -- nothing is left but to close
 abbrev pub is_ending : Stage → Bool

@@ -3,17 +3,17 @@ use Rattle.std.proofs.Common.{◌≡◌, ◌⊎◌, ℕ, ◌==◌, ◌&&◌, Boo
 use Rattle.std.specs.Prelude.{◌+◌}
 use Rattle.std.specs.List.{AllByRecursion}
 use Rattle.std.proofs.lemmas.List.Concat.{flat_map-append}
-use Rattle.push_terms.specs.declared.outcome.Outcome.{Outcome}
-use Rattle.push_terms.specs.declared.word.Side.{Side}
-use Rattle.push_terms.specs.declared.word.Side.TheVariants.{A, B}
-use Rattle.acl_fragments.specs.Pieces.{Piece}
-use Rattle.capture.specs.Entries.{Entry}
-use Rattle.radio_air.specs.Controllers.{Answer, Returned, Stated, Called, LinkMade, LinkGone, GivenBack, Controller, after_telling}
-use Rattle.radio_air.specs.Radio.{Radio, Paging, Requested, is_reached, after_reaching, may_page, is_requested, joined, parted_by, knows_link, owes, scanning, with_piece, after_taking}
-use Rattle.world_model.specs.Stations.{Order, Reset, ReadBuffers, ReadAddress, Scan, Page, Accept, End, Data}
-use Rattle.world_model.specs.Worlds.{piece_on, after_order}
-use Rattle.turn_laws.proofs.Departing.{Taken, takes_packet}
-use Rattle.turn_laws.proofs.Leading.{Tiding, Came, Went, tiding_in, tidings, plain_tidings}
+use Rattle.cause_laws.specs.push_terms.specs.declared.outcome.Outcome.{Outcome}
+use Rattle.cause_laws.specs.push_terms.specs.declared.word.Side.{Side}
+use Rattle.cause_laws.specs.push_terms.specs.declared.word.Side.TheVariants.{A, B}
+use Rattle.cause_laws.specs.acl_fragments.specs.Pieces.{Piece}
+use Rattle.cause_laws.specs.capture.specs.Entries.{Entry}
+use Rattle.cause_laws.specs.radio_air.specs.Controllers.{Answer, Returned, Stated, Called, LinkMade, LinkGone, GivenBack, Controller, after_telling}
+use Rattle.cause_laws.specs.radio_air.specs.Radio.{Radio, Paging, Requested, is_reached, after_reaching, may_page, is_requested, joined, parted_by, knows_link, owes, scanning, with_piece, after_taking}
+use Rattle.cause_laws.specs.world_model.specs.Stations.{Order, Reset, ReadBuffers, ReadAddress, Scan, Page, Accept, End, Data}
+use Rattle.cause_laws.specs.world_model.specs.Worlds.{piece_on, after_order}
+use Rattle.cause_laws.specs.turn_laws.proofs.Departing.{Taken, takes_packet}
+use Rattle.cause_laws.specs.turn_laws.proofs.Leading.{Tiding, Came, Went, tiding_in, tidings, plain_tidings}
 use Rattle.cause_laws.proofs.Clients.{HasCome}
 use Rattle.drop_laws.specs.Dropped.{is_drop, HasDrop}
 

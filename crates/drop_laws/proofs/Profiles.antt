@@ -1,27 +1,27 @@
 -- Host a ends its link only where its push has an outcome, whatever it hears and says.
 use Rattle.std.proofs.Common.{◌≡◌, ℕ, Bool, true, false, List, [], Option, Some, None, is_some, refl, if◌then◌else◌}
-use Rattle.bt_base.specs.declared.settings.Settings.{Settings}
-use Rattle.channel_model.specs.declared.event.ChannelEvent.{ChannelEvent}
-use Rattle.channel_model.specs.declared.event.ChannelEvent.TheVariants as channels
-use Rattle.channel_model.specs.Calls.{sends, peer_mtu, waits}
-use Rattle.channel_model.specs.Value.{Channels}
-use Rattle.push_model.specs.declared.closing.CloseCause.{CloseCause}
-use Rattle.push_model.specs.declared.course.Stage.{Stage}
-use Rattle.push_model.specs.declared.course.Stage.TheVariants.{Rest, Link, SearchChannel, Search, SearchEnd, Features, ObjectChannel, Object, ObjectEnd, LinkEnd, Over}
-use Rattle.push_model.specs.Client.{Client, begins, cancelled}
-use Rattle.push_model.specs.Events as events
-use Rattle.push_model.specs.Events.{hears_news}
-use Rattle.push_model.specs.Payloads.{Payload}
-use Rattle.push_model.specs.Steps.{Step, Wait, MakeLink, AskFeatures, OpenChannel, SendSdu, CloseChannel, BreakLink, Ended, NoMemory, steps}
-use Rattle.world_model.specs.Machines.{News, Linked, Up, Down, Failed, Heard, TimerFired, Cancelled, Opening}
-use Rattle.host_model.specs.Circumstances.{Circumstance}
-use Rattle.host_model.specs.Clients as clients
-use Rattle.host_model.specs.Clients.{ClientProfile, client_profile, ended, calls, fitted, is_at_end}
-use Rattle.host_model.specs.Endpoints.{endpoint_of, takes_sdu}
-use Rattle.host_model.specs.Hosts.{Host, hear, next}
-use Rattle.host_model.specs.Pdus.{sdu_of}
-use Rattle.host_model.specs.Shelves.{size_for, name_for, unused}
-use Rattle.host_model.proofs.Keeping.{Keeps, KeepsNews, hears_on, goes_next}
+use Rattle.cause_laws.specs.bt_base.specs.declared.settings.Settings.{Settings}
+use Rattle.cause_laws.specs.channel_model.specs.declared.event.ChannelEvent.{ChannelEvent}
+use Rattle.cause_laws.specs.channel_model.specs.declared.event.ChannelEvent.TheVariants as channels
+use Rattle.cause_laws.specs.channel_model.specs.Calls.{sends, peer_mtu, waits}
+use Rattle.cause_laws.specs.channel_model.specs.Value.{Channels}
+use Rattle.cause_laws.specs.push_model.specs.declared.closing.CloseCause.{CloseCause}
+use Rattle.cause_laws.specs.push_model.specs.declared.course.Stage.{Stage}
+use Rattle.cause_laws.specs.push_model.specs.declared.course.Stage.TheVariants.{Rest, Link, SearchChannel, Search, SearchEnd, Features, ObjectChannel, Object, ObjectEnd, LinkEnd, Over}
+use Rattle.cause_laws.specs.push_model.specs.Client.{Client, begins, cancelled}
+use Rattle.cause_laws.specs.push_model.specs.Events as events
+use Rattle.cause_laws.specs.push_model.specs.Events.{hears_news}
+use Rattle.cause_laws.specs.push_model.specs.Payloads.{Payload}
+use Rattle.cause_laws.specs.push_model.specs.Steps.{Step, Wait, MakeLink, AskFeatures, OpenChannel, SendSdu, CloseChannel, BreakLink, Ended, NoMemory, steps}
+use Rattle.cause_laws.specs.world_model.specs.Machines.{News, Linked, Up, Down, Failed, Heard, TimerFired, Cancelled, Opening}
+use Rattle.cause_laws.specs.host_model.specs.Circumstances.{Circumstance}
+use Rattle.cause_laws.specs.host_model.specs.Clients as clients
+use Rattle.cause_laws.specs.host_model.specs.Clients.{ClientProfile, client_profile, ended, calls, fitted, is_at_end}
+use Rattle.cause_laws.specs.host_model.specs.Endpoints.{endpoint_of, takes_sdu}
+use Rattle.cause_laws.specs.host_model.specs.Hosts.{Host, hear, next}
+use Rattle.cause_laws.specs.host_model.specs.Pdus.{sdu_of}
+use Rattle.cause_laws.specs.host_model.specs.Shelves.{size_for, name_for, unused}
+use Rattle.cause_laws.specs.host_model.proofs.Keeping.{Keeps, KeepsNews, hears_on, goes_next}
 use Rattle.drop_laws.proofs.Leaves.{LeavesByCause, is_ending, l_news, l_cancelled, l_steps, l_begins, leaves_by_cause}
 
 abbrev Leaves : ClientProfile → Type 0

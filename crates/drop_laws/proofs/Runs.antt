@@ -5,60 +5,60 @@ use Rattle.std.specs.List.{AllByRecursion}
 use Rattle.std.proofs.lemmas.Bool.{eqb-true, eq-eqb}
 use Rattle.std.proofs.lemmas.List.{append-nil}
 use Rattle.std.proofs.lemmas.List.Sums.{fold-append}
-use Rattle.bt_base.specs.Objects.{Contents}
-use Rattle.bt_base.specs.declared.settings.Settings.{Settings}
-use Rattle.acl_fragments.specs.Pieces.{Piece}
-use Rattle.push_script.specs.declared.scenario.Scenario.{Scenario}
-use Rattle.push_terms.specs.declared.outcome.Outcome.{Outcome}
-use Rattle.push_terms.specs.declared.outcome.Outcome.TheVariants.{Done, LinkLost, RetryLimit, Refused, NoService, ShelfFault, Cancelled as PushCancelled, PeerClosed, PeerFault, ScriptEnded}
-use Rattle.push_terms.specs.declared.word.Side.{Side}
-use Rattle.push_terms.specs.declared.word.Side.TheVariants.{A, B}
-use Rattle.push_terms.specs.declared.word.Way.{Way}
-use Rattle.push_terms.specs.declared.word.Way.TheVariants.{Ab, Ba}
-use Rattle.push_terms.specs.declared.word.Word.{Word}
-use Rattle.push_terms.specs.declared.word.Word.TheVariants.{Pass, Lose, Repeat, Damage, Cut, Timer, Drop, Cancel}
-use Rattle.capture.specs.declared.flow.Flow.TheVariants.{Out, Into}
-use Rattle.capture.specs.Entries.{Entry, Moved, Acted, Begun, Ended}
-use Rattle.capture.specs.Frames.{way_served}
-use Rattle.capture.specs.Histories.{EachAfter}
-use Rattle.capture.proofs.HistoryLaws.{each_after-more}
-use Rattle.radio_air.specs.declared.deed.Deed.{Deed}
-use Rattle.radio_air.specs.declared.deed.Deed.TheVariants.{Nothing, Meets, Fires, FiresBoth, Breaks, Cancels}
-use Rattle.radio_air.specs.declared.fate.Fate.{Fate}
-use Rattle.radio_air.specs.declared.fate.Fate.TheVariants.{Delivered, Lost, Repeated, CutOff, Changed}
-use Rattle.radio_air.specs.Controllers.{Answer, Returned, Stated, Called, LinkMade, LinkGone, GivenBack, Controller, answer_packet, piece_packet, after_handing, after_giving_back, after_telling}
-use Rattle.radio_air.specs.Fates.{first_can_meet}
-use Rattle.radio_air.specs.Radio.{Radio, knows_link, is_together, after_offer, after_meeting}
-use Rattle.radio_air.specs.Words.{meets_on, passing, deed_of}
-use Rattle.push_model.specs.Client.{may_cancel}
-use Rattle.world_model.specs.Machines.{Up, Down, Linked, Heard, TimerFired, Cancelled, Opening, Upper}
-use Rattle.world_model.specs.Pushes.{Pushes, one_begun, one_ended}
-use Rattle.world_model.specs.Stations.{Order, End, order_packet, Station, Effort, Taking, Putting, Asking, Leaving, Commanding, MakesEffort, is_handle, longest_pdu, gives, holds, hears_each, hears_piece, event_in, upper_told, hears_answer, told}
-use Rattle.world_model.specs.Worlds.{World, Happening, Tries, Departure, GivingBack, Piecemeal, Answering, Turns, Misses, Opens, Closes, entries_of, all_entries, after_order, fired, Acts, one_turned, Does}
-use Rattle.radio_world.specs.Standing.{last_entries}
-use Rattle.turn_laws.proofs.Coming.{handed_piece, handed_answer}
-use Rattle.turn_laws.proofs.Departing.{gives_back_tidings}
-use Rattle.turn_laws.proofs.Keeping.{Kept}
-use Rattle.turn_laws.proofs.Leading.{Tiding, Went, tidings, Led}
-use Rattle.turn_laws.proofs.Wiring.{has_end}
-use Rattle.air_laws.proofs.Following.{Keeps as KeepsRun, reached_first, along}
-use Rattle.air_laws.proofs.Turning.{acts_pushes}
-use Rattle.world_model.specs.Carriages.{Carriage, Doing, Carries, first_carriage}
-use Rattle.turn_laws.proofs.Advancing.{Both, advances}
-use Rattle.turn_laws.proofs.Coming.{owed_first}
-use Rattle.turn_laws.proofs.Finishing.{nothing_more}
-use Rattle.turn_laws.proofs.Running.{first_both}
-use Rattle.turn_laws.proofs.Stationing.{linked_handle}
-use Rattle.host_laws.proofs.OnwardSteps.{IsSo}
-use Rattle.scenario_laws.proofs.Carrying.{carried}
-use Rattle.scenario_laws.proofs.Onward.{IsOnto, done_onto}
-use Rattle.host_model.specs.Circumstances.{Circumstance}
-use Rattle.host_model.specs.Clients.{ClientProfile, client_profile, is_at_end}
-use Rattle.host_model.specs.Hosts.{Host, hear}
-use Rattle.host_model.specs.Machines.{client_host}
-use Rattle.host_model.specs.Servers.{ServerProfile}
-use Rattle.scenario_laws.specs.Captures.{client_of, server_of, BothHosts, beginning, Happened}
-use Rattle.scenario_laws.proofs.Fronts.{fits}
+use Rattle.cause_laws.specs.bt_base.specs.Objects.{Contents}
+use Rattle.cause_laws.specs.bt_base.specs.declared.settings.Settings.{Settings}
+use Rattle.cause_laws.specs.acl_fragments.specs.Pieces.{Piece}
+use Rattle.cause_laws.specs.push_script.specs.declared.scenario.Scenario.{Scenario}
+use Rattle.cause_laws.specs.push_terms.specs.declared.outcome.Outcome.{Outcome}
+use Rattle.cause_laws.specs.push_terms.specs.declared.outcome.Outcome.TheVariants.{Done, LinkLost, RetryLimit, Refused, NoService, ShelfFault, Cancelled as PushCancelled, PeerClosed, PeerFault, ScriptEnded}
+use Rattle.cause_laws.specs.push_terms.specs.declared.word.Side.{Side}
+use Rattle.cause_laws.specs.push_terms.specs.declared.word.Side.TheVariants.{A, B}
+use Rattle.cause_laws.specs.push_terms.specs.declared.word.Way.{Way}
+use Rattle.cause_laws.specs.push_terms.specs.declared.word.Way.TheVariants.{Ab, Ba}
+use Rattle.cause_laws.specs.push_terms.specs.declared.word.Word.{Word}
+use Rattle.cause_laws.specs.push_terms.specs.declared.word.Word.TheVariants.{Pass, Lose, Repeat, Damage, Cut, Timer, Drop, Cancel}
+use Rattle.cause_laws.specs.capture.specs.declared.flow.Flow.TheVariants.{Out, Into}
+use Rattle.cause_laws.specs.capture.specs.Entries.{Entry, Moved, Acted, Begun, Ended}
+use Rattle.cause_laws.specs.capture.specs.Frames.{way_served}
+use Rattle.cause_laws.specs.capture.specs.Histories.{EachAfter}
+use Rattle.cause_laws.specs.capture.proofs.HistoryLaws.{each_after-more}
+use Rattle.cause_laws.specs.radio_air.specs.declared.deed.Deed.{Deed}
+use Rattle.cause_laws.specs.radio_air.specs.declared.deed.Deed.TheVariants.{Nothing, Meets, Fires, FiresBoth, Breaks, Cancels}
+use Rattle.cause_laws.specs.radio_air.specs.declared.fate.Fate.{Fate}
+use Rattle.cause_laws.specs.radio_air.specs.declared.fate.Fate.TheVariants.{Delivered, Lost, Repeated, CutOff, Changed}
+use Rattle.cause_laws.specs.radio_air.specs.Controllers.{Answer, Returned, Stated, Called, LinkMade, LinkGone, GivenBack, Controller, answer_packet, piece_packet, after_handing, after_giving_back, after_telling}
+use Rattle.cause_laws.specs.radio_air.specs.Fates.{first_can_meet}
+use Rattle.cause_laws.specs.radio_air.specs.Radio.{Radio, knows_link, is_together, after_offer, after_meeting}
+use Rattle.cause_laws.specs.radio_air.specs.Words.{meets_on, passing, deed_of}
+use Rattle.cause_laws.specs.push_model.specs.Client.{may_cancel}
+use Rattle.cause_laws.specs.world_model.specs.Machines.{Up, Down, Linked, Heard, TimerFired, Cancelled, Opening, Upper}
+use Rattle.cause_laws.specs.world_model.specs.Pushes.{Pushes, one_begun, one_ended}
+use Rattle.cause_laws.specs.world_model.specs.Stations.{Order, End, order_packet, Station, Effort, Taking, Putting, Asking, Leaving, Commanding, MakesEffort, is_handle, longest_pdu, gives, holds, hears_each, hears_piece, event_in, upper_told, hears_answer, told}
+use Rattle.cause_laws.specs.world_model.specs.Worlds.{World, Happening, Tries, Departure, GivingBack, Piecemeal, Answering, Turns, Misses, Opens, Closes, entries_of, all_entries, after_order, fired, Acts, one_turned, Does}
+use Rattle.cause_laws.specs.radio_world.specs.Standing.{last_entries}
+use Rattle.cause_laws.specs.turn_laws.proofs.Coming.{handed_piece, handed_answer}
+use Rattle.cause_laws.specs.turn_laws.proofs.Departing.{gives_back_tidings}
+use Rattle.cause_laws.specs.turn_laws.proofs.Keeping.{Kept}
+use Rattle.cause_laws.specs.turn_laws.proofs.Leading.{Tiding, Went, tidings, Led}
+use Rattle.cause_laws.specs.turn_laws.proofs.Wiring.{has_end}
+use Rattle.cause_laws.specs.air_laws.proofs.Following.{Keeps as KeepsRun, reached_first, along}
+use Rattle.cause_laws.specs.air_laws.proofs.Turning.{acts_pushes}
+use Rattle.cause_laws.specs.world_model.specs.Carriages.{Carriage, Doing, Carries, first_carriage}
+use Rattle.cause_laws.specs.turn_laws.proofs.Advancing.{Both, advances}
+use Rattle.cause_laws.specs.turn_laws.proofs.Coming.{owed_first}
+use Rattle.cause_laws.specs.turn_laws.proofs.Finishing.{nothing_more}
+use Rattle.cause_laws.specs.turn_laws.proofs.Running.{first_both}
+use Rattle.cause_laws.specs.turn_laws.proofs.Stationing.{linked_handle}
+use Rattle.cause_laws.specs.host_laws.proofs.OnwardSteps.{IsSo}
+use Rattle.cause_laws.specs.scenario_laws.proofs.Carrying.{carried}
+use Rattle.cause_laws.specs.scenario_laws.proofs.Onward.{IsOnto, done_onto}
+use Rattle.cause_laws.specs.host_model.specs.Circumstances.{Circumstance}
+use Rattle.cause_laws.specs.host_model.specs.Clients.{ClientProfile, client_profile, is_at_end}
+use Rattle.cause_laws.specs.host_model.specs.Hosts.{Host, hear}
+use Rattle.cause_laws.specs.host_model.specs.Machines.{client_host}
+use Rattle.cause_laws.specs.host_model.specs.Servers.{ServerProfile}
+use Rattle.cause_laws.specs.scenario_laws.specs.Captures.{client_of, server_of, BothHosts, beginning, Happened}
+use Rattle.cause_laws.specs.scenario_laws.proofs.Fronts.{fits}
 use Rattle.cause_laws.specs.FirstCauses.{since_more, since_begun, is_cancel, end_reason, IsNoCause, AreNoCauses}
 use Rattle.cause_laws.proofs.Clients.{is_any, is_heard, is_ended, Within, Came, came_same, came_then, HasCome, has_come}
 use Rattle.cause_laws.proofs.Profiles.{heard_came, next_came, up_came, timer_came, down_came, down_comes, may_none, cancel_came, lame_next, lame_hear, opens_came}

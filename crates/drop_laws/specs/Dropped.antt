@@ -1,16 +1,16 @@
 -- That a push loses its link only where the air broke it (Core 5.1, Volume 1 Part F, 2.8, and Volume 2 Part E, 7.7.5).
 use Rattle.std.specs.Prelude.{◌≡◌, ◌⊎◌, Bool, true, false, List, [], ◌∷◌, ◌++◌, Option, Some}
-use Rattle.bt_base.specs.Objects.{Contents}
-use Rattle.push_script.specs.declared.scenario.Scenario.{Scenario}
-use Rattle.push_terms.specs.declared.outcome.Outcome.{Outcome}
-use Rattle.push_terms.specs.declared.outcome.Outcome.TheVariants.{Done, LinkLost, RetryLimit, Refused, NoService, ShelfFault, Cancelled, PeerClosed, PeerFault, ScriptEnded}
-use Rattle.push_terms.specs.declared.word.Word.{Word}
-use Rattle.push_terms.specs.declared.word.Word.TheVariants.{Pass, Lose, Repeat, Damage, Cut, Timer, Drop, Cancel}
-use Rattle.capture.specs.Entries.{Entry, Moved, Acted, Begun, Ended}
-use Rattle.capture.specs.Histories.{EachAfter}
-use Rattle.world_model.specs.Worlds.{Happening, all_entries}
-use Rattle.radio_world.specs.Standing.{last_entries}
-use Rattle.scenario_laws.specs.Captures.{client_of, BothHosts, Happened}
+use Rattle.cause_laws.specs.bt_base.specs.Objects.{Contents}
+use Rattle.cause_laws.specs.push_script.specs.declared.scenario.Scenario.{Scenario}
+use Rattle.cause_laws.specs.push_terms.specs.declared.outcome.Outcome.{Outcome}
+use Rattle.cause_laws.specs.push_terms.specs.declared.outcome.Outcome.TheVariants.{Done, LinkLost, RetryLimit, Refused, NoService, ShelfFault, Cancelled, PeerClosed, PeerFault, ScriptEnded}
+use Rattle.cause_laws.specs.push_terms.specs.declared.word.Word.{Word}
+use Rattle.cause_laws.specs.push_terms.specs.declared.word.Word.TheVariants.{Pass, Lose, Repeat, Damage, Cut, Timer, Drop, Cancel}
+use Rattle.cause_laws.specs.capture.specs.Entries.{Entry, Moved, Acted, Begun, Ended}
+use Rattle.cause_laws.specs.capture.specs.Histories.{EachAfter}
+use Rattle.cause_laws.specs.world_model.specs.Worlds.{Happening, all_entries}
+use Rattle.cause_laws.specs.radio_world.specs.Standing.{last_entries}
+use Rattle.cause_laws.specs.scenario_laws.specs.Captures.{client_of, BothHosts, Happened}
 use Rattle.cause_laws.specs.FirstCauses.{since_begun, end_reason, AreNoCauses}
 
 abbrev pub is_drop_word : Word → Bool

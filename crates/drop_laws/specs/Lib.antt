@@ -1,1 +1,2 @@
+pub use Rattle.cause_laws
 pub mod Dropped

@@ -1,11 +1,11 @@
 -- Host a's requests for the ends of channels are paid by adverse words.
 use Rattle.std.proofs.Common.{ℕ, List, [], ◌∷◌, refl, sym, subst, inl, inr}
 use Rattle.std.specs.List.{AllByRecursion}
-use Rattle.push_terms.specs.declared.word.Side.TheVariants as sides
-use Rattle.capture.specs.declared.flow.Flow.TheVariants.{Out}
-use Rattle.link_talk.specs.Sayings.{Saying}
-use Rattle.channel_model.specs.declared.errand.Errand.TheVariants as errands
-use Rattle.channel_model.specs.Policies.{Policy}
+use Rattle.pair_laws.specs.push_terms.specs.declared.word.Side.TheVariants as sides
+use Rattle.pair_laws.specs.capture.specs.declared.flow.Flow.TheVariants.{Out}
+use Rattle.pair_laws.specs.link_talk.specs.Sayings.{Saying}
+use Rattle.channel_laws.specs.channel_model.specs.declared.errand.Errand.TheVariants as errands
+use Rattle.channel_laws.specs.channel_model.specs.Policies.{Policy}
 use Rattle.channel_laws.specs.Belonging.{HasAsked}
 use Rattle.channel_laws.specs.Pairs.{Near, pair_of}
 use Rattle.channel_laws.specs.Runs.{Occurrence, Comes, Connects, AsksFeatures, Disconnects, Sends, Gives, Fires, Tells, Run, run_of}
@@ -15,9 +15,9 @@ use Rattle.channel_laws.proofs.Calling.{own_call}
 use Rattle.channel_laws.proofs.Saying.{stands-left, stands-right}
 use Rattle.channel_laws.proofs.Singling.{calls-more}
 use Rattle.disconnection_laws.specs.Met.{AskedForNothing, EndsAreMet}
-use Rattle.host_model.specs.Clients.{client_profile}
-use Rattle.host_model.specs.Servers.{server_profile}
-use Rattle.host_laws.specs.Keeping.{AsksForNothing}
+use Rattle.pair_laws.specs.host_model.specs.Clients.{client_profile}
+use Rattle.pair_laws.specs.host_model.specs.Servers.{server_profile}
+use Rattle.pair_laws.specs.host_laws.specs.Keeping.{AsksForNothing}
 use Rattle.pair_laws.specs.Costs.{RequestsCostWords}
 use Rattle.pair_laws.specs.OnLinks.{happened_on}
 use Rattle.end_costs.specs.Ends.{EndsInOrder, EndsCostWords}

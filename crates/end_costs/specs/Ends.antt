@@ -1,24 +1,24 @@
 -- How often host a of a run gives its requests for the ends of channels, against the words of the run (Core 5.1, Volume 3 Part A, 4.6 and 6.2.1).
 use Rattle.std.specs.Prelude.{ℕ, ◌<◌, List, Option}
-use Rattle.bt_base.specs.Objects.{Contents}
-use Rattle.push_script.specs.declared.scenario.Scenario.{Scenario}
-use Rattle.push_terms.specs.declared.word.Side.TheVariants as sides
-use Rattle.capture.specs.Entries.{Entry}
-use Rattle.channel_model.specs.declared.errand.Errand.TheVariants as errands
-use Rattle.channel_model.specs.Policies.{Policy}
+use Rattle.pair_laws.specs.bt_base.specs.Objects.{Contents}
+use Rattle.pair_laws.specs.push_script.specs.declared.scenario.Scenario.{Scenario}
+use Rattle.pair_laws.specs.push_terms.specs.declared.word.Side.TheVariants as sides
+use Rattle.pair_laws.specs.capture.specs.Entries.{Entry}
+use Rattle.channel_laws.specs.channel_model.specs.declared.errand.Errand.TheVariants as errands
+use Rattle.channel_laws.specs.channel_model.specs.Policies.{Policy}
 use Rattle.channel_laws.specs.OwnTalk.{spoken, command_with}
 use Rattle.channel_laws.specs.Pairs.{Near, Turn, pair_of}
 use Rattle.channel_laws.specs.Signals.{StandsIn}
-use Rattle.l2cap_signal.specs.Commands.{disconnection_request}
+use Rattle.pair_laws.specs.l2cap_signal.specs.Commands.{disconnection_request}
 use Rattle.disconnection_laws.specs.Met.{AskInOrder}
 use Rattle.disconnection_laws.specs.Waits.{GrantsApart}
-use Rattle.world_model.specs.Worlds.{all_words}
-use Rattle.host_model.specs.Clients.{client_profile}
-use Rattle.host_model.specs.Servers.{server_profile}
-use Rattle.host_laws.specs.Calls.{HostsAsk}
-use Rattle.host_laws.specs.Keeping.{SendsAsItLends}
-use Rattle.host_laws.specs.Searching.{AsksAsItSteps}
-use Rattle.scenario_laws.specs.Captures.{Ran}
+use Rattle.pair_laws.specs.world_model.specs.Worlds.{all_words}
+use Rattle.pair_laws.specs.host_model.specs.Clients.{client_profile}
+use Rattle.pair_laws.specs.host_model.specs.Servers.{server_profile}
+use Rattle.pair_laws.specs.host_laws.specs.Calls.{HostsAsk}
+use Rattle.pair_laws.specs.host_laws.specs.Keeping.{SendsAsItLends}
+use Rattle.pair_laws.specs.host_laws.specs.Searching.{AsksAsItSteps}
+use Rattle.pair_laws.specs.scenario_laws.specs.Captures.{Ran}
 use Rattle.pair_laws.specs.Costs.{adverse_in, IsPaidBy, RequestsPaid}
 use Rattle.pair_laws.specs.OnLinks.{happened_on}
 

@@ -2,17 +2,17 @@
 use Rattle.std.proofs.Common.{◌≡◌, ◌==◌, ℕ, Bool, true, false, List, [], ◌∷◌, map, length, None, Ok, Err, refl, if◌then◌else◌}
 use Rattle.std.proofs.lemmas.Bool.{eqb-true}
 use Rattle.std.specs.List.{AllByRecursion}
-use Rattle.bt_base.specs.declared.ports.PortFault.TheVariants as fault
-use Rattle.bt_base.specs.declared.settings.Settings.{Settings}
-use Rattle.push_model.specs.Client.{Client}
-use Rattle.push_model.specs.Laws.{Deed, Hears, Asks, Finishes, Cancels}
-use Rattle.push_model.specs.Steps.{Part, put_count}
+use Rattle.shelf_model.specs.bt_base.specs.declared.ports.PortFault.TheVariants as fault
+use Rattle.shelf_model.specs.bt_base.specs.declared.settings.Settings.{Settings}
+use Rattle.push_laws.specs.push_model.specs.Client.{Client}
+use Rattle.push_laws.specs.push_model.specs.Laws.{Deed, Hears, Asks, Finishes, Cancels}
+use Rattle.push_laws.specs.push_model.specs.Steps.{Part, put_count}
 use Rattle.push_laws.specs.Sending.{AnswersTo}
-use Rattle.world_model.specs.Machines.{News, Linked, Failed, Heard, TimerFired, Cancelled, Opening}
-use Rattle.host_model.specs.Circumstances.{Circumstance, Excerpt}
-use Rattle.host_model.specs.Clients.{ClientProfile}
-use Rattle.host_model.specs.Shelves.{is_next, measured, bare_part, fitting}
-use Rattle.host_model.proofs.Shelves.{names_are_short, size_told}
+use Rattle.shelf_model.specs.world_model.specs.Machines.{News, Linked, Failed, Heard, TimerFired, Cancelled, Opening}
+use Rattle.shelf_model.specs.host_model.specs.Circumstances.{Circumstance, Excerpt}
+use Rattle.shelf_model.specs.host_model.specs.Clients.{ClientProfile}
+use Rattle.shelf_model.specs.host_model.specs.Shelves.{is_next, measured, bare_part, fitting}
+use Rattle.shelf_model.specs.host_model.proofs.Shelves.{names_are_short, size_told}
 use Rattle.host_laws.specs.Answered.{IsAnswered, TellsAtMost, BeginsAtMost, ClientsAreAnswered}
 use Rattle.host_laws.specs.Feeds.{Feed, Gifts, Learns, Receives, Happens, Sent, Steps}
 use Rattle.host_laws.proofs.AllAsked.{IsBare, FeedSo, all_asked}

@@ -3,35 +3,35 @@ use Rattle.std.proofs.Common.{◌≡◌, ℕ, suc, ◌<◌, ◌≤◌, List, [],
 use Rattle.std.specs.Prelude.{find, is_some, nat_le, filter}
 use Rattle.std.specs.List.{AllByRecursion}
 use Rattle.std.proofs.lemmas.Bool.{ltb-true, eqb-true}
-use Rattle.acl_fragments.specs.Pieces.{channel_of}
-use Rattle.bt_base.specs.Octets.{IsOctets}
-use Rattle.h4_framing.proofs.OctetLists.{IsOctets-nil}
-use Rattle.l2cap_signal.specs.Commands.{Content, Command, reject, connection_request, connection_response, configuration_request, configuration_response, disconnection_request, disconnection_response, echo_request, echo_response, information_request, information_response, rest_of}
-use Rattle.l2cap_signal.specs.Reading.{Answer as Read, answers}
-use Rattle.l2cap_signal.specs.declared.refusal.SignalRefusal.{SignalRefusal}
-use Rattle.l2cap_signal.specs.declared.refusal.SignalRefusal.TheVariants.{ZeroIdentifier, BadLength, UnknownCode, AboveMtu}
-use Rattle.l2cap_signal.proofs.Contents.{octets_behind}
-use Rattle.l2cap_config.specs.declared.wish.Wish.{Wish}
-use Rattle.channel_model.specs.declared.errand.Errand.{Errand}
-use Rattle.channel_model.specs.declared.errand.Errand.TheVariants as errands
-use Rattle.channel_model.specs.declared.event.ChannelEvent.{ChannelEvent}
-use Rattle.channel_model.specs.declared.event.ChannelEvent.TheVariants.{Features}
-use Rattle.channel_model.specs.declared.request_kind.RequestKind.{RequestKind}
-use Rattle.channel_model.specs.declared.request_kind.RequestKind.TheVariants as kinds
-use Rattle.channel_model.specs.Value.{Request, Queued, Answer, Ask, Setup, no_setup, Stage, Requested, Connected, Leaving, Closing, Crossed, Held, Remembered, Memory, Channels, no_channels}
-use Rattle.channel_model.specs.Policies.{Policy}
-use Rattle.channel_model.specs.Changing.{has_own, held_at, is_peer, is_answer, has_room, forgets, tells, is_due, setup_of}
-use Rattle.channel_model.specs.Asking.{new_request, asks, StillDue, OnceMore, Spent}
-use Rattle.channel_model.specs.Closing.{peer_closes_at}
-use Rattle.channel_model.specs.Configuring.{Verdict, NoChannel, TooLate, Unreadable, Incomplete, Judged, judged_stage, verdict_on, verdict, follows_verdict}
-use Rattle.channel_model.specs.Answers.{kind_of_code, remembered, with_remembered, not_understood, too_long, connection_result, answer_to}
-use Rattle.channel_model.specs.Following.{with_channel, follows_setup, follows_configuration, follows_disconnection, follows, remembers, says, can_say, hears_new, hears_again, hears_kind, hears_request}
-use Rattle.channel_model.specs.Responses.{has_identifier, hears_features, features_in}
-use Rattle.channel_model.specs.Hearing.{hears_content, hears_malformed, is_response_code, is_kind, hears_unread, hears_refused, hears_command, hears_commands, hears}
-use Rattle.channel_model.specs.Carrying.{takes}
-use Rattle.channel_model.specs.Timing.{fires, times_held, times_end, times_channel, times_channels, loses_features, times_features, timed_out}
-use Rattle.channel_model.specs.Giving.{after_given, queue_given, held_given, carrier_spent, counted, stage_given, gives}
-use Rattle.channel_model.specs.Calls.{connected, asks_features, disconnected, sends}
+use Rattle.shelf_model.specs.acl_fragments.specs.Pieces.{channel_of}
+use Rattle.shelf_model.specs.bt_base.specs.Octets.{IsOctets}
+use Rattle.shelf_model.specs.h4_framing.proofs.OctetLists.{IsOctets-nil}
+use Rattle.shelf_model.specs.l2cap_signal.specs.Commands.{Content, Command, reject, connection_request, connection_response, configuration_request, configuration_response, disconnection_request, disconnection_response, echo_request, echo_response, information_request, information_response, rest_of}
+use Rattle.shelf_model.specs.l2cap_signal.specs.Reading.{Answer as Read, answers}
+use Rattle.shelf_model.specs.l2cap_signal.specs.declared.refusal.SignalRefusal.{SignalRefusal}
+use Rattle.shelf_model.specs.l2cap_signal.specs.declared.refusal.SignalRefusal.TheVariants.{ZeroIdentifier, BadLength, UnknownCode, AboveMtu}
+use Rattle.shelf_model.specs.l2cap_signal.proofs.Contents.{octets_behind}
+use Rattle.shelf_model.specs.l2cap_config.specs.declared.wish.Wish.{Wish}
+use Rattle.channel_laws.specs.channel_model.specs.declared.errand.Errand.{Errand}
+use Rattle.channel_laws.specs.channel_model.specs.declared.errand.Errand.TheVariants as errands
+use Rattle.channel_laws.specs.channel_model.specs.declared.event.ChannelEvent.{ChannelEvent}
+use Rattle.channel_laws.specs.channel_model.specs.declared.event.ChannelEvent.TheVariants.{Features}
+use Rattle.channel_laws.specs.channel_model.specs.declared.request_kind.RequestKind.{RequestKind}
+use Rattle.channel_laws.specs.channel_model.specs.declared.request_kind.RequestKind.TheVariants as kinds
+use Rattle.channel_laws.specs.channel_model.specs.Value.{Request, Queued, Answer, Ask, Setup, no_setup, Stage, Requested, Connected, Leaving, Closing, Crossed, Held, Remembered, Memory, Channels, no_channels}
+use Rattle.channel_laws.specs.channel_model.specs.Policies.{Policy}
+use Rattle.channel_laws.specs.channel_model.specs.Changing.{has_own, held_at, is_peer, is_answer, has_room, forgets, tells, is_due, setup_of}
+use Rattle.channel_laws.specs.channel_model.specs.Asking.{new_request, asks, StillDue, OnceMore, Spent}
+use Rattle.channel_laws.specs.channel_model.specs.Closing.{peer_closes_at}
+use Rattle.channel_laws.specs.channel_model.specs.Configuring.{Verdict, NoChannel, TooLate, Unreadable, Incomplete, Judged, judged_stage, verdict_on, verdict, follows_verdict}
+use Rattle.channel_laws.specs.channel_model.specs.Answers.{kind_of_code, remembered, with_remembered, not_understood, too_long, connection_result, answer_to}
+use Rattle.channel_laws.specs.channel_model.specs.Following.{with_channel, follows_setup, follows_configuration, follows_disconnection, follows, remembers, says, can_say, hears_new, hears_again, hears_kind, hears_request}
+use Rattle.channel_laws.specs.channel_model.specs.Responses.{has_identifier, hears_features, features_in}
+use Rattle.channel_laws.specs.channel_model.specs.Hearing.{hears_content, hears_malformed, is_response_code, is_kind, hears_unread, hears_refused, hears_command, hears_commands, hears}
+use Rattle.channel_laws.specs.channel_model.specs.Carrying.{takes}
+use Rattle.channel_laws.specs.channel_model.specs.Timing.{fires, times_held, times_end, times_channel, times_channels, loses_features, times_features, timed_out}
+use Rattle.channel_laws.specs.channel_model.specs.Giving.{after_given, queue_given, held_given, carrier_spent, counted, stage_given, gives}
+use Rattle.channel_laws.specs.channel_model.specs.Calls.{connected, asks_features, disconnected, sends}
 use Rattle.channel_laws.proofs.Lasting.{asked_by, answers_of, answers-asked, forgotten, asked-with, Lasts, follows-lasts, grant-lasts, response-lasts, end-lasts, takes-lasts, connects-lasts, disconnects-last, sends-last, gives-last, times-last, ends-last}
 use Rattle.channel_laws.proofs.Fitted.{IsLowPsm, FittedLow}
 use Rattle.channel_laws.proofs.Modest.{verdict-fits}

@@ -1,13 +1,13 @@
 -- What the timer of a host finds is what its own talk says.
 use Rattle.std.proofs.Common.{◌≡◌, Bool, true, false, ◌||◌, refl, sym, ap, ◌∙◌}
-use Rattle.channel_model.specs.Calls.{armed}
-use Rattle.channel_model.specs.Policies.{policy}
-use Rattle.channel_model.specs.Value.{Channels}
+use Rattle.channel_laws.specs.channel_model.specs.Calls.{armed}
+use Rattle.channel_laws.specs.channel_model.specs.Policies.{policy}
+use Rattle.channel_laws.specs.channel_model.specs.Value.{Channels}
 use Rattle.channel_laws.specs.Armed.{services_wait}
 use Rattle.channel_laws.specs.Runs.{Run, run_of}
 use Rattle.channel_laws.proofs.Arming.{armed-is_what_waits}
 use Rattle.channel_laws.proofs.Services.{channels-alone_wait}
-use Rattle.host_model.specs.Profiles.{Profile}
+use Rattle.shelf_model.specs.host_model.specs.Profiles.{Profile}
 use Rattle.host_laws.specs.Armed.{ArmedIsRead, ServersAreArmed}
 
 module _ {P : Type 0} (A : Profile P) where

@@ -1,38 +1,38 @@
 -- A client goes by what it was told: what it knows stays so with all that happens on its link but for its own steps.
 use Rattle.std.proofs.Common.{◌≡◌, ℕ, List, [], ◌∷◌, ◌++◌, drop, fold, Bool, true, false, cond, eqb, Option, Some, None, refl, sym, ap, subst, ◌∙◌, ◌⊎◌, inl, inr, append-nil}
-use Rattle.acl_fragments.specs.Pieces.{channel_of}
-use Rattle.bt_base.specs.declared.settings.Settings.{Settings}
-use Rattle.link_talk.specs.declared.channel.Channel.{Channel}
-use Rattle.link_talk.specs.declared.party.Party.{Party}
-use Rattle.link_talk.specs.Sayings.{Saying}
-use Rattle.link_talk.specs.ServiceAnswers.{parts_from}
-use Rattle.sdp_client.specs.Asking.{Asking, begun}
-use Rattle.channel_model.specs.declared.event.ChannelEvent.{ChannelEvent}
-use Rattle.channel_model.specs.declared.event.ChannelEvent.TheVariants.{Opened, Closed, Features as FeaturesAre, FeaturesLost, DisconnectLost}
-use Rattle.channel_model.specs.Calls.{peer_mtu, waits}
-use Rattle.channel_model.specs.Carrying.{Up, Nothing, Received}
-use Rattle.channel_model.specs.Hearing.{up}
-use Rattle.channel_model.specs.Policies.{Policy, policy}
-use Rattle.channel_model.specs.Value.{Held, Channels}
+use Rattle.shelf_model.specs.acl_fragments.specs.Pieces.{channel_of}
+use Rattle.shelf_model.specs.bt_base.specs.declared.settings.Settings.{Settings}
+use Rattle.push_laws.specs.link_talk.specs.declared.channel.Channel.{Channel}
+use Rattle.push_laws.specs.link_talk.specs.declared.party.Party.{Party}
+use Rattle.push_laws.specs.link_talk.specs.Sayings.{Saying}
+use Rattle.push_laws.specs.link_talk.specs.ServiceAnswers.{parts_from}
+use Rattle.shelf_model.specs.sdp_client.specs.Asking.{Asking, begun}
+use Rattle.channel_laws.specs.channel_model.specs.declared.event.ChannelEvent.{ChannelEvent}
+use Rattle.channel_laws.specs.channel_model.specs.declared.event.ChannelEvent.TheVariants.{Opened, Closed, Features as FeaturesAre, FeaturesLost, DisconnectLost}
+use Rattle.channel_laws.specs.channel_model.specs.Calls.{peer_mtu, waits}
+use Rattle.channel_laws.specs.channel_model.specs.Carrying.{Up, Nothing, Received}
+use Rattle.channel_laws.specs.channel_model.specs.Hearing.{up}
+use Rattle.channel_laws.specs.channel_model.specs.Policies.{Policy, policy}
+use Rattle.channel_laws.specs.channel_model.specs.Value.{Held, Channels}
 use Rattle.channel_laws.specs.Exchanged.{heard_in, exchanged_in}
 use Rattle.channel_laws.specs.Frames.{IsUttered}
 use Rattle.channel_laws.specs.Runs.{Occurrence, Comes, Tells, said_in, value_after, Run, run_on, run_of}
 use Rattle.channel_laws.proofs.Exchanged.{spoken_on}
-use Rattle.talk_laws.specs.LinkAnswers.{unfinished_of}
-use Rattle.push_model.specs.declared.closing.CloseCause.{CloseCause}
-use Rattle.push_model.specs.declared.course.Point.TheVariants.{Due, Asked}
-use Rattle.push_model.specs.declared.course.Stage.{Stage}
-use Rattle.push_model.specs.declared.course.Stage.TheVariants.{Rest, Link, SearchChannel, Search, SearchEnd, Features, ObjectChannel, Object, ObjectEnd, LinkEnd, Over}
-use Rattle.push_model.specs.Client.{Client, cancelled}
-use Rattle.push_model.specs.Events as events
-use Rattle.push_model.specs.Events.{hears_news, opened_at}
-use Rattle.push_model.specs.Laws.{Hears, Finishes, Cancels, done}
-use Rattle.world_model.specs.Machines.{News, Linked, Failed, Heard as HeardPdu, TimerFired, Cancelled, Opening as OpeningNews}
-use Rattle.host_model.specs.Circumstances.{Circumstance}
-use Rattle.host_model.specs.Hosts.{handed}
-use Rattle.host_model.specs.Profiles.{Profile}
-use Rattle.host_model.specs.Clients as clients
-use Rattle.host_model.specs.Clients.{ClientProfile, client_profile, ended, opened_by, closed_by, cause_of, event_heard, sent_on}
+use Rattle.channel_laws.specs.talk_laws.specs.LinkAnswers.{unfinished_of}
+use Rattle.push_laws.specs.push_model.specs.declared.closing.CloseCause.{CloseCause}
+use Rattle.push_laws.specs.push_model.specs.declared.course.Point.TheVariants.{Due, Asked}
+use Rattle.push_laws.specs.push_model.specs.declared.course.Stage.{Stage}
+use Rattle.push_laws.specs.push_model.specs.declared.course.Stage.TheVariants.{Rest, Link, SearchChannel, Search, SearchEnd, Features, ObjectChannel, Object, ObjectEnd, LinkEnd, Over}
+use Rattle.push_laws.specs.push_model.specs.Client.{Client, cancelled}
+use Rattle.push_laws.specs.push_model.specs.Events as events
+use Rattle.push_laws.specs.push_model.specs.Events.{hears_news, opened_at}
+use Rattle.push_laws.specs.push_model.specs.Laws.{Hears, Finishes, Cancels, done}
+use Rattle.shelf_model.specs.world_model.specs.Machines.{News, Linked, Failed, Heard as HeardPdu, TimerFired, Cancelled, Opening as OpeningNews}
+use Rattle.shelf_model.specs.host_model.specs.Circumstances.{Circumstance}
+use Rattle.shelf_model.specs.host_model.specs.Hosts.{handed}
+use Rattle.shelf_model.specs.host_model.specs.Profiles.{Profile}
+use Rattle.shelf_model.specs.host_model.specs.Clients as clients
+use Rattle.shelf_model.specs.host_model.specs.Clients.{ClientProfile, client_profile, ended, opened_by, closed_by, cause_of, event_heard, sent_on}
 use Rattle.host_laws.specs.Asked.{IsOfLink}
 use Rattle.host_laws.specs.Calls.{Asks}
 use Rattle.host_laws.specs.Leaving.{is_closing, is_off}

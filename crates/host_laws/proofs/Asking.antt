@@ -1,21 +1,21 @@
 -- What clients and servers ask of their channels with a step.
 use Rattle.std.proofs.Common.{◌≡◌, ℕ, Bool, true, false, Option, Some, None, refl, if◌then◌else◌}
-use Rattle.bt_base.specs.declared.settings.Settings.{Settings}
-use Rattle.bt_base.specs.Objects.{Contents}
-use Rattle.channel_model.specs.Value.{Channels}
-use Rattle.channel_model.specs.Policies.{Policy}
-use Rattle.channel_model.specs.Calls.{sends}
-use Rattle.push_model.specs.Payloads.{Payload}
-use Rattle.push_model.specs.Server.{Server, Lent, lends, lent_sdu, stepped}
-use Rattle.push_model.specs.Steps.{Step, Wait, MakeLink, AskFeatures, OpenChannel, SendSdu, CloseChannel, BreakLink, Ended, NoMemory, steps}
-use Rattle.host_model.specs.Endpoints.{endpoint_of, takes_sdu}
-use Rattle.host_model.specs.Pdus.{sdu_of}
-use Rattle.host_model.specs.Profiles.{Stride}
-use Rattle.host_model.specs.Clients as clients
-use Rattle.host_model.specs.Clients.{ClientProfile, client_profile, fitted}
-use Rattle.host_model.specs.Servers as servers
-use Rattle.host_model.specs.Servers.{ServerProfile, server_profile}
-use Rattle.host_model.specs.Shelves.{unused}
+use Rattle.shelf_model.specs.bt_base.specs.declared.settings.Settings.{Settings}
+use Rattle.shelf_model.specs.bt_base.specs.Objects.{Contents}
+use Rattle.channel_laws.specs.channel_model.specs.Value.{Channels}
+use Rattle.channel_laws.specs.channel_model.specs.Policies.{Policy}
+use Rattle.channel_laws.specs.channel_model.specs.Calls.{sends}
+use Rattle.push_laws.specs.push_model.specs.Payloads.{Payload}
+use Rattle.push_laws.specs.push_model.specs.Server.{Server, Lent, lends, lent_sdu, stepped}
+use Rattle.push_laws.specs.push_model.specs.Steps.{Step, Wait, MakeLink, AskFeatures, OpenChannel, SendSdu, CloseChannel, BreakLink, Ended, NoMemory, steps}
+use Rattle.shelf_model.specs.host_model.specs.Endpoints.{endpoint_of, takes_sdu}
+use Rattle.shelf_model.specs.host_model.specs.Pdus.{sdu_of}
+use Rattle.shelf_model.specs.host_model.specs.Profiles.{Stride}
+use Rattle.shelf_model.specs.host_model.specs.Clients as clients
+use Rattle.shelf_model.specs.host_model.specs.Clients.{ClientProfile, client_profile, fitted}
+use Rattle.shelf_model.specs.host_model.specs.Servers as servers
+use Rattle.shelf_model.specs.host_model.specs.Servers.{ServerProfile, server_profile}
+use Rattle.shelf_model.specs.host_model.specs.Shelves.{unused}
 use Rattle.host_laws.specs.Calls.{Call, Connect, Disconnect, Send, Asks, HostsAsk, from_call, values_after}
 use Rattle.host_laws.specs.Calls as calls
 

@@ -4,18 +4,18 @@ use Rattle.std.proofs.Common.{◌≡◌, ℕ, List, [], ◌∷◌, ◌++◌, Boo
 use Rattle.std.specs.Prelude.{option_map}
 use Rattle.std.specs.List.{list_any}
 use Rattle.std.proofs.lemmas.Bool.{eqb-true}
-use Rattle.bt_base.specs.declared.settings.Transport.{Transport}
-use Rattle.capture.specs.Histories.{EachAfter}
-use Rattle.capture.specs.declared.flow.Flow.TheVariants.{Out}
-use Rattle.link_talk.specs.declared.call.Call.{Call}
-use Rattle.channel_model.specs.Value.{Request, Requested, Held}
-use Rattle.channel_model.specs.Policies.{Policy}
-use Rattle.channel_model.specs.Changing.{held_at, setup_of}
-use Rattle.channel_model.specs.Asking.{new_request, asks}
-use Rattle.channel_model.specs.Following.{with_channel}
-use Rattle.channel_model.specs.declared.errand.Errand.TheVariants.{Connection}
-use Rattle.channel_model.specs.Calls.{can_connect, carrier_mtu, open_carrier, setup_on, peer_mtu}
-use Rattle.channel_model.proofs.Going.{new_held}
+use Rattle.shelf_model.specs.bt_base.specs.declared.settings.Transport.{Transport}
+use Rattle.shelf_model.specs.capture.specs.Histories.{EachAfter}
+use Rattle.shelf_model.specs.capture.specs.declared.flow.Flow.TheVariants.{Out}
+use Rattle.push_laws.specs.link_talk.specs.declared.call.Call.{Call}
+use Rattle.channel_laws.specs.channel_model.specs.Value.{Request, Requested, Held}
+use Rattle.channel_laws.specs.channel_model.specs.Policies.{Policy}
+use Rattle.channel_laws.specs.channel_model.specs.Changing.{held_at, setup_of}
+use Rattle.channel_laws.specs.channel_model.specs.Asking.{new_request, asks}
+use Rattle.channel_laws.specs.channel_model.specs.Following.{with_channel}
+use Rattle.channel_laws.specs.channel_model.specs.declared.errand.Errand.TheVariants.{Connection}
+use Rattle.channel_laws.specs.channel_model.specs.Calls.{can_connect, carrier_mtu, open_carrier, setup_on, peer_mtu}
+use Rattle.channel_laws.specs.channel_model.proofs.Going.{new_held}
 use Rattle.channel_laws.specs.Runs.{Occurrence, Comes, Connects, AsksFeatures, Disconnects, Sends, Gives, Fires, Tells, Run, run_of}
 use Rattle.channel_laws.specs.Singly.{calls_that_went, IsAgain, AreOneByOne, NoneIsDue, AsksSo, AsksForNoChannel}
 use Rattle.channel_laws.proofs.Inviting.{held_others}

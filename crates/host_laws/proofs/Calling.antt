@@ -1,15 +1,15 @@
 -- Of a client that asks for one channel of packets, one request after the other moves.
 use Rattle.std.proofs.Common.{false, List, [], ◌∷◌, sym, ap, subst, ◌∙◌}
 use Rattle.std.specs.List.{AllByRecursion, AllZip, flat_map}
-use Rattle.bt_base.specs.declared.settings.Transport.{Transport}
-use Rattle.capture.specs.declared.flow.Flow.TheVariants.{Out}
-use Rattle.channel_model.specs.Policies.{Policy, policy}
+use Rattle.shelf_model.specs.bt_base.specs.declared.settings.Transport.{Transport}
+use Rattle.shelf_model.specs.capture.specs.declared.flow.Flow.TheVariants.{Out}
+use Rattle.channel_laws.specs.channel_model.specs.Policies.{Policy, policy}
 use Rattle.channel_laws.specs.Runs.{Occurrence, run_of}
 use Rattle.channel_laws.specs.Singly.{calls_that_went, AreOneByOne}
 use Rattle.channel_laws.proofs.OneByOne.{calls-are_one_by_one}
 use Rattle.channel_laws.proofs.Singling.{calls-more, tail-single}
-use Rattle.world_model.specs.Talks.{Talk}
-use Rattle.host_model.specs.Clients.{client_profile}
+use Rattle.shelf_model.specs.world_model.specs.Talks.{Talk}
+use Rattle.shelf_model.specs.host_model.specs.Clients.{client_profile}
 use Rattle.host_laws.specs.InOrder.{may_ask, CallsInOrder, ClientsCallInOrder}
 use Rattle.host_laws.specs.Lives.{on_links}
 use Rattle.host_laws.specs.OverLinks.{parts, moved_in, talk_marks, IsTalkOf}

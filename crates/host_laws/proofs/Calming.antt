@@ -1,15 +1,15 @@
 -- The own talk of a host that is calm is what moved on its link.
 use Rattle.std.proofs.Common.{◌≡◌, List, [], ◌∷◌, filter_map, refl, sym, ap, subst, ◌∙◌}
 use Rattle.std.specs.List.{AllByRecursion, flat_map}
-use Rattle.capture.specs.declared.flow.Flow.TheVariants.{Out, Into}
-use Rattle.capture.specs.Pdus.{Pdu}
-use Rattle.link_talk.specs.Sayings.{said_by}
-use Rattle.channel_model.specs.Value.{Channels}
+use Rattle.shelf_model.specs.capture.specs.declared.flow.Flow.TheVariants.{Out, Into}
+use Rattle.shelf_model.specs.capture.specs.Pdus.{Pdu}
+use Rattle.push_laws.specs.link_talk.specs.Sayings.{said_by}
+use Rattle.channel_laws.specs.channel_model.specs.Value.{Channels}
 use Rattle.channel_laws.specs.Runs.{Occurrence, Comes, Connects, AsksFeatures, Disconnects, Sends, Gives, Fires, Tells, new_link, run_of}
-use Rattle.host_model.specs.Circumstances.{Circumstance}
-use Rattle.host_model.specs.Profiles.{Profile}
-use Rattle.host_model.specs.Hosts.{Host}
-use Rattle.host_model.specs.Machines.{upper}
+use Rattle.shelf_model.specs.host_model.specs.Circumstances.{Circumstance}
+use Rattle.shelf_model.specs.host_model.specs.Profiles.{Profile}
+use Rattle.shelf_model.specs.host_model.specs.Hosts.{Host}
+use Rattle.shelf_model.specs.host_model.specs.Machines.{upper}
 use Rattle.host_laws.specs.Acts.{Act, Acting, StaysOnLink, from_act, from_acts}
 use Rattle.host_laws.specs.Calls.{Asks, values_after, outer}
 use Rattle.host_laws.specs.Seen.{pdu_of, moved, IsQuiet, IsCalm}

@@ -3,42 +3,42 @@ use Rattle.std.proofs.Common.{◌≡◌, ℕ, zero, suc, ◌+◌, ◌-◌, ◌�
 use Rattle.std.specs.Prelude.{nat_le}
 use Rattle.std.specs.List.{AllByRecursion}
 use Rattle.std.proofs.lemmas.Bool.{leb-false}
-use Rattle.acl_fragments.specs.Pieces.{channel_of}
-use Rattle.bt_base.specs.Octets.{IsOctets}
-use Rattle.h4_framing.proofs.OctetLists.{IsOctets-drop, IsOctets-take}
-use Rattle.ertm_frames.specs.Answers.{Answer}
-use Rattle.ertm_frames.specs.Frames.{PlainFrame}
-use Rattle.ertm_frames.specs.Segments.{Segment, whole, start, end, continuation}
-use Rattle.ertm_frames.specs.declared.refusal.FrameRefusal.{FrameRefusal}
-use Rattle.ertm_model.specs.declared.reason.ErtmReason.{ErtmReason}
-use Rattle.ertm_model.specs.declared.reason.ErtmReason.TheVariants.{RetryLimit}
-use Rattle.ertm_model.specs.Value.{Kept, Poll, NoPoll, Due, Waits, Ertm}
-use Rattle.ertm_model.specs.Giving.{Giving, PollAnswer, Acknowledgement, Rejection, Polling, Again, New, given_again, giving, after_by, first_poll, poll_timed, open_timed, timed, closing, polling}
-use Rattle.ertm_model.specs.Hearing.{acknowledged, fault, heard_by, open_heard, heard, closed_by, refusal_fault, refused}
-use Rattle.ertm_model.specs.Submitting.{later_within, later_segments, cut, is_busy, submitted, taking}
-use Rattle.ertm_model.proofs.Inverting.{Gives, gives}
-use Rattle.ertm_model.proofs.Lists.{again-length}
-use Rattle.l2cap_config.specs.declared.wish.Mode.{Mode}
-use Rattle.l2cap_config.specs.declared.wish.Mode.TheVariants.{Basic, Enhanced}
-use Rattle.l2cap_config.specs.declared.wish.Wish.{Wish}
-use Rattle.l2cap_config.specs.Agreement.{asked_mode, sent_window, agreed_on}
-use Rattle.l2cap_signal.specs.Reading.{answers}
-use Rattle.channel_model.specs.declared.event.ChannelEvent.{ChannelEvent}
-use Rattle.channel_model.specs.Value.{Carrier, Plain, Retransmitting, Channels, no_channels}
-use Rattle.channel_model.specs.Policies.{Policy}
-use Rattle.channel_model.specs.Configuring.{bounded_agreement, carrier_by}
-use Rattle.channel_model.specs.Carrying.{read_by, machine_heard}
-use Rattle.channel_model.specs.Giving.{carrier_given}
-use Rattle.channel_model.specs.Calls.{carrier_with}
-use Rattle.channel_model.specs.Hearing.{hears, hears_commands}
-use Rattle.channel_model.specs.Carrying.{takes}
-use Rattle.channel_model.specs.Timing.{timed_out}
-use Rattle.channel_model.specs.Giving.{after_given}
-use Rattle.channel_model.specs.Calls.{connected, asks_features, disconnected, sends}
-use Rattle.channel_model.proofs.Going.{IsAccepted, CarrierGoes, Walks}
-use Rattle.channel_model.proofs.Lookups.{own_of, Distinct}
-use Rattle.channel_model.proofs.Walking.{commands-go}
-use Rattle.channel_model.proofs.Calling.{connected-goes, asks-features-goes, disconnected-goes, sends-goes, takes-goes, timed-goes, given-goes}
+use Rattle.shelf_model.specs.acl_fragments.specs.Pieces.{channel_of}
+use Rattle.shelf_model.specs.bt_base.specs.Octets.{IsOctets}
+use Rattle.shelf_model.specs.h4_framing.proofs.OctetLists.{IsOctets-drop, IsOctets-take}
+use Rattle.shelf_model.specs.ertm_frames.specs.Answers.{Answer}
+use Rattle.shelf_model.specs.ertm_frames.specs.Frames.{PlainFrame}
+use Rattle.shelf_model.specs.ertm_frames.specs.Segments.{Segment, whole, start, end, continuation}
+use Rattle.shelf_model.specs.ertm_frames.specs.declared.refusal.FrameRefusal.{FrameRefusal}
+use Rattle.shelf_model.specs.ertm_model.specs.declared.reason.ErtmReason.{ErtmReason}
+use Rattle.shelf_model.specs.ertm_model.specs.declared.reason.ErtmReason.TheVariants.{RetryLimit}
+use Rattle.shelf_model.specs.ertm_model.specs.Value.{Kept, Poll, NoPoll, Due, Waits, Ertm}
+use Rattle.shelf_model.specs.ertm_model.specs.Giving.{Giving, PollAnswer, Acknowledgement, Rejection, Polling, Again, New, given_again, giving, after_by, first_poll, poll_timed, open_timed, timed, closing, polling}
+use Rattle.shelf_model.specs.ertm_model.specs.Hearing.{acknowledged, fault, heard_by, open_heard, heard, closed_by, refusal_fault, refused}
+use Rattle.shelf_model.specs.ertm_model.specs.Submitting.{later_within, later_segments, cut, is_busy, submitted, taking}
+use Rattle.shelf_model.specs.ertm_model.proofs.Inverting.{Gives, gives}
+use Rattle.shelf_model.specs.ertm_model.proofs.Lists.{again-length}
+use Rattle.shelf_model.specs.l2cap_config.specs.declared.wish.Mode.{Mode}
+use Rattle.shelf_model.specs.l2cap_config.specs.declared.wish.Mode.TheVariants.{Basic, Enhanced}
+use Rattle.shelf_model.specs.l2cap_config.specs.declared.wish.Wish.{Wish}
+use Rattle.shelf_model.specs.l2cap_config.specs.Agreement.{asked_mode, sent_window, agreed_on}
+use Rattle.shelf_model.specs.l2cap_signal.specs.Reading.{answers}
+use Rattle.channel_laws.specs.channel_model.specs.declared.event.ChannelEvent.{ChannelEvent}
+use Rattle.channel_laws.specs.channel_model.specs.Value.{Carrier, Plain, Retransmitting, Channels, no_channels}
+use Rattle.channel_laws.specs.channel_model.specs.Policies.{Policy}
+use Rattle.channel_laws.specs.channel_model.specs.Configuring.{bounded_agreement, carrier_by}
+use Rattle.channel_laws.specs.channel_model.specs.Carrying.{read_by, machine_heard}
+use Rattle.channel_laws.specs.channel_model.specs.Giving.{carrier_given}
+use Rattle.channel_laws.specs.channel_model.specs.Calls.{carrier_with}
+use Rattle.channel_laws.specs.channel_model.specs.Hearing.{hears, hears_commands}
+use Rattle.channel_laws.specs.channel_model.specs.Carrying.{takes}
+use Rattle.channel_laws.specs.channel_model.specs.Timing.{timed_out}
+use Rattle.channel_laws.specs.channel_model.specs.Giving.{after_given}
+use Rattle.channel_laws.specs.channel_model.specs.Calls.{connected, asks_features, disconnected, sends}
+use Rattle.channel_laws.specs.channel_model.proofs.Going.{IsAccepted, CarrierGoes, Walks}
+use Rattle.channel_laws.specs.channel_model.proofs.Lookups.{own_of, Distinct}
+use Rattle.channel_laws.specs.channel_model.proofs.Walking.{commands-go}
+use Rattle.channel_laws.specs.channel_model.proofs.Calling.{connected-goes, asks-features-goes, disconnected-goes, sends-goes, takes-goes, timed-goes, given-goes}
 use Rattle.channel_laws.proofs.Keeping.{OfCarrier, AllKeep, KeepsOn, Keeps, walks-keep}
 
 -- ---- segments

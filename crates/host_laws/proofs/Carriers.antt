@@ -5,29 +5,29 @@ use Rattle.std.proofs.Math.Seq.{drop-nil}
 use Rattle.std.proofs.lemmas.Bool.{eqb-true}
 use Rattle.std.proofs.lemmas.List.{map-append}
 use Rattle.std.proofs.lemmas.List.Elements.{filter_map-append}
-use Rattle.bt_base.specs.declared.settings.Settings.{Settings}
-use Rattle.bt_base.specs.declared.settings.Transport.{Transport}
-use Rattle.bt_base.specs.declared.settings.Transport.TheVariants.{L2cap, Rfcomm}
-use Rattle.bt_base.specs.Objects.{Object, Contents}
-use Rattle.capture.specs.declared.flow.Flow.{Flow}
-use Rattle.capture.specs.declared.flow.Flow.TheVariants.{Out, Into}
-use Rattle.capture.specs.Histories.{each_after, given_by}
-use Rattle.capture.proofs.HistoryLaws.{given_by-more}
-use Rattle.obex_headers.specs.Runs.{objects_from}
-use Rattle.rfcomm_frames.specs.Multiplexing.{Passed}
-use Rattle.rfcomm_frames.specs.ObexPackets.{obex_packets}
-use Rattle.rfcomm_frames.specs.UserChannel.{user_octets}
-use Rattle.rfcomm_frames.specs.declared.connection.Role.TheVariants.{Initiator, Responder}
-use Rattle.link_talk.specs.declared.party.Party.{Party}
-use Rattle.link_talk.specs.Sayings.{Saying}
-use Rattle.link_talk.specs.Gains.{beyond, gained}
-use Rattle.link_talk.specs.ObjectsHeard.{put_within, spelled_within, objects}
-use Rattle.link_talk.specs.Packets.{OverRfcomm, passed, packets_over_rfcomm, packet_with, packets_spoken}
-use Rattle.link_talk.specs.Sdus.{Spoken, spoken_as, spoken_way, spoken_one_way, spoken}
-use Rattle.talk_laws.proofs.Objects.{objects-append, objects-grow}
-use Rattle.talk_laws.proofs.Passes.{drop_front}
-use Rattle.push_model.specs.Client.{own_maximum}
-use Rattle.push_model.specs.Server.{object_psm, rfcomm_psm}
+use Rattle.shelf_model.specs.bt_base.specs.declared.settings.Settings.{Settings}
+use Rattle.shelf_model.specs.bt_base.specs.declared.settings.Transport.{Transport}
+use Rattle.shelf_model.specs.bt_base.specs.declared.settings.Transport.TheVariants.{L2cap, Rfcomm}
+use Rattle.shelf_model.specs.bt_base.specs.Objects.{Object, Contents}
+use Rattle.shelf_model.specs.capture.specs.declared.flow.Flow.{Flow}
+use Rattle.shelf_model.specs.capture.specs.declared.flow.Flow.TheVariants.{Out, Into}
+use Rattle.shelf_model.specs.capture.specs.Histories.{each_after, given_by}
+use Rattle.shelf_model.specs.capture.proofs.HistoryLaws.{given_by-more}
+use Rattle.shelf_model.specs.obex_headers.specs.Runs.{objects_from}
+use Rattle.shelf_model.specs.rfcomm_frames.specs.Multiplexing.{Passed}
+use Rattle.shelf_model.specs.rfcomm_frames.specs.ObexPackets.{obex_packets}
+use Rattle.shelf_model.specs.rfcomm_frames.specs.UserChannel.{user_octets}
+use Rattle.shelf_model.specs.rfcomm_frames.specs.declared.connection.Role.TheVariants.{Initiator, Responder}
+use Rattle.push_laws.specs.link_talk.specs.declared.party.Party.{Party}
+use Rattle.push_laws.specs.link_talk.specs.Sayings.{Saying}
+use Rattle.push_laws.specs.link_talk.specs.Gains.{beyond, gained}
+use Rattle.push_laws.specs.link_talk.specs.ObjectsHeard.{put_within, spelled_within, objects}
+use Rattle.push_laws.specs.link_talk.specs.Packets.{OverRfcomm, passed, packets_over_rfcomm, packet_with, packets_spoken}
+use Rattle.push_laws.specs.link_talk.specs.Sdus.{Spoken, spoken_as, spoken_way, spoken_one_way, spoken}
+use Rattle.channel_laws.specs.talk_laws.proofs.Objects.{objects-append, objects-grow}
+use Rattle.channel_laws.specs.talk_laws.proofs.Passes.{drop_front}
+use Rattle.push_laws.specs.push_model.specs.Client.{own_maximum}
+use Rattle.push_laws.specs.push_model.specs.Server.{object_psm, rfcomm_psm}
 use Rattle.push_laws.specs.Gains as clear
 use Rattle.push_laws.specs.Gains.{objects_over, objects_with}
 use Rattle.push_laws.specs.Occurrences.{Occurrence, Came, Went, Closed, LinkDown, Asked, Answering}

@@ -1,23 +1,23 @@
 -- What one channel does in a firing.
 use Rattle.std.proofs.Common.{◌≡◌, ℕ, List, [], ◌∷◌, ◌++◌, map, filter, find, Bool, true, false, cond, not, ◌||◌, eqb, nat_le, Option, Some, None, is_some, refl, sym, ap, ap₂, subst, ◌∙◌, append_assoc, append-nil}
 use Rattle.std.specs.List.{AllByRecursion, list_any}
-use Rattle.ertm_model.specs.declared.reason.ErtmReason.{ErtmReason}
-use Rattle.ertm_model.specs.Giving.{timed}
-use Rattle.l2cap_config.specs.declared.options.Options.{Options}
-use Rattle.link_talk.specs.Sayings.{Saying}
-use Rattle.channel_model.specs.declared.errand.Errand.{Errand}
-use Rattle.channel_model.specs.declared.errand.Errand.TheVariants as errands
-use Rattle.channel_model.specs.declared.event.CloseReason.{CloseReason}
-use Rattle.channel_model.specs.declared.event.CloseReason.TheVariants.{RetryLimit}
-use Rattle.channel_model.specs.Value.{Request, Queued, Answer, Ask, Own, Unasked, Asking, Granted, Carrier, Plain, Retransmitting, Setup, Stage, Requested, Connected, Leaving, Closing, Crossed, Held, Channels}
-use Rattle.channel_model.specs.Changing.{has_own, has_fcs_by, held_at, in_place_of, to_setup, with_setup, setup_of, same_errand, is_copy, is_due, is_about, is_copy_about, queued}
-use Rattle.channel_model.specs.Asking.{new_request, StillDue, OnceMore, Spent}
-use Rattle.channel_model.specs.Closing.{closes, closes_at, ends, ends_at}
-use Rattle.channel_model.specs.Carrying.{reason_of, settles_machine}
-use Rattle.channel_model.specs.Timing.{fires, times, times_carrier, times_setup, times_stage, loses_end, times_end_at, times_end}
-use Rattle.channel_model.specs.Giving.{connection_at, configuration_by, configuration_at, disconnection_at, on_held, command_of}
-use Rattle.channel_model.specs.Calls.{own_waits}
-use Rattle.channel_model.proofs.Lookups.{own_of, Distinct, eqb-same, eqb-away, found-placed, find-placed, placed-distinct, find-others, distinct-filter}
+use Rattle.shelf_model.specs.ertm_model.specs.declared.reason.ErtmReason.{ErtmReason}
+use Rattle.shelf_model.specs.ertm_model.specs.Giving.{timed}
+use Rattle.shelf_model.specs.l2cap_config.specs.declared.options.Options.{Options}
+use Rattle.push_laws.specs.link_talk.specs.Sayings.{Saying}
+use Rattle.channel_laws.specs.channel_model.specs.declared.errand.Errand.{Errand}
+use Rattle.channel_laws.specs.channel_model.specs.declared.errand.Errand.TheVariants as errands
+use Rattle.channel_laws.specs.channel_model.specs.declared.event.CloseReason.{CloseReason}
+use Rattle.channel_laws.specs.channel_model.specs.declared.event.CloseReason.TheVariants.{RetryLimit}
+use Rattle.channel_laws.specs.channel_model.specs.Value.{Request, Queued, Answer, Ask, Own, Unasked, Asking, Granted, Carrier, Plain, Retransmitting, Setup, Stage, Requested, Connected, Leaving, Closing, Crossed, Held, Channels}
+use Rattle.channel_laws.specs.channel_model.specs.Changing.{has_own, has_fcs_by, held_at, in_place_of, to_setup, with_setup, setup_of, same_errand, is_copy, is_due, is_about, is_copy_about, queued}
+use Rattle.channel_laws.specs.channel_model.specs.Asking.{new_request, StillDue, OnceMore, Spent}
+use Rattle.channel_laws.specs.channel_model.specs.Closing.{closes, closes_at, ends, ends_at}
+use Rattle.channel_laws.specs.channel_model.specs.Carrying.{reason_of, settles_machine}
+use Rattle.channel_laws.specs.channel_model.specs.Timing.{fires, times, times_carrier, times_setup, times_stage, loses_end, times_end_at, times_end}
+use Rattle.channel_laws.specs.channel_model.specs.Giving.{connection_at, configuration_by, configuration_at, disconnection_at, on_held, command_of}
+use Rattle.channel_laws.specs.channel_model.specs.Calls.{own_waits}
+use Rattle.channel_laws.specs.channel_model.proofs.Lookups.{own_of, Distinct, eqb-same, eqb-away, found-placed, find-placed, placed-distinct, find-others, distinct-filter}
 use Rattle.channel_laws.specs.OwnTalk.{said_of}
 use Rattle.channel_laws.specs.Runs.{said_on_firing}
 use Rattle.channel_laws.proofs.Asking.{newest-last}

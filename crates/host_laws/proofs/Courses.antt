@@ -1,23 +1,23 @@
 -- What a client that uses its link asks of its host next, and how it stands then.
 use Rattle.std.proofs.Common.{◌≡◌, ℕ, List, [], ◌∷◌, eqb, Bool, true, false, cond, Option, Some, None, Result, Ok, Err, refl, sym, ap, subst, ◌∙◌, inr}
 use Rattle.std.specs.Prelude.{is_some}
-use Rattle.bt_base.specs.declared.ports.PortFault.{PortFault}
-use Rattle.bt_base.specs.declared.ports.PortFault.TheVariants as fault
-use Rattle.bt_base.specs.declared.settings.Transport.{Transport}
-use Rattle.bt_base.specs.declared.settings.Transport.TheVariants.{L2cap, Rfcomm}
-use Rattle.push_terms.specs.declared.outcome.Outcome.{Outcome}
-use Rattle.push_terms.specs.declared.outcome.Outcome.TheVariants as outcomes
-use Rattle.rfcomm_model.specs.Machine.{leaves}
-use Rattle.rfcomm_model.specs.Saying.{Said, next}
-use Rattle.sdp_client.specs.Asking.{is_due}
-use Rattle.push_model.specs.declared.course.Contact.TheVariants.{Closing}
-use Rattle.push_model.specs.declared.course.Point.TheVariants.{Due, Asked}
-use Rattle.push_model.specs.declared.course.Stage.{Stage}
-use Rattle.push_model.specs.declared.course.Stage.TheVariants.{Rest, Link, SearchChannel, Search, SearchEnd, Features, ObjectChannel, Object, ObjectEnd, LinkEnd, Over}
-use Rattle.push_model.specs.Client.{Client, ends}
-use Rattle.push_model.specs.Events.{is_asking_features}
-use Rattle.push_model.specs.Steps as course
-use Rattle.push_model.specs.Steps.{Part, Step, Wait, MakeLink, AskFeatures, OpenChannel, SendSdu, CloseChannel, BreakLink, Ended, NoMemory, Stepped, Made, Ask, Connect, Put, Abort, Disconnect, Close, Nothing, steps}
+use Rattle.shelf_model.specs.bt_base.specs.declared.ports.PortFault.{PortFault}
+use Rattle.shelf_model.specs.bt_base.specs.declared.ports.PortFault.TheVariants as fault
+use Rattle.shelf_model.specs.bt_base.specs.declared.settings.Transport.{Transport}
+use Rattle.shelf_model.specs.bt_base.specs.declared.settings.Transport.TheVariants.{L2cap, Rfcomm}
+use Rattle.shelf_model.specs.push_terms.specs.declared.outcome.Outcome.{Outcome}
+use Rattle.shelf_model.specs.push_terms.specs.declared.outcome.Outcome.TheVariants as outcomes
+use Rattle.shelf_model.specs.rfcomm_model.specs.Machine.{leaves}
+use Rattle.shelf_model.specs.rfcomm_model.specs.Saying.{Said, next}
+use Rattle.shelf_model.specs.sdp_client.specs.Asking.{is_due}
+use Rattle.push_laws.specs.push_model.specs.declared.course.Contact.TheVariants.{Closing}
+use Rattle.push_laws.specs.push_model.specs.declared.course.Point.TheVariants.{Due, Asked}
+use Rattle.push_laws.specs.push_model.specs.declared.course.Stage.{Stage}
+use Rattle.push_laws.specs.push_model.specs.declared.course.Stage.TheVariants.{Rest, Link, SearchChannel, Search, SearchEnd, Features, ObjectChannel, Object, ObjectEnd, LinkEnd, Over}
+use Rattle.push_laws.specs.push_model.specs.Client.{Client, ends}
+use Rattle.push_laws.specs.push_model.specs.Events.{is_asking_features}
+use Rattle.push_laws.specs.push_model.specs.Steps as course
+use Rattle.push_laws.specs.push_model.specs.Steps.{Part, Step, Wait, MakeLink, AskFeatures, OpenChannel, SendSdu, CloseChannel, BreakLink, Ended, NoMemory, Stepped, Made, Ask, Connect, Put, Abort, Disconnect, Close, Nothing, steps}
 use Rattle.host_laws.specs.Leaving.{in_use, is_closing, is_off}
 use Rattle.host_laws.proofs.Faces.{ends_link, may_ask, Goes, same_face, same, OnObject, Objects, objects_if, objects_end, object_goes}
 

@@ -1,19 +1,19 @@
 -- What is so of each excerpt that a client is given of its shelf stays so of those that it has.
 use Rattle.std.proofs.Common.{ℕ, zero, suc, ◌-◌, Bool, true, false, List, [], ◌∷◌, length, drop, Option, Some, None, if◌then◌else◌}
 use Rattle.std.specs.List.{AllByRecursion}
-use Rattle.bt_base.specs.declared.settings.Settings.{Settings}
-use Rattle.channel_model.specs.Calls.{sends, waits}
-use Rattle.channel_model.specs.Value.{Channels}
-use Rattle.push_model.specs.Client.{Client, begins}
-use Rattle.push_model.specs.Payloads.{Payload}
-use Rattle.push_model.specs.Steps.{Step, Wait, MakeLink, AskFeatures, OpenChannel, SendSdu, CloseChannel, BreakLink, Ended, NoMemory, steps}
-use Rattle.world_model.specs.Machines.{News, Linked, Up, Down, Failed, Heard, TimerFired, Cancelled, Opening}
-use Rattle.host_model.specs.Circumstances.{Circumstance, Excerpt, parts_in}
-use Rattle.host_model.specs.Clients as clients
-use Rattle.host_model.specs.Clients.{ClientProfile, NoBid, client_profile, after_call, ended, fitted, sent_on, submits, takes}
-use Rattle.host_model.specs.Endpoints.{endpoint_of, takes_sdu}
-use Rattle.host_model.specs.Pdus.{sdu_of}
-use Rattle.host_model.specs.Shelves.{size_for, name_for, unused}
+use Rattle.shelf_model.specs.bt_base.specs.declared.settings.Settings.{Settings}
+use Rattle.channel_laws.specs.channel_model.specs.Calls.{sends, waits}
+use Rattle.channel_laws.specs.channel_model.specs.Value.{Channels}
+use Rattle.push_laws.specs.push_model.specs.Client.{Client, begins}
+use Rattle.push_laws.specs.push_model.specs.Payloads.{Payload}
+use Rattle.push_laws.specs.push_model.specs.Steps.{Step, Wait, MakeLink, AskFeatures, OpenChannel, SendSdu, CloseChannel, BreakLink, Ended, NoMemory, steps}
+use Rattle.shelf_model.specs.world_model.specs.Machines.{News, Linked, Up, Down, Failed, Heard, TimerFired, Cancelled, Opening}
+use Rattle.shelf_model.specs.host_model.specs.Circumstances.{Circumstance, Excerpt, parts_in}
+use Rattle.shelf_model.specs.host_model.specs.Clients as clients
+use Rattle.shelf_model.specs.host_model.specs.Clients.{ClientProfile, NoBid, client_profile, after_call, ended, fitted, sent_on, submits, takes}
+use Rattle.shelf_model.specs.host_model.specs.Endpoints.{endpoint_of, takes_sdu}
+use Rattle.shelf_model.specs.host_model.specs.Pdus.{sdu_of}
+use Rattle.shelf_model.specs.host_model.specs.Shelves.{size_for, name_for, unused}
 use Rattle.host_laws.specs.Feeds.{Feed, Gifts, Learns, Receives, Happens, Sent, Steps, fed}
 
 module _ (Is : Excerpt → Type 0) where

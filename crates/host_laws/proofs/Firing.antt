@@ -1,14 +1,14 @@
 -- What a firing says waits to be given behind it, where no channel is on its way out while its own options are asked for.
 use Rattle.std.proofs.Common.{◌≡◌, ℕ, List, [], ◌∷◌, ◌++◌, Bool, true, false, cond, not, ◌&&◌, ◌||◌, eqb, Some, refl, sym, ap, ap₂, ◌∙◌, append_assoc, append-nil}
 use Rattle.std.specs.List.{list_any}
-use Rattle.link_talk.specs.Sayings.{Saying}
-use Rattle.channel_model.specs.declared.errand.Errand.{Errand}
-use Rattle.channel_model.specs.declared.errand.Errand.TheVariants as errands
-use Rattle.channel_model.specs.Value.{Queued, Ask, Channels}
-use Rattle.channel_model.specs.Changing.{held_at, same_errand, is_copy, is_due, queued}
-use Rattle.channel_model.specs.Asking.{next_identifier}
-use Rattle.channel_model.specs.Giving.{command_of}
-use Rattle.channel_model.proofs.Lookups.{eqb-same}
+use Rattle.push_laws.specs.link_talk.specs.Sayings.{Saying}
+use Rattle.channel_laws.specs.channel_model.specs.declared.errand.Errand.{Errand}
+use Rattle.channel_laws.specs.channel_model.specs.declared.errand.Errand.TheVariants as errands
+use Rattle.channel_laws.specs.channel_model.specs.Value.{Queued, Ask, Channels}
+use Rattle.channel_laws.specs.channel_model.specs.Changing.{held_at, same_errand, is_copy, is_due, queued}
+use Rattle.channel_laws.specs.channel_model.specs.Asking.{next_identifier}
+use Rattle.channel_laws.specs.channel_model.specs.Giving.{command_of}
+use Rattle.channel_laws.specs.channel_model.proofs.Lookups.{eqb-same}
 use Rattle.channel_laws.specs.OwnTalk.{said_of, asked_between, newest}
 use Rattle.channel_laws.specs.Runs.{given_up, said_again, said_on_firing}
 use Rattle.channel_laws.proofs.Asking.{next-apart}

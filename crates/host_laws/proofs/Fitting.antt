@@ -2,38 +2,38 @@
 use Rattle.std.proofs.Common.{◌≡◌, ℕ, zero, suc, ◌^◌, ◌<◌, List, [], ◌∷◌, length, Bool, true, false, Option, Some, None, is_some, refl, arith, if◌then◌else◌}
 use Rattle.std.specs.Prelude.{not, ◌&&◌}
 use Rattle.std.proofs.lemmas.Bool.{and_parts, leb-true}
-use Rattle.acl_fragments.specs.Pieces.{channel_of}
-use Rattle.bt_base.specs.Objects.{Contents}
-use Rattle.bt_base.specs.declared.settings.Settings.{Settings}
-use Rattle.channel_model.specs.declared.event.ChannelEvent.{ChannelEvent}
-use Rattle.channel_model.specs.declared.event.ChannelEvent.TheVariants.{Opened, Closed, Features, FeaturesLost, DisconnectLost}
-use Rattle.channel_model.specs.Value.{Channels, no_channels}
-use Rattle.channel_model.specs.Policies.{Policy, policy}
-use Rattle.channel_model.specs.Calls.{link_up, link_down, connected, asks_features, disconnected, sends, peer_mtu, waits}
-use Rattle.channel_model.specs.Giving.{next_given, after_given}
-use Rattle.channel_model.specs.Timing.{timed_out}
-use Rattle.channel_model.specs.Hearing.{hears, up}
-use Rattle.channel_model.specs.Carrying.{Up as Handed, Nothing, Received}
+use Rattle.shelf_model.specs.acl_fragments.specs.Pieces.{channel_of}
+use Rattle.shelf_model.specs.bt_base.specs.Objects.{Contents}
+use Rattle.shelf_model.specs.bt_base.specs.declared.settings.Settings.{Settings}
+use Rattle.channel_laws.specs.channel_model.specs.declared.event.ChannelEvent.{ChannelEvent}
+use Rattle.channel_laws.specs.channel_model.specs.declared.event.ChannelEvent.TheVariants.{Opened, Closed, Features, FeaturesLost, DisconnectLost}
+use Rattle.channel_laws.specs.channel_model.specs.Value.{Channels, no_channels}
+use Rattle.channel_laws.specs.channel_model.specs.Policies.{Policy, policy}
+use Rattle.channel_laws.specs.channel_model.specs.Calls.{link_up, link_down, connected, asks_features, disconnected, sends, peer_mtu, waits}
+use Rattle.channel_laws.specs.channel_model.specs.Giving.{next_given, after_given}
+use Rattle.channel_laws.specs.channel_model.specs.Timing.{timed_out}
+use Rattle.channel_laws.specs.channel_model.specs.Hearing.{hears, up}
+use Rattle.channel_laws.specs.channel_model.specs.Carrying.{Up as Handed, Nothing, Received}
 use Rattle.channel_laws.proofs.Fitted.{IsLowPsm, low-psm, FittedLow, told-fitted, new-fitted, comes-fitted, connects-fitted, asks-fitted, disconnects-fitted, sends-fitted, timed-fitted, gives-fitted}
 use Rattle.channel_laws.proofs.Numbering.{AreNumbered, told-numbered, occurs-numbered, mtu-short, new-numbered}
 use Rattle.channel_laws.specs.Runs.{Comes, Connects, AsksFeatures, Disconnects, Sends, Gives, Fires}
-use Rattle.world_model.specs.Machines.{Up, Down, News, Linked, Failed, Heard, TimerFired, Cancelled, Opening}
-use Rattle.push_model.specs.declared.closing.CloseCause.{CloseCause}
-use Rattle.push_model.specs.Client.{Client, begins, cancelled}
-use Rattle.push_model.specs.Events as events
-use Rattle.push_model.specs.Payloads.{Payload}
-use Rattle.push_model.specs.Server.{Server, Lent, lends, lent_sdu}
-use Rattle.push_model.specs.Steps.{Step, Wait, MakeLink, AskFeatures, OpenChannel, SendSdu, CloseChannel, BreakLink, Ended, NoMemory, steps}
-use Rattle.host_model.specs.Circumstances.{Circumstance}
-use Rattle.host_model.specs.Endpoints.{endpoint_of, fits, takes_sdu}
-use Rattle.host_model.specs.Pdus.{sdu_of, are_octets}
-use Rattle.host_model.specs.Profiles.{Stride, Profile}
-use Rattle.host_model.specs.Hosts.{Host, first_host, tells_each, tells_events, settles, strides, goes_by, drives, most_steps, steps_behind, handed, hears_pdu, ready, hears_news, hear, after_said}
-use Rattle.host_model.specs.Clients as clients
-use Rattle.host_model.specs.Clients.{ClientProfile, client_profile, after_end, ended, after_call, calls, cause_of, closed_by, opened_by, event_heard, sent_on, NoBid, fitted}
-use Rattle.host_model.specs.Servers as servers
-use Rattle.host_model.specs.Servers.{ServerProfile, server_profile}
-use Rattle.host_model.specs.Shelves.{size_for, name_for, unused}
+use Rattle.shelf_model.specs.world_model.specs.Machines.{Up, Down, News, Linked, Failed, Heard, TimerFired, Cancelled, Opening}
+use Rattle.push_laws.specs.push_model.specs.declared.closing.CloseCause.{CloseCause}
+use Rattle.push_laws.specs.push_model.specs.Client.{Client, begins, cancelled}
+use Rattle.push_laws.specs.push_model.specs.Events as events
+use Rattle.push_laws.specs.push_model.specs.Payloads.{Payload}
+use Rattle.push_laws.specs.push_model.specs.Server.{Server, Lent, lends, lent_sdu}
+use Rattle.push_laws.specs.push_model.specs.Steps.{Step, Wait, MakeLink, AskFeatures, OpenChannel, SendSdu, CloseChannel, BreakLink, Ended, NoMemory, steps}
+use Rattle.shelf_model.specs.host_model.specs.Circumstances.{Circumstance}
+use Rattle.shelf_model.specs.host_model.specs.Endpoints.{endpoint_of, fits, takes_sdu}
+use Rattle.shelf_model.specs.host_model.specs.Pdus.{sdu_of, are_octets}
+use Rattle.shelf_model.specs.host_model.specs.Profiles.{Stride, Profile}
+use Rattle.shelf_model.specs.host_model.specs.Hosts.{Host, first_host, tells_each, tells_events, settles, strides, goes_by, drives, most_steps, steps_behind, handed, hears_pdu, ready, hears_news, hear, after_said}
+use Rattle.shelf_model.specs.host_model.specs.Clients as clients
+use Rattle.shelf_model.specs.host_model.specs.Clients.{ClientProfile, client_profile, after_end, ended, after_call, calls, cause_of, closed_by, opened_by, event_heard, sent_on, NoBid, fitted}
+use Rattle.shelf_model.specs.host_model.specs.Servers as servers
+use Rattle.shelf_model.specs.host_model.specs.Servers.{ServerProfile, server_profile}
+use Rattle.shelf_model.specs.host_model.specs.Shelves.{size_for, name_for, unused}
 use Rattle.host_laws.specs.Read.{IsSoberPdu, IsHeardSo}
 use Rattle.host_laws.proofs.Reaching.{IsLowNumber, IsLow, opens, news-low, cancelled-low, begins-low, steps-low}
 

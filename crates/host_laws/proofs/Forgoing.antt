@@ -5,37 +5,37 @@ use Rattle.std.specs.Prelude.{find, filter, slice_get, option_to_list, option_ma
 use Rattle.std.specs.List.{AllByRecursion, list_any}
 use Rattle.std.proofs.lemmas.List.Folds.{list_any-append}
 use Rattle.std.proofs.lemmas.List.Sums.{fold-append}
-use Rattle.acl_fragments.specs.Pieces.{channel_of}
-use Rattle.capture.specs.declared.flow.Flow.TheVariants.{Into}
-use Rattle.l2cap_signal.specs.Commands.{Command}
-use Rattle.l2cap_signal.specs.Reading.{Answer as Read, answers}
-use Rattle.ertm_model.specs.declared.reason.ErtmReason.{ErtmReason}
-use Rattle.ertm_model.specs.Value.{Ertm}
-use Rattle.ertm_model.specs.Giving.{timed}
-use Rattle.link_talk.specs.Sayings.{Saying, Carried, GaveUp}
-use Rattle.link_talk.specs.Sayings as sayings
-use Rattle.capture.specs.Histories.{EachAfter}
-use Rattle.channel_model.specs.declared.errand.Errand.{Errand}
-use Rattle.channel_model.specs.declared.errand.Errand.TheVariants as errands
-use Rattle.channel_model.specs.declared.event.ChannelEvent.{ChannelEvent}
-use Rattle.channel_model.specs.declared.event.ChannelEvent.TheVariants as events
-use Rattle.channel_model.specs.declared.event.CloseReason.{CloseReason}
-use Rattle.channel_model.specs.declared.event.CloseReason.TheVariants.{RetryLimit}
-use Rattle.channel_model.specs.Value.{Request, Ask, Own, Unasked, Asking, Granted, Carrier, Plain, Retransmitting, Setup, Stage, Requested, Connected, Leaving, Closing, Crossed, Held, Channels}
-use Rattle.channel_model.specs.Policies.{Policy}
-use Rattle.channel_model.specs.Changing.{has_own, in_place_of, held_at, has_fcs_by, setup_of, stage_with, to_setup, gone, queued}
-use Rattle.channel_model.specs.Asking.{new_request, Fired, StillDue, OnceMore, Spent, fired}
-use Rattle.channel_model.specs.Carrying.{reason_of, settles_machine, takes}
-use Rattle.channel_model.specs.Closing.{closes, closes_at, ends, ends_at}
-use Rattle.channel_model.specs.Following.{can_say}
-use Rattle.channel_model.specs.Giving.{Given, Signal, Whole, Framed, next_given}
-use Rattle.channel_model.specs.Hearing.{hears_command, hears_commands}
-use Rattle.channel_model.specs.Timing.{fires, times_carrier, times_setup, times_stage, times_held, loses_end, times_end_at, times_end, loses_features, times_features, times_channels}
-use Rattle.channel_model.specs.Calls.{connected, asks_features, disconnected_at, disconnected_held, disconnected, carrier_at}
-use Rattle.channel_model.proofs.Lookups.{own_of, Distinct, found-has, found-placed}
-use Rattle.channel_model.proofs.Going.{staged, Walks}
-use Rattle.channel_model.proofs.Walking.{commands-go}
-use Rattle.channel_model.proofs.Calling.{connected-goes, asks-features-goes, disconnected-goes, sends-goes, takes-goes, timed-held, ended-held, features-timed, given-goes}
+use Rattle.shelf_model.specs.acl_fragments.specs.Pieces.{channel_of}
+use Rattle.shelf_model.specs.capture.specs.declared.flow.Flow.TheVariants.{Into}
+use Rattle.shelf_model.specs.l2cap_signal.specs.Commands.{Command}
+use Rattle.shelf_model.specs.l2cap_signal.specs.Reading.{Answer as Read, answers}
+use Rattle.shelf_model.specs.ertm_model.specs.declared.reason.ErtmReason.{ErtmReason}
+use Rattle.shelf_model.specs.ertm_model.specs.Value.{Ertm}
+use Rattle.shelf_model.specs.ertm_model.specs.Giving.{timed}
+use Rattle.push_laws.specs.link_talk.specs.Sayings.{Saying, Carried, GaveUp}
+use Rattle.push_laws.specs.link_talk.specs.Sayings as sayings
+use Rattle.shelf_model.specs.capture.specs.Histories.{EachAfter}
+use Rattle.channel_laws.specs.channel_model.specs.declared.errand.Errand.{Errand}
+use Rattle.channel_laws.specs.channel_model.specs.declared.errand.Errand.TheVariants as errands
+use Rattle.channel_laws.specs.channel_model.specs.declared.event.ChannelEvent.{ChannelEvent}
+use Rattle.channel_laws.specs.channel_model.specs.declared.event.ChannelEvent.TheVariants as events
+use Rattle.channel_laws.specs.channel_model.specs.declared.event.CloseReason.{CloseReason}
+use Rattle.channel_laws.specs.channel_model.specs.declared.event.CloseReason.TheVariants.{RetryLimit}
+use Rattle.channel_laws.specs.channel_model.specs.Value.{Request, Ask, Own, Unasked, Asking, Granted, Carrier, Plain, Retransmitting, Setup, Stage, Requested, Connected, Leaving, Closing, Crossed, Held, Channels}
+use Rattle.channel_laws.specs.channel_model.specs.Policies.{Policy}
+use Rattle.channel_laws.specs.channel_model.specs.Changing.{has_own, in_place_of, held_at, has_fcs_by, setup_of, stage_with, to_setup, gone, queued}
+use Rattle.channel_laws.specs.channel_model.specs.Asking.{new_request, Fired, StillDue, OnceMore, Spent, fired}
+use Rattle.channel_laws.specs.channel_model.specs.Carrying.{reason_of, settles_machine, takes}
+use Rattle.channel_laws.specs.channel_model.specs.Closing.{closes, closes_at, ends, ends_at}
+use Rattle.channel_laws.specs.channel_model.specs.Following.{can_say}
+use Rattle.channel_laws.specs.channel_model.specs.Giving.{Given, Signal, Whole, Framed, next_given}
+use Rattle.channel_laws.specs.channel_model.specs.Hearing.{hears_command, hears_commands}
+use Rattle.channel_laws.specs.channel_model.specs.Timing.{fires, times_carrier, times_setup, times_stage, times_held, loses_end, times_end_at, times_end, loses_features, times_features, times_channels}
+use Rattle.channel_laws.specs.channel_model.specs.Calls.{connected, asks_features, disconnected_at, disconnected_held, disconnected, carrier_at}
+use Rattle.channel_laws.specs.channel_model.proofs.Lookups.{own_of, Distinct, found-has, found-placed}
+use Rattle.channel_laws.specs.channel_model.proofs.Going.{staged, Walks}
+use Rattle.channel_laws.specs.channel_model.proofs.Walking.{commands-go}
+use Rattle.channel_laws.specs.channel_model.proofs.Calling.{connected-goes, asks-features-goes, disconnected-goes, sends-goes, takes-goes, timed-held, ended-held, features-timed, given-goes}
 use Rattle.channel_laws.specs.OwnTalk.{spoken, reply_to, exchanged, newest, said_of, asked_between, said_with, said_with_all}
 use Rattle.channel_laws.specs.Runs.{Occurrence, Comes, Connects, AsksFeatures, Disconnects, Sends, Gives, Fires, Tells, forgone_between, given_up, features_given_up, said_again, said_on_firing, said_by_channel, fired_channel, said_by_channels, peer_at, said_by_carrier, said_as, said_in, told_in, value_after, Run, new_link, run_on, run_of, arisen}
 use Rattle.channel_laws.proofs.Due.{Any}

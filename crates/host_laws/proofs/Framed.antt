@@ -2,31 +2,31 @@
 use Rattle.std.proofs.Common.{◌≡◌, ℕ, zero, suc, ◌+◌, ◌<◌, ◌≤◌, List, [], ◌∷◌, ◌++◌, length, Bool, true, false, cond, eqb, Option, Some, None, refl, subst, arith, length-append}
 use Rattle.std.specs.Prelude.{find, option_map, slice_get}
 use Rattle.std.specs.List.{AllByRecursion, flat_map}
-use Rattle.bt_base.specs.Octets.{IsOctets, le16}
-use Rattle.h4_framing.proofs.OctetLists.{IsOctets-append, IsOctets-cons, IsOctets-nil}
-use Rattle.check_words.specs.CheckWords.{l2cap_check}
-use Rattle.ertm_frames.specs.Frames as frames
-use Rattle.ertm_frames.specs.Frames.{PlainFrame, information, supervisory, control_of, body_of, covered}
-use Rattle.ertm_model.specs.Value.{Kept, Ertm}
-use Rattle.ertm_model.specs.Giving.{Giving, PollAnswer, Acknowledgement, Rejection, Polling, Again, New, giving, frame_by}
-use Rattle.ertm_model.proofs.Inverting.{Gives, gives as machine_gives}
-use Rattle.l2cap_signal.specs.Commands.{Content, Command, reject, connection_request, connection_response, configuration_request, configuration_response, disconnection_request, disconnection_response, echo_request, echo_response, information_request, information_response, code_of, words_of, rest_of, payload_of, spelling}
-use Rattle.l2cap_config.specs.declared.wish.Wish.{Wish}
-use Rattle.channel_model.specs.declared.errand.Errand.{Errand}
-use Rattle.channel_model.specs.declared.errand.Errand.TheVariants as errands
-use Rattle.channel_model.specs.Value.{Request, Queued, Answer, Ask, Own, Unasked, Asking, Granted, Carrier, Plain, Retransmitting, Stage, Requested, Connected, Leaving, Closing, Crossed, Held, Channels}
-use Rattle.channel_model.specs.Policies.{Policy}
-use Rattle.channel_model.specs.Changing.{has_own, held_at}
-use Rattle.channel_model.specs.Giving.{Given, Signal, Whole, Framed, connection_at, configuration_by, configuration_at, disconnection_at, on_held, features_command, command_of, some_carrier_gives, stage_gives, gives, held_gives, queue_gives, next_given, headed}
-use Rattle.channel_model.proofs.Lookups.{own_of, found-distinct}
+use Rattle.shelf_model.specs.bt_base.specs.Octets.{IsOctets, le16}
+use Rattle.shelf_model.specs.h4_framing.proofs.OctetLists.{IsOctets-append, IsOctets-cons, IsOctets-nil}
+use Rattle.shelf_model.specs.check_words.specs.CheckWords.{l2cap_check}
+use Rattle.shelf_model.specs.ertm_frames.specs.Frames as frames
+use Rattle.shelf_model.specs.ertm_frames.specs.Frames.{PlainFrame, information, supervisory, control_of, body_of, covered}
+use Rattle.shelf_model.specs.ertm_model.specs.Value.{Kept, Ertm}
+use Rattle.shelf_model.specs.ertm_model.specs.Giving.{Giving, PollAnswer, Acknowledgement, Rejection, Polling, Again, New, giving, frame_by}
+use Rattle.shelf_model.specs.ertm_model.proofs.Inverting.{Gives, gives as machine_gives}
+use Rattle.shelf_model.specs.l2cap_signal.specs.Commands.{Content, Command, reject, connection_request, connection_response, configuration_request, configuration_response, disconnection_request, disconnection_response, echo_request, echo_response, information_request, information_response, code_of, words_of, rest_of, payload_of, spelling}
+use Rattle.shelf_model.specs.l2cap_config.specs.declared.wish.Wish.{Wish}
+use Rattle.channel_laws.specs.channel_model.specs.declared.errand.Errand.{Errand}
+use Rattle.channel_laws.specs.channel_model.specs.declared.errand.Errand.TheVariants as errands
+use Rattle.channel_laws.specs.channel_model.specs.Value.{Request, Queued, Answer, Ask, Own, Unasked, Asking, Granted, Carrier, Plain, Retransmitting, Stage, Requested, Connected, Leaving, Closing, Crossed, Held, Channels}
+use Rattle.channel_laws.specs.channel_model.specs.Policies.{Policy}
+use Rattle.channel_laws.specs.channel_model.specs.Changing.{has_own, held_at}
+use Rattle.channel_laws.specs.channel_model.specs.Giving.{Given, Signal, Whole, Framed, connection_at, configuration_by, configuration_at, disconnection_at, on_held, features_command, command_of, some_carrier_gives, stage_gives, gives, held_gives, queue_gives, next_given, headed}
+use Rattle.channel_laws.specs.channel_model.proofs.Lookups.{own_of, found-distinct}
 use Rattle.channel_laws.proofs.Fitted.{IsLowPsm, low-psm, IsForEndpoint, given-endpoint, given-fit}
 use Rattle.channel_laws.proofs.Keeping.{StageKeeps, HeldKeeps}
 use Rattle.channel_laws.proofs.Lasting.{answers_of, asked_by}
 use Rattle.channel_laws.proofs.Numbering.{HasNumbers, IsNumberedGiven, given-numbered}
-use Rattle.host_model.specs.Pdus.{number_of, pdu_of, frame_octets, is_frame}
-use Rattle.host_model.specs.Spelling.{Fits as FitsFields}
-use Rattle.host_model.proofs.Single.{pdu_is_frame}
-use Rattle.host_model.proofs.Spelled.{octets_are_right}
+use Rattle.shelf_model.specs.host_model.specs.Pdus.{number_of, pdu_of, frame_octets, is_frame}
+use Rattle.shelf_model.specs.host_model.specs.Spelling.{Fits as FitsFields}
+use Rattle.shelf_model.specs.host_model.proofs.Single.{pdu_is_frame}
+use Rattle.shelf_model.specs.host_model.proofs.Spelled.{octets_are_right}
 use Rattle.host_laws.proofs.Answering.{IsSmallAsked, AreSignals}
 use Rattle.host_laws.proofs.Cargo.{lead, IsCargo, IsLaden, IsLadenSome, LadenOn, AreLaden}
 use Rattle.host_laws.proofs.Fitting.{IsProper}

@@ -1,40 +1,40 @@
 -- A client keeps its transport, and what waits in its multiplexer are replies: so all frames that it sends there go on its own data link connection, or are answers.
 use Rattle.std.proofs.Common.{◌≡◌, ℕ, zero, suc, ◌==◌, ◌&&◌, ◌||◌, not, Bool, true, false, cond, List, [], ◌∷◌, ◌++◌, length, drop, Option, Some, None, is_none, is_some, nat_lt, take, Result, Ok, Err, refl, sym, ap, subst, ◌∙◌}
-use Rattle.bt_base.specs.declared.ports.PortFault.{PortFault}
-use Rattle.bt_base.specs.declared.ports.PortFault.TheVariants as fault
-use Rattle.bt_base.specs.declared.settings.Transport.{Transport}
-use Rattle.bt_base.specs.declared.settings.Transport.TheVariants.{L2cap, Rfcomm}
-use Rattle.push_terms.specs.declared.outcome.Outcome.{Outcome}
-use Rattle.push_terms.specs.declared.outcome.Outcome.TheVariants as outcomes
-use Rattle.rfcomm_frames.specs.Frames.{PlainFrame}
-use Rattle.rfcomm_frames.specs.FrameReading.{is_empty}
-use Rattle.rfcomm_model.specs.Hearing.{Up, nothing, opened, bytes, closed, up, hears}
-use Rattle.rfcomm_model.specs.Machine.{Mux, new_mux, leaves, is_leaving, is_ready, sends, taken_count}
-use Rattle.rfcomm_model.specs.Saying.{Said, next, after_said}
-use Rattle.rfcomm_model.proofs.Keeping.{next_keeps}
-use Rattle.sdp_elements.specs.declared.target.Target.{Target}
-use Rattle.sdp_elements.specs.Targets.{is_service_psm, is_server_channel}
-use Rattle.sdp_client.specs.Asking.{is_due, after_resend}
-use Rattle.sdp_client.specs.Hearing.{found_at, after_reply}
-use Rattle.sdp_client.specs.declared.reason.Found.{Found}
-use Rattle.sdp_client.specs.declared.reason.Found.TheVariants.{More, Service, NoService, Refused}
-use Rattle.obex_session.specs.declared.client.Answered.{Answered}
-use Rattle.obex_session.specs.declared.client.Answered.TheVariants as answer
-use Rattle.obex_session.specs.Views.{answer_at, after_at}
-use Rattle.push_model.specs.declared.closing.CloseCause.{CloseCause}
-use Rattle.push_model.specs.declared.course.Contact.TheVariants.{Closing}
-use Rattle.push_model.specs.declared.course.Point.TheVariants.{Due, Asked}
-use Rattle.push_model.specs.declared.course.Stage.{Stage}
-use Rattle.push_model.specs.declared.course.Stage.TheVariants.{Rest, Link, SearchChannel, Search, SearchEnd, Features, ObjectChannel, Object, ObjectEnd, LinkEnd, Over}
-use Rattle.push_model.specs.Causes.{cause_of_link, cause_of_page, cause_of_close, cause_of_mux, cause_of_obex, cause_of_query, small_channel, unawaited_response, unknown_parameters}
-use Rattle.push_model.specs.Client.{Client, ends, ends_by, ends_if, may_cancel, begun_by}
-use Rattle.push_model.specs.Streams.{Front, Whole, Partial, Broken, front_of}
-use Rattle.push_model.specs.Responding.{takes, hears_answer, hears_response, is_object, hears_front, hears_stream, hears_up, is_left, is_success, is_early}
-use Rattle.push_model.specs.Events as events
-use Rattle.push_model.specs.Events.{kept_of}
-use Rattle.push_model.specs.Laws.{Deed, Hears, Asks, Finishes, Cancels, done}
-use Rattle.push_model.specs.Payloads.{Payload, Octets, Framed}
-use Rattle.push_model.specs.Steps.{Part, Step, Wait, MakeLink, AskFeatures, OpenChannel, SendSdu, CloseChannel, BreakLink, Ended, NoMemory, Stepped, Made, Ask, Connect, Put, Abort, Disconnect, Close, Nothing, put_count, puts_part, puts_from, puts, leaves_by, puts_or_leaves, requests, sends_direct, asks_direct, filled, said_by, says, sends_muxed, takes_some, asks_through, asks_muxed, goes_muxed, steps_object, tells_end, steps_at, rests, may_ask, next_ask}
+use Rattle.shelf_model.specs.bt_base.specs.declared.ports.PortFault.{PortFault}
+use Rattle.shelf_model.specs.bt_base.specs.declared.ports.PortFault.TheVariants as fault
+use Rattle.shelf_model.specs.bt_base.specs.declared.settings.Transport.{Transport}
+use Rattle.shelf_model.specs.bt_base.specs.declared.settings.Transport.TheVariants.{L2cap, Rfcomm}
+use Rattle.shelf_model.specs.push_terms.specs.declared.outcome.Outcome.{Outcome}
+use Rattle.shelf_model.specs.push_terms.specs.declared.outcome.Outcome.TheVariants as outcomes
+use Rattle.shelf_model.specs.rfcomm_frames.specs.Frames.{PlainFrame}
+use Rattle.shelf_model.specs.rfcomm_frames.specs.FrameReading.{is_empty}
+use Rattle.shelf_model.specs.rfcomm_model.specs.Hearing.{Up, nothing, opened, bytes, closed, up, hears}
+use Rattle.shelf_model.specs.rfcomm_model.specs.Machine.{Mux, new_mux, leaves, is_leaving, is_ready, sends, taken_count}
+use Rattle.shelf_model.specs.rfcomm_model.specs.Saying.{Said, next, after_said}
+use Rattle.shelf_model.specs.rfcomm_model.proofs.Keeping.{next_keeps}
+use Rattle.shelf_model.specs.sdp_elements.specs.declared.target.Target.{Target}
+use Rattle.shelf_model.specs.sdp_elements.specs.Targets.{is_service_psm, is_server_channel}
+use Rattle.shelf_model.specs.sdp_client.specs.Asking.{is_due, after_resend}
+use Rattle.shelf_model.specs.sdp_client.specs.Hearing.{found_at, after_reply}
+use Rattle.shelf_model.specs.sdp_client.specs.declared.reason.Found.{Found}
+use Rattle.shelf_model.specs.sdp_client.specs.declared.reason.Found.TheVariants.{More, Service, NoService, Refused}
+use Rattle.shelf_model.specs.obex_session.specs.declared.client.Answered.{Answered}
+use Rattle.shelf_model.specs.obex_session.specs.declared.client.Answered.TheVariants as answer
+use Rattle.shelf_model.specs.obex_session.specs.Views.{answer_at, after_at}
+use Rattle.push_laws.specs.push_model.specs.declared.closing.CloseCause.{CloseCause}
+use Rattle.push_laws.specs.push_model.specs.declared.course.Contact.TheVariants.{Closing}
+use Rattle.push_laws.specs.push_model.specs.declared.course.Point.TheVariants.{Due, Asked}
+use Rattle.push_laws.specs.push_model.specs.declared.course.Stage.{Stage}
+use Rattle.push_laws.specs.push_model.specs.declared.course.Stage.TheVariants.{Rest, Link, SearchChannel, Search, SearchEnd, Features, ObjectChannel, Object, ObjectEnd, LinkEnd, Over}
+use Rattle.push_laws.specs.push_model.specs.Causes.{cause_of_link, cause_of_page, cause_of_close, cause_of_mux, cause_of_obex, cause_of_query, small_channel, unawaited_response, unknown_parameters}
+use Rattle.push_laws.specs.push_model.specs.Client.{Client, ends, ends_by, ends_if, may_cancel, begun_by}
+use Rattle.push_laws.specs.push_model.specs.Streams.{Front, Whole, Partial, Broken, front_of}
+use Rattle.push_laws.specs.push_model.specs.Responding.{takes, hears_answer, hears_response, is_object, hears_front, hears_stream, hears_up, is_left, is_success, is_early}
+use Rattle.push_laws.specs.push_model.specs.Events as events
+use Rattle.push_laws.specs.push_model.specs.Events.{kept_of}
+use Rattle.push_laws.specs.push_model.specs.Laws.{Deed, Hears, Asks, Finishes, Cancels, done}
+use Rattle.push_laws.specs.push_model.specs.Payloads.{Payload, Octets, Framed}
+use Rattle.push_laws.specs.push_model.specs.Steps.{Part, Step, Wait, MakeLink, AskFeatures, OpenChannel, SendSdu, CloseChannel, BreakLink, Ended, NoMemory, Stepped, Made, Ask, Connect, Put, Abort, Disconnect, Close, Nothing, put_count, puts_part, puts_from, puts, leaves_by, puts_or_leaves, requests, sends_direct, asks_direct, filled, said_by, says, sends_muxed, takes_some, asks_through, asks_muxed, goes_muxed, steps_object, tells_end, steps_at, rests, may_ask, next_ask}
 use Rattle.push_laws.proofs.Late.{either}
 use Rattle.host_laws.specs.Pushing.{Affair, Begins, Does, client_after, client_behind}
 use Rattle.host_laws.proofs.MuxReplies.{Replies, GoesOn, SaysSo, SaysAll, hears_replies, sends_replies, leaves_replies, next_says}

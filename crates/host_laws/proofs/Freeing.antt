@@ -3,32 +3,32 @@ use Rattle.std.proofs.Common.{◌≡◌, ℕ, zero, suc, ◌+◌, ◌≤◌, Lis
 use Rattle.std.specs.Prelude.{is_some, nat_le, min, ◌&&◌, not}
 use Rattle.std.specs.List.{AllByRecursion}
 use Rattle.std.proofs.lemmas.Bool.{and_parts, le-leb, leb-true, leb-false}
-use Rattle.bt_base.specs.Objects.{Contents}
-use Rattle.bt_base.specs.Octets.{IsOctets}
-use Rattle.bt_base.specs.declared.settings.Settings.{Settings}
-use Rattle.l2cap_config.specs.declared.wish.Mode.TheVariants.{Basic}
-use Rattle.l2cap_config.specs.declared.wish.Wish.{Wish}
-use Rattle.channel_model.specs.Value.{Request, Own, Unasked, Asking, Granted, Stage, Requested, Connected, Leaving, Closing, Crossed, Held, Channels}
-use Rattle.channel_model.specs.Changing.{has_own, held_at}
-use Rattle.channel_model.specs.Policies.{Policy, policy, wished, enhanced_wish}
-use Rattle.channel_model.specs.Giving.{Given, next_given, after_given}
-use Rattle.channel_model.specs.Calls.{peer_mtu, waits, sends}
+use Rattle.shelf_model.specs.bt_base.specs.Objects.{Contents}
+use Rattle.shelf_model.specs.bt_base.specs.Octets.{IsOctets}
+use Rattle.shelf_model.specs.bt_base.specs.declared.settings.Settings.{Settings}
+use Rattle.shelf_model.specs.l2cap_config.specs.declared.wish.Mode.TheVariants.{Basic}
+use Rattle.shelf_model.specs.l2cap_config.specs.declared.wish.Wish.{Wish}
+use Rattle.channel_laws.specs.channel_model.specs.Value.{Request, Own, Unasked, Asking, Granted, Stage, Requested, Connected, Leaving, Closing, Crossed, Held, Channels}
+use Rattle.channel_laws.specs.channel_model.specs.Changing.{has_own, held_at}
+use Rattle.channel_laws.specs.channel_model.specs.Policies.{Policy, policy, wished, enhanced_wish}
+use Rattle.channel_laws.specs.channel_model.specs.Giving.{Given, next_given, after_given}
+use Rattle.channel_laws.specs.channel_model.specs.Calls.{peer_mtu, waits, sends}
 use Rattle.channel_laws.specs.Pace.{OffersNothing}
 use Rattle.channel_laws.specs.Runs.{Occurrence, run_of}
 use Rattle.channel_laws.specs.Tries.{own_request, for_options, for_end, request_at, request_of, copies}
 use Rattle.channel_laws.proofs.Numbering.{mtu-short}
 use Rattle.channel_laws.proofs.Spending.{tries-are_kept}
 use Rattle.channel_laws.proofs.Timekeeping.{options-keep_pace}
-use Rattle.world_model.specs.Machines.{Up, Down, News, Linked, Failed, Heard, TimerFired, Cancelled, Opening}
-use Rattle.host_model.specs.Circumstances.{Circumstance}
-use Rattle.host_model.specs.Clients.{ClientProfile, client_profile}
-use Rattle.host_model.specs.Endpoints.{fits, takes_sdu}
-use Rattle.host_model.specs.Hosts.{Host, most_said, half_said, first_host, with_channels, settles, strides, drives, most_steps, steps_behind, ready, hears_news, hear, says, after_said, next}
-use Rattle.host_model.specs.Machines.{upper}
-use Rattle.host_model.specs.Pdus.{are_octets, pdu_of, is_frame}
-use Rattle.host_model.specs.Profiles.{Stride, Profile}
-use Rattle.host_model.specs.Servers.{server_profile}
-use Rattle.host_model.proofs.Orderly.{octets_by}
+use Rattle.shelf_model.specs.world_model.specs.Machines.{Up, Down, News, Linked, Failed, Heard, TimerFired, Cancelled, Opening}
+use Rattle.shelf_model.specs.host_model.specs.Circumstances.{Circumstance}
+use Rattle.shelf_model.specs.host_model.specs.Clients.{ClientProfile, client_profile}
+use Rattle.shelf_model.specs.host_model.specs.Endpoints.{fits, takes_sdu}
+use Rattle.shelf_model.specs.host_model.specs.Hosts.{Host, most_said, half_said, first_host, with_channels, settles, strides, drives, most_steps, steps_behind, ready, hears_news, hear, says, after_said, next}
+use Rattle.shelf_model.specs.host_model.specs.Machines.{upper}
+use Rattle.shelf_model.specs.host_model.specs.Pdus.{are_octets, pdu_of, is_frame}
+use Rattle.shelf_model.specs.host_model.specs.Profiles.{Stride, Profile}
+use Rattle.shelf_model.specs.host_model.specs.Servers.{server_profile}
+use Rattle.shelf_model.specs.host_model.proofs.Orderly.{octets_by}
 use Rattle.host_laws.specs.Acts.{Act, Hears, Says, Does, Acting}
 use Rattle.host_laws.specs.Calls.{Asks}
 use Rattle.host_laws.specs.Free.{HoldsBackNothing, HostsHoldBackNothing, ServersFirePlainly, ClientsFirePlainly}

@@ -6,33 +6,33 @@ use Rattle.std.proofs.lemmas.List.{map-append}
 use Rattle.std.proofs.lemmas.List.Concat.{flat_map-append}
 use Rattle.std.proofs.lemmas.List.Elements.{filter_map-append}
 use Rattle.std.proofs.lemmas.List.Sums.{fold-append}
-use Rattle.bt_base.specs.declared.settings.Settings.{Settings}
-use Rattle.bt_base.specs.Objects.{Object, Contents}
-use Rattle.capture.specs.declared.flow.Flow.TheVariants.{Into}
-use Rattle.link_talk.specs.declared.channel.Channel.{Channel}
-use Rattle.link_talk.specs.declared.party.Party.{Party}
-use Rattle.link_talk.specs.Gains.{beyond}
-use Rattle.link_talk.specs.Channels.{Entry, reading}
-use Rattle.link_talk.specs.Sdus.{sdus}
-use Rattle.link_talk.specs.ObjectsHeard.{spelled_within, objects}
-use Rattle.channel_model.specs.declared.event.ChannelEvent.{ChannelEvent}
-use Rattle.channel_model.specs.declared.event.ChannelEvent.TheVariants as events
-use Rattle.channel_model.specs.Value.{Stage, Requested, Connected, Leaving, Closing, Crossed, Held, Channels, no_channels}
-use Rattle.channel_model.specs.Policies.{Policy}
-use Rattle.channel_model.specs.Calls.{link_down, lost_at}
-use Rattle.channel_model.specs.Telling.{any_reason, closes_for, is_told_closed, is_told_broken}
+use Rattle.shelf_model.specs.bt_base.specs.declared.settings.Settings.{Settings}
+use Rattle.shelf_model.specs.bt_base.specs.Objects.{Object, Contents}
+use Rattle.shelf_model.specs.capture.specs.declared.flow.Flow.TheVariants.{Into}
+use Rattle.push_laws.specs.link_talk.specs.declared.channel.Channel.{Channel}
+use Rattle.push_laws.specs.link_talk.specs.declared.party.Party.{Party}
+use Rattle.push_laws.specs.link_talk.specs.Gains.{beyond}
+use Rattle.push_laws.specs.link_talk.specs.Channels.{Entry, reading}
+use Rattle.push_laws.specs.link_talk.specs.Sdus.{sdus}
+use Rattle.push_laws.specs.link_talk.specs.ObjectsHeard.{spelled_within, objects}
+use Rattle.channel_laws.specs.channel_model.specs.declared.event.ChannelEvent.{ChannelEvent}
+use Rattle.channel_laws.specs.channel_model.specs.declared.event.ChannelEvent.TheVariants as events
+use Rattle.channel_laws.specs.channel_model.specs.Value.{Stage, Requested, Connected, Leaving, Closing, Crossed, Held, Channels, no_channels}
+use Rattle.channel_laws.specs.channel_model.specs.Policies.{Policy}
+use Rattle.channel_laws.specs.channel_model.specs.Calls.{link_down, lost_at}
+use Rattle.channel_laws.specs.channel_model.specs.Telling.{any_reason, closes_for, is_told_closed, is_told_broken}
 use Rattle.channel_laws.specs.Runs.{Occurrence, value_after, told_in, up_with, new_link, run_of}
 use Rattle.channel_laws.specs.Views.{channel_by, is_own, read_at}
 use Rattle.channel_laws.specs.Endpoints.{IsOf}
 use Rattle.channel_laws.specs.Sdus.{StatesFrame, IsHandedUp}
-use Rattle.push_model.specs.Server.{Lent, lends, lent_sdu, object_psm}
+use Rattle.push_laws.specs.push_model.specs.Server.{Lent, lends, lent_sdu, object_psm}
 use Rattle.push_laws.specs.Occurrences as push
-use Rattle.world_model.specs.Machines.{LinkEvent, Up, Down, News, Linked, Failed, Heard, TimerFired, Cancelled, Opening}
-use Rattle.channel_model.specs.Carrying.{Up as Handed, Nothing, Received}
-use Rattle.host_model.specs.Circumstances.{answers_in}
-use Rattle.host_model.specs.Endpoints.{endpoint_of, takes_sdu}
-use Rattle.host_model.specs.Pdus.{sdu_of}
-use Rattle.host_model.specs.Servers.{ServerProfile, is_told, server_profile}
+use Rattle.shelf_model.specs.world_model.specs.Machines.{LinkEvent, Up, Down, News, Linked, Failed, Heard, TimerFired, Cancelled, Opening}
+use Rattle.channel_laws.specs.channel_model.specs.Carrying.{Up as Handed, Nothing, Received}
+use Rattle.shelf_model.specs.host_model.specs.Circumstances.{answers_in}
+use Rattle.shelf_model.specs.host_model.specs.Endpoints.{endpoint_of, takes_sdu}
+use Rattle.shelf_model.specs.host_model.specs.Pdus.{sdu_of}
+use Rattle.shelf_model.specs.host_model.specs.Servers.{ServerProfile, is_told, server_profile}
 use Rattle.host_laws.specs.Calls.{values_after}
 use Rattle.host_laws.specs.Feeds.{Feed, Gifts, Learns, Receives, Happens, Sent, Steps, fed, Tiding, Brings, Tells, Turns, tidings_by, tidings_in, tidings_of, brought_by, tidings_from}
 use Rattle.host_laws.specs.Lives.{Span, end_tidings, span_tidings, all_tidings}

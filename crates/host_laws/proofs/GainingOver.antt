@@ -2,23 +2,23 @@
 use Rattle.std.proofs.Common.{◌≡◌, ℕ, List, [], ◌∷◌, ◌++◌, drop, eqb, map, filter_map, Bool, true, false, cond, Option, Some, None, inl, inr, refl, sym, ap, ap₂, subst, ◌∙◌, append_assoc, append-nil}
 use Rattle.std.specs.List.{AllByRecursion, AllZip, flat_map}
 use Rattle.std.proofs.lemmas.List.Concat.{flat_map-append}
-use Rattle.bt_base.specs.Objects.{Object, Contents}
-use Rattle.acl_fragments.specs.Pieces.{channel_of}
-use Rattle.l2cap_signal.specs.Reading.{Answer, answers}
-use Rattle.capture.specs.declared.flow.Flow.TheVariants.{Out}
-use Rattle.capture.specs.Pdus.{Pdu}
-use Rattle.link_talk.specs.declared.party.Party.{Party}
-use Rattle.link_talk.specs.Sayings.{Saying, Command, Carried, said_by}
-use Rattle.link_talk.specs.ObjectsHeard.{objects}
-use Rattle.channel_model.specs.Value.{Channels, no_channels}
-use Rattle.channel_model.specs.Policies.{Policy}
+use Rattle.shelf_model.specs.bt_base.specs.Objects.{Object, Contents}
+use Rattle.shelf_model.specs.acl_fragments.specs.Pieces.{channel_of}
+use Rattle.shelf_model.specs.l2cap_signal.specs.Reading.{Answer, answers}
+use Rattle.shelf_model.specs.capture.specs.declared.flow.Flow.TheVariants.{Out}
+use Rattle.shelf_model.specs.capture.specs.Pdus.{Pdu}
+use Rattle.push_laws.specs.link_talk.specs.declared.party.Party.{Party}
+use Rattle.push_laws.specs.link_talk.specs.Sayings.{Saying, Command, Carried, said_by}
+use Rattle.push_laws.specs.link_talk.specs.ObjectsHeard.{objects}
+use Rattle.channel_laws.specs.channel_model.specs.Value.{Channels, no_channels}
+use Rattle.channel_laws.specs.channel_model.specs.Policies.{Policy}
 use Rattle.channel_laws.specs.Runs.{Occurrence, Comes, Connects, AsksFeatures, Disconnects, Sends, Gives, Fires, Tells, value_after, told_in, run_of}
 use Rattle.channel_laws.specs.Sdus.{StatesFrame}
-use Rattle.channel_model.specs.declared.event.ChannelEvent.{ChannelEvent}
+use Rattle.channel_laws.specs.channel_model.specs.declared.event.ChannelEvent.{ChannelEvent}
 use Rattle.push_laws.specs.Occurrences as push
-use Rattle.world_model.specs.Machines.{LinkEvent, Up, Down}
-use Rattle.world_model.specs.Talks.{Talk}
-use Rattle.host_model.specs.Servers.{server_profile}
+use Rattle.shelf_model.specs.world_model.specs.Machines.{LinkEvent, Up, Down}
+use Rattle.shelf_model.specs.world_model.specs.Talks.{Talk}
+use Rattle.shelf_model.specs.host_model.specs.Servers.{server_profile}
 use Rattle.host_laws.specs.Calls.{outer, values_after}
 use Rattle.host_laws.specs.Feeds.{Tiding, Brings, Tells as TellsIt, Turns, tidings_from}
 use Rattle.host_laws.specs.Lives.{Mark, Turned, Span, end_tidings, span_tidings, all_tidings, marks_on, span_marks, all_marks}

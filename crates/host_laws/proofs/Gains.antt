@@ -3,21 +3,21 @@ use Rattle.std.proofs.Common.{◌≡◌, ℕ, zero, suc, List, [], ◌∷◌, �
 use Rattle.std.specs.List.{AllByRecursion, cons_option}
 use Rattle.std.proofs.lemmas.Bool.{eqb-true}
 use Rattle.std.proofs.lemmas.List.{map-append}
-use Rattle.bt_base.specs.declared.settings.Settings.{Settings}
-use Rattle.bt_base.specs.declared.settings.Transport.TheVariants.{L2cap, Rfcomm}
-use Rattle.bt_base.specs.Objects.{Object}
-use Rattle.capture.specs.Histories.{each_after}
-use Rattle.rfcomm_frames.specs.ObexPackets.{obex_packets}
-use Rattle.rfcomm_frames.specs.UserChannel.{user_octets}
-use Rattle.rfcomm_frames.specs.Multiplexing.{Passed}
-use Rattle.rfcomm_frames.specs.declared.connection.Role.{Role}
-use Rattle.rfcomm_frames.specs.declared.connection.Role.TheVariants.{Initiator, Responder}
-use Rattle.obex_headers.specs.Runs.{objects_from}
-use Rattle.obex_session.proofs.PastLaws.{objects-more}
-use Rattle.link_talk.specs.Gains.{beyond, gained}
-use Rattle.link_talk.specs.ObjectsHeard.{put_within, spelled_within}
-use Rattle.push_model.specs.Client.{own_maximum}
-use Rattle.push_model.specs.Server.{object_psm, rfcomm_psm}
+use Rattle.shelf_model.specs.bt_base.specs.declared.settings.Settings.{Settings}
+use Rattle.shelf_model.specs.bt_base.specs.declared.settings.Transport.TheVariants.{L2cap, Rfcomm}
+use Rattle.shelf_model.specs.bt_base.specs.Objects.{Object}
+use Rattle.shelf_model.specs.capture.specs.Histories.{each_after}
+use Rattle.shelf_model.specs.rfcomm_frames.specs.ObexPackets.{obex_packets}
+use Rattle.shelf_model.specs.rfcomm_frames.specs.UserChannel.{user_octets}
+use Rattle.shelf_model.specs.rfcomm_frames.specs.Multiplexing.{Passed}
+use Rattle.shelf_model.specs.rfcomm_frames.specs.declared.connection.Role.{Role}
+use Rattle.shelf_model.specs.rfcomm_frames.specs.declared.connection.Role.TheVariants.{Initiator, Responder}
+use Rattle.shelf_model.specs.obex_headers.specs.Runs.{objects_from}
+use Rattle.shelf_model.specs.obex_session.proofs.PastLaws.{objects-more}
+use Rattle.push_laws.specs.link_talk.specs.Gains.{beyond, gained}
+use Rattle.push_laws.specs.link_talk.specs.ObjectsHeard.{put_within, spelled_within}
+use Rattle.push_laws.specs.push_model.specs.Client.{own_maximum}
+use Rattle.push_laws.specs.push_model.specs.Server.{object_psm, rfcomm_psm}
 use Rattle.push_laws.specs.Occurrences.{Occurrence, Came, Went, Closed, LinkDown, Asked, Answering}
 use Rattle.push_laws.specs.Readings.{came_on, passing, passed_by, user_dlci, packets_over}
 use Rattle.push_laws.specs.Gains.{objects_over, objects_with, objects}

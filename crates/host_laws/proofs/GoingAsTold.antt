@@ -1,23 +1,23 @@
 -- A client goes by what it was told on its link.
 use Rattle.std.proofs.Common.{◌≡◌, ℕ, List, [], ◌∷◌, ◌++◌, fold, Bool, true, false, cond, Option, Some, None, refl, sym, ap, subst, ◌∙◌, inl, inr}
 use Rattle.std.specs.List.{AllByRecursion}
-use Rattle.bt_base.specs.declared.settings.Settings.{Settings}
-use Rattle.capture.specs.Histories.{EachAfter}
-use Rattle.capture.proofs.HistoryLaws.{each_after-both}
-use Rattle.link_talk.specs.declared.party.Party.{Party}
-use Rattle.channel_model.specs.Hearing.{up}
-use Rattle.channel_model.specs.Policies.{Policy, policy}
-use Rattle.channel_model.specs.Value.{Channels, no_channels}
+use Rattle.shelf_model.specs.bt_base.specs.declared.settings.Settings.{Settings}
+use Rattle.shelf_model.specs.capture.specs.Histories.{EachAfter}
+use Rattle.shelf_model.specs.capture.proofs.HistoryLaws.{each_after-both}
+use Rattle.push_laws.specs.link_talk.specs.declared.party.Party.{Party}
+use Rattle.channel_laws.specs.channel_model.specs.Hearing.{up}
+use Rattle.channel_laws.specs.channel_model.specs.Policies.{Policy, policy}
+use Rattle.channel_laws.specs.channel_model.specs.Value.{Channels, no_channels}
 use Rattle.channel_laws.specs.Runs.{Occurrence, Gives, Fires, Run, new_link, run_on, run_of}
 use Rattle.channel_laws.proofs.Running.{all-sound}
-use Rattle.push_model.specs.Steps.{Step, Wait, MakeLink, AskFeatures, OpenChannel, SendSdu, CloseChannel, BreakLink, Ended, NoMemory, Stepped, steps}
-use Rattle.world_model.specs.Machines.{News, Linked, Failed, Heard, TimerFired, Cancelled, Opening}
+use Rattle.push_laws.specs.push_model.specs.Steps.{Step, Wait, MakeLink, AskFeatures, OpenChannel, SendSdu, CloseChannel, BreakLink, Ended, NoMemory, Stepped, steps}
+use Rattle.shelf_model.specs.world_model.specs.Machines.{News, Linked, Failed, Heard, TimerFired, Cancelled, Opening}
 use Rattle.push_laws.proofs.Opening.{course_of, At}
-use Rattle.host_model.specs.Endpoints.{endpoint_of, takes_sdu}
-use Rattle.host_model.specs.Pdus.{sdu_of}
-use Rattle.host_model.specs.Profiles.{Profile}
-use Rattle.host_model.specs.Clients.{ClientProfile, client_profile, fitted}
-use Rattle.host_model.specs.Shelves.{unused}
+use Rattle.shelf_model.specs.host_model.specs.Endpoints.{endpoint_of, takes_sdu}
+use Rattle.shelf_model.specs.host_model.specs.Pdus.{sdu_of}
+use Rattle.shelf_model.specs.host_model.specs.Profiles.{Profile}
+use Rattle.shelf_model.specs.host_model.specs.Clients.{ClientProfile, client_profile, fitted}
+use Rattle.shelf_model.specs.host_model.specs.Shelves.{unused}
 use Rattle.host_laws.specs.AsTold.{ClientsGoAsTold}
 use Rattle.host_laws.specs.Asked.{IsOfLink, BeginsNone}
 use Rattle.host_laws.specs.Calls.{Send, Asks, from_call, values_after}

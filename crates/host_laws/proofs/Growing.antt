@@ -4,20 +4,20 @@ use Rattle.std.specs.List.{AllByRecursion, filter_map}
 use Rattle.std.proofs.lemmas.List.Concat.{flat_map-append}
 use Rattle.std.proofs.lemmas.List.Elements.{filter_map-append}
 use Rattle.std.proofs.lemmas.List.Sums.{fold-append}
-use Rattle.acl_fragments.specs.Pieces.{channel_of}
-use Rattle.channel_model.specs.Value.{Channels}
-use Rattle.channel_model.specs.Policies.{Policy}
-use Rattle.channel_model.specs.Carrying.{Up as Handed, Nothing, Received}
-use Rattle.channel_model.specs.Hearing as channels
-use Rattle.channel_model.specs.Timing.{timed_out}
-use Rattle.channel_model.specs.Giving.{Given, next_given, after_given}
+use Rattle.shelf_model.specs.acl_fragments.specs.Pieces.{channel_of}
+use Rattle.channel_laws.specs.channel_model.specs.Value.{Channels}
+use Rattle.channel_laws.specs.channel_model.specs.Policies.{Policy}
+use Rattle.channel_laws.specs.channel_model.specs.Carrying.{Up as Handed, Nothing, Received}
+use Rattle.channel_laws.specs.channel_model.specs.Hearing as channels
+use Rattle.channel_laws.specs.channel_model.specs.Timing.{timed_out}
+use Rattle.channel_laws.specs.channel_model.specs.Giving.{Given, next_given, after_given}
 use Rattle.channel_laws.specs.Runs.{Occurrence, Comes, Fires, Gives, value_after}
-use Rattle.world_model.specs.Machines.{News, Linked, Failed, Heard, TimerFired, Cancelled, Opening}
-use Rattle.host_model.specs.Circumstances.{Circumstance}
-use Rattle.host_model.specs.Pdus.{pdu_of, is_frame}
-use Rattle.host_model.specs.Profiles.{Profile}
-use Rattle.host_model.specs.Hosts.{Host, with_channels, tells_events, settles, strides, goes_by, drives, most_steps, steps_behind, driven, handed, told, hears_news, ready, hear, after_said, says}
-use Rattle.host_model.specs.Machines.{upper}
+use Rattle.shelf_model.specs.world_model.specs.Machines.{News, Linked, Failed, Heard, TimerFired, Cancelled, Opening}
+use Rattle.shelf_model.specs.host_model.specs.Circumstances.{Circumstance}
+use Rattle.shelf_model.specs.host_model.specs.Pdus.{pdu_of, is_frame}
+use Rattle.shelf_model.specs.host_model.specs.Profiles.{Profile}
+use Rattle.shelf_model.specs.host_model.specs.Hosts.{Host, with_channels, tells_events, settles, strides, goes_by, drives, most_steps, steps_behind, driven, handed, told, hears_news, ready, hear, after_said, says}
+use Rattle.shelf_model.specs.host_model.specs.Machines.{upper}
 use Rattle.host_laws.specs.Acts.{Act, Hears, Says, Does, StaysOnLink, from_news, from_act}
 use Rattle.host_laws.specs.Calls.{Call, Connect, AskFeatures, Disconnect, Send, Asks, from_call, values_after, asked, outer}
 use Rattle.host_laws.specs.Feeds.{Feed, Gifts, Learns, Receives, fed, all_fed, asked_with, asked_from, Tiding, tidings_by, tidings_in, tidings_of, brought_by, tidings_with, tidings_from}

@@ -3,31 +3,31 @@ use Rattle.std.proofs.Common.{◌≡◌, ℕ, zero, suc, List, [], ◌∷◌, �
 use Rattle.std.specs.Prelude.{option_map}
 use Rattle.std.specs.List.{AllByRecursion, AllZip, filter_map, flat_map}
 use Rattle.std.proofs.lemmas.Bool.{eqb-true, eq-eqb}
-use Rattle.bt_base.specs.declared.settings.Settings.{Settings}
-use Rattle.bt_base.specs.declared.settings.Transport.TheVariants.{L2cap}
-use Rattle.bt_base.specs.Objects.{Contents}
-use Rattle.link_talk.specs.declared.channel.Channel.{Channel}
-use Rattle.link_talk.specs.Channels.{Entry, reading}
-use Rattle.channel_model.specs.declared.event.ChannelEvent.{ChannelEvent}
-use Rattle.channel_model.specs.declared.event.ChannelEvent.TheVariants as events
-use Rattle.channel_model.specs.Value.{Channels, no_channels}
-use Rattle.channel_model.specs.Policies.{Policy}
-use Rattle.channel_model.specs.Calls.{sends}
+use Rattle.shelf_model.specs.bt_base.specs.declared.settings.Settings.{Settings}
+use Rattle.shelf_model.specs.bt_base.specs.declared.settings.Transport.TheVariants.{L2cap}
+use Rattle.shelf_model.specs.bt_base.specs.Objects.{Contents}
+use Rattle.push_laws.specs.link_talk.specs.declared.channel.Channel.{Channel}
+use Rattle.push_laws.specs.link_talk.specs.Channels.{Entry, reading}
+use Rattle.channel_laws.specs.channel_model.specs.declared.event.ChannelEvent.{ChannelEvent}
+use Rattle.channel_laws.specs.channel_model.specs.declared.event.ChannelEvent.TheVariants as events
+use Rattle.channel_laws.specs.channel_model.specs.Value.{Channels, no_channels}
+use Rattle.channel_laws.specs.channel_model.specs.Policies.{Policy}
+use Rattle.channel_laws.specs.channel_model.specs.Calls.{sends}
 use Rattle.channel_laws.specs.Closings.{IsClosingRead}
 use Rattle.channel_laws.specs.Endpoints.{IsOf}
 use Rattle.channel_laws.specs.Runs.{Occurrence, Comes, Connects, AsksFeatures, Disconnects, Sends, Gives, Fires, Tells, run_of}
 use Rattle.channel_laws.specs.Singly.{AsksForNoChannel}
 use Rattle.channel_laws.specs.Views.{channel_by, read_at}
 use Rattle.channel_laws.proofs.Shutting.{closings-are_read}
-use Rattle.push_model.specs.Server.{Server, Lent, lends, lent_sdu, channel_down, stepped}
+use Rattle.push_laws.specs.push_model.specs.Server.{Server, Lent, lends, lent_sdu, channel_down, stepped}
 use Rattle.push_laws.specs.Occurrences as push
-use Rattle.world_model.specs.Machines.{LinkEvent, Up, Down, News, Linked, Failed, Heard, TimerFired, Cancelled, Opening}
-use Rattle.world_model.specs.Talks.{Talk}
-use Rattle.host_model.specs.Endpoints.{Endpoint, is_of, endpoint_of, takes_sdu}
-use Rattle.host_model.specs.Pdus.{sdu_of}
-use Rattle.host_model.specs.Hosts.{Host}
-use Rattle.host_model.specs.Profiles.{Profile, Stride}
-use Rattle.host_model.specs.Servers.{ServerProfile, is_told, reacts, takes, submits, waiting, server_profile}
+use Rattle.shelf_model.specs.world_model.specs.Machines.{LinkEvent, Up, Down, News, Linked, Failed, Heard, TimerFired, Cancelled, Opening}
+use Rattle.shelf_model.specs.world_model.specs.Talks.{Talk}
+use Rattle.shelf_model.specs.host_model.specs.Endpoints.{Endpoint, is_of, endpoint_of, takes_sdu}
+use Rattle.shelf_model.specs.host_model.specs.Pdus.{sdu_of}
+use Rattle.shelf_model.specs.host_model.specs.Hosts.{Host}
+use Rattle.shelf_model.specs.host_model.specs.Profiles.{Profile, Stride}
+use Rattle.shelf_model.specs.host_model.specs.Servers.{ServerProfile, is_told, reacts, takes, submits, waiting, server_profile}
 use Rattle.host_laws.specs.Calls.{Call, Connect, AskFeatures, Disconnect, Send, Asks, from_call, values_after, asked}
 use Rattle.host_laws.specs.Feeds.{Feed, Gifts, Learns, Receives, Happens, Sent, Steps, fed, asked_with, asked_from, Tiding, Brings, Tells as TellsIt, Turns, tidings_in, tidings_of, tidings_from}
 use Rattle.host_laws.specs.Gaining.{IsDirect, ClosesItself, OneObjectChannel}

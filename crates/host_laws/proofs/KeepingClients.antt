@@ -3,32 +3,32 @@ use Rattle.std.proofs.Common.{◌≡◌, ℕ, List, [], ◌∷◌, ◌++◌, len
 use Rattle.std.specs.Prelude.{find, is_some, option_map}
 use Rattle.std.specs.List.{AllByRecursion, list_any}
 use Rattle.std.proofs.lemmas.List.Sums.{fold-append}
-use Rattle.acl_fragments.specs.Pieces.{channel_of}
-use Rattle.bt_base.specs.declared.settings.Settings.{Settings}
-use Rattle.channel_model.specs.declared.event.ChannelEvent.{ChannelEvent}
-use Rattle.channel_model.specs.declared.event.ChannelEvent.TheVariants.{Opened, Closed, Features, FeaturesLost, DisconnectLost}
-use Rattle.channel_model.specs.declared.event.CloseReason.TheVariants.{OwnClosed}
-use Rattle.channel_model.specs.Value.{Stage, Requested, Connected, Leaving, Closing, Crossed, Held, Channels, no_channels}
-use Rattle.channel_model.specs.Policies.{Policy, policy}
-use Rattle.channel_model.specs.Changing.{has_own, held_at}
-use Rattle.channel_model.specs.Closing.{closes_at}
-use Rattle.channel_model.specs.Calls.{open_carrier, setup_on, carrier_mtu, connected, asks_features, disconnected_at, disconnected_held, disconnected, carrier_at, peer_mtu, waits}
-use Rattle.channel_model.specs.Carrying.{Up as Handed, Nothing, Received}
-use Rattle.channel_model.specs.Hearing.{up}
+use Rattle.shelf_model.specs.acl_fragments.specs.Pieces.{channel_of}
+use Rattle.shelf_model.specs.bt_base.specs.declared.settings.Settings.{Settings}
+use Rattle.channel_laws.specs.channel_model.specs.declared.event.ChannelEvent.{ChannelEvent}
+use Rattle.channel_laws.specs.channel_model.specs.declared.event.ChannelEvent.TheVariants.{Opened, Closed, Features, FeaturesLost, DisconnectLost}
+use Rattle.channel_laws.specs.channel_model.specs.declared.event.CloseReason.TheVariants.{OwnClosed}
+use Rattle.channel_laws.specs.channel_model.specs.Value.{Stage, Requested, Connected, Leaving, Closing, Crossed, Held, Channels, no_channels}
+use Rattle.channel_laws.specs.channel_model.specs.Policies.{Policy, policy}
+use Rattle.channel_laws.specs.channel_model.specs.Changing.{has_own, held_at}
+use Rattle.channel_laws.specs.channel_model.specs.Closing.{closes_at}
+use Rattle.channel_laws.specs.channel_model.specs.Calls.{open_carrier, setup_on, carrier_mtu, connected, asks_features, disconnected_at, disconnected_held, disconnected, carrier_at, peer_mtu, waits}
+use Rattle.channel_laws.specs.channel_model.specs.Carrying.{Up as Handed, Nothing, Received}
+use Rattle.channel_laws.specs.channel_model.specs.Hearing.{up}
 use Rattle.channel_laws.specs.OwnTalk.{asked_between}
 use Rattle.channel_laws.specs.Runs.{Occurrence, Comes, Disconnects, Sends, Gives, Fires, Tells, given_up, said_in, value_after, peer_at, Run, new_link, run_on, run_of}
 use Rattle.channel_laws.proofs.Running.{all-sound}
-use Rattle.push_model.specs.Client.{Client, begins, cancelled}
-use Rattle.push_model.specs.Events as events
-use Rattle.push_model.specs.Events.{is_asking_features, hears_news}
-use Rattle.push_model.specs.Steps.{Step, Wait, MakeLink, AskFeatures, OpenChannel, SendSdu, CloseChannel, BreakLink, Ended, NoMemory, Stepped, steps}
-use Rattle.world_model.specs.Machines.{News, Linked, Failed, Heard, TimerFired, Cancelled, Opening}
-use Rattle.host_model.specs.Circumstances.{Circumstance}
-use Rattle.host_model.specs.Profiles.{Profile, Stride}
-use Rattle.host_model.specs.Hosts.{handed}
-use Rattle.host_model.specs.Clients as clients
-use Rattle.host_model.specs.Clients.{ClientProfile, client_profile, NoBid, after_end, ended, after_call, calls, opened_by, closed_by, cause_of, event_heard, sent_on, submits, closes, takes, fitted}
-use Rattle.host_model.specs.Shelves.{size_for, name_for, unused}
+use Rattle.push_laws.specs.push_model.specs.Client.{Client, begins, cancelled}
+use Rattle.push_laws.specs.push_model.specs.Events as events
+use Rattle.push_laws.specs.push_model.specs.Events.{is_asking_features, hears_news}
+use Rattle.push_laws.specs.push_model.specs.Steps.{Step, Wait, MakeLink, AskFeatures, OpenChannel, SendSdu, CloseChannel, BreakLink, Ended, NoMemory, Stepped, steps}
+use Rattle.shelf_model.specs.world_model.specs.Machines.{News, Linked, Failed, Heard, TimerFired, Cancelled, Opening}
+use Rattle.shelf_model.specs.host_model.specs.Circumstances.{Circumstance}
+use Rattle.shelf_model.specs.host_model.specs.Profiles.{Profile, Stride}
+use Rattle.shelf_model.specs.host_model.specs.Hosts.{handed}
+use Rattle.shelf_model.specs.host_model.specs.Clients as clients
+use Rattle.shelf_model.specs.host_model.specs.Clients.{ClientProfile, client_profile, NoBid, after_end, ended, after_call, calls, opened_by, closed_by, cause_of, event_heard, sent_on, submits, closes, takes, fitted}
+use Rattle.shelf_model.specs.host_model.specs.Shelves.{size_for, name_for, unused}
 use Rattle.host_laws.specs.Calls.{Call, Connect, AskFeatures as AskThem, Disconnect, Send, Asks, from_call, values_after}
 use Rattle.host_laws.specs.Feeds.{tidings_by}
 use Rattle.host_laws.specs.Keeping.{IsMoreThanAsked, IsThere, TakesNoneBack, is_loss, ClientsKeepOn}

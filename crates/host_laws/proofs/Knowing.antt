@@ -3,33 +3,33 @@ use Rattle.std.proofs.Common.{◌≡◌, ℕ, List, [], ◌∷◌, ◌++◌, map
 use Rattle.std.specs.Prelude.{find}
 use Rattle.std.specs.List.{AllByRecursion, list_any}
 use Rattle.std.proofs.lemmas.List.Elements.{filter-append}
-use Rattle.bt_base.specs.declared.settings.Settings.{Settings}
-use Rattle.capture.specs.declared.flow.Flow.TheVariants.{Out, Into}
-use Rattle.sdp_client.specs.Asking.{Asking}
-use Rattle.sdp_client.specs.Replies.{PlainPart}
-use Rattle.sdp_elements.specs.declared.target.Target.{Target}
-use Rattle.link_talk.specs.declared.channel.Channel.{Channel}
-use Rattle.link_talk.specs.declared.party.Party.{Party}
-use Rattle.link_talk.specs.Sayings.{Saying}
-use Rattle.link_talk.specs.Sdus.{Spoken, spoken_as}
-use Rattle.link_talk.specs.ServiceAnswers.{waiting_after, part_with, parts_from, is_last}
-use Rattle.talk_laws.specs.LinkAnswers.{unfinished_after, unfinished_of}
-use Rattle.channel_model.specs.Policies.{Policy, policy}
-use Rattle.channel_model.specs.Value.{Held, Channels}
-use Rattle.channel_model.specs.Carrying.{Up, Nothing, Received}
+use Rattle.shelf_model.specs.bt_base.specs.declared.settings.Settings.{Settings}
+use Rattle.shelf_model.specs.capture.specs.declared.flow.Flow.TheVariants.{Out, Into}
+use Rattle.shelf_model.specs.sdp_client.specs.Asking.{Asking}
+use Rattle.shelf_model.specs.sdp_client.specs.Replies.{PlainPart}
+use Rattle.shelf_model.specs.sdp_elements.specs.declared.target.Target.{Target}
+use Rattle.push_laws.specs.link_talk.specs.declared.channel.Channel.{Channel}
+use Rattle.push_laws.specs.link_talk.specs.declared.party.Party.{Party}
+use Rattle.push_laws.specs.link_talk.specs.Sayings.{Saying}
+use Rattle.push_laws.specs.link_talk.specs.Sdus.{Spoken, spoken_as}
+use Rattle.push_laws.specs.link_talk.specs.ServiceAnswers.{waiting_after, part_with, parts_from, is_last}
+use Rattle.channel_laws.specs.talk_laws.specs.LinkAnswers.{unfinished_after, unfinished_of}
+use Rattle.channel_laws.specs.channel_model.specs.Policies.{Policy, policy}
+use Rattle.channel_laws.specs.channel_model.specs.Value.{Held, Channels}
+use Rattle.channel_laws.specs.channel_model.specs.Carrying.{Up, Nothing, Received}
 use Rattle.channel_laws.specs.Exchanged.{heard_in, exchanged_in}
 use Rattle.channel_laws.specs.Frames.{IsUttered}
 use Rattle.channel_laws.specs.Runs.{Occurrence, Run, run_on, run_of}
 use Rattle.channel_laws.proofs.Exchanged.{spoken_on, occurs_spoken}
 use Rattle.channel_laws.proofs.Ferrying.{IsBasic}
 use Rattle.channel_laws.proofs.Running.{all-sound}
-use Rattle.push_model.specs.declared.course.Point.TheVariants as course
-use Rattle.push_model.specs.declared.course.Stage.{Stage}
-use Rattle.push_model.specs.declared.course.Stage.TheVariants.{Rest, Link, SearchChannel, Search, SearchEnd, Features, ObjectChannel, Object, ObjectEnd, LinkEnd, Over}
-use Rattle.push_model.specs.Client.{Client}
-use Rattle.push_model.specs.Events as events
-use Rattle.push_model.specs.Events.{is_search, is_asking_features}
-use Rattle.push_model.specs.Laws.{Deed, Hears, Asks, Finishes, Cancels, done}
+use Rattle.push_laws.specs.push_model.specs.declared.course.Point.TheVariants as course
+use Rattle.push_laws.specs.push_model.specs.declared.course.Stage.{Stage}
+use Rattle.push_laws.specs.push_model.specs.declared.course.Stage.TheVariants.{Rest, Link, SearchChannel, Search, SearchEnd, Features, ObjectChannel, Object, ObjectEnd, LinkEnd, Over}
+use Rattle.push_laws.specs.push_model.specs.Client.{Client}
+use Rattle.push_laws.specs.push_model.specs.Events as events
+use Rattle.push_laws.specs.push_model.specs.Events.{is_search, is_asking_features}
+use Rattle.push_laws.specs.push_model.specs.Laws.{Deed, Hears, Asks, Finishes, Cancels, done}
 use Rattle.push_laws.specs.Opening.{targets_told, targets_by}
 use Rattle.push_laws.proofs.Opening.{Walk, Stands, behind_deed, deed_stands}
 use Rattle.host_laws.specs.Leaving.{in_use}

@@ -2,16 +2,16 @@
 use Rattle.std.proofs.Common.{◌≡◌, ℕ, true, false, cond, eqb, List, Option, Some, None, refl, ap, ◌∙◌}
 use Rattle.std.specs.Prelude.{is_some}
 use Rattle.std.proofs.lemmas.Bool.{eq-eqb}
-use Rattle.bt_base.specs.declared.settings.Settings.{Settings}
-use Rattle.push_terms.specs.declared.outcome.Outcome.{Outcome}
-use Rattle.push_terms.specs.declared.outcome.Outcome.TheVariants as outcomes
-use Rattle.push_model.specs.declared.closing.CloseCause.TheVariants.{RetryLimit, Own}
-use Rattle.push_model.specs.declared.course.Point.TheVariants.{Due, Asked}
-use Rattle.push_model.specs.declared.course.Stage.{Stage}
-use Rattle.push_model.specs.declared.course.Stage.TheVariants.{Rest, Link, SearchChannel, Search, SearchEnd, Features, ObjectChannel, Object, ObjectEnd, LinkEnd, Over}
-use Rattle.push_model.specs.Client.{Client, at_once, ends_by, ends}
-use Rattle.push_model.specs.Events.{is_asking_features, search_left, closed_at}
-use Rattle.host_model.specs.Clients.{ClientProfile, client_profile, is_at_end}
+use Rattle.shelf_model.specs.bt_base.specs.declared.settings.Settings.{Settings}
+use Rattle.shelf_model.specs.push_terms.specs.declared.outcome.Outcome.{Outcome}
+use Rattle.shelf_model.specs.push_terms.specs.declared.outcome.Outcome.TheVariants as outcomes
+use Rattle.push_laws.specs.push_model.specs.declared.closing.CloseCause.TheVariants.{RetryLimit, Own}
+use Rattle.push_laws.specs.push_model.specs.declared.course.Point.TheVariants.{Due, Asked}
+use Rattle.push_laws.specs.push_model.specs.declared.course.Stage.{Stage}
+use Rattle.push_laws.specs.push_model.specs.declared.course.Stage.TheVariants.{Rest, Link, SearchChannel, Search, SearchEnd, Features, ObjectChannel, Object, ObjectEnd, LinkEnd, Over}
+use Rattle.push_laws.specs.push_model.specs.Client.{Client, at_once, ends_by, ends}
+use Rattle.push_laws.specs.push_model.specs.Events.{is_asking_features, search_left, closed_at}
+use Rattle.shelf_model.specs.host_model.specs.Clients.{ClientProfile, client_profile, is_at_end}
 use Rattle.host_laws.specs.Leaving.{in_use, is_closing, LeavesAtLosses}
 
 -- the link alone is left

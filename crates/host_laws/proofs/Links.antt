@@ -1,19 +1,19 @@
 -- The channels of a run, and that a host leaves nothing to be told.
 use Rattle.std.proofs.Common.{◌≡◌, ℕ, zero, suc, Bool, true, false, List, [], ◌∷◌, fold, find, Option, Some, None, is_some, refl, sym, ap, subst, ◌∙◌, if◌then◌else◌}
-use Rattle.channel_model.specs.declared.errand.Errand.{Errand}
-use Rattle.channel_model.specs.declared.errand.Errand.TheVariants as errands
-use Rattle.channel_model.specs.declared.event.ChannelEvent.{ChannelEvent}
-use Rattle.channel_model.specs.Value.{Queued, Answer, Ask, Setup, Stage, Held, Channels, no_channels}
-use Rattle.channel_model.specs.Policies.{Policy}
-use Rattle.channel_model.specs.Changing.{held_at, setup_of}
-use Rattle.channel_model.specs.Giving.{Given, next_given, after_given, gives, carrier_spent, held_given, stage_given, connection_given, configuration_given, disconnection_given, counted, queue_given}
+use Rattle.channel_laws.specs.channel_model.specs.declared.errand.Errand.{Errand}
+use Rattle.channel_laws.specs.channel_model.specs.declared.errand.Errand.TheVariants as errands
+use Rattle.channel_laws.specs.channel_model.specs.declared.event.ChannelEvent.{ChannelEvent}
+use Rattle.channel_laws.specs.channel_model.specs.Value.{Queued, Answer, Ask, Setup, Stage, Held, Channels, no_channels}
+use Rattle.channel_laws.specs.channel_model.specs.Policies.{Policy}
+use Rattle.channel_laws.specs.channel_model.specs.Changing.{held_at, setup_of}
+use Rattle.channel_laws.specs.channel_model.specs.Giving.{Given, next_given, after_given, gives, carrier_spent, held_given, stage_given, connection_given, configuration_given, disconnection_given, counted, queue_given}
 use Rattle.channel_laws.specs.Runs.{Occurrence, Run, run_on}
-use Rattle.world_model.specs.Machines.{LinkEvent, Up, Down, News, Linked, Failed, Heard, TimerFired, Cancelled, Opening}
-use Rattle.host_model.specs.Circumstances.{Circumstance}
-use Rattle.host_model.specs.Pdus.{pdu_of, is_frame}
-use Rattle.host_model.specs.Profiles.{Stride, Profile}
-use Rattle.host_model.specs.Hosts.{Host, with_channels, settles, strides, goes_by, drives, most_steps, steps_behind, hears_news, ready, after_said, says}
-use Rattle.host_model.specs.Machines.{upper}
+use Rattle.shelf_model.specs.world_model.specs.Machines.{LinkEvent, Up, Down, News, Linked, Failed, Heard, TimerFired, Cancelled, Opening}
+use Rattle.shelf_model.specs.host_model.specs.Circumstances.{Circumstance}
+use Rattle.shelf_model.specs.host_model.specs.Pdus.{pdu_of, is_frame}
+use Rattle.shelf_model.specs.host_model.specs.Profiles.{Stride, Profile}
+use Rattle.shelf_model.specs.host_model.specs.Hosts.{Host, with_channels, settles, strides, goes_by, drives, most_steps, steps_behind, hears_news, ready, after_said, says}
+use Rattle.shelf_model.specs.host_model.specs.Machines.{upper}
 use Rattle.host_laws.specs.Acts.{Act, Hears, Says, Does}
 use Rattle.host_laws.specs.Calls.{values_after}
 

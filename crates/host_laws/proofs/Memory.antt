@@ -1,32 +1,32 @@
 -- What a client hears leaves it as it is, whether it failed.
 use Rattle.std.proofs.Common.{◌≡◌, ℕ, zero, suc, List, [], ◌++◌, length, Bool, true, false, cond, eqb, not, ◌&&◌, ◌||◌, Option, Some, None}
 use Rattle.std.specs.Prelude.{is_some, min, nat_lt}
-use Rattle.bt_base.specs.declared.settings.Transport.{Transport}
-use Rattle.bt_base.specs.declared.settings.Transport.TheVariants.{L2cap, Rfcomm}
-use Rattle.push_terms.specs.declared.outcome.Outcome.{Outcome}
-use Rattle.push_terms.specs.declared.outcome.Outcome.TheVariants as outcomes
-use Rattle.rfcomm_model.specs.Hearing as hearing
-use Rattle.rfcomm_model.specs.Hearing.{Up, nothing, opened, bytes, closed, up}
-use Rattle.obex_session.specs.declared.client.Answered.{Answered}
-use Rattle.obex_session.specs.declared.client.Answered.TheVariants as answers
-use Rattle.obex_session.specs.Views.{answer_at, after_at}
-use Rattle.sdp_elements.specs.declared.target.Target.{Target}
-use Rattle.sdp_elements.specs.Targets.{is_service_psm, is_server_channel}
-use Rattle.sdp_client.specs.declared.reason.Found.{Found}
-use Rattle.sdp_client.specs.declared.reason.Found.TheVariants.{More, Service, NoService, Refused}
-use Rattle.sdp_client.specs.Asking.{is_due, after_resend}
-use Rattle.sdp_client.specs.Hearing.{found_at, after_reply}
-use Rattle.push_model.specs.declared.closing.CloseCause.{CloseCause}
-use Rattle.push_model.specs.declared.course.Point.TheVariants.{Due, Asked}
-use Rattle.push_model.specs.declared.course.Stage.{Stage}
-use Rattle.push_model.specs.declared.course.Stage.TheVariants.{Rest, Link, SearchChannel, Search, SearchEnd, Features, ObjectChannel, Object, ObjectEnd, LinkEnd, Over}
-use Rattle.push_model.specs.Causes.{cause_of_close, cause_of_link, cause_of_mux, cause_of_obex, cause_of_page, cause_of_query, small_channel, unknown_parameters, unawaited_response}
-use Rattle.push_model.specs.Client.{Client, ends_by, ends, ends_if}
-use Rattle.push_model.specs.Events as events
-use Rattle.push_model.specs.Events.{over_by, over, kept_of, found_psm, found_channel, found_way, finds, hears_reply, hears_outside, hears_object, linked_at, object_opened, opened_at, search_left, search_closed, closed_at, sdu_at, fires, hears_news}
-use Rattle.push_model.specs.Responding as responding
-use Rattle.push_model.specs.Responding.{is_object, is_left, hears_answer, hears_response, hears_front, hears_stream, hears_end, hears_up, hears_frame}
-use Rattle.push_model.specs.Streams.{Front, Whole, Partial, Broken, front_of}
+use Rattle.shelf_model.specs.bt_base.specs.declared.settings.Transport.{Transport}
+use Rattle.shelf_model.specs.bt_base.specs.declared.settings.Transport.TheVariants.{L2cap, Rfcomm}
+use Rattle.shelf_model.specs.push_terms.specs.declared.outcome.Outcome.{Outcome}
+use Rattle.shelf_model.specs.push_terms.specs.declared.outcome.Outcome.TheVariants as outcomes
+use Rattle.shelf_model.specs.rfcomm_model.specs.Hearing as hearing
+use Rattle.shelf_model.specs.rfcomm_model.specs.Hearing.{Up, nothing, opened, bytes, closed, up}
+use Rattle.shelf_model.specs.obex_session.specs.declared.client.Answered.{Answered}
+use Rattle.shelf_model.specs.obex_session.specs.declared.client.Answered.TheVariants as answers
+use Rattle.shelf_model.specs.obex_session.specs.Views.{answer_at, after_at}
+use Rattle.shelf_model.specs.sdp_elements.specs.declared.target.Target.{Target}
+use Rattle.shelf_model.specs.sdp_elements.specs.Targets.{is_service_psm, is_server_channel}
+use Rattle.shelf_model.specs.sdp_client.specs.declared.reason.Found.{Found}
+use Rattle.shelf_model.specs.sdp_client.specs.declared.reason.Found.TheVariants.{More, Service, NoService, Refused}
+use Rattle.shelf_model.specs.sdp_client.specs.Asking.{is_due, after_resend}
+use Rattle.shelf_model.specs.sdp_client.specs.Hearing.{found_at, after_reply}
+use Rattle.push_laws.specs.push_model.specs.declared.closing.CloseCause.{CloseCause}
+use Rattle.push_laws.specs.push_model.specs.declared.course.Point.TheVariants.{Due, Asked}
+use Rattle.push_laws.specs.push_model.specs.declared.course.Stage.{Stage}
+use Rattle.push_laws.specs.push_model.specs.declared.course.Stage.TheVariants.{Rest, Link, SearchChannel, Search, SearchEnd, Features, ObjectChannel, Object, ObjectEnd, LinkEnd, Over}
+use Rattle.push_laws.specs.push_model.specs.Causes.{cause_of_close, cause_of_link, cause_of_mux, cause_of_obex, cause_of_page, cause_of_query, small_channel, unknown_parameters, unawaited_response}
+use Rattle.push_laws.specs.push_model.specs.Client.{Client, ends_by, ends, ends_if}
+use Rattle.push_laws.specs.push_model.specs.Events as events
+use Rattle.push_laws.specs.push_model.specs.Events.{over_by, over, kept_of, found_psm, found_channel, found_way, finds, hears_reply, hears_outside, hears_object, linked_at, object_opened, opened_at, search_left, search_closed, closed_at, sdu_at, fires, hears_news}
+use Rattle.push_laws.specs.push_model.specs.Responding as responding
+use Rattle.push_laws.specs.push_model.specs.Responding.{is_object, is_left, hears_answer, hears_response, hears_front, hears_stream, hears_end, hears_up, hears_frame}
+use Rattle.push_laws.specs.push_model.specs.Streams.{Front, Whole, Partial, Broken, front_of}
 
 -- it has not failed
 abbrev pub Well : Client → Type 0

@@ -5,28 +5,28 @@ use Rattle.std.proofs.lemmas.Bool.{eqb-true}
 use Rattle.std.proofs.lemmas.List.Concat.{flat_map-append}
 use Rattle.std.proofs.lemmas.List.Elements.{filter_map-append, filter-append}
 use Rattle.std.proofs.lemmas.List.Sums.{fold-append}
-use Rattle.acl_fragments.specs.Pieces.{channel_of}
-use Rattle.capture.specs.declared.flow.Flow.TheVariants.{Out, Into}
-use Rattle.capture.specs.Pdus.{Pdu}
-use Rattle.l2cap_signal.specs.Commands.{Command}
-use Rattle.l2cap_signal.specs.Reading.{Answer as Read, answers}
-use Rattle.link_talk.specs.Sayings.{Saying, Carried, GaveUp, said_by}
-use Rattle.link_talk.specs.Sayings as sayings
-use Rattle.channel_model.specs.declared.errand.Errand.{Errand}
-use Rattle.channel_model.specs.declared.errand.Errand.TheVariants as errands
-use Rattle.channel_model.specs.Value.{Queued, Answer, Ask, Stage, Requested, Connected, Leaving, Closing, Crossed, Carrier, Plain, Retransmitting, Setup, Held, Channels, no_channels}
-use Rattle.channel_model.specs.Policies.{Policy}
-use Rattle.channel_model.specs.Changing.{has_own, held_at, setup_of}
-use Rattle.channel_model.specs.Hearing.{hears_command, hears_commands}
-use Rattle.channel_model.specs.Carrying.{takes}
-use Rattle.channel_model.specs.Timing.{timed_out}
-use Rattle.channel_model.specs.Giving.{Given, Signal, Whole, Framed, command_of, carrier_given, some_carrier_gives, stage_gives, gives, held_gives, queue_gives, carrier_spent, held_given, connection_given, configuration_given, disconnection_given, stage_given, queue_given, counted, next_given, after_given, headed}
-use Rattle.channel_model.specs.Calls.{connected, asks_features, disconnected, carrier_at, sends_on, sends_held, sends, after_event}
-use Rattle.channel_model.proofs.Lookups.{own_of, Distinct}
-use Rattle.channel_model.proofs.Walking.{commands-go}
-use Rattle.channel_model.proofs.Calling.{connected-goes, asks-features-goes, disconnected-goes, takes-goes, timed-goes, given-goes}
-use Rattle.ertm_model.specs.Giving.{next_frame}
-use Rattle.ertm_frames.specs.Frames.{PlainFrame}
+use Rattle.shelf_model.specs.acl_fragments.specs.Pieces.{channel_of}
+use Rattle.shelf_model.specs.capture.specs.declared.flow.Flow.TheVariants.{Out, Into}
+use Rattle.shelf_model.specs.capture.specs.Pdus.{Pdu}
+use Rattle.shelf_model.specs.l2cap_signal.specs.Commands.{Command}
+use Rattle.shelf_model.specs.l2cap_signal.specs.Reading.{Answer as Read, answers}
+use Rattle.push_laws.specs.link_talk.specs.Sayings.{Saying, Carried, GaveUp, said_by}
+use Rattle.push_laws.specs.link_talk.specs.Sayings as sayings
+use Rattle.channel_laws.specs.channel_model.specs.declared.errand.Errand.{Errand}
+use Rattle.channel_laws.specs.channel_model.specs.declared.errand.Errand.TheVariants as errands
+use Rattle.channel_laws.specs.channel_model.specs.Value.{Queued, Answer, Ask, Stage, Requested, Connected, Leaving, Closing, Crossed, Carrier, Plain, Retransmitting, Setup, Held, Channels, no_channels}
+use Rattle.channel_laws.specs.channel_model.specs.Policies.{Policy}
+use Rattle.channel_laws.specs.channel_model.specs.Changing.{has_own, held_at, setup_of}
+use Rattle.channel_laws.specs.channel_model.specs.Hearing.{hears_command, hears_commands}
+use Rattle.channel_laws.specs.channel_model.specs.Carrying.{takes}
+use Rattle.channel_laws.specs.channel_model.specs.Timing.{timed_out}
+use Rattle.channel_laws.specs.channel_model.specs.Giving.{Given, Signal, Whole, Framed, command_of, carrier_given, some_carrier_gives, stage_gives, gives, held_gives, queue_gives, carrier_spent, held_given, connection_given, configuration_given, disconnection_given, stage_given, queue_given, counted, next_given, after_given, headed}
+use Rattle.channel_laws.specs.channel_model.specs.Calls.{connected, asks_features, disconnected, carrier_at, sends_on, sends_held, sends, after_event}
+use Rattle.channel_laws.specs.channel_model.proofs.Lookups.{own_of, Distinct}
+use Rattle.channel_laws.specs.channel_model.proofs.Walking.{commands-go}
+use Rattle.channel_laws.specs.channel_model.proofs.Calling.{connected-goes, asks-features-goes, disconnected-goes, takes-goes, timed-goes, given-goes}
+use Rattle.shelf_model.specs.ertm_model.specs.Giving.{next_frame}
+use Rattle.shelf_model.specs.ertm_frames.specs.Frames.{PlainFrame}
 use Rattle.channel_laws.specs.OwnTalk.{spoken, asked_between, said_of, said_with, said_with_all}
 use Rattle.channel_laws.specs.Runs.{Occurrence, Comes, Connects, AsksFeatures, Disconnects, Sends, Gives, Fires, Tells, forgone_at, forgone_between, given_up, peer_at, said_by_carrier, said_as, said_in, value_after, Run, new_link, run_on, run_of}
 use Rattle.channel_laws.proofs.Running.{all-sound}

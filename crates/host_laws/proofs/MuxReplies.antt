@@ -3,27 +3,27 @@ use Rattle.std.proofs.Common.{◌≡◌, ℕ, ◌+◌, ◌/◌, ◌%◌, ◌-◌
 use Rattle.std.specs.Prelude.{nat_le, nat_lt, length, slice_index, is_none}
 use Rattle.std.proofs.lemmas.Bool.{eq-eqb}
 use Rattle.std.specs.List.{AllByRecursion}
-use Rattle.rfcomm_frames.specs.declared.connection.Dlc.TheVariants.{Ended}
-use Rattle.rfcomm_frames.specs.declared.connection.Role.{Role}
-use Rattle.rfcomm_frames.specs.declared.connection.Role.TheVariants.{Initiator, Responder}
-use Rattle.rfcomm_frames.specs.declared.frame.MuxKind.{MuxKind}
-use Rattle.rfcomm_frames.specs.declared.frame.MuxKind.TheVariants.{Sabm, Ua, Dm, Disc, Uih}
-use Rattle.rfcomm_frames.specs.declared.refusal.MuxRefusal.TheVariants.{Short, BadExtension, LengthMismatch, BadFcs}
-use Rattle.rfcomm_frames.specs.Answers.{Answer}
-use Rattle.rfcomm_frames.specs.Connections.{other_role, turned, is_left, is_ended}
-use Rattle.rfcomm_frames.specs.Controls.{PlainControl, pn, msc, test, rpn, rls, nsc, other, written}
-use Rattle.rfcomm_frames.specs.FrameReading.{MessageAnswer, messages, frame_answer, is_empty, kind_of, body_behind, Body, with_body, with_kind, is_checked, stated}
-use Rattle.rfcomm_frames.specs.Frames.{PlainFrame, bit, code_of, carries, has_credits, address_of, control_octet}
-use Rattle.rfcomm_model.specs.declared.state.Asks.{Asks}
-use Rattle.rfcomm_model.specs.declared.state.Asks.TheVariants.{Nothing, Due, Awaited}
-use Rattle.rfcomm_model.specs.declared.state.Command.TheVariants.{OpenControl, Agree, OpenUser, Signal, LeaveUser, LeaveControl}
-use Rattle.rfcomm_model.specs.declared.state.MuxReason.{MuxReason}
-use Rattle.rfcomm_model.specs.declared.state.MuxReason.TheVariants as reasons
-use Rattle.rfcomm_model.specs.Hearing.{has_room, answering, says_dm, tells, opens_control, opens_user, hears_sabm, control_answered, hears_ua, control_refused, user_refused, hears_dm, ends, hears_disc, credited, charged, if_stands, with_credits, hears_data, counts, pn_credited, lesser, own_credits, terms_agreed, peer_answered, hears_offer, hears_acceptance, hears_other_offer, hears_pn, signals_answered, hears_msc, settings_of, hears_control, hears_message, hears_messages, hears_uih, hears_kind, hears_settled, hears_frame, hears_answer, hears, signals_next}
-use Rattle.rfcomm_model.specs.Machine.{Mux, may_pass, closes, sends, leaves, is_leaving}
-use Rattle.rfcomm_model.specs.Saying.{Said, says_data, says_grant, first_of, says_command, says_answer, next}
-use Rattle.rfcomm_model.specs.Written.{response_frame, control_frame}
-use Rattle.host_model.specs.Pdus.{mux_octets}
+use Rattle.shelf_model.specs.rfcomm_frames.specs.declared.connection.Dlc.TheVariants.{Ended}
+use Rattle.shelf_model.specs.rfcomm_frames.specs.declared.connection.Role.{Role}
+use Rattle.shelf_model.specs.rfcomm_frames.specs.declared.connection.Role.TheVariants.{Initiator, Responder}
+use Rattle.shelf_model.specs.rfcomm_frames.specs.declared.frame.MuxKind.{MuxKind}
+use Rattle.shelf_model.specs.rfcomm_frames.specs.declared.frame.MuxKind.TheVariants.{Sabm, Ua, Dm, Disc, Uih}
+use Rattle.shelf_model.specs.rfcomm_frames.specs.declared.refusal.MuxRefusal.TheVariants.{Short, BadExtension, LengthMismatch, BadFcs}
+use Rattle.shelf_model.specs.rfcomm_frames.specs.Answers.{Answer}
+use Rattle.shelf_model.specs.rfcomm_frames.specs.Connections.{other_role, turned, is_left, is_ended}
+use Rattle.shelf_model.specs.rfcomm_frames.specs.Controls.{PlainControl, pn, msc, test, rpn, rls, nsc, other, written}
+use Rattle.shelf_model.specs.rfcomm_frames.specs.FrameReading.{MessageAnswer, messages, frame_answer, is_empty, kind_of, body_behind, Body, with_body, with_kind, is_checked, stated}
+use Rattle.shelf_model.specs.rfcomm_frames.specs.Frames.{PlainFrame, bit, code_of, carries, has_credits, address_of, control_octet}
+use Rattle.shelf_model.specs.rfcomm_model.specs.declared.state.Asks.{Asks}
+use Rattle.shelf_model.specs.rfcomm_model.specs.declared.state.Asks.TheVariants.{Nothing, Due, Awaited}
+use Rattle.shelf_model.specs.rfcomm_model.specs.declared.state.Command.TheVariants.{OpenControl, Agree, OpenUser, Signal, LeaveUser, LeaveControl}
+use Rattle.shelf_model.specs.rfcomm_model.specs.declared.state.MuxReason.{MuxReason}
+use Rattle.shelf_model.specs.rfcomm_model.specs.declared.state.MuxReason.TheVariants as reasons
+use Rattle.shelf_model.specs.rfcomm_model.specs.Hearing.{has_room, answering, says_dm, tells, opens_control, opens_user, hears_sabm, control_answered, hears_ua, control_refused, user_refused, hears_dm, ends, hears_disc, credited, charged, if_stands, with_credits, hears_data, counts, pn_credited, lesser, own_credits, terms_agreed, peer_answered, hears_offer, hears_acceptance, hears_other_offer, hears_pn, signals_answered, hears_msc, settings_of, hears_control, hears_message, hears_messages, hears_uih, hears_kind, hears_settled, hears_frame, hears_answer, hears, signals_next}
+use Rattle.shelf_model.specs.rfcomm_model.specs.Machine.{Mux, may_pass, closes, sends, leaves, is_leaving}
+use Rattle.shelf_model.specs.rfcomm_model.specs.Saying.{Said, says_data, says_grant, first_of, says_command, says_answer, next}
+use Rattle.shelf_model.specs.rfcomm_model.specs.Written.{response_frame, control_frame}
+use Rattle.shelf_model.specs.host_model.specs.Pdus.{mux_octets}
 use Rattle.host_laws.specs.Services.{answers_peer}
 
 -- ---- the answers that wait

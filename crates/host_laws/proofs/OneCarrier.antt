@@ -1,26 +1,26 @@
 -- The objects of a link on which one channel alone carries packets.
 use Rattle.std.proofs.Common.{◌≡◌, List, [], ◌∷◌, ◌++◌, map, fold, Bool, true, false, cond, ◌||◌, eqb, option_to_list, refl, sym, ap, ap₂, subst, ◌∙◌, append-nil}
 use Rattle.std.specs.List.{AllByRecursion, flat_map, list_any}
-use Rattle.bt_base.specs.Objects.{Object}
-use Rattle.capture.proofs.HistoryLaws.{given_by-more}
-use Rattle.capture.specs.Histories.{given_by}
-use Rattle.capture.specs.declared.flow.Flow.TheVariants.{Into}
-use Rattle.link_talk.specs.declared.channel.Channel.{Channel}
-use Rattle.link_talk.specs.declared.party.Party.{Party}
-use Rattle.link_talk.specs.Sayings.{Saying}
-use Rattle.link_talk.specs.Senses.{sense}
-use Rattle.link_talk.specs.Meanings.{Meaning, meant}
-use Rattle.link_talk.specs.Channels.{Entry, fresh, entry_after, is_owner, with_fresh, made_by, reading}
-use Rattle.link_talk.specs.Carriages.{Carriage, is_heard, stretch, has_own, mode_of}
-use Rattle.link_talk.specs.Gains.{beyond}
-use Rattle.link_talk.specs.Sdus.{spoken_with, spoken_one_way}
-use Rattle.link_talk.specs.Packets.{packets_spoken}
-use Rattle.link_talk.specs.ObjectsHeard.{spelled_within, channel_objects, objects_with, objects}
-use Rattle.link_talk.proofs.OnePass.{reading-more}
-use Rattle.link_talk.proofs.Growing.{stretch-grows}
-use Rattle.talk_laws.proofs.Passes.{from_end}
-use Rattle.talk_laws.proofs.Owning.{Alone, alone, none-before, nothing-carried}
-use Rattle.talk_laws.proofs.Objects.{objects-grow}
+use Rattle.shelf_model.specs.bt_base.specs.Objects.{Object}
+use Rattle.shelf_model.specs.capture.proofs.HistoryLaws.{given_by-more}
+use Rattle.shelf_model.specs.capture.specs.Histories.{given_by}
+use Rattle.shelf_model.specs.capture.specs.declared.flow.Flow.TheVariants.{Into}
+use Rattle.push_laws.specs.link_talk.specs.declared.channel.Channel.{Channel}
+use Rattle.push_laws.specs.link_talk.specs.declared.party.Party.{Party}
+use Rattle.push_laws.specs.link_talk.specs.Sayings.{Saying}
+use Rattle.push_laws.specs.link_talk.specs.Senses.{sense}
+use Rattle.push_laws.specs.link_talk.specs.Meanings.{Meaning, meant}
+use Rattle.push_laws.specs.link_talk.specs.Channels.{Entry, fresh, entry_after, is_owner, with_fresh, made_by, reading}
+use Rattle.push_laws.specs.link_talk.specs.Carriages.{Carriage, is_heard, stretch, has_own, mode_of}
+use Rattle.push_laws.specs.link_talk.specs.Gains.{beyond}
+use Rattle.push_laws.specs.link_talk.specs.Sdus.{spoken_with, spoken_one_way}
+use Rattle.push_laws.specs.link_talk.specs.Packets.{packets_spoken}
+use Rattle.push_laws.specs.link_talk.specs.ObjectsHeard.{spelled_within, channel_objects, objects_with, objects}
+use Rattle.push_laws.specs.link_talk.proofs.OnePass.{reading-more}
+use Rattle.push_laws.specs.link_talk.proofs.Growing.{stretch-grows}
+use Rattle.channel_laws.specs.talk_laws.proofs.Passes.{from_end}
+use Rattle.channel_laws.specs.talk_laws.proofs.Owning.{Alone, alone, none-before, nothing-carried}
+use Rattle.channel_laws.specs.talk_laws.proofs.Objects.{objects-grow}
 use Rattle.push_laws.proofs.Readings.{drop_front}
 use Rattle.host_laws.specs.OneCarrier.{IsAside, IsFor, CarriesAlone, OneCarrierGains}
 use Rattle.host_laws.proofs.OneWay.{packets-aside}

@@ -1,14 +1,14 @@
 -- What becomes of the one channel of a host that offers nothing, and of its question for features: whatever happens but what it asks for.
 use Rattle.std.proofs.Common.{◌≡◌, ℕ, List, [], ◌∷◌, ◌++◌, map, Bool, true, false, cond, eqb, not, Option, Some, None, refl, sym, ap, subst, ◌∙◌, ◌⊎◌, inl, inr, append-nil}
 use Rattle.std.specs.Prelude.{find, filter, is_some, ◌==◌, if◌then◌else◌}
-use Rattle.channel_model.specs.declared.event.ChannelEvent.{ChannelEvent}
-use Rattle.channel_model.specs.declared.event.ChannelEvent.TheVariants.{Opened, Closed, Features, FeaturesLost, DisconnectLost}
-use Rattle.channel_model.specs.declared.event.CloseReason.{CloseReason}
-use Rattle.channel_model.specs.declared.event.CloseReason.TheVariants.{OwnClosed}
-use Rattle.channel_model.specs.Value.{Request, Setup, Stage, Requested, Connected, Leaving, Closing, Crossed, Held, Channels}
-use Rattle.channel_model.specs.Changing.{has_own, in_place_of}
-use Rattle.channel_model.proofs.Lookups.{eqb-same}
-use Rattle.channel_model.proofs.Going.{staged}
+use Rattle.channel_laws.specs.channel_model.specs.declared.event.ChannelEvent.{ChannelEvent}
+use Rattle.channel_laws.specs.channel_model.specs.declared.event.ChannelEvent.TheVariants.{Opened, Closed, Features, FeaturesLost, DisconnectLost}
+use Rattle.channel_laws.specs.channel_model.specs.declared.event.CloseReason.{CloseReason}
+use Rattle.channel_laws.specs.channel_model.specs.declared.event.CloseReason.TheVariants.{OwnClosed}
+use Rattle.channel_laws.specs.channel_model.specs.Value.{Request, Setup, Stage, Requested, Connected, Leaving, Closing, Crossed, Held, Channels}
+use Rattle.channel_laws.specs.channel_model.specs.Changing.{has_own, in_place_of}
+use Rattle.channel_laws.specs.channel_model.proofs.Lookups.{eqb-same}
+use Rattle.channel_laws.specs.channel_model.proofs.Going.{staged}
 use Rattle.host_laws.proofs.Changes.{IsBad, kind, is_alive, At, SameQuestion, Fine}
 
 -- ---- what is told that matters to a profile

@@ -1,12 +1,12 @@
 -- On each link of a server whose client asks for one channel of packets, one channel alone carries packets.
 use Rattle.std.proofs.Common.{List, [], ◌∷◌, ◌++◌, map}
 use Rattle.std.specs.List.{AllByRecursion, AllZip, flat_map}
-use Rattle.bt_base.specs.declared.settings.Transport.{Transport}
-use Rattle.channel_model.specs.Policies.{Policy}
+use Rattle.shelf_model.specs.bt_base.specs.declared.settings.Transport.{Transport}
+use Rattle.channel_laws.specs.channel_model.specs.Policies.{Policy}
 use Rattle.channel_laws.specs.Runs.{Occurrence}
 use Rattle.channel_laws.specs.Singly.{AsksForNoChannel}
-use Rattle.world_model.specs.Talks.{Talk}
-use Rattle.host_model.specs.Servers.{server_profile}
+use Rattle.shelf_model.specs.world_model.specs.Talks.{Talk}
+use Rattle.shelf_model.specs.host_model.specs.Servers.{server_profile}
 use Rattle.host_laws.specs.InOrder.{AsksForOneObject}
 use Rattle.host_laws.specs.Lives.{Span}
 use Rattle.host_laws.specs.OneOnLinks.{packets_psm, CarriesOneOn, ServersCarryAlone}

@@ -1,23 +1,23 @@
 -- Over L2CAP the packets that were heard on a channel are its SDUs.
 use Rattle.std.proofs.Common.{◌≡◌, ℕ, List, [], ◌∷◌, ◌++◌, map, refl, sym, ap, ap₂, ◌∙◌, append-nil}
 use Rattle.std.proofs.lemmas.List.Elements.{filter_map-append}
-use Rattle.capture.specs.declared.flow.Flow.{Flow}
-use Rattle.capture.specs.declared.flow.Flow.TheVariants.{Out, Into}
-use Rattle.capture.specs.Histories.{given_by}
-use Rattle.capture.proofs.HistoryLaws.{given_by-more}
-use Rattle.l2cap_config.specs.declared.wish.Mode.{Mode}
-use Rattle.l2cap_config.specs.declared.wish.Mode.TheVariants.{Basic, Enhanced}
-use Rattle.link_talk.specs.declared.channel.Channel.{Channel}
-use Rattle.link_talk.specs.declared.party.Party.{Party}
-use Rattle.link_talk.specs.Sayings.{Saying}
-use Rattle.link_talk.specs.Gains.{beyond, gained}
-use Rattle.link_talk.specs.Carriages.{Carriage, one_way, pdus_of, stretch, mode_of}
-use Rattle.link_talk.specs.Sdus.{longest, sdus_by, sdus_of, sdus, spoken_as, spoken_with, spoken, spoken_way, spoken_one_way}
-use Rattle.link_talk.specs.Packets.{packets_heard}
-use Rattle.link_talk.proofs.Ways.{over_l2cap, over_nothing}
-use Rattle.talk_laws.specs.Sdus.{heard_so_far, sdus_with}
-use Rattle.talk_laws.proofs.Passes.{from_end}
-use Rattle.talk_laws.proofs.Sdus.{sdus-more}
+use Rattle.shelf_model.specs.capture.specs.declared.flow.Flow.{Flow}
+use Rattle.shelf_model.specs.capture.specs.declared.flow.Flow.TheVariants.{Out, Into}
+use Rattle.shelf_model.specs.capture.specs.Histories.{given_by}
+use Rattle.shelf_model.specs.capture.proofs.HistoryLaws.{given_by-more}
+use Rattle.shelf_model.specs.l2cap_config.specs.declared.wish.Mode.{Mode}
+use Rattle.shelf_model.specs.l2cap_config.specs.declared.wish.Mode.TheVariants.{Basic, Enhanced}
+use Rattle.push_laws.specs.link_talk.specs.declared.channel.Channel.{Channel}
+use Rattle.push_laws.specs.link_talk.specs.declared.party.Party.{Party}
+use Rattle.push_laws.specs.link_talk.specs.Sayings.{Saying}
+use Rattle.push_laws.specs.link_talk.specs.Gains.{beyond, gained}
+use Rattle.push_laws.specs.link_talk.specs.Carriages.{Carriage, one_way, pdus_of, stretch, mode_of}
+use Rattle.push_laws.specs.link_talk.specs.Sdus.{longest, sdus_by, sdus_of, sdus, spoken_as, spoken_with, spoken, spoken_way, spoken_one_way}
+use Rattle.push_laws.specs.link_talk.specs.Packets.{packets_heard}
+use Rattle.push_laws.specs.link_talk.proofs.Ways.{over_l2cap, over_nothing}
+use Rattle.channel_laws.specs.talk_laws.specs.Sdus.{heard_so_far, sdus_with}
+use Rattle.channel_laws.specs.talk_laws.proofs.Passes.{from_end}
+use Rattle.channel_laws.specs.talk_laws.proofs.Sdus.{sdus-more}
 use Rattle.push_laws.proofs.Readings.{drop_front}
 
 out_same : (list : List (List ℕ)) → spoken_one_way Out (map (spoken_as Out) list) ≡ list

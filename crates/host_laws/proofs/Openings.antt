@@ -1,16 +1,16 @@
 -- A client begins to push what it was told to push, in order.
 use Rattle.std.proofs.Common.{ℕ, ◌≡◌, Bool, true, false, List, [], ◌∷◌, ◌++◌, Result, Ok, Err, refl, sym, ap, ap₂, subst, ◌∙◌, append-nil}
 use Rattle.std.proofs.lemmas.List.Concat.{flat_map-append}
-use Rattle.bt_base.specs.declared.ports.PortFault.{PortFault}
-use Rattle.bt_base.specs.declared.settings.Settings.{Settings}
-use Rattle.push_model.specs.Client.{Client, begins}
-use Rattle.push_model.specs.Laws.{Deed}
+use Rattle.shelf_model.specs.bt_base.specs.declared.ports.PortFault.{PortFault}
+use Rattle.shelf_model.specs.bt_base.specs.declared.settings.Settings.{Settings}
+use Rattle.push_laws.specs.push_model.specs.Client.{Client, begins}
+use Rattle.push_laws.specs.push_model.specs.Laws.{Deed}
 use Rattle.push_laws.specs.Spelled.{AreAmong}
 use Rattle.push_laws.proofs.Among.{none_among, all_among, both_among}
-use Rattle.world_model.specs.Machines.{News, Linked, Failed, Heard, TimerFired, Cancelled, Opening}
-use Rattle.host_model.specs.Circumstances.{Circumstance, size_in}
-use Rattle.host_model.specs.Clients.{ClientProfile, client_profile, ended}
-use Rattle.host_model.specs.Shelves.{is_short, size_if, name_if, size_for, name_for}
+use Rattle.shelf_model.specs.world_model.specs.Machines.{News, Linked, Failed, Heard, TimerFired, Cancelled, Opening}
+use Rattle.shelf_model.specs.host_model.specs.Circumstances.{Circumstance, size_in}
+use Rattle.shelf_model.specs.host_model.specs.Clients.{ClientProfile, client_profile, ended}
+use Rattle.shelf_model.specs.host_model.specs.Shelves.{is_short, size_if, name_if, size_for, name_for}
 use Rattle.host_laws.specs.Feeds.{Feed, Gifts, Learns, Receives, Happens, Sent, Steps, fed}
 use Rattle.host_laws.specs.Openings.{name_told, names_told, name_begun, names_begun, ClientsBeginWhatIsTold}
 use Rattle.host_laws.specs.Pushing.{Affair, Begins, Does, AllAsked, client_after, then_ends, then_calls, pushed_with, pushed_from}

@@ -3,21 +3,21 @@ use Rattle.std.proofs.Common.{◌≡◌, List, [], ◌∷◌, ◌++◌, map, fil
 use Rattle.std.specs.List.{AllByRecursion, AllZip, flat_map}
 use Rattle.std.proofs.lemmas.List.Concat.{flat_map-append}
 use Rattle.std.proofs.lemmas.List.Elements.{filter_map-append}
-use Rattle.capture.specs.Pdus.{Pdu}
-use Rattle.l2cap_signal.specs.Commands.{Command}
-use Rattle.link_talk.specs.Sayings.{Saying, said_by}
-use Rattle.channel_model.specs.Value.{Queued, Answer, Ask, Channels, no_channels}
-use Rattle.channel_model.specs.Policies.{Policy}
-use Rattle.channel_model.specs.Giving.{Given, Signal, Whole, Framed, command_of, held_gives, gives}
+use Rattle.shelf_model.specs.capture.specs.Pdus.{Pdu}
+use Rattle.shelf_model.specs.l2cap_signal.specs.Commands.{Command}
+use Rattle.push_laws.specs.link_talk.specs.Sayings.{Saying, said_by}
+use Rattle.channel_laws.specs.channel_model.specs.Value.{Queued, Answer, Ask, Channels, no_channels}
+use Rattle.channel_laws.specs.channel_model.specs.Policies.{Policy}
+use Rattle.channel_laws.specs.channel_model.specs.Giving.{Given, Signal, Whole, Framed, command_of, held_gives, gives}
 use Rattle.channel_laws.specs.OwnTalk.{spoken}
 use Rattle.channel_laws.specs.Runs.{Occurrence, Gives, new_link, run_of}
-use Rattle.world_model.specs.Machines.{LinkEvent, Up, Down, Linked, Failed, Heard, TimerFired, Cancelled, Opening, Upper}
-use Rattle.world_model.specs.Talks.{Talk, Told, Said, Unsent, Met, Done}
-use Rattle.world_model.specs.Carriages.{linked_by}
-use Rattle.host_model.specs.Circumstances.{Circumstance}
-use Rattle.host_model.specs.Profiles.{Profile}
-use Rattle.host_model.specs.Hosts.{Host, first_host, ready, driven, hears_news, most_steps}
-use Rattle.host_model.specs.Machines.{upper}
+use Rattle.shelf_model.specs.world_model.specs.Machines.{LinkEvent, Up, Down, Linked, Failed, Heard, TimerFired, Cancelled, Opening, Upper}
+use Rattle.shelf_model.specs.world_model.specs.Talks.{Talk, Told, Said, Unsent, Met, Done}
+use Rattle.shelf_model.specs.world_model.specs.Carriages.{linked_by}
+use Rattle.shelf_model.specs.host_model.specs.Circumstances.{Circumstance}
+use Rattle.shelf_model.specs.host_model.specs.Profiles.{Profile}
+use Rattle.shelf_model.specs.host_model.specs.Hosts.{Host, first_host, ready, driven, hears_news, most_steps}
+use Rattle.shelf_model.specs.host_model.specs.Machines.{upper}
 use Rattle.host_laws.specs.Acts.{Act, Hears, Says, Does, Acting, StaysOnLink, from_news, from_act}
 use Rattle.host_laws.specs.Calls.{Asks, values_after, outer}
 use Rattle.host_laws.specs.Lives.{Mark, Occurred, Turned, news_marks, act_marks, Span, marks_on, span_marks, all_marks, Lives}

@@ -2,44 +2,44 @@
 use Rattle.std.proofs.Common.{◌≡◌, ℕ, List, [], ◌∷◌, ◌++◌, map, drop, Bool, true, false, cond, eqb, not, Option, Some, None, Result, Ok, Err, refl, sym, subst, ◌||◌}
 use Rattle.std.specs.Prelude.{find, filter, nat_le, is_some, option_map}
 use Rattle.std.specs.List.{AllByRecursion}
-use Rattle.acl_fragments.specs.Pieces.{channel_of}
-use Rattle.l2cap_signal.specs.Commands.{Content, reject, connection_request, connection_response, configuration_request, configuration_response, disconnection_request, disconnection_response, echo_request, echo_response, information_request, information_response}
-use Rattle.l2cap_signal.specs.Reading.{Answer as Read, answers}
-use Rattle.l2cap_signal.specs.declared.refusal.SignalRefusal.{SignalRefusal}
-use Rattle.l2cap_signal.specs.declared.refusal.SignalRefusal.TheVariants.{ZeroIdentifier, BadLength, UnknownCode, AboveMtu}
-use Rattle.l2cap_config.specs.declared.options.Options.{Options}
-use Rattle.l2cap_config.specs.declared.options.ConfigRefusal.{ConfigRefusal}
-use Rattle.l2cap_config.specs.declared.agreement.ConfigAnswer.{ConfigAnswer}
-use Rattle.l2cap_config.specs.declared.agreement.ConfigAnswer.TheVariants.{Accept, Unacceptable, Unknown}
-use Rattle.l2cap_config.specs.declared.agreement.Settled.{Settled}
-use Rattle.l2cap_config.specs.declared.agreement.Settled.TheVariants.{Accepted, Again, Wait, Never}
-use Rattle.l2cap_config.specs.declared.wish.Wish.{Wish}
-use Rattle.l2cap_config.specs.Agreement.{settled}
-use Rattle.l2cap_config.specs.Reading.{options_read}
-use Rattle.ertm_model.specs.declared.reason.ErtmReason.{ErtmReason}
-use Rattle.ertm_model.specs.Value.{Ertm}
-use Rattle.ertm_model.specs.Giving.{timed}
-use Rattle.channel_model.specs.declared.errand.Errand.{Errand}
-use Rattle.channel_model.specs.declared.errand.Errand.TheVariants as errands
-use Rattle.channel_model.specs.declared.event.CloseReason.{CloseReason}
-use Rattle.channel_model.specs.declared.event.CloseReason.TheVariants.{NoAgreement, Refused, OwnClosed, RetryLimit}
-use Rattle.channel_model.specs.declared.event.ChannelEvent.TheVariants.{Features}
-use Rattle.channel_model.specs.declared.request_kind.RequestKind.{RequestKind}
-use Rattle.channel_model.specs.declared.request_kind.RequestKind.TheVariants as kinds
-use Rattle.channel_model.specs.Value.{Request, Queued, Answer, Ask, Own, Unasked, Asking, Granted, Carrier, Plain, Retransmitting, Setup, no_setup, Stage, Requested, Connected, Leaving, Closing, Crossed, Held, Remembered, Channels, no_channels}
-use Rattle.channel_model.specs.Policies.{Policy}
-use Rattle.channel_model.specs.Changing.{has_own, in_place_of, held_at, is_peer, to_stage, gone, setup_of, has_fcs_by, stage_with, with_setup, to_setup, forgets, tells, is_leaving}
-use Rattle.channel_model.specs.Asking.{new_request, asks_options, Fired, StillDue, OnceMore, Spent, fired}
-use Rattle.channel_model.specs.Closing.{closes, closes_at, peer_closes_at, ends, ends_at}
-use Rattle.channel_model.specs.Configuring.{Verdict, NoChannel, TooLate, Unreadable, Incomplete, Judged, verdict, accepted_setup, accepts_with, without_parts, refused_setup, follows_answer, follows_verdict, opens_if, granted_setup, grants}
-use Rattle.channel_model.specs.Responses.{is_fresh_endpoint, connects, hears_connected, hears_grant_at, hears_grant, renewed_setup, hears_settled, hears_options, is_asked, hears_response_on, hears_response, hears_end, has_identifier, hears_features, features_in}
-use Rattle.channel_model.specs.Answers.{kind_of_code, remembered, not_understood, too_long, connection_result, answer_to}
-use Rattle.channel_model.specs.Following.{with_channel, follows_setup, follows_configuration, follows_disconnection, follows, remembers, says, can_say, hears_new, hears_again, hears_kind, hears_request}
-use Rattle.channel_model.specs.Hearing.{hears_content, hears_malformed, is_response_code, is_kind, hears_unread, hears_refused, hears_command, hears_commands, hears}
-use Rattle.channel_model.specs.Carrying.{reason_of, settles_machine, machine_heard, read_by, carries, is_taken_with, opens_with, takes_with, takes_on, takes_held, takes}
-use Rattle.channel_model.specs.Timing.{fires, times_carrier, times_setup, times_stage, times_held, times_end_at, times_end, times_channel, times_channels, times_features, timed_out}
-use Rattle.channel_model.specs.Giving.{one_more, connection_given, configuration_given, disconnection_given, stage_given, counted, carrier_given, carrier_spent, held_given, queue_given, after_given, gives}
-use Rattle.channel_model.specs.Calls.{sends_setup, sends_on, sends_held, sends}
+use Rattle.shelf_model.specs.acl_fragments.specs.Pieces.{channel_of}
+use Rattle.shelf_model.specs.l2cap_signal.specs.Commands.{Content, reject, connection_request, connection_response, configuration_request, configuration_response, disconnection_request, disconnection_response, echo_request, echo_response, information_request, information_response}
+use Rattle.shelf_model.specs.l2cap_signal.specs.Reading.{Answer as Read, answers}
+use Rattle.shelf_model.specs.l2cap_signal.specs.declared.refusal.SignalRefusal.{SignalRefusal}
+use Rattle.shelf_model.specs.l2cap_signal.specs.declared.refusal.SignalRefusal.TheVariants.{ZeroIdentifier, BadLength, UnknownCode, AboveMtu}
+use Rattle.shelf_model.specs.l2cap_config.specs.declared.options.Options.{Options}
+use Rattle.shelf_model.specs.l2cap_config.specs.declared.options.ConfigRefusal.{ConfigRefusal}
+use Rattle.shelf_model.specs.l2cap_config.specs.declared.agreement.ConfigAnswer.{ConfigAnswer}
+use Rattle.shelf_model.specs.l2cap_config.specs.declared.agreement.ConfigAnswer.TheVariants.{Accept, Unacceptable, Unknown}
+use Rattle.shelf_model.specs.l2cap_config.specs.declared.agreement.Settled.{Settled}
+use Rattle.shelf_model.specs.l2cap_config.specs.declared.agreement.Settled.TheVariants.{Accepted, Again, Wait, Never}
+use Rattle.shelf_model.specs.l2cap_config.specs.declared.wish.Wish.{Wish}
+use Rattle.shelf_model.specs.l2cap_config.specs.Agreement.{settled}
+use Rattle.shelf_model.specs.l2cap_config.specs.Reading.{options_read}
+use Rattle.shelf_model.specs.ertm_model.specs.declared.reason.ErtmReason.{ErtmReason}
+use Rattle.shelf_model.specs.ertm_model.specs.Value.{Ertm}
+use Rattle.shelf_model.specs.ertm_model.specs.Giving.{timed}
+use Rattle.channel_laws.specs.channel_model.specs.declared.errand.Errand.{Errand}
+use Rattle.channel_laws.specs.channel_model.specs.declared.errand.Errand.TheVariants as errands
+use Rattle.channel_laws.specs.channel_model.specs.declared.event.CloseReason.{CloseReason}
+use Rattle.channel_laws.specs.channel_model.specs.declared.event.CloseReason.TheVariants.{NoAgreement, Refused, OwnClosed, RetryLimit}
+use Rattle.channel_laws.specs.channel_model.specs.declared.event.ChannelEvent.TheVariants.{Features}
+use Rattle.channel_laws.specs.channel_model.specs.declared.request_kind.RequestKind.{RequestKind}
+use Rattle.channel_laws.specs.channel_model.specs.declared.request_kind.RequestKind.TheVariants as kinds
+use Rattle.channel_laws.specs.channel_model.specs.Value.{Request, Queued, Answer, Ask, Own, Unasked, Asking, Granted, Carrier, Plain, Retransmitting, Setup, no_setup, Stage, Requested, Connected, Leaving, Closing, Crossed, Held, Remembered, Channels, no_channels}
+use Rattle.channel_laws.specs.channel_model.specs.Policies.{Policy}
+use Rattle.channel_laws.specs.channel_model.specs.Changing.{has_own, in_place_of, held_at, is_peer, to_stage, gone, setup_of, has_fcs_by, stage_with, with_setup, to_setup, forgets, tells, is_leaving}
+use Rattle.channel_laws.specs.channel_model.specs.Asking.{new_request, asks_options, Fired, StillDue, OnceMore, Spent, fired}
+use Rattle.channel_laws.specs.channel_model.specs.Closing.{closes, closes_at, peer_closes_at, ends, ends_at}
+use Rattle.channel_laws.specs.channel_model.specs.Configuring.{Verdict, NoChannel, TooLate, Unreadable, Incomplete, Judged, verdict, accepted_setup, accepts_with, without_parts, refused_setup, follows_answer, follows_verdict, opens_if, granted_setup, grants}
+use Rattle.channel_laws.specs.channel_model.specs.Responses.{is_fresh_endpoint, connects, hears_connected, hears_grant_at, hears_grant, renewed_setup, hears_settled, hears_options, is_asked, hears_response_on, hears_response, hears_end, has_identifier, hears_features, features_in}
+use Rattle.channel_laws.specs.channel_model.specs.Answers.{kind_of_code, remembered, not_understood, too_long, connection_result, answer_to}
+use Rattle.channel_laws.specs.channel_model.specs.Following.{with_channel, follows_setup, follows_configuration, follows_disconnection, follows, remembers, says, can_say, hears_new, hears_again, hears_kind, hears_request}
+use Rattle.channel_laws.specs.channel_model.specs.Hearing.{hears_content, hears_malformed, is_response_code, is_kind, hears_unread, hears_refused, hears_command, hears_commands, hears}
+use Rattle.channel_laws.specs.channel_model.specs.Carrying.{reason_of, settles_machine, machine_heard, read_by, carries, is_taken_with, opens_with, takes_with, takes_on, takes_held, takes}
+use Rattle.channel_laws.specs.channel_model.specs.Timing.{fires, times_carrier, times_setup, times_stage, times_held, times_end_at, times_end, times_channel, times_channels, times_features, timed_out}
+use Rattle.channel_laws.specs.channel_model.specs.Giving.{one_more, connection_given, configuration_given, disconnection_given, stage_given, counted, carrier_given, carrier_spent, held_given, queue_given, after_given, gives}
+use Rattle.channel_laws.specs.channel_model.specs.Calls.{sends_setup, sends_on, sends_held, sends}
 
 -- it is there, or was closed
 abbrev pub IsPassive : Stage → Type 0

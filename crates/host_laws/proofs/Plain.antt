@@ -1,23 +1,23 @@
 -- No SDU waits in basic mode, but one that was just sent.
 use Rattle.std.proofs.Common.{◌≡◌, ℕ, List, [], ◌∷◌, Bool, true, false, cond, eqb, find, Option, Some, None, option_map, refl, sym, ap, ◌∙◌, inl, inr}
 use Rattle.std.specs.Option.{option_or}
-use Rattle.l2cap_config.specs.declared.wish.Mode.{Mode}
-use Rattle.l2cap_config.specs.declared.wish.Mode.TheVariants.{Basic, Enhanced}
-use Rattle.l2cap_config.specs.declared.wish.Agreed.{Agreed}
-use Rattle.l2cap_config.specs.declared.wish.Wish.{Wish}
-use Rattle.l2cap_config.specs.Agreement.{agreed_on}
-use Rattle.capture.specs.declared.flow.Flow.TheVariants.{Out}
-use Rattle.link_talk.specs.Sayings.{Saying, Carried}
-use Rattle.channel_model.specs.declared.event.ChannelEvent.{ChannelEvent}
-use Rattle.channel_model.specs.Value.{Carrier, Plain, Retransmitting, Setup, Stage, Requested, Connected, Leaving, Closing, Crossed, Held, Channels}
-use Rattle.channel_model.specs.Policies.{Policy}
-use Rattle.channel_model.specs.Changing.{has_own, held_at, setup_of, is_open}
-use Rattle.channel_model.specs.Configuring.{carrier_by, bounded_agreement}
-use Rattle.channel_model.specs.Giving.{Given, Signal, Whole, Framed, some_carrier_gives, stage_gives, gives, held_gives, headed}
-use Rattle.ertm_model.specs.Giving.{next_frame}
-use Rattle.ertm_frames.specs.Frames.{PlainFrame}
-use Rattle.channel_model.proofs.Lookups.{own_of, Distinct, find-append, found-distinct}
-use Rattle.channel_model.proofs.Going.{IsAccepted, CarrierGoes, StageGoes, staged, Moves, IsFirst, new_held, Walks}
+use Rattle.shelf_model.specs.l2cap_config.specs.declared.wish.Mode.{Mode}
+use Rattle.shelf_model.specs.l2cap_config.specs.declared.wish.Mode.TheVariants.{Basic, Enhanced}
+use Rattle.shelf_model.specs.l2cap_config.specs.declared.wish.Agreed.{Agreed}
+use Rattle.shelf_model.specs.l2cap_config.specs.declared.wish.Wish.{Wish}
+use Rattle.shelf_model.specs.l2cap_config.specs.Agreement.{agreed_on}
+use Rattle.shelf_model.specs.capture.specs.declared.flow.Flow.TheVariants.{Out}
+use Rattle.push_laws.specs.link_talk.specs.Sayings.{Saying, Carried}
+use Rattle.channel_laws.specs.channel_model.specs.declared.event.ChannelEvent.{ChannelEvent}
+use Rattle.channel_laws.specs.channel_model.specs.Value.{Carrier, Plain, Retransmitting, Setup, Stage, Requested, Connected, Leaving, Closing, Crossed, Held, Channels}
+use Rattle.channel_laws.specs.channel_model.specs.Policies.{Policy}
+use Rattle.channel_laws.specs.channel_model.specs.Changing.{has_own, held_at, setup_of, is_open}
+use Rattle.channel_laws.specs.channel_model.specs.Configuring.{carrier_by, bounded_agreement}
+use Rattle.channel_laws.specs.channel_model.specs.Giving.{Given, Signal, Whole, Framed, some_carrier_gives, stage_gives, gives, held_gives, headed}
+use Rattle.shelf_model.specs.ertm_model.specs.Giving.{next_frame}
+use Rattle.shelf_model.specs.ertm_frames.specs.Frames.{PlainFrame}
+use Rattle.channel_laws.specs.channel_model.proofs.Lookups.{own_of, Distinct, find-append, found-distinct}
+use Rattle.channel_laws.specs.channel_model.proofs.Going.{IsAccepted, CarrierGoes, StageGoes, staged, Moves, IsFirst, new_held, Walks}
 use Rattle.channel_laws.proofs.Sound.{at_each}
 
 abbrev pub waits_plain : Carrier → Bool

@@ -1,20 +1,20 @@
 -- What a profile is told on each link, and where its host looks for check words.
 use Rattle.std.proofs.Common.{◌≡◌, ℕ, List, [], ◌∷◌, ◌++◌, map, sym, ap, ap₂, subst, ◌∙◌, append-nil}
 use Rattle.std.specs.List.{AllByRecursion}
-use Rattle.capture.specs.declared.flow.Flow.TheVariants.{Into}
-use Rattle.link_talk.specs.declared.party.Party.{Party}
-use Rattle.link_talk.specs.Sdus.{sdus}
-use Rattle.channel_model.specs.declared.event.ChannelEvent.{ChannelEvent}
-use Rattle.channel_model.specs.Value.{Channels}
-use Rattle.channel_model.specs.Policies.{Policy}
-use Rattle.channel_model.specs.Calls.{has_fcs}
-use Rattle.channel_model.specs.Telling.{is_told_closed, is_told_broken}
+use Rattle.shelf_model.specs.capture.specs.declared.flow.Flow.TheVariants.{Into}
+use Rattle.push_laws.specs.link_talk.specs.declared.party.Party.{Party}
+use Rattle.push_laws.specs.link_talk.specs.Sdus.{sdus}
+use Rattle.channel_laws.specs.channel_model.specs.declared.event.ChannelEvent.{ChannelEvent}
+use Rattle.channel_laws.specs.channel_model.specs.Value.{Channels}
+use Rattle.channel_laws.specs.channel_model.specs.Policies.{Policy}
+use Rattle.channel_laws.specs.channel_model.specs.Calls.{has_fcs}
+use Rattle.channel_laws.specs.channel_model.specs.Telling.{is_told_closed, is_told_broken}
 use Rattle.channel_laws.specs.Runs.{Occurrence, run_of, arisen}
 use Rattle.channel_laws.specs.Sdus.{StatesFrame, IsHandedUp}
 use Rattle.channel_laws.proofs.CheckWords.{check_words-are_read}
 use Rattle.channel_laws.proofs.Incoming.{sdus-are_read}
 use Rattle.channel_laws.proofs.Endings.{ends-are_told}
-use Rattle.host_model.specs.Profiles.{Profile}
+use Rattle.shelf_model.specs.host_model.specs.Profiles.{Profile}
 use Rattle.host_laws.specs.Lives.{Span}
 use Rattle.host_laws.specs.Told.{events_told, sdus_told, told_on, IsToldOn, SdusAreToldOn, EndsAreToldOn, ProfilesAreTold, AllSdusAreTold, AllEndsAreTold, ChecksAreRead}
 use Rattle.host_laws.proofs.Telling.{events_run, sdus_run}

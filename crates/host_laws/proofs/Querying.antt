@@ -3,24 +3,24 @@ use Rattle.std.proofs.Common.{◌≡◌, ℕ, zero, suc, ◌+◌, ◌-◌, ◌/�
 use Rattle.std.specs.Prelude.{nat_le, nat_lt, is_some, slice_index}
 use Rattle.std.proofs.lemmas.Bool.{eqb-true, leb-true, ltb-false, lt-ltb}
 use Rattle.byteorder.specs.Endian.{big_number}
-use Rattle.bt_base.specs.Octets.{IsOctets}
-use Rattle.h4_framing.proofs.OctetLists.{IsOctets-tail}
-use Rattle.l2cap_signal.proofs.Contents.{octets_behind}
-use Rattle.sdp_elements.specs.declared.target.Target.{Target}
-use Rattle.sdp_elements.specs.Exchange.{continuation_in}
-use Rattle.sdp_elements.specs.Optional.{◌>>=◌}
-use Rattle.sdp_elements.specs.Pdus.{PlainPdu, states_length, pdu_in}
-use Rattle.sdp_elements.specs.Targets.{target_in}
-use Rattle.sdp_elements.proofs.PduLaws.{pdu_again}
-use Rattle.sdp_client.specs.declared.query.Stage.{Stage}
-use Rattle.sdp_client.specs.declared.query.Stage.TheVariants.{Due, Written, Again, Answered, Refused}
-use Rattle.sdp_client.specs.Asking.{Asking, begun, request_parameters, request_octets, waits, is_due, written, after_request, again, after_resend}
-use Rattle.sdp_client.specs.Hearing.{stage_in, with_part, asks_on, after_whole, after_part, when_said, after_when, after_reply, ended}
-use Rattle.sdp_client.specs.Replies.{PlainPart, PlainSaid, Gives, Failed, Nothing, goes_on, counted_part, part_in, given, said_by, said_in, is_of_another}
-use Rattle.sdp_client.specs.declared.reason.QueryReason.TheVariants.{BadReply, ErrorCode, TooLong}
-use Rattle.sdp_client.specs.Views.{awaits, is_awaiting}
-use Rattle.link_talk.specs.ServiceAnswers.{transaction_of, answered_by}
-use Rattle.host_model.specs.Pdus.{are_octets}
+use Rattle.shelf_model.specs.bt_base.specs.Octets.{IsOctets}
+use Rattle.shelf_model.specs.h4_framing.proofs.OctetLists.{IsOctets-tail}
+use Rattle.shelf_model.specs.l2cap_signal.proofs.Contents.{octets_behind}
+use Rattle.shelf_model.specs.sdp_elements.specs.declared.target.Target.{Target}
+use Rattle.shelf_model.specs.sdp_elements.specs.Exchange.{continuation_in}
+use Rattle.shelf_model.specs.sdp_elements.specs.Optional.{◌>>=◌}
+use Rattle.shelf_model.specs.sdp_elements.specs.Pdus.{PlainPdu, states_length, pdu_in}
+use Rattle.shelf_model.specs.sdp_elements.specs.Targets.{target_in}
+use Rattle.shelf_model.specs.sdp_elements.proofs.PduLaws.{pdu_again}
+use Rattle.shelf_model.specs.sdp_client.specs.declared.query.Stage.{Stage}
+use Rattle.shelf_model.specs.sdp_client.specs.declared.query.Stage.TheVariants.{Due, Written, Again, Answered, Refused}
+use Rattle.shelf_model.specs.sdp_client.specs.Asking.{Asking, begun, request_parameters, request_octets, waits, is_due, written, after_request, again, after_resend}
+use Rattle.shelf_model.specs.sdp_client.specs.Hearing.{stage_in, with_part, asks_on, after_whole, after_part, when_said, after_when, after_reply, ended}
+use Rattle.shelf_model.specs.sdp_client.specs.Replies.{PlainPart, PlainSaid, Gives, Failed, Nothing, goes_on, counted_part, part_in, given, said_by, said_in, is_of_another}
+use Rattle.shelf_model.specs.sdp_client.specs.declared.reason.QueryReason.TheVariants.{BadReply, ErrorCode, TooLong}
+use Rattle.shelf_model.specs.sdp_client.specs.Views.{awaits, is_awaiting}
+use Rattle.push_laws.specs.link_talk.specs.ServiceAnswers.{transaction_of, answered_by}
+use Rattle.shelf_model.specs.host_model.specs.Pdus.{are_octets}
 
 -- ---- what it waits for
 

@@ -4,48 +4,48 @@ use Rattle.std.specs.Prelude.{nat_lt, is_some}
 use Rattle.std.specs.List.{flat_map}
 use Rattle.std.specs.Option.{option_or}
 use Rattle.std.proofs.lemmas.Bool.{ltb-true, and_parts}
-use Rattle.bt_base.specs.declared.ports.PortFault.{PortFault}
-use Rattle.bt_base.specs.declared.ports.PortFault.TheVariants as fault
-use Rattle.bt_base.specs.declared.settings.Transport.{Transport}
-use Rattle.bt_base.specs.declared.settings.Transport.TheVariants.{L2cap, Rfcomm}
-use Rattle.push_terms.specs.declared.outcome.Outcome.{Outcome}
-use Rattle.push_terms.specs.declared.outcome.Outcome.TheVariants as outcome
-use Rattle.rfcomm_model.specs.declared.state.MuxReason.{MuxReason}
-use Rattle.rfcomm_model.specs.Hearing.{Up, nothing, opened, bytes, closed, up, hears}
-use Rattle.rfcomm_model.specs.Saying.{Said, next}
-use Rattle.rfcomm_model.specs.Machine.{is_ready, leaves}
-use Rattle.rfcomm_frames.specs.FrameReading.{is_empty}
-use Rattle.obex_session.specs.declared.client.Answered.{Answered}
-use Rattle.obex_session.specs.declared.client.Answered.TheVariants.{Go, Done, Refused, Bad, Srmp}
-use Rattle.obex_session.specs.Views.{answer_at, after_at}
-use Rattle.sdp_elements.specs.declared.target.Target.{Target}
-use Rattle.sdp_elements.specs.Elements.{PlainValue, Nil, Unsigned, Signed, Uuid, Text, Boolean, Url, Tree, Leaf, SequenceOf, AlternativeOf}
-use Rattle.sdp_elements.specs.Optional.{◌>>=◌}
-use Rattle.sdp_elements.specs.Records.{Attribute}
-use Rattle.sdp_elements.specs.Targets.{value_number, number_of, records_in, is_service_psm, is_server_channel, kept, psm_in, first_found, target_of, target_in}
-use Rattle.sdp_client.specs.declared.query.Stage.{Stage as Standing}
-use Rattle.sdp_client.specs.declared.query.Stage.TheVariants as queries
-use Rattle.sdp_client.specs.declared.reason.Found.{Found}
-use Rattle.sdp_client.specs.declared.reason.Found.TheVariants as found
-use Rattle.sdp_client.specs.declared.reason.QueryReason.TheVariants.{WrongTransaction, TooLong}
-use Rattle.sdp_client.specs.Replies.{PlainPart, PlainSaid, Gives, Failed, said_in, is_of_another}
-use Rattle.sdp_client.specs.Replies as replies
-use Rattle.sdp_client.specs.Hearing.{found_target, found_in, found_part, found_said, found_by, found_when, found_at, after_reply}
-use Rattle.sdp_client.specs.Asking.{Asking, is_due}
-use Rattle.push_model.specs.declared.closing.CloseCause.{CloseCause}
-use Rattle.push_model.specs.declared.course.Contact.TheVariants.{Closing}
-use Rattle.push_model.specs.declared.course.Point.TheVariants.{Due, Asked}
-use Rattle.push_model.specs.declared.course.Stage.{Stage}
-use Rattle.push_model.specs.declared.course.Stage.TheVariants.{Rest, Link, SearchChannel, Search, SearchEnd, Features, ObjectChannel, Object, ObjectEnd, LinkEnd, Over}
-use Rattle.push_model.specs.Causes.{cause_of_link, cause_of_page, cause_of_close, cause_of_query, cause_of_mux, cause_of_obex, small_channel, unawaited_response, unknown_parameters}
-use Rattle.push_model.specs.Client.{Client, may_cancel, ends_by, ends, ends_if, cancelled, begun_by, begins}
-use Rattle.push_model.specs.Responding as responding
-use Rattle.push_model.specs.Responding.{is_early, is_success, hears_answer, hears_response, reads_on, hears_front, hears_stream, is_left, hears_end, hears_up, hears_frame, is_object}
-use Rattle.push_model.specs.Streams.{Front, Whole, Partial, Broken, front_of}
-use Rattle.push_model.specs.Events as events
-use Rattle.push_model.specs.Events.{search_psm, linked_at, is_linked, is_paging, over_by, over, muxed_anew, object_opened, opened_at, search_left, search_closed, closed_at, kept_of, found_psm, found_channel, found_way, finds, hears_reply, hears_object, hears_outside, sdu_at, is_asking_features, armed, fires, hears_news}
-use Rattle.push_model.specs.Steps as course
-use Rattle.push_model.specs.Steps.{Part, Stepped, Made, Ask, Connect, Put, Abort, Disconnect, Close, Nothing, Step, Wait, MakeLink, AskFeatures, OpenChannel, SendSdu, CloseChannel, BreakLink, Ended, NoMemory, rests, put_count, requests, puts, puts_part, puts_from, puts_or_leaves, failing, leaves_by, next_ask, may_ask, filled, takes_some, sends_direct, asks_direct, steps_direct, says, sends_muxed, asks_through, asks_muxed, goes_muxed, steps_muxed, steps_object, steps_search, tells_end, steps_at, steps}
+use Rattle.shelf_model.specs.bt_base.specs.declared.ports.PortFault.{PortFault}
+use Rattle.shelf_model.specs.bt_base.specs.declared.ports.PortFault.TheVariants as fault
+use Rattle.shelf_model.specs.bt_base.specs.declared.settings.Transport.{Transport}
+use Rattle.shelf_model.specs.bt_base.specs.declared.settings.Transport.TheVariants.{L2cap, Rfcomm}
+use Rattle.shelf_model.specs.push_terms.specs.declared.outcome.Outcome.{Outcome}
+use Rattle.shelf_model.specs.push_terms.specs.declared.outcome.Outcome.TheVariants as outcome
+use Rattle.shelf_model.specs.rfcomm_model.specs.declared.state.MuxReason.{MuxReason}
+use Rattle.shelf_model.specs.rfcomm_model.specs.Hearing.{Up, nothing, opened, bytes, closed, up, hears}
+use Rattle.shelf_model.specs.rfcomm_model.specs.Saying.{Said, next}
+use Rattle.shelf_model.specs.rfcomm_model.specs.Machine.{is_ready, leaves}
+use Rattle.shelf_model.specs.rfcomm_frames.specs.FrameReading.{is_empty}
+use Rattle.shelf_model.specs.obex_session.specs.declared.client.Answered.{Answered}
+use Rattle.shelf_model.specs.obex_session.specs.declared.client.Answered.TheVariants.{Go, Done, Refused, Bad, Srmp}
+use Rattle.shelf_model.specs.obex_session.specs.Views.{answer_at, after_at}
+use Rattle.shelf_model.specs.sdp_elements.specs.declared.target.Target.{Target}
+use Rattle.shelf_model.specs.sdp_elements.specs.Elements.{PlainValue, Nil, Unsigned, Signed, Uuid, Text, Boolean, Url, Tree, Leaf, SequenceOf, AlternativeOf}
+use Rattle.shelf_model.specs.sdp_elements.specs.Optional.{◌>>=◌}
+use Rattle.shelf_model.specs.sdp_elements.specs.Records.{Attribute}
+use Rattle.shelf_model.specs.sdp_elements.specs.Targets.{value_number, number_of, records_in, is_service_psm, is_server_channel, kept, psm_in, first_found, target_of, target_in}
+use Rattle.shelf_model.specs.sdp_client.specs.declared.query.Stage.{Stage as Standing}
+use Rattle.shelf_model.specs.sdp_client.specs.declared.query.Stage.TheVariants as queries
+use Rattle.shelf_model.specs.sdp_client.specs.declared.reason.Found.{Found}
+use Rattle.shelf_model.specs.sdp_client.specs.declared.reason.Found.TheVariants as found
+use Rattle.shelf_model.specs.sdp_client.specs.declared.reason.QueryReason.TheVariants.{WrongTransaction, TooLong}
+use Rattle.shelf_model.specs.sdp_client.specs.Replies.{PlainPart, PlainSaid, Gives, Failed, said_in, is_of_another}
+use Rattle.shelf_model.specs.sdp_client.specs.Replies as replies
+use Rattle.shelf_model.specs.sdp_client.specs.Hearing.{found_target, found_in, found_part, found_said, found_by, found_when, found_at, after_reply}
+use Rattle.shelf_model.specs.sdp_client.specs.Asking.{Asking, is_due}
+use Rattle.push_laws.specs.push_model.specs.declared.closing.CloseCause.{CloseCause}
+use Rattle.push_laws.specs.push_model.specs.declared.course.Contact.TheVariants.{Closing}
+use Rattle.push_laws.specs.push_model.specs.declared.course.Point.TheVariants.{Due, Asked}
+use Rattle.push_laws.specs.push_model.specs.declared.course.Stage.{Stage}
+use Rattle.push_laws.specs.push_model.specs.declared.course.Stage.TheVariants.{Rest, Link, SearchChannel, Search, SearchEnd, Features, ObjectChannel, Object, ObjectEnd, LinkEnd, Over}
+use Rattle.push_laws.specs.push_model.specs.Causes.{cause_of_link, cause_of_page, cause_of_close, cause_of_query, cause_of_mux, cause_of_obex, small_channel, unawaited_response, unknown_parameters}
+use Rattle.push_laws.specs.push_model.specs.Client.{Client, may_cancel, ends_by, ends, ends_if, cancelled, begun_by, begins}
+use Rattle.push_laws.specs.push_model.specs.Responding as responding
+use Rattle.push_laws.specs.push_model.specs.Responding.{is_early, is_success, hears_answer, hears_response, reads_on, hears_front, hears_stream, is_left, hears_end, hears_up, hears_frame, is_object}
+use Rattle.push_laws.specs.push_model.specs.Streams.{Front, Whole, Partial, Broken, front_of}
+use Rattle.push_laws.specs.push_model.specs.Events as events
+use Rattle.push_laws.specs.push_model.specs.Events.{search_psm, linked_at, is_linked, is_paging, over_by, over, muxed_anew, object_opened, opened_at, search_left, search_closed, closed_at, kept_of, found_psm, found_channel, found_way, finds, hears_reply, hears_object, hears_outside, sdu_at, is_asking_features, armed, fires, hears_news}
+use Rattle.push_laws.specs.push_model.specs.Steps as course
+use Rattle.push_laws.specs.push_model.specs.Steps.{Part, Stepped, Made, Ask, Connect, Put, Abort, Disconnect, Close, Nothing, Step, Wait, MakeLink, AskFeatures, OpenChannel, SendSdu, CloseChannel, BreakLink, Ended, NoMemory, rests, put_count, requests, puts, puts_part, puts_from, puts_or_leaves, failing, leaves_by, next_ask, may_ask, filled, takes_some, sends_direct, asks_direct, steps_direct, says, sends_muxed, asks_through, asks_muxed, goes_muxed, steps_muxed, steps_object, steps_search, tells_end, steps_at, steps}
 
 -- ---- what a service record names
 

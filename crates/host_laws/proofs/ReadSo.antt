@@ -1,36 +1,36 @@
 -- What a host says is read as what its channels gave.
 use Rattle.std.proofs.Common.{◌≡◌, ℕ, zero, suc, ◌+◌, ◌^◌, ◌<◌, ◌≤◌, arith, length-append, List, [], ◌∷◌, ◌++◌, length, drop, map, Bool, true, false, eqb, Option, Some, None, Ok, refl, sym, ap, subst, ◌∙◌, if◌then◌else◌}
 use Rattle.std.specs.List.{AllByRecursion}
-use Rattle.acl_fragments.specs.Pieces.{channel_of}
-use Rattle.bt_base.specs.Octets.{IsOctets, le16}
-use Rattle.capture.specs.declared.flow.Flow.TheVariants.{Out}
-use Rattle.capture.specs.Pdus.{Pdu}
-use Rattle.check_words.specs.CheckWords.{l2cap_check}
-use Rattle.ertm_frames.specs.Frames as frames
-use Rattle.ertm_frames.specs.Frames.{PlainFrame, information, supervisory, control_of, body_of, covered}
-use Rattle.l2cap_signal.proofs.Contents.{octets_behind}
-use Rattle.l2cap_signal.specs.Commands.{Command, spelling}
-use Rattle.l2cap_signal.specs.Reading.{answers}
-use Rattle.link_talk.specs.Sayings.{Saying, Carried, said_by}
-use Rattle.link_talk.specs.Sayings as sayings
-use Rattle.channel_model.specs.Value.{Channels}
-use Rattle.channel_model.specs.Policies.{policy}
-use Rattle.channel_model.specs.Giving.{Given, Signal, Whole, Framed, IsPdu, next_given, headed}
+use Rattle.shelf_model.specs.acl_fragments.specs.Pieces.{channel_of}
+use Rattle.shelf_model.specs.bt_base.specs.Octets.{IsOctets, le16}
+use Rattle.shelf_model.specs.capture.specs.declared.flow.Flow.TheVariants.{Out}
+use Rattle.shelf_model.specs.capture.specs.Pdus.{Pdu}
+use Rattle.shelf_model.specs.check_words.specs.CheckWords.{l2cap_check}
+use Rattle.shelf_model.specs.ertm_frames.specs.Frames as frames
+use Rattle.shelf_model.specs.ertm_frames.specs.Frames.{PlainFrame, information, supervisory, control_of, body_of, covered}
+use Rattle.shelf_model.specs.l2cap_signal.proofs.Contents.{octets_behind}
+use Rattle.shelf_model.specs.l2cap_signal.specs.Commands.{Command, spelling}
+use Rattle.shelf_model.specs.l2cap_signal.specs.Reading.{answers}
+use Rattle.push_laws.specs.link_talk.specs.Sayings.{Saying, Carried, said_by}
+use Rattle.push_laws.specs.link_talk.specs.Sayings as sayings
+use Rattle.channel_laws.specs.channel_model.specs.Value.{Channels}
+use Rattle.channel_laws.specs.channel_model.specs.Policies.{policy}
+use Rattle.channel_laws.specs.channel_model.specs.Giving.{Given, Signal, Whole, Framed, IsPdu, next_given, headed}
 use Rattle.channel_laws.specs.Belonging.{IsFit}
 use Rattle.channel_laws.proofs.Fitted.{IsLowPsm, low-psm, IsForEndpoint, given-endpoint, given-fit}
 use Rattle.channel_laws.proofs.Numbering.{HasNumbers, IsNumberedGiven, given-numbered}
 use Rattle.channel_laws.proofs.Uttering.{uttered-is_read}
-use Rattle.world_model.specs.Machines.{Linked, Failed, Heard, TimerFired, Cancelled, Opening}
-use Rattle.host_model.specs.Circumstances.{Circumstance}
-use Rattle.host_model.specs.Pdus.{pdu_of, is_frame, number_of, frame_octets}
-use Rattle.host_model.specs.Spelling.{Fits, CanSpell}
-use Rattle.host_model.proofs.Spelled.{octets_are_right}
-use Rattle.host_model.specs.Profiles.{Profile}
-use Rattle.host_model.specs.Hosts.{Host, first_host, says, after_said, next}
-use Rattle.host_model.specs.Clients.{client_profile}
-use Rattle.host_model.specs.Servers.{server_profile}
-use Rattle.host_model.specs.Machines.{upper}
-use Rattle.host_model.proofs.Orderly.{says_frames, says_octets}
+use Rattle.shelf_model.specs.world_model.specs.Machines.{Linked, Failed, Heard, TimerFired, Cancelled, Opening}
+use Rattle.shelf_model.specs.host_model.specs.Circumstances.{Circumstance}
+use Rattle.shelf_model.specs.host_model.specs.Pdus.{pdu_of, is_frame, number_of, frame_octets}
+use Rattle.shelf_model.specs.host_model.specs.Spelling.{Fits, CanSpell}
+use Rattle.shelf_model.specs.host_model.proofs.Spelled.{octets_are_right}
+use Rattle.shelf_model.specs.host_model.specs.Profiles.{Profile}
+use Rattle.shelf_model.specs.host_model.specs.Hosts.{Host, first_host, says, after_said, next}
+use Rattle.shelf_model.specs.host_model.specs.Clients.{client_profile}
+use Rattle.shelf_model.specs.host_model.specs.Servers.{server_profile}
+use Rattle.shelf_model.specs.host_model.specs.Machines.{upper}
+use Rattle.shelf_model.specs.host_model.proofs.Orderly.{says_frames, says_octets}
 use Rattle.host_laws.specs.Acts.{Act, Hears, Says, Does, Acting}
 use Rattle.host_laws.specs.Calm.{IsReadFrom}
 use Rattle.host_laws.specs.Read.{IsSoberPdu, IsActSo, SaysAsRead, SaidIsRead}

@@ -3,26 +3,26 @@ use Rattle.std.proofs.Common.{◌≡◌, ℕ, ◌+◌, ◌<◌, ◌≤◌, List,
 use Rattle.std.specs.Prelude.{drop, find, nat_lt}
 use Rattle.std.proofs.lemmas.Bool.{eqb-true, ltb-false, ltb-true}
 use Rattle.std.proofs.lemmas.List.Sums.{fold-append}
-use Rattle.acl_fragments.specs.Pieces.{channel_of}
-use Rattle.l2cap_signal.specs.Commands.{Content, reject, connection_request, connection_response, configuration_request, configuration_response, disconnection_request, disconnection_response, echo_request, echo_response, information_request, information_response}
-use Rattle.l2cap_signal.specs.Reading.{Answer, answers}
-use Rattle.l2cap_signal.specs.declared.refusal.SignalRefusal.{SignalRefusal}
-use Rattle.l2cap_signal.specs.declared.refusal.SignalRefusal.TheVariants.{ZeroIdentifier, BadLength, UnknownCode, AboveMtu}
-use Rattle.channel_model.specs.declared.event.ChannelEvent.{ChannelEvent}
-use Rattle.channel_model.specs.declared.request_kind.RequestKind.{RequestKind}
-use Rattle.channel_model.specs.declared.request_kind.RequestKind.TheVariants.{Connection, Configuration, Disconnection, Echo, Information}
-use Rattle.channel_model.specs.Value.{Stage, Held, Remembered, Channels}
-use Rattle.channel_model.specs.Policies.{Policy}
-use Rattle.channel_model.specs.Changing.{has_own, held_at}
-use Rattle.channel_model.specs.Answers.{remembered, not_understood, kind_of_code, too_long, answer_to}
-use Rattle.channel_model.specs.Following.{says, remembers, can_say, hears_new, hears_again, hears_kind, hears_question, follows_connection, follows}
-use Rattle.channel_model.specs.Hearing.{hears_content, hears_malformed, is_response_code, is_kind, hears_unread, hears_refused, hears_command, hears_commands}
-use Rattle.channel_model.specs.Carrying.{takes}
-use Rattle.channel_model.specs.Timing.{times_held, times_end, times_channels}
-use Rattle.channel_model.proofs.Lookups.{own_of, Distinct}
-use Rattle.channel_model.proofs.Going.{Moves, new_held, Walks}
-use Rattle.channel_model.proofs.Walking.{commands-go}
-use Rattle.channel_model.proofs.Calling.{connected-goes, asks-features-goes, disconnected-goes, sends-goes, takes-goes, timed-goes, given-goes}
+use Rattle.shelf_model.specs.acl_fragments.specs.Pieces.{channel_of}
+use Rattle.shelf_model.specs.l2cap_signal.specs.Commands.{Content, reject, connection_request, connection_response, configuration_request, configuration_response, disconnection_request, disconnection_response, echo_request, echo_response, information_request, information_response}
+use Rattle.shelf_model.specs.l2cap_signal.specs.Reading.{Answer, answers}
+use Rattle.shelf_model.specs.l2cap_signal.specs.declared.refusal.SignalRefusal.{SignalRefusal}
+use Rattle.shelf_model.specs.l2cap_signal.specs.declared.refusal.SignalRefusal.TheVariants.{ZeroIdentifier, BadLength, UnknownCode, AboveMtu}
+use Rattle.channel_laws.specs.channel_model.specs.declared.event.ChannelEvent.{ChannelEvent}
+use Rattle.channel_laws.specs.channel_model.specs.declared.request_kind.RequestKind.{RequestKind}
+use Rattle.channel_laws.specs.channel_model.specs.declared.request_kind.RequestKind.TheVariants.{Connection, Configuration, Disconnection, Echo, Information}
+use Rattle.channel_laws.specs.channel_model.specs.Value.{Stage, Held, Remembered, Channels}
+use Rattle.channel_laws.specs.channel_model.specs.Policies.{Policy}
+use Rattle.channel_laws.specs.channel_model.specs.Changing.{has_own, held_at}
+use Rattle.channel_laws.specs.channel_model.specs.Answers.{remembered, not_understood, kind_of_code, too_long, answer_to}
+use Rattle.channel_laws.specs.channel_model.specs.Following.{says, remembers, can_say, hears_new, hears_again, hears_kind, hears_question, follows_connection, follows}
+use Rattle.channel_laws.specs.channel_model.specs.Hearing.{hears_content, hears_malformed, is_response_code, is_kind, hears_unread, hears_refused, hears_command, hears_commands}
+use Rattle.channel_laws.specs.channel_model.specs.Carrying.{takes}
+use Rattle.channel_laws.specs.channel_model.specs.Timing.{times_held, times_end, times_channels}
+use Rattle.channel_laws.specs.channel_model.proofs.Lookups.{own_of, Distinct}
+use Rattle.channel_laws.specs.channel_model.proofs.Going.{Moves, new_held, Walks}
+use Rattle.channel_laws.specs.channel_model.proofs.Walking.{commands-go}
+use Rattle.channel_laws.specs.channel_model.proofs.Calling.{connected-goes, asks-features-goes, disconnected-goes, sends-goes, takes-goes, timed-goes, given-goes}
 use Rattle.channel_laws.specs.Runs.{Occurrence, Comes, Connects, AsksFeatures, Disconnects, Sends, Gives, Fires, Tells, new_link, run_on, run_of, value_after}
 use Rattle.channel_laws.specs.Singly.{NoneIsDue, AsksForNoChannel}
 use Rattle.channel_laws.proofs.Due.{IsDue, KeepsDue, same-due, apart, all-due, Any}

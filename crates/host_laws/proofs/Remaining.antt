@@ -2,21 +2,21 @@
 use Rattle.std.proofs.Common.{◌≡◌, ℕ, zero, suc, ◌+◌, ◌-◌, ◌*◌, ◌^◌, ◌<◌, ◌≤◌, List, [], ◌∷◌, length, map, Bool, true, false, eqb, Option, Some, None, refl, sym, ap, ap₂, subst, ◌∙◌, arith, length-append}
 use Rattle.std.specs.Prelude.{find, nat_lt, option_map}
 use Rattle.std.proofs.lemmas.Bool.{eqb-true, eqb-false, ltb-true, ltb-false}
-use Rattle.ertm_frames.specs.Frames.{PlainFrame}
-use Rattle.l2cap_signal.specs.Commands.{Command}
-use Rattle.ertm_model.specs.Value.{Kept, Poll, NoPoll, Due, Waits, Reply, NoReply, Acknowledges, Rejects, Ertm}
-use Rattle.ertm_model.specs.Giving.{Giving, PollAnswer, Acknowledgement, Rejection, Polling, Again, New, giving, frame_by, after_giving, after_by}
-use Rattle.ertm_model.proofs.Inverting.{Gives, gives as machine_gives}
-use Rattle.ertm_model.proofs.Lists.{again-length, get-inside, get-none}
-use Rattle.l2cap_config.specs.declared.wish.Wish.{Wish}
-use Rattle.channel_model.specs.declared.errand.Errand.{Errand}
-use Rattle.channel_model.specs.declared.errand.Errand.TheVariants as errands
-use Rattle.channel_model.specs.Value.{Request, Queued, Answer, Ask, Own, Unasked, Asking, Granted, Carrier, Plain, Retransmitting, Setup, Stage, Requested, Connected, Leaving, Closing, Crossed, Held, Channels}
-use Rattle.channel_model.specs.Policies.{Policy}
-use Rattle.channel_model.specs.Changing.{has_own, held_at, in_place_of, same_errand, setup_of, to_stage}
-use Rattle.channel_model.specs.Giving.{Given, Signal, Framed, one_more, connection_at, configuration_by, configuration_at, disconnection_at, on_held, features_command, command_of, own_given, connection_given, configuration_given, disconnection_given, stage_given, counted, some_carrier_gives, stage_gives, gives, carrier_given, carrier_spent, held_gives, held_given, queue_gives, queue_given, next_given, after_given}
-use Rattle.channel_model.proofs.Lookups.{own_of, Distinct, found-has, found-distinct, found-placed, find-placed}
-use Rattle.channel_model.proofs.Going.{staged}
+use Rattle.shelf_model.specs.ertm_frames.specs.Frames.{PlainFrame}
+use Rattle.shelf_model.specs.l2cap_signal.specs.Commands.{Command}
+use Rattle.shelf_model.specs.ertm_model.specs.Value.{Kept, Poll, NoPoll, Due, Waits, Reply, NoReply, Acknowledges, Rejects, Ertm}
+use Rattle.shelf_model.specs.ertm_model.specs.Giving.{Giving, PollAnswer, Acknowledgement, Rejection, Polling, Again, New, giving, frame_by, after_giving, after_by}
+use Rattle.shelf_model.specs.ertm_model.proofs.Inverting.{Gives, gives as machine_gives}
+use Rattle.shelf_model.specs.ertm_model.proofs.Lists.{again-length, get-inside, get-none}
+use Rattle.shelf_model.specs.l2cap_config.specs.declared.wish.Wish.{Wish}
+use Rattle.channel_laws.specs.channel_model.specs.declared.errand.Errand.{Errand}
+use Rattle.channel_laws.specs.channel_model.specs.declared.errand.Errand.TheVariants as errands
+use Rattle.channel_laws.specs.channel_model.specs.Value.{Request, Queued, Answer, Ask, Own, Unasked, Asking, Granted, Carrier, Plain, Retransmitting, Setup, Stage, Requested, Connected, Leaving, Closing, Crossed, Held, Channels}
+use Rattle.channel_laws.specs.channel_model.specs.Policies.{Policy}
+use Rattle.channel_laws.specs.channel_model.specs.Changing.{has_own, held_at, in_place_of, same_errand, setup_of, to_stage}
+use Rattle.channel_laws.specs.channel_model.specs.Giving.{Given, Signal, Framed, one_more, connection_at, configuration_by, configuration_at, disconnection_at, on_held, features_command, command_of, own_given, connection_given, configuration_given, disconnection_given, stage_given, counted, some_carrier_gives, stage_gives, gives, carrier_given, carrier_spent, held_gives, held_given, queue_gives, queue_given, next_given, after_given}
+use Rattle.channel_laws.specs.channel_model.proofs.Lookups.{own_of, Distinct, found-has, found-distinct, found-placed, find-placed}
+use Rattle.channel_laws.specs.channel_model.proofs.Going.{staged}
 use Rattle.channel_laws.specs.Tries.{for_channel, own_request, for_options, for_end, request_at, request_of, one_if, copies}
 use Rattle.channel_laws.proofs.Keeping.{StageKeeps, HeldKeeps}
 use Rattle.channel_laws.proofs.Lasting.{answers_of}

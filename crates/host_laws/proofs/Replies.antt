@@ -2,24 +2,24 @@
 use Rattle.std.proofs.Common.{◌≡◌, ℕ, ◌+◌, ◌-◌, ◌≤◌, List, [], ◌∷◌, ◌++◌, drop, Bool, true, false, cond, eqb, not, ◌&&◌, Option, Some, None, refl, sym, ap, ap₂, subst, ◌∙◌, append-nil, arith}
 use Rattle.std.specs.Prelude.{nat_le, nat_lt, length, slice_index}
 use Rattle.std.proofs.lemmas.Bool.{and_parts, eqb-true, leb-true, le-leb}
-use Rattle.channel_model.proofs.Lookups.{and_off}
+use Rattle.channel_laws.specs.channel_model.proofs.Lookups.{and_off}
 use Rattle.byteorder.specs.Endian.{big_number}
-use Rattle.capture.specs.declared.flow.Flow.TheVariants.{Into}
-use Rattle.sdp_elements.specs.declared.target.Target.{Target}
-use Rattle.sdp_elements.specs.Pdus.{PlainPdu, states_length, pdu_in}
-use Rattle.sdp_elements.specs.Targets.{target_in}
-use Rattle.sdp_client.specs.declared.query.Stage.{Stage}
-use Rattle.sdp_client.specs.declared.query.Stage.TheVariants as stages
-use Rattle.sdp_client.specs.declared.reason.Found.{Found}
-use Rattle.sdp_client.specs.declared.reason.Found.TheVariants.{More, Service, NoService, Refused}
-use Rattle.sdp_client.specs.declared.reason.QueryReason.{QueryReason}
-use Rattle.sdp_client.specs.declared.reason.QueryReason.TheVariants.{BadReply, ErrorCode, WrongTransaction, TooLong}
-use Rattle.sdp_client.specs.Asking.{Asking}
-use Rattle.sdp_client.specs.Hearing.{ended, found_target, found_in, after_whole, with_part, asks_on, found_part, after_part, found_said, when_said, found_when, after_when, found_at, after_reply}
-use Rattle.sdp_client.specs.Replies.{PlainPart, part_in, said_by, given, is_of_another}
-use Rattle.link_talk.specs.Sdus.{Spoken, spoken_as}
-use Rattle.link_talk.specs.ServiceAnswers.{part_of, part_with, parts_from, joined_from}
-use Rattle.talk_laws.specs.LinkAnswers.{unfinished_after, answers_now}
+use Rattle.shelf_model.specs.capture.specs.declared.flow.Flow.TheVariants.{Into}
+use Rattle.shelf_model.specs.sdp_elements.specs.declared.target.Target.{Target}
+use Rattle.shelf_model.specs.sdp_elements.specs.Pdus.{PlainPdu, states_length, pdu_in}
+use Rattle.shelf_model.specs.sdp_elements.specs.Targets.{target_in}
+use Rattle.shelf_model.specs.sdp_client.specs.declared.query.Stage.{Stage}
+use Rattle.shelf_model.specs.sdp_client.specs.declared.query.Stage.TheVariants as stages
+use Rattle.shelf_model.specs.sdp_client.specs.declared.reason.Found.{Found}
+use Rattle.shelf_model.specs.sdp_client.specs.declared.reason.Found.TheVariants.{More, Service, NoService, Refused}
+use Rattle.shelf_model.specs.sdp_client.specs.declared.reason.QueryReason.{QueryReason}
+use Rattle.shelf_model.specs.sdp_client.specs.declared.reason.QueryReason.TheVariants.{BadReply, ErrorCode, WrongTransaction, TooLong}
+use Rattle.shelf_model.specs.sdp_client.specs.Asking.{Asking}
+use Rattle.shelf_model.specs.sdp_client.specs.Hearing.{ended, found_target, found_in, after_whole, with_part, asks_on, found_part, after_part, found_said, when_said, found_when, after_when, found_at, after_reply}
+use Rattle.shelf_model.specs.sdp_client.specs.Replies.{PlainPart, part_in, said_by, given, is_of_another}
+use Rattle.push_laws.specs.link_talk.specs.Sdus.{Spoken, spoken_as}
+use Rattle.push_laws.specs.link_talk.specs.ServiceAnswers.{part_of, part_with, parts_from, joined_from}
+use Rattle.channel_laws.specs.talk_laws.specs.LinkAnswers.{unfinished_after, answers_now}
 use Rattle.host_laws.proofs.Querying.{awaited_at, awaited}
 
 -- ---- what a reply says

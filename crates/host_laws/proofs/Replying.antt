@@ -1,23 +1,23 @@
 -- A command that is heard where nothing waits: what is said of it is what waits then.
 use Rattle.std.proofs.Common.{◌≡◌, ℕ, List, [], ◌∷◌, ◌++◌, Bool, true, false, cond, eqb, Option, Some, None, Ok, Err, refl, sym, ap, subst, ◌∙◌, append-nil}
-use Rattle.capture.specs.declared.flow.Flow.TheVariants.{Into}
-use Rattle.l2cap_signal.specs.Commands.{Content, Command, reject, connection_request, connection_response, configuration_request, configuration_response, disconnection_request, disconnection_response, echo_request, echo_response, information_request, information_response}
-use Rattle.l2cap_signal.specs.Reading.{Answer as Read}
-use Rattle.l2cap_signal.specs.declared.refusal.SignalRefusal.TheVariants.{ZeroIdentifier, BadLength, UnknownCode, AboveMtu}
-use Rattle.link_talk.specs.Sayings.{Saying}
-use Rattle.link_talk.specs.Sayings as sayings
-use Rattle.channel_model.specs.declared.errand.Errand.{Errand}
-use Rattle.channel_model.specs.declared.request_kind.RequestKind.{RequestKind}
-use Rattle.channel_model.specs.declared.request_kind.RequestKind.TheVariants as kinds
-use Rattle.channel_model.specs.Value.{Queued, Ask, Remembered, Channels}
-use Rattle.channel_model.specs.Policies.{Policy}
-use Rattle.channel_model.specs.Changing.{held_at, answers}
-use Rattle.channel_model.specs.Asking.{next_identifier}
-use Rattle.channel_model.specs.Answers.{kind_of_code, remembered, not_understood, too_long, answer_to}
-use Rattle.channel_model.specs.Following.{remembers, says, hears_new, hears_again, hears_kind, hears_request, follows}
-use Rattle.channel_model.specs.Responses.{features_in}
-use Rattle.channel_model.specs.Hearing.{hears_malformed, is_response_code, is_kind, hears_unread, hears_command}
-use Rattle.channel_model.proofs.Lookups.{eqb-same}
+use Rattle.shelf_model.specs.capture.specs.declared.flow.Flow.TheVariants.{Into}
+use Rattle.shelf_model.specs.l2cap_signal.specs.Commands.{Content, Command, reject, connection_request, connection_response, configuration_request, configuration_response, disconnection_request, disconnection_response, echo_request, echo_response, information_request, information_response}
+use Rattle.shelf_model.specs.l2cap_signal.specs.Reading.{Answer as Read}
+use Rattle.shelf_model.specs.l2cap_signal.specs.declared.refusal.SignalRefusal.TheVariants.{ZeroIdentifier, BadLength, UnknownCode, AboveMtu}
+use Rattle.push_laws.specs.link_talk.specs.Sayings.{Saying}
+use Rattle.push_laws.specs.link_talk.specs.Sayings as sayings
+use Rattle.channel_laws.specs.channel_model.specs.declared.errand.Errand.{Errand}
+use Rattle.channel_laws.specs.channel_model.specs.declared.request_kind.RequestKind.{RequestKind}
+use Rattle.channel_laws.specs.channel_model.specs.declared.request_kind.RequestKind.TheVariants as kinds
+use Rattle.channel_laws.specs.channel_model.specs.Value.{Queued, Ask, Remembered, Channels}
+use Rattle.channel_laws.specs.channel_model.specs.Policies.{Policy}
+use Rattle.channel_laws.specs.channel_model.specs.Changing.{held_at, answers}
+use Rattle.channel_laws.specs.channel_model.specs.Asking.{next_identifier}
+use Rattle.channel_laws.specs.channel_model.specs.Answers.{kind_of_code, remembered, not_understood, too_long, answer_to}
+use Rattle.channel_laws.specs.channel_model.specs.Following.{remembers, says, hears_new, hears_again, hears_kind, hears_request, follows}
+use Rattle.channel_laws.specs.channel_model.specs.Responses.{features_in}
+use Rattle.channel_laws.specs.channel_model.specs.Hearing.{hears_malformed, is_response_code, is_kind, hears_unread, hears_command}
+use Rattle.channel_laws.specs.channel_model.proofs.Lookups.{eqb-same}
 use Rattle.channel_laws.specs.OwnTalk.{spoken, command_with, response_by, response_as, response_malformed, response_unread, command_if, reply_to, exchanged, newest, said_of, asked_between}
 use Rattle.channel_laws.proofs.Asking.{next-apart}
 use Rattle.host_laws.specs.Seen.{waiting_in, AllDue}

@@ -3,28 +3,28 @@ use Rattle.std.proofs.Common.{◌≡◌, ℕ, List, [], ◌∷◌, ◌++◌, dro
 use Rattle.std.specs.Prelude.{IfSome, option_to_list}
 use Rattle.std.specs.List.{AllByRecursion, list_any}
 use Rattle.std.proofs.lemmas.List.Sums.{fold-append}
-use Rattle.acl_fragments.specs.Pieces.{channel_of}
-use Rattle.bt_base.specs.declared.settings.Settings.{Settings}
-use Rattle.bt_base.specs.declared.settings.Transport.{Transport}
-use Rattle.bt_base.specs.declared.settings.Transport.TheVariants.{Rfcomm}
-use Rattle.capture.specs.Histories.{EachAfter}
-use Rattle.capture.proofs.HistoryLaws.{each_after-both}
-use Rattle.capture.specs.declared.flow.Flow.TheVariants.{Out, Into}
-use Rattle.ertm_frames.specs.Frames.{PlainFrame}
-use Rattle.l2cap_config.specs.declared.wish.Mode.TheVariants.{Basic}
-use Rattle.l2cap_signal.specs.Reading.{answers}
-use Rattle.sdp_elements.specs.declared.target.Target.{Target}
-use Rattle.link_talk.specs.declared.call.Call.{Call}
-use Rattle.link_talk.specs.declared.party.Party.{Party}
-use Rattle.link_talk.specs.Requests.{call, went}
-use Rattle.link_talk.specs.Sayings.{Saying, Command, Carried, GaveUp}
-use Rattle.link_talk.specs.Senses.{sense}
-use Rattle.channel_model.specs.Value.{Carrier, Plain, Retransmitting, Setup, Held, Channels}
-use Rattle.channel_model.specs.Policies.{Policy, enhanced_wish, policy}
-use Rattle.channel_model.specs.Calls.{carrier_at, connected, asks_features, disconnected}
-use Rattle.channel_model.specs.Carrying.{takes}
-use Rattle.channel_model.specs.Changing.{held_at, setup_of}
-use Rattle.channel_model.specs.Giving.{Given, Signal, Whole, Framed, carrier_gives, next_given}
+use Rattle.shelf_model.specs.acl_fragments.specs.Pieces.{channel_of}
+use Rattle.shelf_model.specs.bt_base.specs.declared.settings.Settings.{Settings}
+use Rattle.shelf_model.specs.bt_base.specs.declared.settings.Transport.{Transport}
+use Rattle.shelf_model.specs.bt_base.specs.declared.settings.Transport.TheVariants.{Rfcomm}
+use Rattle.shelf_model.specs.capture.specs.Histories.{EachAfter}
+use Rattle.shelf_model.specs.capture.proofs.HistoryLaws.{each_after-both}
+use Rattle.shelf_model.specs.capture.specs.declared.flow.Flow.TheVariants.{Out, Into}
+use Rattle.shelf_model.specs.ertm_frames.specs.Frames.{PlainFrame}
+use Rattle.shelf_model.specs.l2cap_config.specs.declared.wish.Mode.TheVariants.{Basic}
+use Rattle.shelf_model.specs.l2cap_signal.specs.Reading.{answers}
+use Rattle.shelf_model.specs.sdp_elements.specs.declared.target.Target.{Target}
+use Rattle.push_laws.specs.link_talk.specs.declared.call.Call.{Call}
+use Rattle.push_laws.specs.link_talk.specs.declared.party.Party.{Party}
+use Rattle.push_laws.specs.link_talk.specs.Requests.{call, went}
+use Rattle.push_laws.specs.link_talk.specs.Sayings.{Saying, Command, Carried, GaveUp}
+use Rattle.push_laws.specs.link_talk.specs.Senses.{sense}
+use Rattle.channel_laws.specs.channel_model.specs.Value.{Carrier, Plain, Retransmitting, Setup, Held, Channels}
+use Rattle.channel_laws.specs.channel_model.specs.Policies.{Policy, enhanced_wish, policy}
+use Rattle.channel_laws.specs.channel_model.specs.Calls.{carrier_at, connected, asks_features, disconnected}
+use Rattle.channel_laws.specs.channel_model.specs.Carrying.{takes}
+use Rattle.channel_laws.specs.channel_model.specs.Changing.{held_at, setup_of}
+use Rattle.channel_laws.specs.channel_model.specs.Giving.{Given, Signal, Whole, Framed, carrier_gives, next_given}
 use Rattle.channel_laws.specs.OwnTalk.{asked_between, said_with_all}
 use Rattle.channel_laws.specs.Runs.{Occurrence, Comes, Connects, AsksFeatures, Disconnects, Sends, Gives, Fires, Tells, peer_at, said_by_carrier, said_as, said_in, Run, new_link, run_on, run_of}
 use Rattle.channel_laws.specs.Signals.{StandsIn}

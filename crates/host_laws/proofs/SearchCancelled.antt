@@ -1,24 +1,24 @@
 -- A push that is cancelled in its search closes the channel of that at once, where its channels have no PDU and its SDU was sent.
 use Rattle.std.proofs.Common.{◌≡◌, ℕ, List, Bool, true, false, cond, Option, Some, None, refl, sym, ap, subst, ◌∙◌}
 use Rattle.std.specs.Prelude.{is_some}
-use Rattle.bt_base.specs.declared.settings.Settings.{Settings}
-use Rattle.push_terms.specs.declared.outcome.Outcome.{Outcome}
-use Rattle.push_terms.specs.declared.outcome.Outcome.TheVariants as outcomes
-use Rattle.channel_model.specs.Giving.{next_given}
-use Rattle.push_model.specs.declared.course.Point.TheVariants.{Due}
-use Rattle.push_model.specs.declared.course.Stage.{Stage}
-use Rattle.push_model.specs.declared.course.Stage.TheVariants.{Search, SearchEnd}
-use Rattle.push_model.specs.Client.{Client, in_order, at_once, ends_by, ends, may_cancel}
-use Rattle.push_model.specs.Events.{is_search}
-use Rattle.push_model.specs.Steps as course
-use Rattle.push_model.specs.Steps.{Stepped, steps}
-use Rattle.host_model.specs.Circumstances.{Circumstance, parts_in}
-use Rattle.host_model.specs.Profiles.{Profile}
-use Rattle.host_model.specs.Hosts.{Host, drives, goes_on, goes_by, settles, most_steps, most_said}
-use Rattle.host_model.specs.Clients as clients
-use Rattle.host_model.specs.Clients.{ClientProfile, client_profile, ended, sent_on, takes, fitted}
-use Rattle.host_model.proofs.Keeping.{tells, drives_on}
-use Rattle.host_model.specs.Shelves.{unused}
+use Rattle.shelf_model.specs.bt_base.specs.declared.settings.Settings.{Settings}
+use Rattle.shelf_model.specs.push_terms.specs.declared.outcome.Outcome.{Outcome}
+use Rattle.shelf_model.specs.push_terms.specs.declared.outcome.Outcome.TheVariants as outcomes
+use Rattle.channel_laws.specs.channel_model.specs.Giving.{next_given}
+use Rattle.push_laws.specs.push_model.specs.declared.course.Point.TheVariants.{Due}
+use Rattle.push_laws.specs.push_model.specs.declared.course.Stage.{Stage}
+use Rattle.push_laws.specs.push_model.specs.declared.course.Stage.TheVariants.{Search, SearchEnd}
+use Rattle.push_laws.specs.push_model.specs.Client.{Client, in_order, at_once, ends_by, ends, may_cancel}
+use Rattle.push_laws.specs.push_model.specs.Events.{is_search}
+use Rattle.push_laws.specs.push_model.specs.Steps as course
+use Rattle.push_laws.specs.push_model.specs.Steps.{Stepped, steps}
+use Rattle.shelf_model.specs.host_model.specs.Circumstances.{Circumstance, parts_in}
+use Rattle.shelf_model.specs.host_model.specs.Profiles.{Profile}
+use Rattle.shelf_model.specs.host_model.specs.Hosts.{Host, drives, goes_on, goes_by, settles, most_steps, most_said}
+use Rattle.shelf_model.specs.host_model.specs.Clients as clients
+use Rattle.shelf_model.specs.host_model.specs.Clients.{ClientProfile, client_profile, ended, sent_on, takes, fitted}
+use Rattle.shelf_model.specs.host_model.proofs.Keeping.{tells, drives_on}
+use Rattle.shelf_model.specs.host_model.specs.Shelves.{unused}
 use Rattle.host_laws.specs.Leaving.{is_off}
 use Rattle.host_laws.specs.SearchOrder.{SearchesInOrder, IsSent, CancelsInOrder}
 use Rattle.host_laws.proofs.SearchingTold.{ended_same}

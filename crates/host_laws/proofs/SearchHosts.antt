@@ -1,34 +1,34 @@
 -- The host of a client searches in order, and has memory while it does.
 use Rattle.std.proofs.Common.{◌≡◌, ℕ, List, [], Bool, true, false, cond, Option, Some, None, refl, sym, ap, subst, ◌∙◌, inl, inr}
-use Rattle.bt_base.specs.declared.settings.Settings.{Settings}
-use Rattle.channel_model.specs.declared.event.ChannelEvent.{ChannelEvent}
-use Rattle.channel_model.specs.declared.event.ChannelEvent.TheVariants.{Opened, Closed, Features as Told, FeaturesLost, DisconnectLost}
-use Rattle.channel_model.specs.Value.{Channels}
-use Rattle.channel_model.specs.Calls as channels
-use Rattle.channel_model.specs.Calls.{peer_mtu, waits}
-use Rattle.push_model.specs.declared.closing.CloseCause.{CloseCause}
-use Rattle.push_model.specs.declared.course.Stage.TheVariants.{Rest, SearchChannel, Search, LinkEnd}
-use Rattle.push_model.specs.Client.{Client, begins, cancelled}
-use Rattle.sdp_client.specs.Asking.{begun}
+use Rattle.shelf_model.specs.bt_base.specs.declared.settings.Settings.{Settings}
+use Rattle.channel_laws.specs.channel_model.specs.declared.event.ChannelEvent.{ChannelEvent}
+use Rattle.channel_laws.specs.channel_model.specs.declared.event.ChannelEvent.TheVariants.{Opened, Closed, Features as Told, FeaturesLost, DisconnectLost}
+use Rattle.channel_laws.specs.channel_model.specs.Value.{Channels}
+use Rattle.channel_laws.specs.channel_model.specs.Calls as channels
+use Rattle.channel_laws.specs.channel_model.specs.Calls.{peer_mtu, waits}
+use Rattle.push_laws.specs.push_model.specs.declared.closing.CloseCause.{CloseCause}
+use Rattle.push_laws.specs.push_model.specs.declared.course.Stage.TheVariants.{Rest, SearchChannel, Search, LinkEnd}
+use Rattle.push_laws.specs.push_model.specs.Client.{Client, begins, cancelled}
+use Rattle.shelf_model.specs.sdp_client.specs.Asking.{begun}
 use Rattle.std.specs.Prelude.{is_some}
-use Rattle.push_model.specs.declared.course.Point.TheVariants.{Due}
-use Rattle.push_model.specs.declared.course.Stage.{Stage}
-use Rattle.push_model.specs.Events.{linked_at}
+use Rattle.push_laws.specs.push_model.specs.declared.course.Point.TheVariants.{Due}
+use Rattle.push_laws.specs.push_model.specs.declared.course.Stage.{Stage}
+use Rattle.push_laws.specs.push_model.specs.Events.{linked_at}
 use Rattle.host_laws.specs.Searching.{BeginsSearch}
-use Rattle.push_model.specs.Events as events
-use Rattle.push_model.specs.Events.{hears_news}
-use Rattle.push_model.specs.Payloads.{Payload}
-use Rattle.push_model.specs.Steps.{Step, Wait, MakeLink, AskFeatures, OpenChannel, SendSdu, CloseChannel, BreakLink, Ended, NoMemory, steps}
-use Rattle.world_model.specs.Machines.{Up, Down, News, Linked, Failed, Heard, TimerFired, Cancelled, Opening}
-use Rattle.host_model.specs.Circumstances.{Circumstance}
-use Rattle.host_model.specs.Endpoints.{endpoint_of, takes_sdu}
-use Rattle.host_model.specs.Pdus.{sdu_of}
-use Rattle.host_model.specs.Clients as clients
-use Rattle.host_model.specs.Clients.{NoBid, ClientProfile, client_profile, after_end, ended, after_call, calls, cause_of, closed_by, opened_by, event_heard, sent_on, submits, takes, fitted}
-use Rattle.host_model.specs.Profiles.{Profile}
-use Rattle.host_model.specs.Hosts.{Host, most_steps, hears_news as host_hears, ready, hear, next}
-use Rattle.host_model.proofs.Keeping.{Keeps, drives_on, hears_on, goes_next}
-use Rattle.host_model.specs.Shelves.{unused, size_for, name_for}
+use Rattle.push_laws.specs.push_model.specs.Events as events
+use Rattle.push_laws.specs.push_model.specs.Events.{hears_news}
+use Rattle.push_laws.specs.push_model.specs.Payloads.{Payload}
+use Rattle.push_laws.specs.push_model.specs.Steps.{Step, Wait, MakeLink, AskFeatures, OpenChannel, SendSdu, CloseChannel, BreakLink, Ended, NoMemory, steps}
+use Rattle.shelf_model.specs.world_model.specs.Machines.{Up, Down, News, Linked, Failed, Heard, TimerFired, Cancelled, Opening}
+use Rattle.shelf_model.specs.host_model.specs.Circumstances.{Circumstance}
+use Rattle.shelf_model.specs.host_model.specs.Endpoints.{endpoint_of, takes_sdu}
+use Rattle.shelf_model.specs.host_model.specs.Pdus.{sdu_of}
+use Rattle.shelf_model.specs.host_model.specs.Clients as clients
+use Rattle.shelf_model.specs.host_model.specs.Clients.{NoBid, ClientProfile, client_profile, after_end, ended, after_call, calls, cause_of, closed_by, opened_by, event_heard, sent_on, submits, takes, fitted}
+use Rattle.shelf_model.specs.host_model.specs.Profiles.{Profile}
+use Rattle.shelf_model.specs.host_model.specs.Hosts.{Host, most_steps, hears_news as host_hears, ready, hear, next}
+use Rattle.shelf_model.specs.host_model.proofs.Keeping.{Keeps, drives_on, hears_on, goes_next}
+use Rattle.shelf_model.specs.host_model.specs.Shelves.{unused, size_for, name_for}
 use Rattle.host_laws.specs.SearchOrder.{AsksInOrder, LinksBeginSearches, IsUncancelled, is_apart, SearchesWithMemory, SearchesWell, Admits, HostsSearchWell}
 use Rattle.host_laws.proofs.SearchCancelled.{cancels_in_order}
 use Rattle.host_laws.proofs.SearchKept.{Q, keeps_search, told_search}

@@ -1,26 +1,26 @@
 -- The profile of a client whose push is not cancelled: its question is a new one until its channel of service discovery is there, and none waits where
 -- that is to be closed.
 use Rattle.std.proofs.Common.{ℕ, List, [], ◌∷◌, Bool, true, false, cond, Option, Some, None}
-use Rattle.bt_base.specs.declared.settings.Settings.{Settings}
-use Rattle.channel_model.specs.declared.event.ChannelEvent.{ChannelEvent}
-use Rattle.channel_model.specs.declared.event.ChannelEvent.TheVariants.{Opened, Closed, Features as Told, FeaturesLost, DisconnectLost}
-use Rattle.channel_model.specs.Value.{Channels}
-use Rattle.channel_model.specs.Calls as channels
-use Rattle.channel_model.specs.Calls.{peer_mtu, waits}
-use Rattle.push_model.specs.declared.closing.CloseCause.{CloseCause}
-use Rattle.push_model.specs.Client.{Client, begins}
-use Rattle.push_model.specs.Events as events
-use Rattle.push_model.specs.Events.{hears_news}
-use Rattle.push_model.specs.Payloads.{Payload}
-use Rattle.push_model.specs.Steps.{Step, Wait, MakeLink, AskFeatures, OpenChannel, SendSdu, CloseChannel, BreakLink, Ended, NoMemory, steps}
-use Rattle.world_model.specs.Machines.{Up, Down, News, Linked, Failed, Heard, TimerFired, Cancelled, Opening}
-use Rattle.host_model.specs.Circumstances.{Circumstance}
-use Rattle.host_model.specs.Endpoints.{endpoint_of, takes_sdu}
-use Rattle.host_model.specs.Pdus.{sdu_of}
-use Rattle.host_model.specs.Clients as clients
-use Rattle.host_model.specs.Clients.{NoBid, ClientProfile, client_profile, after_end, ended, after_call, calls, cause_of, closed_by, opened_by, event_heard, sent_on, submits, takes, fitted}
-use Rattle.host_model.proofs.Keeping.{Keeps}
-use Rattle.host_model.specs.Shelves.{unused, size_for, name_for}
+use Rattle.shelf_model.specs.bt_base.specs.declared.settings.Settings.{Settings}
+use Rattle.channel_laws.specs.channel_model.specs.declared.event.ChannelEvent.{ChannelEvent}
+use Rattle.channel_laws.specs.channel_model.specs.declared.event.ChannelEvent.TheVariants.{Opened, Closed, Features as Told, FeaturesLost, DisconnectLost}
+use Rattle.channel_laws.specs.channel_model.specs.Value.{Channels}
+use Rattle.channel_laws.specs.channel_model.specs.Calls as channels
+use Rattle.channel_laws.specs.channel_model.specs.Calls.{peer_mtu, waits}
+use Rattle.push_laws.specs.push_model.specs.declared.closing.CloseCause.{CloseCause}
+use Rattle.push_laws.specs.push_model.specs.Client.{Client, begins}
+use Rattle.push_laws.specs.push_model.specs.Events as events
+use Rattle.push_laws.specs.push_model.specs.Events.{hears_news}
+use Rattle.push_laws.specs.push_model.specs.Payloads.{Payload}
+use Rattle.push_laws.specs.push_model.specs.Steps.{Step, Wait, MakeLink, AskFeatures, OpenChannel, SendSdu, CloseChannel, BreakLink, Ended, NoMemory, steps}
+use Rattle.shelf_model.specs.world_model.specs.Machines.{Up, Down, News, Linked, Failed, Heard, TimerFired, Cancelled, Opening}
+use Rattle.shelf_model.specs.host_model.specs.Circumstances.{Circumstance}
+use Rattle.shelf_model.specs.host_model.specs.Endpoints.{endpoint_of, takes_sdu}
+use Rattle.shelf_model.specs.host_model.specs.Pdus.{sdu_of}
+use Rattle.shelf_model.specs.host_model.specs.Clients as clients
+use Rattle.shelf_model.specs.host_model.specs.Clients.{NoBid, ClientProfile, client_profile, after_end, ended, after_call, calls, cause_of, closed_by, opened_by, event_heard, sent_on, submits, takes, fitted}
+use Rattle.shelf_model.specs.host_model.proofs.Keeping.{Keeps}
+use Rattle.shelf_model.specs.host_model.specs.Shelves.{unused, size_for, name_for}
 use Rattle.host_laws.specs.Feeds.{Feed, Gifts, Learns, Receives, Happens, Sent, Steps, fed}
 use Rattle.host_laws.specs.SearchOrder.{SearchesInOrder, IsUncancelled, IsUncancelledFeed, ProfilesSearchInOrder}
 use Rattle.host_laws.proofs.SearchOrder.{hears_so, begins_so, steps_keep}

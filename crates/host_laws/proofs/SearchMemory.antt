@@ -1,24 +1,24 @@
 -- A client has memory while it searches.
 use Rattle.std.proofs.Common.{◌≡◌, ℕ, List, Bool, true, false, cond, eqb, not, ◌&&◌, ◌||◌, ◌-◌, Option, Some, None, Result, Ok, Err, refl, sym, ap, ◌∙◌, inl, inr}
 use Rattle.std.specs.Prelude.{min, nat_lt}
-use Rattle.bt_base.specs.declared.ports.PortFault.{PortFault}
-use Rattle.bt_base.specs.declared.ports.PortFault.TheVariants as fault
-use Rattle.bt_base.specs.declared.settings.Transport.{Transport}
-use Rattle.bt_base.specs.declared.settings.Transport.TheVariants.{L2cap, Rfcomm}
-use Rattle.push_terms.specs.declared.outcome.Outcome.{Outcome}
-use Rattle.push_terms.specs.declared.outcome.Outcome.TheVariants as outcomes
-use Rattle.sdp_client.specs.Asking.{is_due, request_octets, after_request, after_resend}
-use Rattle.push_model.specs.declared.closing.CloseCause.{CloseCause}
-use Rattle.push_model.specs.declared.course.Point.TheVariants.{Due, Asked}
-use Rattle.push_model.specs.declared.course.Stage.{Stage}
-use Rattle.push_model.specs.declared.course.Stage.TheVariants.{Rest, Link, SearchChannel, Search, SearchEnd, Features, ObjectChannel, Object, ObjectEnd, LinkEnd, Over}
-use Rattle.push_model.specs.Causes.{Ending, InOrder, AtOnce, ending_of, cause_of_link, cause_of_page, cause_of_close, small_channel}
-use Rattle.push_model.specs.Client.{Client, in_order, at_once, stage_after, ends_by, ends, ends_if, may_cancel, cancelled, begun_by, begins}
-use Rattle.push_model.specs.Events as events
-use Rattle.push_model.specs.Events.{News, LinkUp, LinkDown, LinkFailed, ChannelOpen, ChannelClosed, Sdu, FeaturesTold, FeaturesLost, Timer, linked_at, over_by, over, hears_outside, hears_object, object_opened, opened_at, closed_at, sdu_at, armed, hears_news}
-use Rattle.push_model.specs.Payloads.{Octets}
-use Rattle.push_model.specs.Steps as course
-use Rattle.push_model.specs.Steps.{Part, Stepped, steps}
+use Rattle.shelf_model.specs.bt_base.specs.declared.ports.PortFault.{PortFault}
+use Rattle.shelf_model.specs.bt_base.specs.declared.ports.PortFault.TheVariants as fault
+use Rattle.shelf_model.specs.bt_base.specs.declared.settings.Transport.{Transport}
+use Rattle.shelf_model.specs.bt_base.specs.declared.settings.Transport.TheVariants.{L2cap, Rfcomm}
+use Rattle.shelf_model.specs.push_terms.specs.declared.outcome.Outcome.{Outcome}
+use Rattle.shelf_model.specs.push_terms.specs.declared.outcome.Outcome.TheVariants as outcomes
+use Rattle.shelf_model.specs.sdp_client.specs.Asking.{is_due, request_octets, after_request, after_resend}
+use Rattle.push_laws.specs.push_model.specs.declared.closing.CloseCause.{CloseCause}
+use Rattle.push_laws.specs.push_model.specs.declared.course.Point.TheVariants.{Due, Asked}
+use Rattle.push_laws.specs.push_model.specs.declared.course.Stage.{Stage}
+use Rattle.push_laws.specs.push_model.specs.declared.course.Stage.TheVariants.{Rest, Link, SearchChannel, Search, SearchEnd, Features, ObjectChannel, Object, ObjectEnd, LinkEnd, Over}
+use Rattle.push_laws.specs.push_model.specs.Causes.{Ending, InOrder, AtOnce, ending_of, cause_of_link, cause_of_page, cause_of_close, small_channel}
+use Rattle.push_laws.specs.push_model.specs.Client.{Client, in_order, at_once, stage_after, ends_by, ends, ends_if, may_cancel, cancelled, begun_by, begins}
+use Rattle.push_laws.specs.push_model.specs.Events as events
+use Rattle.push_laws.specs.push_model.specs.Events.{News, LinkUp, LinkDown, LinkFailed, ChannelOpen, ChannelClosed, Sdu, FeaturesTold, FeaturesLost, Timer, linked_at, over_by, over, hears_outside, hears_object, object_opened, opened_at, closed_at, sdu_at, armed, hears_news}
+use Rattle.push_laws.specs.push_model.specs.Payloads.{Octets}
+use Rattle.push_laws.specs.push_model.specs.Steps as course
+use Rattle.push_laws.specs.push_model.specs.Steps.{Part, Stepped, steps}
 use Rattle.host_laws.specs.SearchOrder.{is_apart, SearchesWithMemory, ClientsSearchWithMemory}
 use Rattle.host_laws.proofs.Memory.{well_if, well_ends, news_well}
 use Rattle.host_laws.proofs.Past.{is_past, object_heard, outside_on, object_on}

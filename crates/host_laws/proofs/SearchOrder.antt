@@ -1,35 +1,35 @@
 -- The question of a push is a new one until its channel of service discovery is there, and none waits where that is to be closed.
 use Rattle.std.proofs.Common.{◌≡◌, ℕ, List, ◌++◌, length, ◌-◌, Bool, true, false, cond, eqb, not, ◌&&◌, ◌||◌, Option, Some, None, Result, Ok, Err, refl, sym, ap, subst, ◌∙◌}
 use Rattle.std.specs.Prelude.{is_some, min, nat_lt}
-use Rattle.bt_base.specs.declared.ports.PortFault.{PortFault}
-use Rattle.bt_base.specs.declared.ports.PortFault.TheVariants as fault
-use Rattle.bt_base.specs.declared.settings.Transport.{Transport}
-use Rattle.bt_base.specs.declared.settings.Transport.TheVariants.{L2cap, Rfcomm}
-use Rattle.push_terms.specs.declared.outcome.Outcome.{Outcome}
-use Rattle.push_terms.specs.declared.outcome.Outcome.TheVariants as outcomes
-use Rattle.sdp_elements.specs.declared.target.Target.{Target}
-use Rattle.sdp_elements.specs.Targets.{target_in, is_service_psm, is_server_channel}
-use Rattle.sdp_client.specs.declared.query.Stage.{Stage as Asked_stage}
-use Rattle.sdp_client.specs.declared.query.Stage.TheVariants as asked
-use Rattle.sdp_client.specs.declared.reason.Found.{Found}
-use Rattle.sdp_client.specs.declared.reason.Found.TheVariants.{More, Service, NoService, Refused}
-use Rattle.sdp_client.specs.declared.reason.QueryReason.TheVariants.{BadReply, ErrorCode, WrongTransaction, TooLong}
-use Rattle.sdp_client.specs.Asking.{Asking, is_due, request_octets, after_request, after_resend}
-use Rattle.sdp_client.specs.Hearing.{ended, found_target, found_in, stage_in, found_whole, after_whole, with_part, asks_on, found_said, when_said, found_when, after_when, found_at, after_reply}
-use Rattle.sdp_client.specs.Replies.{PlainSaid, Gives, Failed, Nothing, said_in, is_of_another}
-use Rattle.sdp_client.specs.Views.{is_awaiting}
-use Rattle.push_model.specs.declared.closing.CloseCause.{CloseCause}
-use Rattle.push_model.specs.declared.closing.CloseCause.TheVariants as closings
-use Rattle.push_model.specs.declared.course.Point.TheVariants.{Due, Asked}
-use Rattle.push_model.specs.declared.course.Stage.{Stage}
-use Rattle.push_model.specs.declared.course.Stage.TheVariants.{Rest, Link, SearchChannel, Search, SearchEnd, Features, ObjectChannel, Object, ObjectEnd, LinkEnd, Over}
-use Rattle.push_model.specs.Causes.{Ending, InOrder, AtOnce, ending_of, cause_of_link, cause_of_page, cause_of_machine, cause_of_close, refusal_reason, small_channel}
-use Rattle.push_model.specs.Client.{Client, in_order, at_once, stage_after, ends_by, ends, ends_if, may_cancel, cancelled, begun_by, begins}
-use Rattle.push_model.specs.Events as events
-use Rattle.push_model.specs.Events.{News, LinkUp, LinkDown, LinkFailed, ChannelOpen, ChannelClosed, Sdu, FeaturesTold, FeaturesLost, Timer, linked_at, over_by, over, kept_of, found_psm, found_channel, found_way, finds, hears_reply, hears_outside, hears_object, object_opened, opened_at, search_left, search_closed, closed_at, sdu_at, is_search, armed, hears_news}
-use Rattle.push_model.specs.Payloads.{Octets}
-use Rattle.push_model.specs.Steps as course
-use Rattle.push_model.specs.Steps.{Part, Step, Wait, MakeLink, AskFeatures, OpenChannel, SendSdu, CloseChannel, BreakLink, Ended, NoMemory, Stepped, steps}
+use Rattle.shelf_model.specs.bt_base.specs.declared.ports.PortFault.{PortFault}
+use Rattle.shelf_model.specs.bt_base.specs.declared.ports.PortFault.TheVariants as fault
+use Rattle.shelf_model.specs.bt_base.specs.declared.settings.Transport.{Transport}
+use Rattle.shelf_model.specs.bt_base.specs.declared.settings.Transport.TheVariants.{L2cap, Rfcomm}
+use Rattle.shelf_model.specs.push_terms.specs.declared.outcome.Outcome.{Outcome}
+use Rattle.shelf_model.specs.push_terms.specs.declared.outcome.Outcome.TheVariants as outcomes
+use Rattle.shelf_model.specs.sdp_elements.specs.declared.target.Target.{Target}
+use Rattle.shelf_model.specs.sdp_elements.specs.Targets.{target_in, is_service_psm, is_server_channel}
+use Rattle.shelf_model.specs.sdp_client.specs.declared.query.Stage.{Stage as Asked_stage}
+use Rattle.shelf_model.specs.sdp_client.specs.declared.query.Stage.TheVariants as asked
+use Rattle.shelf_model.specs.sdp_client.specs.declared.reason.Found.{Found}
+use Rattle.shelf_model.specs.sdp_client.specs.declared.reason.Found.TheVariants.{More, Service, NoService, Refused}
+use Rattle.shelf_model.specs.sdp_client.specs.declared.reason.QueryReason.TheVariants.{BadReply, ErrorCode, WrongTransaction, TooLong}
+use Rattle.shelf_model.specs.sdp_client.specs.Asking.{Asking, is_due, request_octets, after_request, after_resend}
+use Rattle.shelf_model.specs.sdp_client.specs.Hearing.{ended, found_target, found_in, stage_in, found_whole, after_whole, with_part, asks_on, found_said, when_said, found_when, after_when, found_at, after_reply}
+use Rattle.shelf_model.specs.sdp_client.specs.Replies.{PlainSaid, Gives, Failed, Nothing, said_in, is_of_another}
+use Rattle.shelf_model.specs.sdp_client.specs.Views.{is_awaiting}
+use Rattle.push_laws.specs.push_model.specs.declared.closing.CloseCause.{CloseCause}
+use Rattle.push_laws.specs.push_model.specs.declared.closing.CloseCause.TheVariants as closings
+use Rattle.push_laws.specs.push_model.specs.declared.course.Point.TheVariants.{Due, Asked}
+use Rattle.push_laws.specs.push_model.specs.declared.course.Stage.{Stage}
+use Rattle.push_laws.specs.push_model.specs.declared.course.Stage.TheVariants.{Rest, Link, SearchChannel, Search, SearchEnd, Features, ObjectChannel, Object, ObjectEnd, LinkEnd, Over}
+use Rattle.push_laws.specs.push_model.specs.Causes.{Ending, InOrder, AtOnce, ending_of, cause_of_link, cause_of_page, cause_of_machine, cause_of_close, refusal_reason, small_channel}
+use Rattle.push_laws.specs.push_model.specs.Client.{Client, in_order, at_once, stage_after, ends_by, ends, ends_if, may_cancel, cancelled, begun_by, begins}
+use Rattle.push_laws.specs.push_model.specs.Events as events
+use Rattle.push_laws.specs.push_model.specs.Events.{News, LinkUp, LinkDown, LinkFailed, ChannelOpen, ChannelClosed, Sdu, FeaturesTold, FeaturesLost, Timer, linked_at, over_by, over, kept_of, found_psm, found_channel, found_way, finds, hears_reply, hears_outside, hears_object, object_opened, opened_at, search_left, search_closed, closed_at, sdu_at, is_search, armed, hears_news}
+use Rattle.push_laws.specs.push_model.specs.Payloads.{Octets}
+use Rattle.push_laws.specs.push_model.specs.Steps as course
+use Rattle.push_laws.specs.push_model.specs.Steps.{Part, Step, Wait, MakeLink, AskFeatures, OpenChannel, SendSdu, CloseChannel, BreakLink, Ended, NoMemory, Stepped, steps}
 use Rattle.host_laws.specs.SearchOrder.{AsksInOrder, SearchesInOrder, ClientsSearchInOrder}
 use Rattle.host_laws.proofs.Past.{is_past, On, object_heard, outside_on, object_on}
 

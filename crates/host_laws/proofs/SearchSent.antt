@@ -1,17 +1,17 @@
 -- Where its channels have nothing to give, no request of a client for services waits in its channel.
 use Rattle.std.proofs.Common.{◌≡◌, ℕ, List, [], ◌∷◌, Bool, true, false, not, Option, Some, None, refl, sym, ap, ◌∙◌}
-use Rattle.bt_base.specs.declared.settings.Settings.{Settings}
-use Rattle.l2cap_config.specs.declared.wish.Mode.TheVariants.{Basic, Enhanced}
-use Rattle.channel_model.specs.declared.event.ChannelEvent.TheVariants.{Closed, FeaturesLost}
-use Rattle.channel_model.specs.Value.{Carrier, Plain, Retransmitting, Setup, Held, Channels}
-use Rattle.channel_model.specs.Policies.{policy}
-use Rattle.channel_model.specs.Changing.{held_at, is_open, setup_of}
-use Rattle.channel_model.specs.Calls.{setup_on, carrier_if, open_carrier, some_waits, waits}
+use Rattle.shelf_model.specs.bt_base.specs.declared.settings.Settings.{Settings}
+use Rattle.shelf_model.specs.l2cap_config.specs.declared.wish.Mode.TheVariants.{Basic, Enhanced}
+use Rattle.channel_laws.specs.channel_model.specs.declared.event.ChannelEvent.TheVariants.{Closed, FeaturesLost}
+use Rattle.channel_laws.specs.channel_model.specs.Value.{Carrier, Plain, Retransmitting, Setup, Held, Channels}
+use Rattle.channel_laws.specs.channel_model.specs.Policies.{policy}
+use Rattle.channel_laws.specs.channel_model.specs.Changing.{held_at, is_open, setup_of}
+use Rattle.channel_laws.specs.channel_model.specs.Calls.{setup_on, carrier_if, open_carrier, some_waits, waits}
 use Rattle.channel_laws.specs.Runs.{Occurrence, Run, run_of}
 use Rattle.channel_laws.proofs.Ferrying.{IsBasic}
-use Rattle.push_model.specs.declared.course.Stage.TheVariants.{Search}
-use Rattle.push_model.specs.Events.{is_asking_features}
-use Rattle.host_model.specs.Clients.{ClientProfile}
+use Rattle.push_laws.specs.push_model.specs.declared.course.Stage.TheVariants.{Search}
+use Rattle.push_laws.specs.push_model.specs.Events.{is_asking_features}
+use Rattle.shelf_model.specs.host_model.specs.Clients.{ClientProfile}
 use Rattle.host_laws.specs.Leaving.{in_use, is_off}
 use Rattle.host_laws.specs.SearchOrder.{IsSent}
 use Rattle.host_laws.specs.SearchSent.{SearchesAreSent}

@@ -1,19 +1,19 @@
 -- A client whose link came up for its push searches on it.
 use Rattle.std.proofs.Common.{◌≡◌, false, List, [], ◌∷◌, None, filter_map, sym, subst}
 use Rattle.std.specs.List.{AllByRecursion}
-use Rattle.bt_base.specs.Octets.{IsOctets}
-use Rattle.bt_base.specs.declared.settings.Settings.{Settings}
-use Rattle.channel_model.specs.Policies.{policy}
-use Rattle.channel_model.specs.Value.{no_channels}
+use Rattle.shelf_model.specs.bt_base.specs.Octets.{IsOctets}
+use Rattle.shelf_model.specs.bt_base.specs.declared.settings.Settings.{Settings}
+use Rattle.channel_laws.specs.channel_model.specs.Policies.{policy}
+use Rattle.channel_laws.specs.channel_model.specs.Value.{no_channels}
 use Rattle.channel_laws.specs.Runs.{Occurrence, Comes, Connects, AsksFeatures, Disconnects, Sends, Gives, Fires, Tells}
-use Rattle.push_model.specs.declared.course.Point.TheVariants.{Asked}
-use Rattle.push_model.specs.declared.course.Stage.TheVariants.{Link}
-use Rattle.world_model.specs.Machines.{Up, Linked, Failed, Heard, TimerFired, Cancelled, Opening}
-use Rattle.world_model.specs.Talks.{Talk}
-use Rattle.host_model.specs.Circumstances.{Circumstance}
-use Rattle.host_model.specs.Hosts.{Host, hear, next}
-use Rattle.host_model.specs.Clients.{ClientProfile, client_profile}
-use Rattle.host_model.specs.Machines.{upper}
+use Rattle.push_laws.specs.push_model.specs.declared.course.Point.TheVariants.{Asked}
+use Rattle.push_laws.specs.push_model.specs.declared.course.Stage.TheVariants.{Link}
+use Rattle.shelf_model.specs.world_model.specs.Machines.{Up, Linked, Failed, Heard, TimerFired, Cancelled, Opening}
+use Rattle.shelf_model.specs.world_model.specs.Talks.{Talk}
+use Rattle.shelf_model.specs.host_model.specs.Circumstances.{Circumstance}
+use Rattle.shelf_model.specs.host_model.specs.Hosts.{Host, hear, next}
+use Rattle.shelf_model.specs.host_model.specs.Clients.{ClientProfile, client_profile}
+use Rattle.shelf_model.specs.host_model.specs.Machines.{upper}
 use Rattle.host_laws.specs.Acts.{Act, Hears, Says, from_acts}
 use Rattle.host_laws.specs.Asked.{ActsOfLink}
 use Rattle.host_laws.specs.Calls.{Asks, outer}

@@ -2,34 +2,34 @@
 -- object is another one.
 use Rattle.std.proofs.Common.{◌≡◌, ℕ, List, [], ◌∷◌, fold, Bool, true, false, cond, eqb, not, ◌&&◌, ◌||◌, bit_and, Option, Some, None, refl, sym, ap, subst, ◌∙◌, ◌⊎◌, inl, inr}
 use Rattle.std.proofs.lemmas.Bool.{and_parts}
-use Rattle.bt_base.specs.declared.settings.Transport.{Transport}
-use Rattle.bt_base.specs.declared.settings.Transport.TheVariants.{L2cap, Rfcomm}
-use Rattle.push_terms.specs.declared.outcome.Outcome.{Outcome}
-use Rattle.push_terms.specs.declared.outcome.Outcome.TheVariants as outcomes
-use Rattle.sdp_elements.specs.declared.target.Target.{Target}
-use Rattle.sdp_elements.specs.Targets.{is_service_psm, is_server_channel}
-use Rattle.sdp_client.specs.declared.reason.Found.{Found}
-use Rattle.sdp_client.specs.declared.reason.Found.TheVariants.{More, Service, NoService, Refused}
-use Rattle.sdp_client.specs.Asking.{Asking, begun, is_due, after_resend}
-use Rattle.sdp_client.specs.Views.{is_awaiting}
-use Rattle.link_talk.specs.declared.channel.Channel.{Channel}
-use Rattle.link_talk.specs.Sayings.{Saying}
-use Rattle.link_talk.specs.ServiceAnswers.{waiting_after}
-use Rattle.channel_model.specs.Policies.{Policy}
-use Rattle.channel_model.specs.Value.{Held}
-use Rattle.channel_model.specs.Value as channel
+use Rattle.shelf_model.specs.bt_base.specs.declared.settings.Transport.{Transport}
+use Rattle.shelf_model.specs.bt_base.specs.declared.settings.Transport.TheVariants.{L2cap, Rfcomm}
+use Rattle.shelf_model.specs.push_terms.specs.declared.outcome.Outcome.{Outcome}
+use Rattle.shelf_model.specs.push_terms.specs.declared.outcome.Outcome.TheVariants as outcomes
+use Rattle.shelf_model.specs.sdp_elements.specs.declared.target.Target.{Target}
+use Rattle.shelf_model.specs.sdp_elements.specs.Targets.{is_service_psm, is_server_channel}
+use Rattle.shelf_model.specs.sdp_client.specs.declared.reason.Found.{Found}
+use Rattle.shelf_model.specs.sdp_client.specs.declared.reason.Found.TheVariants.{More, Service, NoService, Refused}
+use Rattle.shelf_model.specs.sdp_client.specs.Asking.{Asking, begun, is_due, after_resend}
+use Rattle.shelf_model.specs.sdp_client.specs.Views.{is_awaiting}
+use Rattle.push_laws.specs.link_talk.specs.declared.channel.Channel.{Channel}
+use Rattle.push_laws.specs.link_talk.specs.Sayings.{Saying}
+use Rattle.push_laws.specs.link_talk.specs.ServiceAnswers.{waiting_after}
+use Rattle.channel_laws.specs.channel_model.specs.Policies.{Policy}
+use Rattle.channel_laws.specs.channel_model.specs.Value.{Held}
+use Rattle.channel_laws.specs.channel_model.specs.Value as channel
 use Rattle.channel_laws.specs.Runs.{Run}
 use Rattle.channel_laws.proofs.Exchanged.{spoken_on}
 use Rattle.channel_laws.proofs.Keeping.{StageKeeps}
 use Rattle.channel_laws.proofs.Ready.{Ready, IsReady}
-use Rattle.push_model.specs.declared.course.Point.TheVariants.{Due, Asked}
-use Rattle.push_model.specs.declared.course.Stage.{Stage}
-use Rattle.push_model.specs.declared.course.Stage.TheVariants.{Rest, Link, SearchChannel, Search, SearchEnd, Features, ObjectChannel, Object, ObjectEnd, LinkEnd, Over}
-use Rattle.push_model.specs.Causes.{Ending, InOrder, AtOnce, ending_of, cause_of_query}
-use Rattle.push_model.specs.Client.{Client, in_order, stage_after, ends_by, ends, ends_if}
-use Rattle.push_model.specs.Events as events
-use Rattle.push_model.specs.Events.{is_search, armed, kept_of, found_psm, found_channel, found_way, finds, hears_news}
-use Rattle.host_model.specs.Endpoints.{Endpoint, endpoint_of}
+use Rattle.push_laws.specs.push_model.specs.declared.course.Point.TheVariants.{Due, Asked}
+use Rattle.push_laws.specs.push_model.specs.declared.course.Stage.{Stage}
+use Rattle.push_laws.specs.push_model.specs.declared.course.Stage.TheVariants.{Rest, Link, SearchChannel, Search, SearchEnd, Features, ObjectChannel, Object, ObjectEnd, LinkEnd, Over}
+use Rattle.push_laws.specs.push_model.specs.Causes.{Ending, InOrder, AtOnce, ending_of, cause_of_query}
+use Rattle.push_laws.specs.push_model.specs.Client.{Client, in_order, stage_after, ends_by, ends, ends_if}
+use Rattle.push_laws.specs.push_model.specs.Events as events
+use Rattle.push_laws.specs.push_model.specs.Events.{is_search, armed, kept_of, found_psm, found_channel, found_way, finds, hears_news}
+use Rattle.shelf_model.specs.host_model.specs.Endpoints.{Endpoint, endpoint_of}
 use Rattle.host_laws.specs.Leaving.{in_use, is_off}
 use Rattle.host_laws.proofs.Changes.{kind}
 use Rattle.host_laws.proofs.Faces.{off_at_once}

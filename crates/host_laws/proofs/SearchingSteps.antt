@@ -2,24 +2,24 @@
 use Rattle.std.proofs.Common.{◌≡◌, ℕ, ◌-◌, ◌≤◌, List, [], ◌∷◌, ◌++◌, fold, filter, length, map, Bool, true, false, cond, eqb, not, ◌&&◌, Option, Some, None, refl, sym, ap, subst, ◌∙◌, inr, arith}
 use Rattle.std.specs.Prelude.{find, is_some, option_map}
 use Rattle.std.proofs.lemmas.Bool.{le-leb}
-use Rattle.bt_base.specs.declared.settings.Settings.{Settings}
-use Rattle.capture.specs.declared.flow.Flow.TheVariants.{Out}
-use Rattle.l2cap_config.specs.declared.wish.Agreed.{Agreed}
-use Rattle.l2cap_config.specs.declared.wish.Mode.TheVariants.{Basic, Enhanced}
-use Rattle.link_talk.specs.Sdus.{spoken_as}
-use Rattle.link_talk.specs.ServiceAnswers.{asked_by, waiting_after}
-use Rattle.sdp_client.specs.Asking.{is_due, request_octets, after_request}
-use Rattle.sdp_client.specs.Views.{is_awaiting}
-use Rattle.channel_model.specs.declared.event.CloseReason.TheVariants.{OwnClosed}
-use Rattle.channel_model.specs.Value.{Carrier, Plain, Retransmitting, Setup, Stage as Held_stage, Requested, Connected, Leaving, Closing, Crossed, Held, Channels}
-use Rattle.channel_model.specs.Policies.{Policy, policy}
-use Rattle.channel_model.specs.declared.errand.Errand.TheVariants.{Connection}
-use Rattle.channel_model.specs.Asking.{new_request, asks}
-use Rattle.channel_model.specs.Following.{with_channel}
-use Rattle.channel_model.specs.Closing.{closes_at}
-use Rattle.channel_model.specs.Changing.{has_own, in_place_of, held_at, is_granted, is_open, setup_of}
-use Rattle.channel_model.specs.Calls.{can_connect, disconnected_at, disconnected_held, disconnected, setup_on, carrier_if, open_carrier, carrier_at, carrier_mtu, some_waits, peer_mtu, waits, sends}
-use Rattle.channel_model.proofs.Lookups.{eqb-same}
+use Rattle.shelf_model.specs.bt_base.specs.declared.settings.Settings.{Settings}
+use Rattle.shelf_model.specs.capture.specs.declared.flow.Flow.TheVariants.{Out}
+use Rattle.shelf_model.specs.l2cap_config.specs.declared.wish.Agreed.{Agreed}
+use Rattle.shelf_model.specs.l2cap_config.specs.declared.wish.Mode.TheVariants.{Basic, Enhanced}
+use Rattle.push_laws.specs.link_talk.specs.Sdus.{spoken_as}
+use Rattle.push_laws.specs.link_talk.specs.ServiceAnswers.{asked_by, waiting_after}
+use Rattle.shelf_model.specs.sdp_client.specs.Asking.{is_due, request_octets, after_request}
+use Rattle.shelf_model.specs.sdp_client.specs.Views.{is_awaiting}
+use Rattle.channel_laws.specs.channel_model.specs.declared.event.CloseReason.TheVariants.{OwnClosed}
+use Rattle.channel_laws.specs.channel_model.specs.Value.{Carrier, Plain, Retransmitting, Setup, Stage as Held_stage, Requested, Connected, Leaving, Closing, Crossed, Held, Channels}
+use Rattle.channel_laws.specs.channel_model.specs.Policies.{Policy, policy}
+use Rattle.channel_laws.specs.channel_model.specs.declared.errand.Errand.TheVariants.{Connection}
+use Rattle.channel_laws.specs.channel_model.specs.Asking.{new_request, asks}
+use Rattle.channel_laws.specs.channel_model.specs.Following.{with_channel}
+use Rattle.channel_laws.specs.channel_model.specs.Closing.{closes_at}
+use Rattle.channel_laws.specs.channel_model.specs.Changing.{has_own, in_place_of, held_at, is_granted, is_open, setup_of}
+use Rattle.channel_laws.specs.channel_model.specs.Calls.{can_connect, disconnected_at, disconnected_held, disconnected, setup_on, carrier_if, open_carrier, carrier_at, carrier_mtu, some_waits, peer_mtu, waits, sends}
+use Rattle.channel_laws.specs.channel_model.proofs.Lookups.{eqb-same}
 use Rattle.channel_laws.specs.Frames.{IsUttered}
 use Rattle.channel_laws.specs.Exchanged.{exchanged_in}
 use Rattle.channel_laws.specs.Runs.{Occurrence, Connects, Sends, Run, run_on, run_of}
@@ -29,20 +29,20 @@ use Rattle.channel_laws.proofs.Ferrying.{IsBasic}
 use Rattle.channel_laws.proofs.Keeping.{StageKeeps, HeldKeeps}
 use Rattle.channel_laws.proofs.Ready.{Takes, all-take, IsFreeSome, Ready, IsReady}
 use Rattle.channel_laws.proofs.Running.{all-sound}
-use Rattle.push_model.specs.declared.course.Point.TheVariants.{Due, Asked}
-use Rattle.push_model.specs.declared.course.Stage.{Stage}
-use Rattle.push_model.specs.declared.course.Stage.TheVariants.{SearchChannel, Search, SearchEnd}
-use Rattle.push_model.specs.Client.{Client}
-use Rattle.push_model.specs.Events.{is_asking_features}
-use Rattle.push_model.specs.Payloads.{Octets}
-use Rattle.push_model.specs.Steps as course
-use Rattle.push_model.specs.Steps.{Part, Step, Wait, MakeLink, AskFeatures, OpenChannel, SendSdu, CloseChannel, BreakLink, Ended, NoMemory, Stepped, steps}
-use Rattle.host_model.specs.Endpoints.{endpoint_of, with_answer, fits, takes_sdu}
-use Rattle.host_model.specs.Pdus.{are_octets}
-use Rattle.host_model.specs.Profiles.{Stride}
-use Rattle.host_model.specs.Clients as clients
-use Rattle.host_model.specs.Clients.{ClientProfile, client_profile, submits, closes, takes, fitted}
-use Rattle.host_model.specs.Shelves.{unused}
+use Rattle.push_laws.specs.push_model.specs.declared.course.Point.TheVariants.{Due, Asked}
+use Rattle.push_laws.specs.push_model.specs.declared.course.Stage.{Stage}
+use Rattle.push_laws.specs.push_model.specs.declared.course.Stage.TheVariants.{SearchChannel, Search, SearchEnd}
+use Rattle.push_laws.specs.push_model.specs.Client.{Client}
+use Rattle.push_laws.specs.push_model.specs.Events.{is_asking_features}
+use Rattle.push_laws.specs.push_model.specs.Payloads.{Octets}
+use Rattle.push_laws.specs.push_model.specs.Steps as course
+use Rattle.push_laws.specs.push_model.specs.Steps.{Part, Step, Wait, MakeLink, AskFeatures, OpenChannel, SendSdu, CloseChannel, BreakLink, Ended, NoMemory, Stepped, steps}
+use Rattle.shelf_model.specs.host_model.specs.Endpoints.{endpoint_of, with_answer, fits, takes_sdu}
+use Rattle.shelf_model.specs.host_model.specs.Pdus.{are_octets}
+use Rattle.shelf_model.specs.host_model.specs.Profiles.{Stride}
+use Rattle.shelf_model.specs.host_model.specs.Clients as clients
+use Rattle.shelf_model.specs.host_model.specs.Clients.{ClientProfile, client_profile, submits, closes, takes, fitted}
+use Rattle.shelf_model.specs.host_model.specs.Shelves.{unused}
 use Rattle.host_laws.specs.Calls.{Send, from_call}
 use Rattle.host_laws.specs.Leaving.{in_use}
 use Rattle.host_laws.specs.Searching.{sent_call, closed_call, step_call}

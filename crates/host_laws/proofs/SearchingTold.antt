@@ -3,51 +3,51 @@
 use Rattle.std.proofs.Common.{◌≡◌, ℕ, List, [], ◌∷◌, ◌++◌, drop, fold, Bool, true, false, cond, eqb, not, nat_lt, min, Option, Some, None, refl, sym, ap, subst, ◌∙◌, ◌⊎◌, inl, inr, append-nil}
 use Rattle.std.specs.Prelude.{find, is_some, option_map}
 use Rattle.std.proofs.lemmas.Bool.{eq-eqb}
-use Rattle.acl_fragments.specs.Pieces.{channel_of}
-use Rattle.bt_base.specs.Octets.{IsOctets}
-use Rattle.bt_base.specs.declared.settings.Settings.{Settings}
-use Rattle.bt_base.specs.declared.settings.Transport.{Transport}
-use Rattle.bt_base.specs.declared.settings.Transport.TheVariants.{L2cap, Rfcomm}
-use Rattle.capture.specs.declared.flow.Flow.TheVariants.{Into}
-use Rattle.l2cap_signal.proofs.Contents.{octets_behind}
-use Rattle.link_talk.specs.Sdus.{spoken_as}
-use Rattle.link_talk.specs.ServiceAnswers.{waiting_after}
-use Rattle.push_terms.specs.declared.outcome.Outcome.{Outcome}
-use Rattle.push_terms.specs.declared.outcome.Outcome.TheVariants as outcomes
-use Rattle.sdp_client.specs.Hearing.{found_at, after_reply}
-use Rattle.sdp_client.specs.Views.{is_awaiting}
-use Rattle.channel_model.specs.declared.event.ChannelEvent.{ChannelEvent}
-use Rattle.channel_model.specs.declared.event.ChannelEvent.TheVariants.{Opened, Closed, Features as Told, FeaturesLost, DisconnectLost}
-use Rattle.channel_model.specs.Value.{Setup, Stage as Held_stage, Requested, Connected, Leaving, Closing, Crossed, Held, Channels}
-use Rattle.channel_model.specs.Policies.{Policy, policy}
-use Rattle.channel_model.specs.Changing.{has_own, is_open, setup_of}
-use Rattle.channel_model.specs.Carrying.{Up, Nothing, Received}
-use Rattle.channel_model.specs.Hearing.{up}
-use Rattle.channel_model.specs.Calls.{setup_on, carrier_if, open_carrier, carrier_mtu, some_waits, peer_mtu, waits}
-use Rattle.channel_model.specs.Value.{Carrier, Plain, Retransmitting}
-use Rattle.channel_model.proofs.Lookups.{eqb-same}
+use Rattle.shelf_model.specs.acl_fragments.specs.Pieces.{channel_of}
+use Rattle.shelf_model.specs.bt_base.specs.Octets.{IsOctets}
+use Rattle.shelf_model.specs.bt_base.specs.declared.settings.Settings.{Settings}
+use Rattle.shelf_model.specs.bt_base.specs.declared.settings.Transport.{Transport}
+use Rattle.shelf_model.specs.bt_base.specs.declared.settings.Transport.TheVariants.{L2cap, Rfcomm}
+use Rattle.shelf_model.specs.capture.specs.declared.flow.Flow.TheVariants.{Into}
+use Rattle.shelf_model.specs.l2cap_signal.proofs.Contents.{octets_behind}
+use Rattle.push_laws.specs.link_talk.specs.Sdus.{spoken_as}
+use Rattle.push_laws.specs.link_talk.specs.ServiceAnswers.{waiting_after}
+use Rattle.shelf_model.specs.push_terms.specs.declared.outcome.Outcome.{Outcome}
+use Rattle.shelf_model.specs.push_terms.specs.declared.outcome.Outcome.TheVariants as outcomes
+use Rattle.shelf_model.specs.sdp_client.specs.Hearing.{found_at, after_reply}
+use Rattle.shelf_model.specs.sdp_client.specs.Views.{is_awaiting}
+use Rattle.channel_laws.specs.channel_model.specs.declared.event.ChannelEvent.{ChannelEvent}
+use Rattle.channel_laws.specs.channel_model.specs.declared.event.ChannelEvent.TheVariants.{Opened, Closed, Features as Told, FeaturesLost, DisconnectLost}
+use Rattle.channel_laws.specs.channel_model.specs.Value.{Setup, Stage as Held_stage, Requested, Connected, Leaving, Closing, Crossed, Held, Channels}
+use Rattle.channel_laws.specs.channel_model.specs.Policies.{Policy, policy}
+use Rattle.channel_laws.specs.channel_model.specs.Changing.{has_own, is_open, setup_of}
+use Rattle.channel_laws.specs.channel_model.specs.Carrying.{Up, Nothing, Received}
+use Rattle.channel_laws.specs.channel_model.specs.Hearing.{up}
+use Rattle.channel_laws.specs.channel_model.specs.Calls.{setup_on, carrier_if, open_carrier, carrier_mtu, some_waits, peer_mtu, waits}
+use Rattle.channel_laws.specs.channel_model.specs.Value.{Carrier, Plain, Retransmitting}
+use Rattle.channel_laws.specs.channel_model.proofs.Lookups.{eqb-same}
 use Rattle.channel_laws.specs.Frames.{IsUttered}
 use Rattle.channel_laws.specs.Exchanged.{heard_in, exchanged_in}
 use Rattle.channel_laws.specs.Runs.{Occurrence, Comes, Tells, value_after, Run, run_on, run_of}
 use Rattle.channel_laws.proofs.Keeping.{StageKeeps}
 use Rattle.channel_laws.proofs.Ready.{IsFreeSome, Ready, SendsNone, IsReady}
-use Rattle.push_model.specs.declared.closing.CloseCause.{CloseCause}
-use Rattle.push_model.specs.declared.course.Point.{Point}
-use Rattle.push_model.specs.declared.course.Point.TheVariants.{Due, Asked}
-use Rattle.push_model.specs.declared.course.Stage.{Stage}
-use Rattle.push_model.specs.declared.course.Stage.TheVariants.{Rest, Link, SearchChannel, Search, SearchEnd, Features, ObjectChannel, Object, ObjectEnd, LinkEnd, Over}
-use Rattle.push_model.specs.Causes.{small_channel, unawaited_response, cause_of_close}
-use Rattle.push_model.specs.Client.{Client, ends, ends_if, may_cancel, cancelled}
-use Rattle.push_model.specs.Events as events
-use Rattle.push_model.specs.Events.{is_asking_features, object_opened, muxed_anew, opened_at, search_left, search_closed, closed_at, finds, hears_reply, hears_outside, sdu_at, hears_news}
-use Rattle.push_model.specs.Steps.{Step, Wait, MakeLink, AskFeatures, OpenChannel, SendSdu, CloseChannel, BreakLink, Ended, NoMemory, steps}
-use Rattle.world_model.specs.Machines.{News, Linked, Failed, Heard, TimerFired, Cancelled, Opening}
-use Rattle.host_model.specs.Circumstances.{Circumstance}
-use Rattle.host_model.specs.Endpoints.{Endpoint}
-use Rattle.host_model.specs.Hosts.{handed}
-use Rattle.host_model.specs.Profiles.{Profile}
-use Rattle.host_model.specs.Clients as clients
-use Rattle.host_model.specs.Clients.{ClientProfile, client_profile, after_end, ended, opened_by, closed_by, cause_of, event_heard, sent_on}
+use Rattle.push_laws.specs.push_model.specs.declared.closing.CloseCause.{CloseCause}
+use Rattle.push_laws.specs.push_model.specs.declared.course.Point.{Point}
+use Rattle.push_laws.specs.push_model.specs.declared.course.Point.TheVariants.{Due, Asked}
+use Rattle.push_laws.specs.push_model.specs.declared.course.Stage.{Stage}
+use Rattle.push_laws.specs.push_model.specs.declared.course.Stage.TheVariants.{Rest, Link, SearchChannel, Search, SearchEnd, Features, ObjectChannel, Object, ObjectEnd, LinkEnd, Over}
+use Rattle.push_laws.specs.push_model.specs.Causes.{small_channel, unawaited_response, cause_of_close}
+use Rattle.push_laws.specs.push_model.specs.Client.{Client, ends, ends_if, may_cancel, cancelled}
+use Rattle.push_laws.specs.push_model.specs.Events as events
+use Rattle.push_laws.specs.push_model.specs.Events.{is_asking_features, object_opened, muxed_anew, opened_at, search_left, search_closed, closed_at, finds, hears_reply, hears_outside, sdu_at, hears_news}
+use Rattle.push_laws.specs.push_model.specs.Steps.{Step, Wait, MakeLink, AskFeatures, OpenChannel, SendSdu, CloseChannel, BreakLink, Ended, NoMemory, steps}
+use Rattle.shelf_model.specs.world_model.specs.Machines.{News, Linked, Failed, Heard, TimerFired, Cancelled, Opening}
+use Rattle.shelf_model.specs.host_model.specs.Circumstances.{Circumstance}
+use Rattle.shelf_model.specs.host_model.specs.Endpoints.{Endpoint}
+use Rattle.shelf_model.specs.host_model.specs.Hosts.{handed}
+use Rattle.shelf_model.specs.host_model.specs.Profiles.{Profile}
+use Rattle.shelf_model.specs.host_model.specs.Clients as clients
+use Rattle.shelf_model.specs.host_model.specs.Clients.{ClientProfile, client_profile, after_end, ended, opened_by, closed_by, cause_of, event_heard, sent_on}
 use Rattle.host_laws.specs.Asked.{IsOfLink}
 use Rattle.host_laws.specs.Leaving.{in_use, is_off}
 use Rattle.host_laws.specs.Woven.{told_next}

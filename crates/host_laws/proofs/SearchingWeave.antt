@@ -4,22 +4,22 @@ use Rattle.std.specs.Prelude.{find, is_some}
 use Rattle.std.specs.List.{AllByRecursion, list_any}
 use Rattle.std.proofs.lemmas.Bool.{eqb-true, eq-eqb}
 use Rattle.std.proofs.lemmas.List.Sums.{fold-append}
-use Rattle.bt_base.specs.declared.settings.Settings.{Settings}
-use Rattle.capture.specs.Histories.{EachAfter}
-use Rattle.link_talk.specs.declared.channel.Channel.{Channel}
-use Rattle.link_talk.specs.declared.party.Party.{Party}
-use Rattle.link_talk.specs.Channels.{Entry, is_there, reading}
-use Rattle.link_talk.specs.Sdus.{spoken}
-use Rattle.link_talk.specs.ServiceAnswers.{waiting_after}
-use Rattle.link_talk.specs.Waits.{query_waits}
-use Rattle.sdp_client.specs.Views.{is_awaiting}
-use Rattle.channel_model.specs.declared.event.ChannelEvent.TheVariants.{Closed, FeaturesLost}
-use Rattle.channel_model.specs.Calls as channels
-use Rattle.channel_model.specs.Calls.{is_armed}
-use Rattle.channel_model.specs.Changing.{has_own, held_at}
-use Rattle.channel_model.specs.Policies.{Policy, policy}
-use Rattle.channel_model.specs.Value.{Setup, Stage as Held_stage, Requested, Connected, Leaving, Closing, Crossed, Held, Channels, no_channels}
-use Rattle.channel_model.proofs.Lookups.{eqb-same}
+use Rattle.shelf_model.specs.bt_base.specs.declared.settings.Settings.{Settings}
+use Rattle.shelf_model.specs.capture.specs.Histories.{EachAfter}
+use Rattle.push_laws.specs.link_talk.specs.declared.channel.Channel.{Channel}
+use Rattle.push_laws.specs.link_talk.specs.declared.party.Party.{Party}
+use Rattle.push_laws.specs.link_talk.specs.Channels.{Entry, is_there, reading}
+use Rattle.push_laws.specs.link_talk.specs.Sdus.{spoken}
+use Rattle.push_laws.specs.link_talk.specs.ServiceAnswers.{waiting_after}
+use Rattle.push_laws.specs.link_talk.specs.Waits.{query_waits}
+use Rattle.shelf_model.specs.sdp_client.specs.Views.{is_awaiting}
+use Rattle.channel_laws.specs.channel_model.specs.declared.event.ChannelEvent.TheVariants.{Closed, FeaturesLost}
+use Rattle.channel_laws.specs.channel_model.specs.Calls as channels
+use Rattle.channel_laws.specs.channel_model.specs.Calls.{is_armed}
+use Rattle.channel_laws.specs.channel_model.specs.Changing.{has_own, held_at}
+use Rattle.channel_laws.specs.channel_model.specs.Policies.{Policy, policy}
+use Rattle.channel_laws.specs.channel_model.specs.Value.{Setup, Stage as Held_stage, Requested, Connected, Leaving, Closing, Crossed, Held, Channels, no_channels}
+use Rattle.channel_laws.specs.channel_model.proofs.Lookups.{eqb-same}
 use Rattle.channel_laws.specs.Armed.{asks_services, services_wait}
 use Rattle.channel_laws.specs.Endpoints.{IsOf}
 use Rattle.channel_laws.specs.Frames.{IsUttered}
@@ -32,20 +32,20 @@ use Rattle.channel_laws.proofs.Exchanged.{basic-spoken}
 use Rattle.channel_laws.proofs.PlainTaken.{basic_mode}
 use Rattle.channel_laws.proofs.Running.{all-sound}
 use Rattle.channel_laws.proofs.Sound.{ReadsBy, Reads}
-use Rattle.push_model.specs.declared.course.Point.TheVariants.{Due, Asked}
-use Rattle.push_model.specs.declared.course.Stage.{Stage}
-use Rattle.push_model.specs.declared.course.Stage.TheVariants.{Rest, Link, SearchChannel, Search, SearchEnd, Features, ObjectChannel, Object, ObjectEnd, LinkEnd, Over}
-use Rattle.push_model.specs.Client.{Client}
-use Rattle.push_model.specs.Events.{is_search, is_asking_features, armed}
-use Rattle.push_model.specs.Steps as course
-use Rattle.push_model.specs.Steps.{Part, Step, Wait, MakeLink, AskFeatures, OpenChannel, SendSdu, CloseChannel, BreakLink, Ended, NoMemory, Stepped, steps}
-use Rattle.sdp_client.specs.Asking.{is_due}
-use Rattle.host_model.specs.Endpoints.{Endpoint, endpoint_of, takes_sdu}
-use Rattle.host_model.specs.Pdus.{sdu_of}
-use Rattle.host_model.specs.Profiles.{Profile, Stride}
-use Rattle.host_model.specs.Clients as clients
-use Rattle.host_model.specs.Clients.{ClientProfile, client_profile, submits, takes, fitted}
-use Rattle.host_model.specs.Shelves.{unused}
+use Rattle.push_laws.specs.push_model.specs.declared.course.Point.TheVariants.{Due, Asked}
+use Rattle.push_laws.specs.push_model.specs.declared.course.Stage.{Stage}
+use Rattle.push_laws.specs.push_model.specs.declared.course.Stage.TheVariants.{Rest, Link, SearchChannel, Search, SearchEnd, Features, ObjectChannel, Object, ObjectEnd, LinkEnd, Over}
+use Rattle.push_laws.specs.push_model.specs.Client.{Client}
+use Rattle.push_laws.specs.push_model.specs.Events.{is_search, is_asking_features, armed}
+use Rattle.push_laws.specs.push_model.specs.Steps as course
+use Rattle.push_laws.specs.push_model.specs.Steps.{Part, Step, Wait, MakeLink, AskFeatures, OpenChannel, SendSdu, CloseChannel, BreakLink, Ended, NoMemory, Stepped, steps}
+use Rattle.shelf_model.specs.sdp_client.specs.Asking.{is_due}
+use Rattle.shelf_model.specs.host_model.specs.Endpoints.{Endpoint, endpoint_of, takes_sdu}
+use Rattle.shelf_model.specs.host_model.specs.Pdus.{sdu_of}
+use Rattle.shelf_model.specs.host_model.specs.Profiles.{Profile, Stride}
+use Rattle.shelf_model.specs.host_model.specs.Clients as clients
+use Rattle.shelf_model.specs.host_model.specs.Clients.{ClientProfile, client_profile, submits, takes, fitted}
+use Rattle.shelf_model.specs.host_model.specs.Shelves.{unused}
 use Rattle.host_laws.specs.Asked.{BeginsNone}
 use Rattle.host_laws.specs.Calls.{Call, Send, Asks, from_call, values_after}
 use Rattle.host_laws.specs.Leaving.{in_use}

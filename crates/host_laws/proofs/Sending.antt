@@ -1,18 +1,18 @@
 -- An SDU that is sent where nothing is to be given is what is given next.
 use Rattle.std.proofs.Common.{◌≡◌, ℕ, List, [], ◌∷◌, map, Bool, true, false, cond, ◌&&◌, eqb, find, Option, Some, None, option_map, is_some, unwrap_or, refl, sym, ap, subst, ◌∙◌}
-use Rattle.capture.specs.declared.flow.Flow.TheVariants.{Out}
-use Rattle.l2cap_config.specs.declared.wish.Agreed.{Agreed}
-use Rattle.link_talk.specs.Sayings.{Saying, Carried}
-use Rattle.ertm_model.specs.Value.{Ertm}
-use Rattle.ertm_model.specs.Giving.{next_frame}
-use Rattle.ertm_model.specs.Submitting.{submitted}
-use Rattle.ertm_frames.specs.Frames.{PlainFrame}
-use Rattle.channel_model.specs.Value.{Carrier, Plain, Retransmitting, Setup, Stage, Requested, Connected, Leaving, Closing, Crossed, Held, Channels}
-use Rattle.channel_model.specs.Changing.{has_own, held_at, in_place_of, is_open, is_granted, setup_of, stage_with, with_setup, to_setup}
-use Rattle.channel_model.specs.Giving.{Given, Whole, Framed, carrier_given, stage_gives, gives, held_gives, carrier_spent, held_given, queue_given, after_given, headed}
-use Rattle.channel_model.specs.Calls.{setup_on, carrier_if, open_carrier, carrier_at, carrier_with, sends_on, sends_held, sends}
-use Rattle.channel_model.proofs.Lookups.{found-placed, find-placed, not_found}
-use Rattle.channel_model.proofs.Walking.{found-own, with-setup}
+use Rattle.shelf_model.specs.capture.specs.declared.flow.Flow.TheVariants.{Out}
+use Rattle.shelf_model.specs.l2cap_config.specs.declared.wish.Agreed.{Agreed}
+use Rattle.push_laws.specs.link_talk.specs.Sayings.{Saying, Carried}
+use Rattle.shelf_model.specs.ertm_model.specs.Value.{Ertm}
+use Rattle.shelf_model.specs.ertm_model.specs.Giving.{next_frame}
+use Rattle.shelf_model.specs.ertm_model.specs.Submitting.{submitted}
+use Rattle.shelf_model.specs.ertm_frames.specs.Frames.{PlainFrame}
+use Rattle.channel_laws.specs.channel_model.specs.Value.{Carrier, Plain, Retransmitting, Setup, Stage, Requested, Connected, Leaving, Closing, Crossed, Held, Channels}
+use Rattle.channel_laws.specs.channel_model.specs.Changing.{has_own, held_at, in_place_of, is_open, is_granted, setup_of, stage_with, with_setup, to_setup}
+use Rattle.channel_laws.specs.channel_model.specs.Giving.{Given, Whole, Framed, carrier_given, stage_gives, gives, held_gives, carrier_spent, held_given, queue_given, after_given, headed}
+use Rattle.channel_laws.specs.channel_model.specs.Calls.{setup_on, carrier_if, open_carrier, carrier_at, carrier_with, sends_on, sends_held, sends}
+use Rattle.channel_laws.specs.channel_model.proofs.Lookups.{found-placed, find-placed, not_found}
+use Rattle.channel_laws.specs.channel_model.proofs.Walking.{found-own, with-setup}
 use Rattle.channel_laws.specs.Views.{peer_of}
 use Rattle.channel_laws.specs.Runs.{peer_at, said_by_carrier}
 use Rattle.channel_laws.proofs.Sound.{at_each}

@@ -5,37 +5,37 @@ use Rattle.std.specs.List.{AllByRecursion, list_any}
 use Rattle.std.proofs.lemmas.Bool.{eq-eqb}
 use Rattle.std.proofs.lemmas.List.Folds.{list_any-append}
 use Rattle.std.proofs.lemmas.List.Sums.{fold-append}
-use Rattle.acl_fragments.specs.Pieces.{channel_of}
-use Rattle.bt_base.specs.Octets.{IsOctets}
-use Rattle.bt_base.specs.declared.settings.Settings.{Settings}
-use Rattle.bt_base.specs.declared.settings.Transport.{Transport}
-use Rattle.bt_base.specs.declared.settings.Transport.TheVariants.{L2cap, Rfcomm}
-use Rattle.capture.specs.declared.flow.Flow.TheVariants.{Into}
-use Rattle.l2cap_config.specs.declared.wish.Mode.TheVariants.{Basic}
-use Rattle.push_terms.specs.declared.outcome.Outcome.{Outcome}
-use Rattle.push_terms.specs.declared.outcome.Outcome.TheVariants as outcomes
-use Rattle.sdp_elements.specs.declared.target.Target.{Target}
-use Rattle.sdp_elements.specs.Targets.{target_in, is_service_psm, is_server_channel}
-use Rattle.sdp_client.specs.declared.reason.Found.{Found}
-use Rattle.sdp_client.specs.declared.reason.Found.TheVariants.{More, Service, NoService, Refused}
-use Rattle.sdp_client.specs.declared.reason.QueryReason.TheVariants.{BadReply, ErrorCode, WrongTransaction, TooLong}
-use Rattle.sdp_client.specs.Asking.{Asking}
-use Rattle.sdp_client.specs.Hearing.{found_at, after_reply}
-use Rattle.link_talk.specs.declared.channel.Channel.{Channel}
-use Rattle.link_talk.specs.declared.party.Party.{Party}
-use Rattle.link_talk.specs.Carriages.{mode_of}
-use Rattle.link_talk.specs.Channels.{Entry, reading}
-use Rattle.link_talk.specs.Sayings.{Saying}
-use Rattle.link_talk.specs.Sdus.{spoken, spoken_as}
-use Rattle.link_talk.specs.ServiceAnswers.{parts_from, answers_in, channel_answers, service_answers}
-use Rattle.talk_laws.specs.LinkAnswers.{unfinished_after, answers_now, unfinished_of}
-use Rattle.talk_laws.proofs.LinkAnswers.{link-answers_grow}
-use Rattle.channel_model.specs.Carrying.{Up, Nothing, Received}
-use Rattle.channel_model.specs.Changing.{has_own, held_at}
-use Rattle.channel_model.specs.Hearing.{up}
-use Rattle.channel_model.specs.Policies.{Policy, policy}
-use Rattle.channel_model.specs.Value.{Stage as Held_stage, Requested, Connected, Leaving, Closing, Crossed, Held, Channels}
-use Rattle.channel_model.proofs.Lookups.{eqb-same}
+use Rattle.shelf_model.specs.acl_fragments.specs.Pieces.{channel_of}
+use Rattle.shelf_model.specs.bt_base.specs.Octets.{IsOctets}
+use Rattle.shelf_model.specs.bt_base.specs.declared.settings.Settings.{Settings}
+use Rattle.shelf_model.specs.bt_base.specs.declared.settings.Transport.{Transport}
+use Rattle.shelf_model.specs.bt_base.specs.declared.settings.Transport.TheVariants.{L2cap, Rfcomm}
+use Rattle.shelf_model.specs.capture.specs.declared.flow.Flow.TheVariants.{Into}
+use Rattle.shelf_model.specs.l2cap_config.specs.declared.wish.Mode.TheVariants.{Basic}
+use Rattle.shelf_model.specs.push_terms.specs.declared.outcome.Outcome.{Outcome}
+use Rattle.shelf_model.specs.push_terms.specs.declared.outcome.Outcome.TheVariants as outcomes
+use Rattle.shelf_model.specs.sdp_elements.specs.declared.target.Target.{Target}
+use Rattle.shelf_model.specs.sdp_elements.specs.Targets.{target_in, is_service_psm, is_server_channel}
+use Rattle.shelf_model.specs.sdp_client.specs.declared.reason.Found.{Found}
+use Rattle.shelf_model.specs.sdp_client.specs.declared.reason.Found.TheVariants.{More, Service, NoService, Refused}
+use Rattle.shelf_model.specs.sdp_client.specs.declared.reason.QueryReason.TheVariants.{BadReply, ErrorCode, WrongTransaction, TooLong}
+use Rattle.shelf_model.specs.sdp_client.specs.Asking.{Asking}
+use Rattle.shelf_model.specs.sdp_client.specs.Hearing.{found_at, after_reply}
+use Rattle.push_laws.specs.link_talk.specs.declared.channel.Channel.{Channel}
+use Rattle.push_laws.specs.link_talk.specs.declared.party.Party.{Party}
+use Rattle.push_laws.specs.link_talk.specs.Carriages.{mode_of}
+use Rattle.push_laws.specs.link_talk.specs.Channels.{Entry, reading}
+use Rattle.push_laws.specs.link_talk.specs.Sayings.{Saying}
+use Rattle.push_laws.specs.link_talk.specs.Sdus.{spoken, spoken_as}
+use Rattle.push_laws.specs.link_talk.specs.ServiceAnswers.{parts_from, answers_in, channel_answers, service_answers}
+use Rattle.channel_laws.specs.talk_laws.specs.LinkAnswers.{unfinished_after, answers_now, unfinished_of}
+use Rattle.channel_laws.specs.talk_laws.proofs.LinkAnswers.{link-answers_grow}
+use Rattle.channel_laws.specs.channel_model.specs.Carrying.{Up, Nothing, Received}
+use Rattle.channel_laws.specs.channel_model.specs.Changing.{has_own, held_at}
+use Rattle.channel_laws.specs.channel_model.specs.Hearing.{up}
+use Rattle.channel_laws.specs.channel_model.specs.Policies.{Policy, policy}
+use Rattle.channel_laws.specs.channel_model.specs.Value.{Stage as Held_stage, Requested, Connected, Leaving, Closing, Crossed, Held, Channels}
+use Rattle.channel_laws.specs.channel_model.proofs.Lookups.{eqb-same}
 use Rattle.channel_laws.specs.Endpoints.{IsOf}
 use Rattle.channel_laws.specs.Exchanged.{heard_in, exchanged_in}
 use Rattle.channel_laws.specs.Runs.{Occurrence, Comes, Run, new_link, run_on, run_of}
@@ -48,16 +48,16 @@ use Rattle.channel_laws.proofs.PlainTaken.{basic_mode}
 use Rattle.channel_laws.proofs.Ready.{Ready, IsReady}
 use Rattle.channel_laws.proofs.Running.{all-sound}
 use Rattle.channel_laws.proofs.Sound.{ReadsBy, Reads}
-use Rattle.push_model.specs.declared.course.Point.TheVariants.{Due, Asked}
-use Rattle.push_model.specs.declared.course.Stage.{Stage}
-use Rattle.push_model.specs.declared.course.Stage.TheVariants.{Rest, Link, SearchChannel, Search, SearchEnd, Features, ObjectChannel, Object, ObjectEnd, LinkEnd, Over}
-use Rattle.push_model.specs.Causes.{Ending, InOrder, AtOnce, ending_of, cause_of_query}
-use Rattle.push_model.specs.Client.{Client, ends, ends_by, stage_after}
-use Rattle.push_model.specs.Events as events
-use Rattle.push_model.specs.Events.{is_search, is_asking_features, kept_of, found_psm, found_channel, found_way, finds, hears_reply, hears_news, sdu_at}
-use Rattle.push_model.specs.Laws.{Hears}
+use Rattle.push_laws.specs.push_model.specs.declared.course.Point.TheVariants.{Due, Asked}
+use Rattle.push_laws.specs.push_model.specs.declared.course.Stage.{Stage}
+use Rattle.push_laws.specs.push_model.specs.declared.course.Stage.TheVariants.{Rest, Link, SearchChannel, Search, SearchEnd, Features, ObjectChannel, Object, ObjectEnd, LinkEnd, Over}
+use Rattle.push_laws.specs.push_model.specs.Causes.{Ending, InOrder, AtOnce, ending_of, cause_of_query}
+use Rattle.push_laws.specs.push_model.specs.Client.{Client, ends, ends_by, stage_after}
+use Rattle.push_laws.specs.push_model.specs.Events as events
+use Rattle.push_laws.specs.push_model.specs.Events.{is_search, is_asking_features, kept_of, found_psm, found_channel, found_way, finds, hears_reply, hears_news, sdu_at}
+use Rattle.push_laws.specs.push_model.specs.Laws.{Hears}
 use Rattle.push_laws.specs.Opening.{found_in, targets_by}
-use Rattle.host_model.specs.Clients.{ClientProfile}
+use Rattle.shelf_model.specs.host_model.specs.Clients.{ClientProfile}
 use Rattle.host_laws.specs.Seen.{spoken_of}
 use Rattle.host_laws.specs.Services as services
 use Rattle.host_laws.proofs.Changes.{is_alive, Fine, comes-fine}

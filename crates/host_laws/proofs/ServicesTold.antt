@@ -3,24 +3,24 @@ use Rattle.std.proofs.Common.{◌≡◌, ℕ, ◌+◌, List, [], ◌∷◌, ◌+
 use Rattle.std.specs.Prelude.{is_some, option_to_list}
 use Rattle.std.specs.List.{list_any, flat_map, filter_map, cons_option}
 use Rattle.std.proofs.lemmas.List.Folds.{list_any-append}
-use Rattle.bt_base.specs.declared.settings.Transport.{Transport}
-use Rattle.bt_base.specs.declared.settings.Transport.TheVariants.{L2cap, Rfcomm}
-use Rattle.sdp_elements.specs.declared.target.Target.{Target}
-use Rattle.sdp_elements.specs.Targets.{target_in}
-use Rattle.rfcomm_frames.specs.Frames.{PlainFrame}
-use Rattle.link_talk.specs.declared.channel.Channel.{Channel}
-use Rattle.link_talk.specs.declared.party.Party.{Party}
-use Rattle.link_talk.specs.Sayings.{Saying}
-use Rattle.link_talk.specs.Senses.{sense}
-use Rattle.link_talk.specs.Meanings.{Meaning, meant}
-use Rattle.link_talk.specs.Channels.{Entry, fresh, entry_after, is_owner, with_fresh, made_by, reading}
-use Rattle.link_talk.specs.Sdus.{spoken}
-use Rattle.link_talk.specs.ServiceAnswers.{waiting_after, answers_in, channel_answers, service_answers}
-use Rattle.link_talk.proofs.OnePass.{reading-more}
-use Rattle.talk_laws.specs.LinkAnswers.{answers_now, unfinished_of}
-use Rattle.talk_laws.specs.Objects.{GrowsTo}
-use Rattle.talk_laws.proofs.LinkAnswers.{link-answers_grow}
-use Rattle.talk_laws.proofs.Objects.{objects-grow}
+use Rattle.shelf_model.specs.bt_base.specs.declared.settings.Transport.{Transport}
+use Rattle.shelf_model.specs.bt_base.specs.declared.settings.Transport.TheVariants.{L2cap, Rfcomm}
+use Rattle.shelf_model.specs.sdp_elements.specs.declared.target.Target.{Target}
+use Rattle.shelf_model.specs.sdp_elements.specs.Targets.{target_in}
+use Rattle.shelf_model.specs.rfcomm_frames.specs.Frames.{PlainFrame}
+use Rattle.push_laws.specs.link_talk.specs.declared.channel.Channel.{Channel}
+use Rattle.push_laws.specs.link_talk.specs.declared.party.Party.{Party}
+use Rattle.push_laws.specs.link_talk.specs.Sayings.{Saying}
+use Rattle.push_laws.specs.link_talk.specs.Senses.{sense}
+use Rattle.push_laws.specs.link_talk.specs.Meanings.{Meaning, meant}
+use Rattle.push_laws.specs.link_talk.specs.Channels.{Entry, fresh, entry_after, is_owner, with_fresh, made_by, reading}
+use Rattle.push_laws.specs.link_talk.specs.Sdus.{spoken}
+use Rattle.push_laws.specs.link_talk.specs.ServiceAnswers.{waiting_after, answers_in, channel_answers, service_answers}
+use Rattle.push_laws.specs.link_talk.proofs.OnePass.{reading-more}
+use Rattle.channel_laws.specs.talk_laws.specs.LinkAnswers.{answers_now, unfinished_of}
+use Rattle.channel_laws.specs.talk_laws.specs.Objects.{GrowsTo}
+use Rattle.channel_laws.specs.talk_laws.proofs.LinkAnswers.{link-answers_grow}
+use Rattle.channel_laws.specs.talk_laws.proofs.Objects.{objects-grow}
 use Rattle.host_laws.specs.Services.{targets_told, is_number, tells_psm, dlci_of, asks_as_told, answers_peer, goes_as_told}
 
 -- ---- tests

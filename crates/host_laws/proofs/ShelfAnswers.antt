@@ -4,17 +4,17 @@ use Rattle.std.proofs.lemmas.Bool.{eqb-true, and_parts}
 use Rattle.std.proofs.lemmas.Slice.Eq.{bytes_eq-Decides}
 use Rattle.std.specs.List.{AllByRecursion}
 use Rattle.std.specs.Str.{bytes_eq}
-use Rattle.bt_base.specs.declared.ports.PortFault.TheVariants.{Failed as FailedShelf}
-use Rattle.bt_base.specs.Objects.{Object}
-use Rattle.obex_session.specs.PutPackets.{place_of}
-use Rattle.push_model.specs.Client.{Client}
-use Rattle.push_model.specs.Laws.{Deed, Hears, Asks, Finishes, Cancels}
-use Rattle.push_model.specs.Steps.{Part, put_count}
+use Rattle.shelf_model.specs.bt_base.specs.declared.ports.PortFault.TheVariants.{Failed as FailedShelf}
+use Rattle.shelf_model.specs.bt_base.specs.Objects.{Object}
+use Rattle.shelf_model.specs.obex_session.specs.PutPackets.{place_of}
+use Rattle.push_laws.specs.push_model.specs.Client.{Client}
+use Rattle.push_laws.specs.push_model.specs.Laws.{Deed, Hears, Asks, Finishes, Cancels}
+use Rattle.push_laws.specs.push_model.specs.Steps.{Part, put_count}
 use Rattle.push_laws.specs.Sending.{AnswersTo}
-use Rattle.world_model.specs.Machines.{News, Linked, Failed, Heard, TimerFired, Cancelled, Opening}
-use Rattle.host_model.specs.Circumstances.{Circumstance, Excerpt, size_in}
-use Rattle.host_model.specs.Clients.{ClientProfile}
-use Rattle.host_model.specs.Shelves.{is_short, size_if, name_if, measured, bare_part, fitting}
+use Rattle.shelf_model.specs.world_model.specs.Machines.{News, Linked, Failed, Heard, TimerFired, Cancelled, Opening}
+use Rattle.shelf_model.specs.host_model.specs.Circumstances.{Circumstance, Excerpt, size_in}
+use Rattle.shelf_model.specs.host_model.specs.Clients.{ClientProfile}
+use Rattle.shelf_model.specs.host_model.specs.Shelves.{is_short, size_if, name_if, measured, bare_part, fitting}
 use Rattle.shelf_model.specs.Held.{IsThere, IsHeld, length_of}
 use Rattle.host_laws.specs.Feeds.{Feed, Gifts, Learns, Receives, Happens, Sent, Steps}
 use Rattle.host_laws.specs.ShelfAnswers.{TellsSizeOf, AnswersOf, IsGiven, ClientsAreGivenObjects}

@@ -4,41 +4,41 @@ use Rattle.std.proofs.Common.{◌≡◌, ℕ, ◌+◌, ◌<◌, List, [], ◌∷
 use Rattle.std.specs.Prelude.{◌%◌, ◌/◌, find, filter, min, nat_le, ◌&&◌, is_some, option_map, unwrap_or}
 use Rattle.std.specs.List.{AllByRecursion}
 use Rattle.std.proofs.lemmas.Bool.{eqb-false}
-use Rattle.bt_base.specs.Octets.{IsOctets, le16}
-use Rattle.h4_framing.proofs.OctetLists.{IsOctets-cons, IsOctets-nil}
-use Rattle.l2cap_config.specs.declared.options.ModeOption.{ModeOption}
-use Rattle.l2cap_config.specs.declared.options.Options.{Options}
-use Rattle.l2cap_config.specs.declared.options.ConfigRefusal.{ConfigRefusal}
-use Rattle.l2cap_config.specs.declared.agreement.ConfigAnswer.{ConfigAnswer}
-use Rattle.l2cap_config.specs.declared.agreement.ConfigAnswer.TheVariants.{Accept, Unacceptable, Unknown}
-use Rattle.l2cap_config.specs.declared.agreement.Settled.{Settled}
-use Rattle.l2cap_config.specs.declared.agreement.Settled.TheVariants.{Accepted, Again, Wait, Never}
-use Rattle.l2cap_config.specs.declared.wish.Mode.{Mode}
-use Rattle.l2cap_config.specs.declared.wish.Mode.TheVariants.{Basic, Enhanced}
-use Rattle.l2cap_config.specs.declared.wish.Wish.{Wish}
-use Rattle.l2cap_config.specs.Items.{no_options}
-use Rattle.l2cap_config.specs.Agreement.{settled, keeps_mode, bounded, own_mode, only_mtu, requested_mode, requested}
-use Rattle.l2cap_config.specs.Reading.{options_read}
-use Rattle.l2cap_config.specs.Writing.{mode_value, written}
-use Rattle.ertm_model.specs.declared.reason.ErtmReason.{ErtmReason}
-use Rattle.ertm_model.specs.Value.{Ertm}
-use Rattle.ertm_model.specs.Giving.{timed}
-use Rattle.channel_model.specs.declared.errand.Errand.{Errand}
-use Rattle.channel_model.specs.declared.errand.Errand.TheVariants as errands
-use Rattle.channel_model.specs.declared.event.CloseReason.{CloseReason}
-use Rattle.channel_model.specs.declared.event.CloseReason.TheVariants.{NoAgreement, Refused, OwnClosed, RetryLimit}
-use Rattle.channel_model.specs.Value.{Request, Queued, Answer, Ask, Own, Unasked, Asking, Granted, Carrier, Plain, Retransmitting, Setup, no_setup, Stage, Requested, Connected, Leaving, Closing, Crossed, Held, Channels}
-use Rattle.channel_model.specs.Policies.{Policy}
-use Rattle.channel_model.specs.Changing.{has_own, in_place_of, held_at, is_peer, to_stage, gone, setup_of, has_fcs_by, is_open, stage_with, with_setup, to_setup, is_leaving}
-use Rattle.channel_model.specs.Asking.{next_identifier, new_request, asks, first_options, asks_options, Fired, StillDue, OnceMore, Spent, fired}
-use Rattle.channel_model.specs.Closing.{closes, closes_at, peer_closes_at, ends, ends_at}
-use Rattle.channel_model.specs.Configuring.{accepted_setup, accepts_with, without_parts, refused_setup, follows_answer, opens_if, granted_setup, grants}
-use Rattle.channel_model.specs.Responses.{is_fresh_endpoint, connects, hears_connected, hears_grant_at, hears_grant, renewed_setup, hears_settled, hears_options, is_asked, hears_response_on, hears_response, hears_end}
-use Rattle.channel_model.specs.Carrying.{reason_of, settles_machine, machine_heard, read_by, carries, is_taken_with, opens_with, takes_with, takes_on, takes_held, takes}
-use Rattle.channel_model.specs.Timing.{fires, times_carrier, times_setup, times_stage, times_held, times_end_at, times_end}
-use Rattle.channel_model.specs.Giving.{own_given, connection_given, configuration_given, disconnection_given, stage_given, counted, carrier_given, carrier_spent, held_given, queue_given, after_given, gives}
-use Rattle.channel_model.specs.Following.{with_channel}
-use Rattle.channel_model.specs.Calls.{can_connect, connected, disconnected_at, disconnected_held, disconnected, carrier_with, sends_setup, sends_on, sends_held, sends}
+use Rattle.shelf_model.specs.bt_base.specs.Octets.{IsOctets, le16}
+use Rattle.shelf_model.specs.h4_framing.proofs.OctetLists.{IsOctets-cons, IsOctets-nil}
+use Rattle.shelf_model.specs.l2cap_config.specs.declared.options.ModeOption.{ModeOption}
+use Rattle.shelf_model.specs.l2cap_config.specs.declared.options.Options.{Options}
+use Rattle.shelf_model.specs.l2cap_config.specs.declared.options.ConfigRefusal.{ConfigRefusal}
+use Rattle.shelf_model.specs.l2cap_config.specs.declared.agreement.ConfigAnswer.{ConfigAnswer}
+use Rattle.shelf_model.specs.l2cap_config.specs.declared.agreement.ConfigAnswer.TheVariants.{Accept, Unacceptable, Unknown}
+use Rattle.shelf_model.specs.l2cap_config.specs.declared.agreement.Settled.{Settled}
+use Rattle.shelf_model.specs.l2cap_config.specs.declared.agreement.Settled.TheVariants.{Accepted, Again, Wait, Never}
+use Rattle.shelf_model.specs.l2cap_config.specs.declared.wish.Mode.{Mode}
+use Rattle.shelf_model.specs.l2cap_config.specs.declared.wish.Mode.TheVariants.{Basic, Enhanced}
+use Rattle.shelf_model.specs.l2cap_config.specs.declared.wish.Wish.{Wish}
+use Rattle.shelf_model.specs.l2cap_config.specs.Items.{no_options}
+use Rattle.shelf_model.specs.l2cap_config.specs.Agreement.{settled, keeps_mode, bounded, own_mode, only_mtu, requested_mode, requested}
+use Rattle.shelf_model.specs.l2cap_config.specs.Reading.{options_read}
+use Rattle.shelf_model.specs.l2cap_config.specs.Writing.{mode_value, written}
+use Rattle.shelf_model.specs.ertm_model.specs.declared.reason.ErtmReason.{ErtmReason}
+use Rattle.shelf_model.specs.ertm_model.specs.Value.{Ertm}
+use Rattle.shelf_model.specs.ertm_model.specs.Giving.{timed}
+use Rattle.channel_laws.specs.channel_model.specs.declared.errand.Errand.{Errand}
+use Rattle.channel_laws.specs.channel_model.specs.declared.errand.Errand.TheVariants as errands
+use Rattle.channel_laws.specs.channel_model.specs.declared.event.CloseReason.{CloseReason}
+use Rattle.channel_laws.specs.channel_model.specs.declared.event.CloseReason.TheVariants.{NoAgreement, Refused, OwnClosed, RetryLimit}
+use Rattle.channel_laws.specs.channel_model.specs.Value.{Request, Queued, Answer, Ask, Own, Unasked, Asking, Granted, Carrier, Plain, Retransmitting, Setup, no_setup, Stage, Requested, Connected, Leaving, Closing, Crossed, Held, Channels}
+use Rattle.channel_laws.specs.channel_model.specs.Policies.{Policy}
+use Rattle.channel_laws.specs.channel_model.specs.Changing.{has_own, in_place_of, held_at, is_peer, to_stage, gone, setup_of, has_fcs_by, is_open, stage_with, with_setup, to_setup, is_leaving}
+use Rattle.channel_laws.specs.channel_model.specs.Asking.{next_identifier, new_request, asks, first_options, asks_options, Fired, StillDue, OnceMore, Spent, fired}
+use Rattle.channel_laws.specs.channel_model.specs.Closing.{closes, closes_at, peer_closes_at, ends, ends_at}
+use Rattle.channel_laws.specs.channel_model.specs.Configuring.{accepted_setup, accepts_with, without_parts, refused_setup, follows_answer, opens_if, granted_setup, grants}
+use Rattle.channel_laws.specs.channel_model.specs.Responses.{is_fresh_endpoint, connects, hears_connected, hears_grant_at, hears_grant, renewed_setup, hears_settled, hears_options, is_asked, hears_response_on, hears_response, hears_end}
+use Rattle.channel_laws.specs.channel_model.specs.Carrying.{reason_of, settles_machine, machine_heard, read_by, carries, is_taken_with, opens_with, takes_with, takes_on, takes_held, takes}
+use Rattle.channel_laws.specs.channel_model.specs.Timing.{fires, times_carrier, times_setup, times_stage, times_held, times_end_at, times_end}
+use Rattle.channel_laws.specs.channel_model.specs.Giving.{own_given, connection_given, configuration_given, disconnection_given, stage_given, counted, carrier_given, carrier_spent, held_given, queue_given, after_given, gives}
+use Rattle.channel_laws.specs.channel_model.specs.Following.{with_channel}
+use Rattle.channel_laws.specs.channel_model.specs.Calls.{can_connect, connected, disconnected_at, disconnected_held, disconnected, carrier_with, sends_setup, sends_on, sends_held, sends}
 
 -- ---- octets
 

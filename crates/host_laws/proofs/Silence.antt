@@ -3,16 +3,16 @@ use Rattle.std.proofs.Common.{◌≡◌, ℕ, List, [], ◌∷◌, ◌++◌, map
 use Rattle.std.specs.List.{AllByRecursion}
 use Rattle.std.proofs.lemmas.Bool.{eqb-true}
 use Rattle.std.proofs.lemmas.List.Sums.{fold-append}
-use Rattle.acl_fragments.specs.Pieces.{channel_of}
-use Rattle.link_talk.specs.Channels.{Entry, is_alive, reading}
-use Rattle.channel_model.specs.declared.event.ChannelEvent.{ChannelEvent}
-use Rattle.channel_model.specs.Value.{Setup, Stage, Requested, Connected, Leaving, Closing, Crossed, Held, Channels, no_channels}
-use Rattle.channel_model.specs.Policies.{Policy}
-use Rattle.channel_model.specs.Changing.{held_at}
-use Rattle.channel_model.specs.Carrying.{Up, Nothing, Received, sdu_at, up_by, up_on, up_at}
-use Rattle.channel_model.specs.Hearing.{up}
-use Rattle.channel_model.specs.Telling.{any_reason, closes_for, is_told_closed}
-use Rattle.channel_model.proofs.Walking.{found-own}
+use Rattle.shelf_model.specs.acl_fragments.specs.Pieces.{channel_of}
+use Rattle.push_laws.specs.link_talk.specs.Channels.{Entry, is_alive, reading}
+use Rattle.channel_laws.specs.channel_model.specs.declared.event.ChannelEvent.{ChannelEvent}
+use Rattle.channel_laws.specs.channel_model.specs.Value.{Setup, Stage, Requested, Connected, Leaving, Closing, Crossed, Held, Channels, no_channels}
+use Rattle.channel_laws.specs.channel_model.specs.Policies.{Policy}
+use Rattle.channel_laws.specs.channel_model.specs.Changing.{held_at}
+use Rattle.channel_laws.specs.channel_model.specs.Carrying.{Up, Nothing, Received, sdu_at, up_by, up_on, up_at}
+use Rattle.channel_laws.specs.channel_model.specs.Hearing.{up}
+use Rattle.channel_laws.specs.channel_model.specs.Telling.{any_reason, closes_for, is_told_closed}
+use Rattle.channel_laws.specs.channel_model.proofs.Walking.{found-own}
 use Rattle.channel_laws.specs.Runs.{Occurrence, Comes, Connects, AsksFeatures, Disconnects, Sends, Gives, Fires, Run, new_link, run_on, run_of, value_after, told_in, up_with}
 use Rattle.channel_laws.specs.Runs as runs
 use Rattle.channel_laws.specs.Views.{IsRead, IsReadBy, channel_by, life_of, peer_of, read_at}

@@ -4,34 +4,34 @@ use Rattle.std.specs.Prelude.{IfSome}
 use Rattle.std.specs.List.{AllByRecursion, AllZip, list_any}
 use Rattle.std.proofs.lemmas.Bool.{eqb-true, eq-eqb}
 use Rattle.std.proofs.lemmas.List.Folds.{list_any-append}
-use Rattle.acl_fragments.specs.Pieces.{channel_of}
-use Rattle.bt_base.specs.Objects.{Object}
-use Rattle.capture.specs.Histories.{EachAfter}
-use Rattle.capture.specs.declared.flow.Flow.{Flow}
-use Rattle.capture.specs.declared.flow.Flow.TheVariants.{Out, Into}
-use Rattle.link_talk.specs.declared.channel.Channel.{Channel}
-use Rattle.link_talk.specs.declared.party.Party.{Party}
-use Rattle.link_talk.specs.declared.call.Call.{Call}
-use Rattle.link_talk.specs.declared.call.Failure.{Failure}
-use Rattle.link_talk.specs.declared.life.Life.{Life}
-use Rattle.link_talk.specs.declared.life.Life.TheVariants.{Alive, Leaving, Crossed, Over}
-use Rattle.link_talk.specs.declared.word.Word.{Word}
-use Rattle.link_talk.specs.declared.word.Word.TheVariants.{AsksEnd, AnswersEnd, EndAnswered, EndForgone}
-use Rattle.link_talk.specs.Sayings.{Saying, Command, Carried, GaveUp, Forgone, Connection, Disconnection, Information}
-use Rattle.link_talk.specs.Senses.{sense}
-use Rattle.link_talk.specs.Requests.{Requests, requests_after, call, went, is_call, is_own_call}
-use Rattle.link_talk.specs.Meanings.{Meaning, meant}
-use Rattle.link_talk.specs.Setups.{Setup, is_set}
-use Rattle.link_talk.specs.Channels.{Entry, fresh, entry_after, entries_after, life_after, is_alive, is_there, is_owner, with_fresh, made_by, Reading, reading}
-use Rattle.link_talk.specs.Carriages.{Carriage, is_heard, endpoint, takes, taker, is_on, carried_by, has_own, entry_mode}
-use Rattle.link_talk.specs.ObjectsHeard.{objects}
-use Rattle.link_talk.proofs.OnePass.{reading-more}
-use Rattle.talk_laws.specs.Waits.{mode_held}
-use Rattle.talk_laws.specs.Spelling.{Hearing, hearing_after, hearing_with, hearing_of, objects_now}
-use Rattle.talk_laws.specs.LinkObjects.{objects_by, objects_on}
-use Rattle.talk_laws.proofs.Owning.{Alone, either_false, eqb_other, alone, found_other, found_one, owns_stay}
-use Rattle.talk_laws.proofs.Spelling.{hearing-more, hearing-anew}
-use Rattle.talk_laws.proofs.LinkObjects.{link-objects_grow}
+use Rattle.shelf_model.specs.acl_fragments.specs.Pieces.{channel_of}
+use Rattle.shelf_model.specs.bt_base.specs.Objects.{Object}
+use Rattle.shelf_model.specs.capture.specs.Histories.{EachAfter}
+use Rattle.shelf_model.specs.capture.specs.declared.flow.Flow.{Flow}
+use Rattle.shelf_model.specs.capture.specs.declared.flow.Flow.TheVariants.{Out, Into}
+use Rattle.push_laws.specs.link_talk.specs.declared.channel.Channel.{Channel}
+use Rattle.push_laws.specs.link_talk.specs.declared.party.Party.{Party}
+use Rattle.push_laws.specs.link_talk.specs.declared.call.Call.{Call}
+use Rattle.push_laws.specs.link_talk.specs.declared.call.Failure.{Failure}
+use Rattle.push_laws.specs.link_talk.specs.declared.life.Life.{Life}
+use Rattle.push_laws.specs.link_talk.specs.declared.life.Life.TheVariants.{Alive, Leaving, Crossed, Over}
+use Rattle.push_laws.specs.link_talk.specs.declared.word.Word.{Word}
+use Rattle.push_laws.specs.link_talk.specs.declared.word.Word.TheVariants.{AsksEnd, AnswersEnd, EndAnswered, EndForgone}
+use Rattle.push_laws.specs.link_talk.specs.Sayings.{Saying, Command, Carried, GaveUp, Forgone, Connection, Disconnection, Information}
+use Rattle.push_laws.specs.link_talk.specs.Senses.{sense}
+use Rattle.push_laws.specs.link_talk.specs.Requests.{Requests, requests_after, call, went, is_call, is_own_call}
+use Rattle.push_laws.specs.link_talk.specs.Meanings.{Meaning, meant}
+use Rattle.push_laws.specs.link_talk.specs.Setups.{Setup, is_set}
+use Rattle.push_laws.specs.link_talk.specs.Channels.{Entry, fresh, entry_after, entries_after, life_after, is_alive, is_there, is_owner, with_fresh, made_by, Reading, reading}
+use Rattle.push_laws.specs.link_talk.specs.Carriages.{Carriage, is_heard, endpoint, takes, taker, is_on, carried_by, has_own, entry_mode}
+use Rattle.push_laws.specs.link_talk.specs.ObjectsHeard.{objects}
+use Rattle.push_laws.specs.link_talk.proofs.OnePass.{reading-more}
+use Rattle.channel_laws.specs.talk_laws.specs.Waits.{mode_held}
+use Rattle.channel_laws.specs.talk_laws.specs.Spelling.{Hearing, hearing_after, hearing_with, hearing_of, objects_now}
+use Rattle.channel_laws.specs.talk_laws.specs.LinkObjects.{objects_by, objects_on}
+use Rattle.channel_laws.specs.talk_laws.proofs.Owning.{Alone, either_false, eqb_other, alone, found_other, found_one, owns_stay}
+use Rattle.channel_laws.specs.talk_laws.proofs.Spelling.{hearing-more, hearing-anew}
+use Rattle.channel_laws.specs.talk_laws.proofs.LinkObjects.{link-objects_grow}
 use Rattle.host_laws.specs.OverLinks.{GoesOut}
 use Rattle.host_laws.specs.Seen.{spoken_of}
 use Rattle.host_laws.specs.Spoken.{AsksForNone, IsApart, GrantsAnew, ObjectsMove}

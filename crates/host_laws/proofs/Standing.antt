@@ -2,34 +2,34 @@
 -- none that is only asked for where `Settled`; nor where `Told`, when it asked for the peer's features.
 use Rattle.std.proofs.Common.{◌≡◌, ℕ, Bool, true, false, eqb, ◌-◌, ◌&&◌, ◌||◌, not, bit_and, is_some, min, nat_lt, List, [], Option, Some, None, Result, Ok, Err, refl, sym, ap, subst, ◌∙◌, ◌⊎◌, inl, inr, if◌then◌else◌}
 use Rattle.std.proofs.lemmas.Bool.{and_parts}
-use Rattle.bt_base.specs.declared.ports.PortFault.{PortFault}
-use Rattle.bt_base.specs.declared.ports.PortFault.TheVariants as fault
-use Rattle.bt_base.specs.declared.settings.Transport.{Transport}
-use Rattle.bt_base.specs.declared.settings.Transport.TheVariants.{L2cap, Rfcomm}
-use Rattle.push_terms.specs.declared.outcome.Outcome.{Outcome}
-use Rattle.push_terms.specs.declared.outcome.Outcome.TheVariants as outcomes
-use Rattle.sdp_elements.specs.declared.target.Target.{Target}
-use Rattle.sdp_elements.specs.Targets.{is_service_psm, is_server_channel}
-use Rattle.sdp_client.specs.declared.reason.Found.{Found}
-use Rattle.sdp_client.specs.declared.reason.Found.TheVariants.{More, Service, NoService, Refused}
-use Rattle.sdp_client.specs.Asking.{is_due, after_resend, after_request, request_octets}
-use Rattle.sdp_client.specs.Hearing.{found_at, after_reply}
-use Rattle.channel_model.specs.declared.event.ChannelEvent.{ChannelEvent}
-use Rattle.channel_model.specs.declared.event.ChannelEvent.TheVariants as channels
-use Rattle.channel_model.specs.Value.{Channels}
-use Rattle.channel_model.specs.Calls.{peer_mtu}
-use Rattle.push_model.specs.declared.closing.CloseCause.{CloseCause}
-use Rattle.push_model.specs.declared.course.Point.TheVariants.{Due, Asked}
-use Rattle.push_model.specs.declared.course.Stage.{Stage}
-use Rattle.push_model.specs.declared.course.Stage.TheVariants.{Rest, Link, SearchChannel, Search, SearchEnd, Features, ObjectChannel, Object, ObjectEnd, LinkEnd, Over}
-use Rattle.push_model.specs.Causes.{Ending, InOrder, AtOnce, ending_of, cause_of_link, cause_of_page, cause_of_close, cause_of_query, small_channel, unawaited_response}
-use Rattle.push_model.specs.Client.{Client, ends, ends_by, ends_if, may_cancel, in_order, at_once, stage_after, begun_by, begins, cancelled}
-use Rattle.push_model.specs.Events as events
-use Rattle.push_model.specs.Payloads.{Octets}
-use Rattle.push_model.specs.Steps.{Part, Step, Wait, MakeLink, AskFeatures, OpenChannel, SendSdu, CloseChannel, BreakLink, Ended, NoMemory, Stepped, steps_object, tells_end, steps_at, steps, rests, sends_sdu}
+use Rattle.shelf_model.specs.bt_base.specs.declared.ports.PortFault.{PortFault}
+use Rattle.shelf_model.specs.bt_base.specs.declared.ports.PortFault.TheVariants as fault
+use Rattle.shelf_model.specs.bt_base.specs.declared.settings.Transport.{Transport}
+use Rattle.shelf_model.specs.bt_base.specs.declared.settings.Transport.TheVariants.{L2cap, Rfcomm}
+use Rattle.shelf_model.specs.push_terms.specs.declared.outcome.Outcome.{Outcome}
+use Rattle.shelf_model.specs.push_terms.specs.declared.outcome.Outcome.TheVariants as outcomes
+use Rattle.shelf_model.specs.sdp_elements.specs.declared.target.Target.{Target}
+use Rattle.shelf_model.specs.sdp_elements.specs.Targets.{is_service_psm, is_server_channel}
+use Rattle.shelf_model.specs.sdp_client.specs.declared.reason.Found.{Found}
+use Rattle.shelf_model.specs.sdp_client.specs.declared.reason.Found.TheVariants.{More, Service, NoService, Refused}
+use Rattle.shelf_model.specs.sdp_client.specs.Asking.{is_due, after_resend, after_request, request_octets}
+use Rattle.shelf_model.specs.sdp_client.specs.Hearing.{found_at, after_reply}
+use Rattle.channel_laws.specs.channel_model.specs.declared.event.ChannelEvent.{ChannelEvent}
+use Rattle.channel_laws.specs.channel_model.specs.declared.event.ChannelEvent.TheVariants as channels
+use Rattle.channel_laws.specs.channel_model.specs.Value.{Channels}
+use Rattle.channel_laws.specs.channel_model.specs.Calls.{peer_mtu}
+use Rattle.push_laws.specs.push_model.specs.declared.closing.CloseCause.{CloseCause}
+use Rattle.push_laws.specs.push_model.specs.declared.course.Point.TheVariants.{Due, Asked}
+use Rattle.push_laws.specs.push_model.specs.declared.course.Stage.{Stage}
+use Rattle.push_laws.specs.push_model.specs.declared.course.Stage.TheVariants.{Rest, Link, SearchChannel, Search, SearchEnd, Features, ObjectChannel, Object, ObjectEnd, LinkEnd, Over}
+use Rattle.push_laws.specs.push_model.specs.Causes.{Ending, InOrder, AtOnce, ending_of, cause_of_link, cause_of_page, cause_of_close, cause_of_query, small_channel, unawaited_response}
+use Rattle.push_laws.specs.push_model.specs.Client.{Client, ends, ends_by, ends_if, may_cancel, in_order, at_once, stage_after, begun_by, begins, cancelled}
+use Rattle.push_laws.specs.push_model.specs.Events as events
+use Rattle.push_laws.specs.push_model.specs.Payloads.{Octets}
+use Rattle.push_laws.specs.push_model.specs.Steps.{Part, Step, Wait, MakeLink, AskFeatures, OpenChannel, SendSdu, CloseChannel, BreakLink, Ended, NoMemory, Stepped, steps_object, tells_end, steps_at, steps, rests, sends_sdu}
 use Rattle.push_laws.specs.Opening.{way_in}
 use Rattle.push_laws.proofs.Late.{anchor_of, Anchor, IsLate, Late, either, object_late, object_quiet}
-use Rattle.host_model.specs.Clients.{event_heard, opened_by, closed_by, cause_of, after_end, ended}
+use Rattle.shelf_model.specs.host_model.specs.Clients.{event_heard, opened_by, closed_by, cause_of, after_end, ended}
 use Rattle.host_laws.proofs.AskingOnce.{may_name}
 
 -- ---- where it stands

@@ -3,28 +3,28 @@
 use Rattle.std.proofs.Common.{◌≡◌, ℕ, List, [], ◌∷◌, ◌++◌, Bool, true, false, cond, eqb, Option, Some, None, refl, sym, ap, ◌∙◌, ◌⊎◌, inl, inr, append-nil}
 use Rattle.std.specs.Prelude.{find, is_some, option_map}
 use Rattle.std.proofs.lemmas.Bool.{eq-eqb}
-use Rattle.push_terms.specs.declared.outcome.Outcome.{Outcome}
-use Rattle.push_terms.specs.declared.outcome.Outcome.TheVariants as outcomes
-use Rattle.channel_model.specs.declared.event.ChannelEvent.{ChannelEvent}
-use Rattle.channel_model.specs.declared.event.ChannelEvent.TheVariants.{Opened, Closed, Features, FeaturesLost, DisconnectLost}
-use Rattle.channel_model.specs.declared.event.CloseReason.{CloseReason}
-use Rattle.channel_model.specs.declared.event.CloseReason.TheVariants.{PeerClosed, Refused, NoAgreement, RetryLimit, Ertm as Broken, LinkDown, OwnClosed}
-use Rattle.channel_model.specs.Value.{Stage, Requested, Connected, Leaving, Closing, Crossed, Channels}
-use Rattle.channel_model.specs.Changing.{has_own, setup_of}
-use Rattle.channel_model.specs.Calls.{open_carrier, setup_on, carrier_mtu, peer_mtu}
-use Rattle.ertm_model.specs.Reasons.{number_of}
-use Rattle.push_model.specs.declared.closing.CloseCause.{CloseCause}
-use Rattle.push_model.specs.declared.closing.CloseCause.TheVariants as causes
-use Rattle.push_model.specs.declared.course.Point.TheVariants.{Due, Asked}
-use Rattle.push_model.specs.declared.course.Stage.TheVariants as stages
-use Rattle.push_model.specs.declared.course.Stage.{Stage as Course}
-use Rattle.push_model.specs.Causes.{AtOnce, ending_of, small_channel, cause_of_close, cause_of_machine}
-use Rattle.push_model.specs.Client.{Client, stage_after, ends_by, ends, ends_if}
-use Rattle.push_model.specs.Events as events
-use Rattle.push_model.specs.Events.{is_asking_features, object_opened, opened_at, search_left, search_closed, closed_at, hears_news}
-use Rattle.bt_base.specs.declared.settings.Transport.{Transport}
-use Rattle.bt_base.specs.declared.settings.Transport.TheVariants.{L2cap, Rfcomm}
-use Rattle.host_model.specs.Clients.{cause_of, closed_by, opened_by, event_heard}
+use Rattle.shelf_model.specs.push_terms.specs.declared.outcome.Outcome.{Outcome}
+use Rattle.shelf_model.specs.push_terms.specs.declared.outcome.Outcome.TheVariants as outcomes
+use Rattle.channel_laws.specs.channel_model.specs.declared.event.ChannelEvent.{ChannelEvent}
+use Rattle.channel_laws.specs.channel_model.specs.declared.event.ChannelEvent.TheVariants.{Opened, Closed, Features, FeaturesLost, DisconnectLost}
+use Rattle.channel_laws.specs.channel_model.specs.declared.event.CloseReason.{CloseReason}
+use Rattle.channel_laws.specs.channel_model.specs.declared.event.CloseReason.TheVariants.{PeerClosed, Refused, NoAgreement, RetryLimit, Ertm as Broken, LinkDown, OwnClosed}
+use Rattle.channel_laws.specs.channel_model.specs.Value.{Stage, Requested, Connected, Leaving, Closing, Crossed, Channels}
+use Rattle.channel_laws.specs.channel_model.specs.Changing.{has_own, setup_of}
+use Rattle.channel_laws.specs.channel_model.specs.Calls.{open_carrier, setup_on, carrier_mtu, peer_mtu}
+use Rattle.shelf_model.specs.ertm_model.specs.Reasons.{number_of}
+use Rattle.push_laws.specs.push_model.specs.declared.closing.CloseCause.{CloseCause}
+use Rattle.push_laws.specs.push_model.specs.declared.closing.CloseCause.TheVariants as causes
+use Rattle.push_laws.specs.push_model.specs.declared.course.Point.TheVariants.{Due, Asked}
+use Rattle.push_laws.specs.push_model.specs.declared.course.Stage.TheVariants as stages
+use Rattle.push_laws.specs.push_model.specs.declared.course.Stage.{Stage as Course}
+use Rattle.push_laws.specs.push_model.specs.Causes.{AtOnce, ending_of, small_channel, cause_of_close, cause_of_machine}
+use Rattle.push_laws.specs.push_model.specs.Client.{Client, stage_after, ends_by, ends, ends_if}
+use Rattle.push_laws.specs.push_model.specs.Events as events
+use Rattle.push_laws.specs.push_model.specs.Events.{is_asking_features, object_opened, opened_at, search_left, search_closed, closed_at, hears_news}
+use Rattle.shelf_model.specs.bt_base.specs.declared.settings.Transport.{Transport}
+use Rattle.shelf_model.specs.bt_base.specs.declared.settings.Transport.TheVariants.{L2cap, Rfcomm}
+use Rattle.shelf_model.specs.host_model.specs.Clients.{cause_of, closed_by, opened_by, event_heard}
 use Rattle.host_laws.specs.Leaving.{in_use, is_closing, is_off}
 use Rattle.host_laws.proofs.Changes.{IsBad, kind, Fine}
 use Rattle.host_laws.proofs.Faces.{ends_link, may_ask, Keeps, off_at_once}

@@ -2,16 +2,16 @@
 use Rattle.std.proofs.Common.{◌≡◌, ℕ, List, [], ◌∷◌, ◌++◌, map, find, Bool, true, false, cond, ◌||◌, eqb, nat_le, Option, Some, None, option_to_list, is_some, refl, sym, ap, ap₂, subst, ◌∙◌, append_assoc, append-nil}
 use Rattle.std.specs.List.{AllByRecursion, list_any}
 use Rattle.std.proofs.lemmas.Bool.{eqb-true}
-use Rattle.l2cap_signal.specs.Commands.{Command}
-use Rattle.link_talk.specs.Sayings.{Saying}
-use Rattle.channel_model.specs.declared.errand.Errand.{Errand}
-use Rattle.channel_model.specs.declared.errand.Errand.TheVariants as errands
-use Rattle.channel_model.specs.Value.{Request, Queued, Answer, Ask, Setup, Stage, Leaving, Held, Channels}
-use Rattle.channel_model.specs.Changing.{has_own, held_at, is_copy, is_about, queued}
-use Rattle.channel_model.specs.Timing.{times_stage, times_held, times_end_at, times_end, loses_features, times_features, times_channels, timed_out}
-use Rattle.channel_model.specs.Giving.{connection_at, configuration_at, disconnection_at, on_held, command_of, features_command}
-use Rattle.channel_model.proofs.Lookups.{own_of, Distinct, eqb-away, found-has, not_found}
-use Rattle.channel_model.proofs.Walking.{found-own}
+use Rattle.shelf_model.specs.l2cap_signal.specs.Commands.{Command}
+use Rattle.push_laws.specs.link_talk.specs.Sayings.{Saying}
+use Rattle.channel_laws.specs.channel_model.specs.declared.errand.Errand.{Errand}
+use Rattle.channel_laws.specs.channel_model.specs.declared.errand.Errand.TheVariants as errands
+use Rattle.channel_laws.specs.channel_model.specs.Value.{Request, Queued, Answer, Ask, Setup, Stage, Leaving, Held, Channels}
+use Rattle.channel_laws.specs.channel_model.specs.Changing.{has_own, held_at, is_copy, is_about, queued}
+use Rattle.channel_laws.specs.channel_model.specs.Timing.{times_stage, times_held, times_end_at, times_end, loses_features, times_features, times_channels, timed_out}
+use Rattle.channel_laws.specs.channel_model.specs.Giving.{connection_at, configuration_at, disconnection_at, on_held, command_of, features_command}
+use Rattle.channel_laws.specs.channel_model.proofs.Lookups.{own_of, Distinct, eqb-away, found-has, not_found}
+use Rattle.channel_laws.specs.channel_model.proofs.Walking.{found-own}
 use Rattle.channel_laws.specs.OwnTalk.{spoken, said_of}
 use Rattle.channel_laws.specs.Runs.{features_given_up, said_again, said_on_firing, said_by_channel, fired_channel, said_by_features, said_by_channels, run_of}
 use Rattle.channel_laws.proofs.Running.{all-sound}

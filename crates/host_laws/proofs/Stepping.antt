@@ -1,12 +1,12 @@
 -- Clients ask of their channels what they do with a step, and servers send what they lend.
 use Rattle.std.proofs.Common.{◌≡◌, ℕ, Option, Some, None, refl, ◌∙◌}
-use Rattle.bt_base.specs.declared.settings.Settings.{Settings}
-use Rattle.channel_model.specs.Value.{Channels}
-use Rattle.push_model.specs.Payloads.{Payload}
-use Rattle.push_model.specs.Steps.{Step, Wait, MakeLink, AskFeatures, OpenChannel, SendSdu, CloseChannel, BreakLink, Ended, NoMemory, steps}
-use Rattle.host_model.specs.Endpoints.{endpoint_of}
-use Rattle.host_model.specs.Clients.{ClientProfile, fitted}
-use Rattle.host_model.specs.Shelves.{unused}
+use Rattle.shelf_model.specs.bt_base.specs.declared.settings.Settings.{Settings}
+use Rattle.channel_laws.specs.channel_model.specs.Value.{Channels}
+use Rattle.push_laws.specs.push_model.specs.Payloads.{Payload}
+use Rattle.push_laws.specs.push_model.specs.Steps.{Step, Wait, MakeLink, AskFeatures, OpenChannel, SendSdu, CloseChannel, BreakLink, Ended, NoMemory, steps}
+use Rattle.shelf_model.specs.host_model.specs.Endpoints.{endpoint_of}
+use Rattle.shelf_model.specs.host_model.specs.Clients.{ClientProfile, fitted}
+use Rattle.shelf_model.specs.host_model.specs.Shelves.{unused}
 use Rattle.host_laws.specs.Searching.{sent_call, closed_call, step_call, AsksAsItSteps, HostsAskAsTheyStep}
 use Rattle.host_laws.proofs.Asking.{sends_on, closes_on, asked, hosts_ask, hosts-call}
 use Rattle.host_laws.proofs.Keeping.{servers_lend}

@@ -2,8 +2,8 @@
 use Rattle.std.proofs.Common.{◌≡◌, List}
 use Rattle.std.specs.List.{AllByRecursion, filter_map}
 use Rattle.channel_laws.specs.Runs.{Occurrence}
-use Rattle.host_model.specs.Profiles.{Profile}
-use Rattle.host_model.specs.Hosts.{Host}
+use Rattle.shelf_model.specs.host_model.specs.Profiles.{Profile}
+use Rattle.shelf_model.specs.host_model.specs.Hosts.{Host}
 use Rattle.host_laws.specs.Calls.{Asks, values_after, asked, outer}
 use Rattle.host_laws.specs.Seen.{IsCalm}
 use Rattle.host_laws.specs.Feeds.{Feed, all_fed, asked_from, tidings_of, tidings_from}

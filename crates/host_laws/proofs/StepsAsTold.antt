@@ -1,39 +1,39 @@
 -- A client takes a step: what it knows on its link stays so.
 use Rattle.std.proofs.Common.{◌≡◌, ℕ, ◌-◌, ◌≤◌, List, [], ◌∷◌, ◌++◌, fold, Bool, true, false, cond, eqb, Option, Some, None, refl, sym, ap, subst, ◌∙◌, ◌⊎◌, inl, inr, append-nil, arith}
 use Rattle.std.specs.Prelude.{find}
-use Rattle.bt_base.specs.declared.settings.Settings.{Settings}
-use Rattle.push_terms.specs.declared.outcome.Outcome.{Outcome}
-use Rattle.link_talk.specs.declared.channel.Channel.{Channel}
-use Rattle.link_talk.specs.declared.party.Party.{Party}
-use Rattle.link_talk.specs.Sayings.{Saying}
-use Rattle.sdp_client.specs.Asking.{is_due, request_octets, after_request}
-use Rattle.talk_laws.specs.LinkAnswers.{unfinished_after, unfinished_of}
-use Rattle.channel_model.specs.declared.errand.Errand.TheVariants.{Connection}
-use Rattle.channel_model.specs.Asking.{new_request, asks as asks_for}
-use Rattle.channel_model.specs.Calls.{can_connect, connected, sends}
-use Rattle.channel_model.specs.Following.{with_channel}
-use Rattle.channel_model.specs.Policies.{Policy, policy}
-use Rattle.channel_model.specs.Value.{Requested, Held, Channels}
+use Rattle.shelf_model.specs.bt_base.specs.declared.settings.Settings.{Settings}
+use Rattle.shelf_model.specs.push_terms.specs.declared.outcome.Outcome.{Outcome}
+use Rattle.push_laws.specs.link_talk.specs.declared.channel.Channel.{Channel}
+use Rattle.push_laws.specs.link_talk.specs.declared.party.Party.{Party}
+use Rattle.push_laws.specs.link_talk.specs.Sayings.{Saying}
+use Rattle.shelf_model.specs.sdp_client.specs.Asking.{is_due, request_octets, after_request}
+use Rattle.channel_laws.specs.talk_laws.specs.LinkAnswers.{unfinished_after, unfinished_of}
+use Rattle.channel_laws.specs.channel_model.specs.declared.errand.Errand.TheVariants.{Connection}
+use Rattle.channel_laws.specs.channel_model.specs.Asking.{new_request, asks as asks_for}
+use Rattle.channel_laws.specs.channel_model.specs.Calls.{can_connect, connected, sends}
+use Rattle.channel_laws.specs.channel_model.specs.Following.{with_channel}
+use Rattle.channel_laws.specs.channel_model.specs.Policies.{Policy, policy}
+use Rattle.channel_laws.specs.channel_model.specs.Value.{Requested, Held, Channels}
 use Rattle.channel_laws.specs.Frames.{IsUttered}
 use Rattle.channel_laws.specs.Runs.{Occurrence, Connects, Sends, said_in, Run, run_on, run_of}
 use Rattle.channel_laws.specs.Taken.{taken_in}
 use Rattle.channel_laws.proofs.Exchanged.{spoken_on, unread-silent, occurs_spoken}
 use Rattle.channel_laws.proofs.Running.{all-sound}
-use Rattle.push_model.specs.declared.course.Point.TheVariants.{Due, Asked}
-use Rattle.push_model.specs.declared.course.Stage.{Stage}
-use Rattle.push_model.specs.declared.course.Stage.TheVariants.{Rest, Link, SearchChannel, Search, SearchEnd, Features, ObjectChannel, Object, ObjectEnd, LinkEnd, Over}
-use Rattle.push_model.specs.Client.{Client}
-use Rattle.push_model.specs.Events.{is_asking_features}
-use Rattle.push_model.specs.Laws.{Asks as AsksStep, Finishes, done}
-use Rattle.push_model.specs.Payloads.{Payload, Octets}
-use Rattle.push_model.specs.Steps as course
-use Rattle.push_model.specs.Steps.{Part, Step, Wait, MakeLink, AskFeatures, OpenChannel, SendSdu, CloseChannel, BreakLink, Ended, NoMemory, Stepped, steps}
-use Rattle.host_model.specs.Clients as clients
-use Rattle.host_model.specs.Clients.{ClientProfile, client_profile, submits, takes, fitted}
-use Rattle.host_model.specs.Endpoints.{endpoint_of, takes_sdu}
-use Rattle.host_model.specs.Pdus.{sdu_of}
-use Rattle.host_model.specs.Profiles.{Stride}
-use Rattle.host_model.specs.Shelves.{unused}
+use Rattle.push_laws.specs.push_model.specs.declared.course.Point.TheVariants.{Due, Asked}
+use Rattle.push_laws.specs.push_model.specs.declared.course.Stage.{Stage}
+use Rattle.push_laws.specs.push_model.specs.declared.course.Stage.TheVariants.{Rest, Link, SearchChannel, Search, SearchEnd, Features, ObjectChannel, Object, ObjectEnd, LinkEnd, Over}
+use Rattle.push_laws.specs.push_model.specs.Client.{Client}
+use Rattle.push_laws.specs.push_model.specs.Events.{is_asking_features}
+use Rattle.push_laws.specs.push_model.specs.Laws.{Asks as AsksStep, Finishes, done}
+use Rattle.push_laws.specs.push_model.specs.Payloads.{Payload, Octets}
+use Rattle.push_laws.specs.push_model.specs.Steps as course
+use Rattle.push_laws.specs.push_model.specs.Steps.{Part, Step, Wait, MakeLink, AskFeatures, OpenChannel, SendSdu, CloseChannel, BreakLink, Ended, NoMemory, Stepped, steps}
+use Rattle.shelf_model.specs.host_model.specs.Clients as clients
+use Rattle.shelf_model.specs.host_model.specs.Clients.{ClientProfile, client_profile, submits, takes, fitted}
+use Rattle.shelf_model.specs.host_model.specs.Endpoints.{endpoint_of, takes_sdu}
+use Rattle.shelf_model.specs.host_model.specs.Pdus.{sdu_of}
+use Rattle.shelf_model.specs.host_model.specs.Profiles.{Stride}
+use Rattle.shelf_model.specs.host_model.specs.Shelves.{unused}
 use Rattle.host_laws.specs.Calls.{Call, Connect, AskFeatures as AskThem, Disconnect, Send, Asks, from_call, values_after}
 use Rattle.host_laws.specs.Leaving.{in_use, is_off}
 use Rattle.host_laws.specs.Searching.{sent_call, step_call, AsksAsItSteps}

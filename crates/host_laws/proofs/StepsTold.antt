@@ -3,29 +3,29 @@ use Rattle.std.proofs.Common.{◌≡◌, ℕ, ◌*◌, ◌-◌, Bool, true, fals
 use Rattle.std.specs.Prelude.{IfSome, is_some, nat_lt, option_map}
 use Rattle.std.specs.List.{AllByRecursion}
 use Rattle.std.proofs.lemmas.Bool.{eqb-true, eq-eqb}
-use Rattle.bt_base.specs.declared.settings.Transport.{Transport}
-use Rattle.bt_base.specs.declared.settings.Transport.TheVariants.{L2cap, Rfcomm}
-use Rattle.push_terms.specs.declared.outcome.Outcome.{Outcome}
-use Rattle.rfcomm_frames.specs.declared.refusal.MuxRefusal.TheVariants.{Short, BadExtension}
-use Rattle.rfcomm_frames.specs.Answers.{Answer}
-use Rattle.rfcomm_frames.specs.FrameReading.{frame_answer}
-use Rattle.rfcomm_frames.specs.Frames.{PlainFrame}
-use Rattle.sdp_elements.specs.declared.target.Target.{Target}
-use Rattle.sdp_elements.specs.Targets.{is_service_psm, is_server_channel}
-use Rattle.sdp_client.specs.Asking.{Asking, is_due, after_request, request_octets}
-use Rattle.link_talk.specs.declared.party.Party.{Party}
-use Rattle.link_talk.specs.Sayings.{Saying}
-use Rattle.push_model.specs.declared.course.Point.TheVariants.{Due, Asked}
-use Rattle.push_model.specs.declared.course.Stage.{Stage}
-use Rattle.push_model.specs.declared.course.Stage.TheVariants.{Rest, Link, SearchChannel, Search, SearchEnd, Features, ObjectChannel, Object, ObjectEnd, LinkEnd, Over}
-use Rattle.push_model.specs.Client.{Client}
-use Rattle.push_model.specs.Events.{kept_of, rfcomm_psm}
-use Rattle.push_model.specs.Payloads.{Payload, Octets, Framed}
-use Rattle.push_model.specs.Shown.{way_of}
-use Rattle.push_model.specs.Steps.{Part, Step, Wait, MakeLink, AskFeatures, OpenChannel, SendSdu, CloseChannel, BreakLink, Ended, NoMemory, Stepped, sends_sdu, rests, tells_end, steps, steps_at, steps_object}
+use Rattle.shelf_model.specs.bt_base.specs.declared.settings.Transport.{Transport}
+use Rattle.shelf_model.specs.bt_base.specs.declared.settings.Transport.TheVariants.{L2cap, Rfcomm}
+use Rattle.shelf_model.specs.push_terms.specs.declared.outcome.Outcome.{Outcome}
+use Rattle.shelf_model.specs.rfcomm_frames.specs.declared.refusal.MuxRefusal.TheVariants.{Short, BadExtension}
+use Rattle.shelf_model.specs.rfcomm_frames.specs.Answers.{Answer}
+use Rattle.shelf_model.specs.rfcomm_frames.specs.FrameReading.{frame_answer}
+use Rattle.shelf_model.specs.rfcomm_frames.specs.Frames.{PlainFrame}
+use Rattle.shelf_model.specs.sdp_elements.specs.declared.target.Target.{Target}
+use Rattle.shelf_model.specs.sdp_elements.specs.Targets.{is_service_psm, is_server_channel}
+use Rattle.shelf_model.specs.sdp_client.specs.Asking.{Asking, is_due, after_request, request_octets}
+use Rattle.push_laws.specs.link_talk.specs.declared.party.Party.{Party}
+use Rattle.push_laws.specs.link_talk.specs.Sayings.{Saying}
+use Rattle.push_laws.specs.push_model.specs.declared.course.Point.TheVariants.{Due, Asked}
+use Rattle.push_laws.specs.push_model.specs.declared.course.Stage.{Stage}
+use Rattle.push_laws.specs.push_model.specs.declared.course.Stage.TheVariants.{Rest, Link, SearchChannel, Search, SearchEnd, Features, ObjectChannel, Object, ObjectEnd, LinkEnd, Over}
+use Rattle.push_laws.specs.push_model.specs.Client.{Client}
+use Rattle.push_laws.specs.push_model.specs.Events.{kept_of, rfcomm_psm}
+use Rattle.push_laws.specs.push_model.specs.Payloads.{Payload, Octets, Framed}
+use Rattle.push_laws.specs.push_model.specs.Shown.{way_of}
+use Rattle.push_laws.specs.push_model.specs.Steps.{Part, Step, Wait, MakeLink, AskFeatures, OpenChannel, SendSdu, CloseChannel, BreakLink, Ended, NoMemory, Stepped, sends_sdu, rests, tells_end, steps, steps_at, steps_object}
 use Rattle.push_laws.proofs.Late.{anchor_of}
 use Rattle.push_laws.proofs.Opening.{course_of, psm_over, Names, At}
-use Rattle.host_model.specs.Pdus.{sdu_of, mux_octets}
+use Rattle.shelf_model.specs.host_model.specs.Pdus.{sdu_of, mux_octets}
 use Rattle.host_laws.specs.Seen.{spoken_of}
 use Rattle.host_laws.specs.Services.{targets_told, is_number, tells_psm, tells_channel, dlci_of, tells_dlci, frame_read, asks_as_told, answers_peer, goes_as_told}
 use Rattle.host_laws.proofs.FramesSent.{PayloadIs, StepIs, IsOver, object_sends}

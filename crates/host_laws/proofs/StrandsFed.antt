@@ -1,16 +1,16 @@
 -- What a profile goes through on its links, strand by strand.
 use Rattle.std.proofs.Common.{◌≡◌, List, [], ◌∷◌, refl, sym, ap, ◌∙◌}
 use Rattle.std.proofs.lemmas.List.Sums.{fold-append}
-use Rattle.acl_fragments.specs.Pieces.{channel_of}
-use Rattle.channel_model.specs.declared.event.ChannelEvent.{ChannelEvent}
-use Rattle.channel_model.specs.Carrying.{Up as Handed, Nothing, Received}
-use Rattle.channel_model.specs.Calls.{link_down}
-use Rattle.channel_model.specs.Hearing.{up}
-use Rattle.channel_model.specs.Value.{Channels, no_channels}
-use Rattle.world_model.specs.Machines.{LinkEvent, Up, Down, Linked}
-use Rattle.host_model.specs.Circumstances.{Circumstance}
-use Rattle.host_model.specs.Hosts.{handed}
-use Rattle.host_model.specs.Profiles.{Profile}
+use Rattle.shelf_model.specs.acl_fragments.specs.Pieces.{channel_of}
+use Rattle.channel_laws.specs.channel_model.specs.declared.event.ChannelEvent.{ChannelEvent}
+use Rattle.channel_laws.specs.channel_model.specs.Carrying.{Up as Handed, Nothing, Received}
+use Rattle.channel_laws.specs.channel_model.specs.Calls.{link_down}
+use Rattle.channel_laws.specs.channel_model.specs.Hearing.{up}
+use Rattle.channel_laws.specs.channel_model.specs.Value.{Channels, no_channels}
+use Rattle.shelf_model.specs.world_model.specs.Machines.{LinkEvent, Up, Down, Linked}
+use Rattle.shelf_model.specs.host_model.specs.Circumstances.{Circumstance}
+use Rattle.shelf_model.specs.host_model.specs.Hosts.{handed}
+use Rattle.shelf_model.specs.host_model.specs.Profiles.{Profile}
 use Rattle.host_laws.specs.Calls.{Asks as Asking, values_after}
 use Rattle.host_laws.specs.Fed.{feeds_up, next_happening, strand_feeds, woven_feeds, happenings, turned_feeds, FedSpan, span_feeds, behind_span}
 use Rattle.host_laws.specs.Feeds.{Learns, fed, all_fed}

@@ -1,28 +1,28 @@
 -- A client takes a step: it asks its channels for what it will, and stands with them as before, or is to be told the end of its channel.
 use Rattle.std.proofs.Common.{◌≡◌, ℕ, List, [], ◌∷◌, ◌++◌, Bool, true, false, cond, Option, Some, None, refl, sym, ap, ◌∙◌, ◌⊎◌, inl, inr}
 use Rattle.std.specs.Prelude.{find, is_some}
-use Rattle.channel_model.specs.declared.errand.Errand.TheVariants as errands
-use Rattle.channel_model.specs.declared.event.ChannelEvent.{ChannelEvent}
-use Rattle.channel_model.specs.declared.event.ChannelEvent.TheVariants.{Closed}
-use Rattle.channel_model.specs.declared.event.CloseReason.TheVariants.{OwnClosed}
-use Rattle.channel_model.specs.Value.{Setup, Stage, Requested, Connected, Leaving, Closing, Crossed, Held, Channels}
-use Rattle.channel_model.specs.Changing.{has_own, held_at, setup_of}
-use Rattle.channel_model.specs.Asking.{new_request, asks}
-use Rattle.channel_model.specs.Closing.{closes_at}
-use Rattle.channel_model.specs.Following.{with_channel}
-use Rattle.channel_model.specs.Calls.{can_connect, connected, asks_features, disconnected_at, disconnected_held, sends_on, sends_held, sends}
-use Rattle.channel_model.proofs.Walking.{found-own, append_none}
-use Rattle.push_model.specs.declared.course.Stage.TheVariants as stages
-use Rattle.push_model.specs.declared.course.Stage.{Stage as Course}
-use Rattle.push_model.specs.Client.{Client}
-use Rattle.push_model.specs.Events.{is_asking_features}
-use Rattle.push_model.specs.Payloads.{Payload}
-use Rattle.push_model.specs.Steps.{Step, Wait, MakeLink, AskFeatures, OpenChannel, SendSdu, CloseChannel, BreakLink, Ended, NoMemory}
-use Rattle.host_model.specs.Endpoints.{endpoint_of, takes_sdu}
-use Rattle.host_model.specs.Pdus.{sdu_of}
-use Rattle.host_model.specs.Profiles.{Stride}
-use Rattle.host_model.specs.Clients as clients
-use Rattle.host_model.specs.Clients.{ClientProfile, submits, closes, takes}
+use Rattle.channel_laws.specs.channel_model.specs.declared.errand.Errand.TheVariants as errands
+use Rattle.channel_laws.specs.channel_model.specs.declared.event.ChannelEvent.{ChannelEvent}
+use Rattle.channel_laws.specs.channel_model.specs.declared.event.ChannelEvent.TheVariants.{Closed}
+use Rattle.channel_laws.specs.channel_model.specs.declared.event.CloseReason.TheVariants.{OwnClosed}
+use Rattle.channel_laws.specs.channel_model.specs.Value.{Setup, Stage, Requested, Connected, Leaving, Closing, Crossed, Held, Channels}
+use Rattle.channel_laws.specs.channel_model.specs.Changing.{has_own, held_at, setup_of}
+use Rattle.channel_laws.specs.channel_model.specs.Asking.{new_request, asks}
+use Rattle.channel_laws.specs.channel_model.specs.Closing.{closes_at}
+use Rattle.channel_laws.specs.channel_model.specs.Following.{with_channel}
+use Rattle.channel_laws.specs.channel_model.specs.Calls.{can_connect, connected, asks_features, disconnected_at, disconnected_held, sends_on, sends_held, sends}
+use Rattle.channel_laws.specs.channel_model.proofs.Walking.{found-own, append_none}
+use Rattle.push_laws.specs.push_model.specs.declared.course.Stage.TheVariants as stages
+use Rattle.push_laws.specs.push_model.specs.declared.course.Stage.{Stage as Course}
+use Rattle.push_laws.specs.push_model.specs.Client.{Client}
+use Rattle.push_laws.specs.push_model.specs.Events.{is_asking_features}
+use Rattle.push_laws.specs.push_model.specs.Payloads.{Payload}
+use Rattle.push_laws.specs.push_model.specs.Steps.{Step, Wait, MakeLink, AskFeatures, OpenChannel, SendSdu, CloseChannel, BreakLink, Ended, NoMemory}
+use Rattle.shelf_model.specs.host_model.specs.Endpoints.{endpoint_of, takes_sdu}
+use Rattle.shelf_model.specs.host_model.specs.Pdus.{sdu_of}
+use Rattle.shelf_model.specs.host_model.specs.Profiles.{Stride}
+use Rattle.shelf_model.specs.host_model.specs.Clients as clients
+use Rattle.shelf_model.specs.host_model.specs.Clients.{ClientProfile, submits, closes, takes}
 use Rattle.host_laws.specs.Leaving.{is_off, in_use, is_closing}
 use Rattle.host_laws.proofs.Changes.{kind, Fine, sends-fine}
 use Rattle.host_laws.proofs.Courses.{StepSo}

@@ -3,17 +3,17 @@ use Rattle.std.proofs.Common.{◌≡◌, List, [], ◌∷◌, ◌++◌, map, Non
 use Rattle.std.specs.List.{AllByRecursion, flat_map}
 use Rattle.std.proofs.lemmas.List.Concat.{flat_map-append}
 use Rattle.std.proofs.lemmas.List.Elements.{filter_map-append}
-use Rattle.capture.specs.Pdus.{Pdu}
-use Rattle.link_talk.specs.Sayings.{said_by}
-use Rattle.channel_model.specs.Value.{Channels, no_channels}
+use Rattle.shelf_model.specs.capture.specs.Pdus.{Pdu}
+use Rattle.push_laws.specs.link_talk.specs.Sayings.{said_by}
+use Rattle.channel_laws.specs.channel_model.specs.Value.{Channels, no_channels}
 use Rattle.channel_laws.specs.Frames.{AreUttered}
 use Rattle.channel_laws.specs.Runs.{Occurrence, new_link, run_of}
-use Rattle.world_model.specs.Machines.{Up, News, Linked, Failed, Heard, TimerFired, Cancelled, Opening}
-use Rattle.world_model.specs.Talks.{Talk, Told, Said, Unsent, Met, Done}
-use Rattle.host_model.specs.Circumstances.{Circumstance}
-use Rattle.host_model.specs.Profiles.{Profile}
-use Rattle.host_model.specs.Hosts.{Host, most_steps, driven, ready, hears_news, hear, next}
-use Rattle.host_model.specs.Machines.{upper}
+use Rattle.shelf_model.specs.world_model.specs.Machines.{Up, News, Linked, Failed, Heard, TimerFired, Cancelled, Opening}
+use Rattle.shelf_model.specs.world_model.specs.Talks.{Talk, Told, Said, Unsent, Met, Done}
+use Rattle.shelf_model.specs.host_model.specs.Circumstances.{Circumstance}
+use Rattle.shelf_model.specs.host_model.specs.Profiles.{Profile}
+use Rattle.shelf_model.specs.host_model.specs.Hosts.{Host, most_steps, driven, ready, hears_news, hear, next}
+use Rattle.shelf_model.specs.host_model.specs.Machines.{upper}
 use Rattle.host_laws.specs.Acts.{Act, Hears, Says, Acting, from_news, from_act, from_acts}
 use Rattle.host_laws.specs.Asked.{BeginsNone, ActsOfLink}
 use Rattle.host_laws.specs.Calls.{Asks, values_after, outer}

@@ -1,10 +1,10 @@
 -- What channels tell their host is what a profile is told.
 use Rattle.std.proofs.Common.{◌≡◌, ℕ, List, [], ◌∷◌, ◌++◌, map, fold, filter_map, Bool, cond, eqb, Option, Some, None, refl, sym, ap, ap₂, ◌∙◌, append_assoc, append-nil}
 use Rattle.std.proofs.lemmas.List.Elements.{filter_map-append}
-use Rattle.channel_model.specs.declared.event.ChannelEvent.{ChannelEvent}
-use Rattle.channel_model.specs.Value.{Channels, no_channels}
-use Rattle.channel_model.specs.Policies.{Policy}
-use Rattle.channel_model.specs.Carrying.{Up, Nothing, Received}
+use Rattle.channel_laws.specs.channel_model.specs.declared.event.ChannelEvent.{ChannelEvent}
+use Rattle.channel_laws.specs.channel_model.specs.Value.{Channels, no_channels}
+use Rattle.channel_laws.specs.channel_model.specs.Policies.{Policy}
+use Rattle.channel_laws.specs.channel_model.specs.Carrying.{Up, Nothing, Received}
 use Rattle.channel_laws.specs.Runs.{Occurrence, Run, new_link, run_on, run_of, value_after, told_in, up_with, sdu_up, sdus_up}
 use Rattle.host_laws.specs.Feeds.{Tells, brought_by, tidings_with, tidings_from}
 use Rattle.host_laws.specs.Told.{event_told, events_told, sdu_told, sdus_told}

@@ -4,16 +4,16 @@ use Rattle.std.specs.List.{AllByRecursion, flat_map}
 use Rattle.std.proofs.lemmas.List.Concat.{flat_map-append}
 use Rattle.std.proofs.lemmas.List.{map-append}
 use Rattle.std.proofs.lemmas.List.Sums.{fold-append}
-use Rattle.push_terms.specs.declared.word.Side.TheVariants.{A, B}
-use Rattle.push_terms.specs.declared.word.Way.TheVariants.{Ab, Ba}
-use Rattle.radio_air.specs.declared.deed.Deed as air
-use Rattle.radio_air.specs.declared.deed.Deed.TheVariants.{Nothing, Meets, Fires, FiresBoth, Breaks, Cancels}
-use Rattle.radio_air.specs.declared.fate.Fate.{Fate}
-use Rattle.radio_air.specs.Fates.{meets, comes_of}
-use Rattle.world_model.specs.Machines.{Up, Down, News, Linked, Failed, Heard, TimerFired, Cancelled, Opening, Upper, said_next, drain, all_said, Breath, Whole, Short, Reaction}
-use Rattle.world_model.specs.Talks.{Talk, Told, Said, Unsent, Met, Done}
-use Rattle.world_model.specs.Turns.{Party, Pair, speaks_on, notes, hears, receives, event_heard, with_queue, with_talk, first_party, Step, Turn, Idle, Rise, Fall, Began, Ended, Hands, Acts, found, Moves, Passes, first_pair}
-use Rattle.turn_laws.proofs.Advancing.{breaks_linked}
+use Rattle.shelf_model.specs.push_terms.specs.declared.word.Side.TheVariants.{A, B}
+use Rattle.shelf_model.specs.push_terms.specs.declared.word.Way.TheVariants.{Ab, Ba}
+use Rattle.shelf_model.specs.radio_air.specs.declared.deed.Deed as air
+use Rattle.shelf_model.specs.radio_air.specs.declared.deed.Deed.TheVariants.{Nothing, Meets, Fires, FiresBoth, Breaks, Cancels}
+use Rattle.shelf_model.specs.radio_air.specs.declared.fate.Fate.{Fate}
+use Rattle.shelf_model.specs.radio_air.specs.Fates.{meets, comes_of}
+use Rattle.shelf_model.specs.world_model.specs.Machines.{Up, Down, News, Linked, Failed, Heard, TimerFired, Cancelled, Opening, Upper, said_next, drain, all_said, Breath, Whole, Short, Reaction}
+use Rattle.shelf_model.specs.world_model.specs.Talks.{Talk, Told, Said, Unsent, Met, Done}
+use Rattle.shelf_model.specs.world_model.specs.Turns.{Party, Pair, speaks_on, notes, hears, receives, event_heard, with_queue, with_talk, first_party, Step, Turn, Idle, Rise, Fall, Began, Ended, Hands, Acts, found, Moves, Passes, first_pair}
+use Rattle.shelf_model.specs.turn_laws.proofs.Advancing.{breaks_linked}
 use Rattle.host_laws.specs.Acts.{Act, Hears, Says, Does, Acting, StaysOnLink}
 use Rattle.host_laws.specs.OverLinks.{is_up_behind, IsTimely, AreInTurn, OverLinks, AllLinksAreActs}
 use Rattle.host_laws.specs.Turning.{Deed, Spoke, deed_of, deeds_in, Behaves, IsHeardInQuiet, AreInQuiet, OnLink, TurnsAreActs, LinksAreActs}

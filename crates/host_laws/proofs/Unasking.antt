@@ -4,53 +4,53 @@ use Rattle.std.proofs.Common.{◌≡◌, ℕ, zero, suc, Bool, true, false, cond
 use Rattle.std.specs.Prelude.{not, slice_index, nat_le, drop, ◌-◌, ◌≤◌}
 use Rattle.std.specs.List.{AllByRecursion, filter_map, flat_map}
 use Rattle.std.proofs.lemmas.Bool.{cond_both, eqb-true}
-use Rattle.bt_base.specs.declared.settings.Serves.{Serves}
-use Rattle.bt_base.specs.declared.settings.Settings.{Settings}
-use Rattle.bt_base.specs.declared.settings.Transport.{Transport}
-use Rattle.bt_base.specs.declared.settings.Transport.TheVariants.{L2cap, Rfcomm}
-use Rattle.bt_base.specs.Objects.{Contents}
-use Rattle.link_talk.specs.ServiceAnswers.{transaction_of}
+use Rattle.shelf_model.specs.bt_base.specs.declared.settings.Serves.{Serves}
+use Rattle.shelf_model.specs.bt_base.specs.declared.settings.Settings.{Settings}
+use Rattle.shelf_model.specs.bt_base.specs.declared.settings.Transport.{Transport}
+use Rattle.shelf_model.specs.bt_base.specs.declared.settings.Transport.TheVariants.{L2cap, Rfcomm}
+use Rattle.shelf_model.specs.bt_base.specs.Objects.{Contents}
+use Rattle.push_laws.specs.link_talk.specs.ServiceAnswers.{transaction_of}
 use Rattle.byteorder.specs.Endian.{big_number}
-use Rattle.obex_session.proofs.GrantedLaws.{said_few}
-use Rattle.obex_session.specs.Serving.{Turn, heard_with}
-use Rattle.obex_session.specs.Views.{octets_said}
-use Rattle.channel_model.proofs.Lookups.{and_off}
-use Rattle.rfcomm_frames.specs.FrameReading.{is_empty}
-use Rattle.rfcomm_frames.specs.Frames.{PlainFrame, bit, address_of}
-use Rattle.rfcomm_model.specs.Machine.{is_ready, leaves}
-use Rattle.rfcomm_model.specs.Hearing as hearing
-use Rattle.rfcomm_model.specs.Hearing.{Up, nothing, opened, bytes, closed, up}
-use Rattle.rfcomm_model.specs.Saying.{Said, next}
-use Rattle.sdp_elements.specs.Answers.{Question, Handles, Attributes, Search, answer}
-use Rattle.sdp_elements.specs.Pdus.{PlainPdu, pdu_in, states_length}
-use Rattle.sdp_elements.specs.Records.{record_handle}
-use Rattle.sdp_elements.specs.Exchange.{pdu_octets, part_reply, offset_in}
-use Rattle.sdp_server.specs.declared.fault.ErrorCode.{ErrorCode}
-use Rattle.sdp_server.specs.declared.fault.ErrorCode.TheVariants.{InvalidHandle, InvalidSyntax, InvalidSize, InvalidContinuation}
-use Rattle.sdp_server.specs.Requests.{Request, request_in}
-use Rattle.sdp_server.specs.Replies as replies
-use Rattle.sdp_server.specs.Replies.{part_from, handles_parameters, handles_reply, replied, answered, responded, with_error, reply_to}
-use Rattle.push_model.specs.declared.outlet.Outlet.{Outlet}
-use Rattle.push_model.specs.declared.outlet.Outlet.TheVariants.{Records, Direct, Muxed}
-use Rattle.push_model.specs.Payloads.{Octets, Framed}
-use Rattle.push_model.specs.Sessions as model
-use Rattle.push_model.specs.Sessions.{Sessions, Gift, session_of, other_of, lets_go, answers_to, is_naming, hears}
-use Rattle.push_model.specs.Service.{Service, Served, response_over, is_ignored, hears_packet}
-use Rattle.push_model.specs.Streams.{Front, Whole, Partial, Broken, front_of}
-use Rattle.push_model.specs.Listening.{Listener, Heeded, Received, stops, heeds_carried, hears_front, hears_stream}
-use Rattle.push_model.specs.Listening as listening
-use Rattle.push_model.specs.Server.{Server, Reacted, Lent, hears_up, hears_search, hears_on, filled, said_on, breaks_now, left_by, leaves_with, framed_by, framed, outlet_of, lends, lends_by, lent_by, frame_lent, taken_by, closed_on, lets_go_on, lets_go_twice, remuxed, unreplied, unanswered}
+use Rattle.shelf_model.specs.obex_session.proofs.GrantedLaws.{said_few}
+use Rattle.shelf_model.specs.obex_session.specs.Serving.{Turn, heard_with}
+use Rattle.shelf_model.specs.obex_session.specs.Views.{octets_said}
+use Rattle.channel_laws.specs.channel_model.proofs.Lookups.{and_off}
+use Rattle.shelf_model.specs.rfcomm_frames.specs.FrameReading.{is_empty}
+use Rattle.shelf_model.specs.rfcomm_frames.specs.Frames.{PlainFrame, bit, address_of}
+use Rattle.shelf_model.specs.rfcomm_model.specs.Machine.{is_ready, leaves}
+use Rattle.shelf_model.specs.rfcomm_model.specs.Hearing as hearing
+use Rattle.shelf_model.specs.rfcomm_model.specs.Hearing.{Up, nothing, opened, bytes, closed, up}
+use Rattle.shelf_model.specs.rfcomm_model.specs.Saying.{Said, next}
+use Rattle.shelf_model.specs.sdp_elements.specs.Answers.{Question, Handles, Attributes, Search, answer}
+use Rattle.shelf_model.specs.sdp_elements.specs.Pdus.{PlainPdu, pdu_in, states_length}
+use Rattle.shelf_model.specs.sdp_elements.specs.Records.{record_handle}
+use Rattle.shelf_model.specs.sdp_elements.specs.Exchange.{pdu_octets, part_reply, offset_in}
+use Rattle.shelf_model.specs.sdp_server.specs.declared.fault.ErrorCode.{ErrorCode}
+use Rattle.shelf_model.specs.sdp_server.specs.declared.fault.ErrorCode.TheVariants.{InvalidHandle, InvalidSyntax, InvalidSize, InvalidContinuation}
+use Rattle.shelf_model.specs.sdp_server.specs.Requests.{Request, request_in}
+use Rattle.shelf_model.specs.sdp_server.specs.Replies as replies
+use Rattle.shelf_model.specs.sdp_server.specs.Replies.{part_from, handles_parameters, handles_reply, replied, answered, responded, with_error, reply_to}
+use Rattle.push_laws.specs.push_model.specs.declared.outlet.Outlet.{Outlet}
+use Rattle.push_laws.specs.push_model.specs.declared.outlet.Outlet.TheVariants.{Records, Direct, Muxed}
+use Rattle.push_laws.specs.push_model.specs.Payloads.{Octets, Framed}
+use Rattle.push_laws.specs.push_model.specs.Sessions as model
+use Rattle.push_laws.specs.push_model.specs.Sessions.{Sessions, Gift, session_of, other_of, lets_go, answers_to, is_naming, hears}
+use Rattle.push_laws.specs.push_model.specs.Service.{Service, Served, response_over, is_ignored, hears_packet}
+use Rattle.push_laws.specs.push_model.specs.Streams.{Front, Whole, Partial, Broken, front_of}
+use Rattle.push_laws.specs.push_model.specs.Listening.{Listener, Heeded, Received, stops, heeds_carried, hears_front, hears_stream}
+use Rattle.push_laws.specs.push_model.specs.Listening as listening
+use Rattle.push_laws.specs.push_model.specs.Server.{Server, Reacted, Lent, hears_up, hears_search, hears_on, filled, said_on, breaks_now, left_by, leaves_with, framed_by, framed, outlet_of, lends, lends_by, lent_by, frame_lent, taken_by, closed_on, lets_go_on, lets_go_twice, remuxed, unreplied, unanswered}
 use Rattle.push_laws.specs.Occurrences as push
 use Rattle.push_laws.specs.Occurrences.{Came, Went, Closed, LinkDown, Asked, Answering, done, all_done}
-use Rattle.channel_model.specs.Policies.{policy}
-use Rattle.channel_model.specs.Calls.{armed}
+use Rattle.channel_laws.specs.channel_model.specs.Policies.{policy}
+use Rattle.channel_laws.specs.channel_model.specs.Calls.{armed}
 use Rattle.channel_laws.specs.Armed.{services_wait}
 use Rattle.channel_laws.specs.Runs.{Occurrence, Comes, Connects, AsksFeatures, Disconnects, Sends, Gives, Fires, Tells, run_of}
 use Rattle.channel_laws.specs.Services.{AsksNoServices}
 use Rattle.channel_laws.proofs.Arming.{armed-is_what_waits}
 use Rattle.channel_laws.proofs.Services.{channels-alone_wait}
-use Rattle.host_model.specs.Pdus.{sdu_of}
-use Rattle.host_model.specs.Servers.{ServerProfile, server_profile}
+use Rattle.shelf_model.specs.host_model.specs.Pdus.{sdu_of}
+use Rattle.shelf_model.specs.host_model.specs.Servers.{ServerProfile, server_profile}
 use Rattle.host_laws.specs.Calls.{Call, Connect, AskFeatures, Disconnect, Send, Asks, from_call, asked}
 use Rattle.host_laws.specs.Feeds.{Feed, Gifts, Learns, Receives, Happens, Sent, Steps, fed, asked_with, asked_from}
 use Rattle.host_laws.specs.Keeping.{IsLent, SendsAsItLends, ServersAwaitNothing}

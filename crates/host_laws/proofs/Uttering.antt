@@ -1,10 +1,10 @@
 -- What a calm host says goes out as its octets.
 use Rattle.std.proofs.Common.{◌≡◌, ℕ, ◌^◌, ◌<◌, List, [], ◌∷◌, ◌++◌, Option, sym, subst}
 use Rattle.std.proofs.lemmas.List.Sums.{fold-append}
-use Rattle.capture.specs.Histories.{EachAfter}
-use Rattle.channel_model.specs.Value.{Channels, no_channels}
-use Rattle.channel_model.specs.Policies.{Policy}
-use Rattle.channel_model.specs.Giving.{Given, next_given}
+use Rattle.shelf_model.specs.capture.specs.Histories.{EachAfter}
+use Rattle.channel_laws.specs.channel_model.specs.Value.{Channels, no_channels}
+use Rattle.channel_laws.specs.channel_model.specs.Policies.{Policy}
+use Rattle.channel_laws.specs.channel_model.specs.Giving.{Given, next_given}
 use Rattle.channel_laws.specs.Fit.{IsSoberFor}
 use Rattle.channel_laws.specs.Frames.{IsSpelled, IsUttered, AreUttered}
 use Rattle.channel_laws.specs.Runs.{Occurrence, Comes, Connects, AsksFeatures, Disconnects, Sends, Gives, Fires, Tells, Run, new_link, run_on, run_of}

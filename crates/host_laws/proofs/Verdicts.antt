@@ -4,33 +4,33 @@ use Rattle.std.specs.Prelude.{replicate, option_map, nat_lt, slice_get, ◌%◌}
 use Rattle.std.specs.Option.{option_or}
 use Rattle.std.specs.List.{AllByRecursion, list_all}
 use Rattle.std.proofs.lemmas.Bool.{and_parts, ltb-true}
-use Rattle.bt_base.specs.Octets.{IsOctets, le16}
-use Rattle.h4_framing.proofs.OctetLists.{IsOctets-cons, IsOctets-nil}
-use Rattle.l2cap_signal.specs.Commands.{Content, Command, disconnection_response, information_response, rest_of, framed}
-use Rattle.l2cap_signal.specs.Reading.{Answer as Read, answers}
-use Rattle.l2cap_signal.specs.Grammar.{Judges, AreGiven, AreAnswers}
-use Rattle.l2cap_signal.specs.declared.refusal.SignalRefusal.{SignalRefusal}
-use Rattle.l2cap_signal.specs.declared.refusal.SignalRefusal.TheVariants.{ZeroIdentifier, BadLength, UnknownCode, AboveMtu}
-use Rattle.l2cap_signal.proofs.Payloads.{answers_right}
-use Rattle.l2cap_config.specs.declared.options.ModeOption.{ModeOption}
-use Rattle.l2cap_config.specs.declared.options.Options.{Options}
-use Rattle.l2cap_config.specs.declared.options.ConfigRefusal.{ConfigRefusal}
-use Rattle.l2cap_config.specs.declared.options.ConfigRefusal.TheVariants.{BadMtu, BadMode, BadWindow, BadMps}
-use Rattle.l2cap_config.specs.declared.agreement.ConfigAnswer.{ConfigAnswer}
-use Rattle.l2cap_config.specs.declared.agreement.ConfigAnswer.TheVariants.{Accept, Unacceptable, Unknown}
-use Rattle.l2cap_config.specs.declared.wish.Mode.{Mode}
-use Rattle.l2cap_config.specs.declared.wish.Mode.TheVariants.{Basic, Enhanced}
-use Rattle.l2cap_config.specs.declared.wish.Wish.{Wish}
-use Rattle.l2cap_config.specs.Types.{kind_of, is_unknown}
-use Rattle.l2cap_config.specs.Items.{Item, IsItem, last_of, mode_in, no_options, joined}
-use Rattle.l2cap_config.specs.Agreement.{asked_mode, asked_mtu, mode_number, own_mode, only_mode, only_mtu, answered_mode, answered_values, answered}
-use Rattle.l2cap_config.specs.Reading.{items_of, stated, options_read}
-use Rattle.l2cap_config.specs.Writing.{written}
-use Rattle.l2cap_config.proofs.ItemLists.{items_take}
-use Rattle.channel_model.specs.Value.{Setup, Stage, Requested, Connected, Leaving, Closing, Crossed, Held}
-use Rattle.channel_model.specs.Changing.{is_open}
-use Rattle.channel_model.specs.Configuring.{Verdict, NoChannel, TooLate, Unreadable, Incomplete, Judged, judged_part, judged_read, judged_setup}
-use Rattle.channel_model.specs.Answers.{no_such_channel, judged_answer, configuration_answer, disconnection_by, disconnection_answer, information_answer}
+use Rattle.shelf_model.specs.bt_base.specs.Octets.{IsOctets, le16}
+use Rattle.shelf_model.specs.h4_framing.proofs.OctetLists.{IsOctets-cons, IsOctets-nil}
+use Rattle.shelf_model.specs.l2cap_signal.specs.Commands.{Content, Command, disconnection_response, information_response, rest_of, framed}
+use Rattle.shelf_model.specs.l2cap_signal.specs.Reading.{Answer as Read, answers}
+use Rattle.shelf_model.specs.l2cap_signal.specs.Grammar.{Judges, AreGiven, AreAnswers}
+use Rattle.shelf_model.specs.l2cap_signal.specs.declared.refusal.SignalRefusal.{SignalRefusal}
+use Rattle.shelf_model.specs.l2cap_signal.specs.declared.refusal.SignalRefusal.TheVariants.{ZeroIdentifier, BadLength, UnknownCode, AboveMtu}
+use Rattle.shelf_model.specs.l2cap_signal.proofs.Payloads.{answers_right}
+use Rattle.shelf_model.specs.l2cap_config.specs.declared.options.ModeOption.{ModeOption}
+use Rattle.shelf_model.specs.l2cap_config.specs.declared.options.Options.{Options}
+use Rattle.shelf_model.specs.l2cap_config.specs.declared.options.ConfigRefusal.{ConfigRefusal}
+use Rattle.shelf_model.specs.l2cap_config.specs.declared.options.ConfigRefusal.TheVariants.{BadMtu, BadMode, BadWindow, BadMps}
+use Rattle.shelf_model.specs.l2cap_config.specs.declared.agreement.ConfigAnswer.{ConfigAnswer}
+use Rattle.shelf_model.specs.l2cap_config.specs.declared.agreement.ConfigAnswer.TheVariants.{Accept, Unacceptable, Unknown}
+use Rattle.shelf_model.specs.l2cap_config.specs.declared.wish.Mode.{Mode}
+use Rattle.shelf_model.specs.l2cap_config.specs.declared.wish.Mode.TheVariants.{Basic, Enhanced}
+use Rattle.shelf_model.specs.l2cap_config.specs.declared.wish.Wish.{Wish}
+use Rattle.shelf_model.specs.l2cap_config.specs.Types.{kind_of, is_unknown}
+use Rattle.shelf_model.specs.l2cap_config.specs.Items.{Item, IsItem, last_of, mode_in, no_options, joined}
+use Rattle.shelf_model.specs.l2cap_config.specs.Agreement.{asked_mode, asked_mtu, mode_number, own_mode, only_mode, only_mtu, answered_mode, answered_values, answered}
+use Rattle.shelf_model.specs.l2cap_config.specs.Reading.{items_of, stated, options_read}
+use Rattle.shelf_model.specs.l2cap_config.specs.Writing.{written}
+use Rattle.shelf_model.specs.l2cap_config.proofs.ItemLists.{items_take}
+use Rattle.channel_laws.specs.channel_model.specs.Value.{Setup, Stage, Requested, Connected, Leaving, Closing, Crossed, Held}
+use Rattle.channel_laws.specs.channel_model.specs.Changing.{is_open}
+use Rattle.channel_laws.specs.channel_model.specs.Configuring.{Verdict, NoChannel, TooLate, Unreadable, Incomplete, Judged, judged_part, judged_read, judged_setup}
+use Rattle.channel_laws.specs.channel_model.specs.Answers.{no_such_channel, judged_answer, configuration_answer, disconnection_by, disconnection_answer, information_answer}
 use Rattle.channel_laws.proofs.Modest.{FitsVerdict as FitsLowVerdict}
 use Rattle.host_laws.proofs.Signals.{word, word-alone, mode-written, mtu-written, IsSmallMode, IsSmallWish, FitsSetup}
 

@@ -2,15 +2,15 @@
 use Rattle.std.proofs.Common.{◌≡◌, ℕ, List, [], ◌∷◌, ◌++◌, map, Bool, true, false, cond, eqb, find, Option, Some, None, option_map, option_to_list, is_some, refl, sym, ap, subst, ◌∙◌}
 use Rattle.std.specs.List.{AllByRecursion}
 use Rattle.std.proofs.lemmas.Bool.{eqb-true}
-use Rattle.l2cap_signal.specs.Commands.{Command}
-use Rattle.link_talk.specs.Sayings.{Saying}
-use Rattle.channel_model.specs.declared.errand.Errand.{Errand}
-use Rattle.channel_model.specs.declared.errand.Errand.TheVariants as errands
-use Rattle.channel_model.specs.Value.{Request, Queued, Answer, Ask, Own, Unasked, Asking, Granted, Stage, Requested, Connected, Leaving, Closing, Crossed, Held, Channels}
-use Rattle.channel_model.specs.Changing.{has_own, held_at, in_place_of}
-use Rattle.channel_model.specs.Giving.{Given, connection_at, configuration_by, configuration_at, disconnection_at, on_held, command_of, own_given, connection_given, configuration_given, disconnection_given, stage_given, counted, stage_gives, gives, held_gives, one_more, features_command}
-use Rattle.channel_model.proofs.Walking.{found-own}
-use Rattle.channel_model.proofs.Lookups.{own_of, Distinct, not_found, found-placed, find-placed}
+use Rattle.shelf_model.specs.l2cap_signal.specs.Commands.{Command}
+use Rattle.push_laws.specs.link_talk.specs.Sayings.{Saying}
+use Rattle.channel_laws.specs.channel_model.specs.declared.errand.Errand.{Errand}
+use Rattle.channel_laws.specs.channel_model.specs.declared.errand.Errand.TheVariants as errands
+use Rattle.channel_laws.specs.channel_model.specs.Value.{Request, Queued, Answer, Ask, Own, Unasked, Asking, Granted, Stage, Requested, Connected, Leaving, Closing, Crossed, Held, Channels}
+use Rattle.channel_laws.specs.channel_model.specs.Changing.{has_own, held_at, in_place_of}
+use Rattle.channel_laws.specs.channel_model.specs.Giving.{Given, connection_at, configuration_by, configuration_at, disconnection_at, on_held, command_of, own_given, connection_given, configuration_given, disconnection_given, stage_given, counted, stage_gives, gives, held_gives, one_more, features_command}
+use Rattle.channel_laws.specs.channel_model.proofs.Walking.{found-own}
+use Rattle.channel_laws.specs.channel_model.proofs.Lookups.{own_of, Distinct, not_found, found-placed, find-placed}
 use Rattle.channel_laws.specs.OwnTalk.{spoken, said_of}
 use Rattle.host_laws.specs.Seen.{waiting_in, AllDue}
 

@@ -1,7 +1,7 @@
 -- What a host hears and says on a link, in the order in which it does (this project's own).
 use Rattle.std.specs.Prelude.{ℕ, ◌≡◌, List, [], ◌∷◌, Some}
 use Rattle.std.specs.List.{flat_map}
-use Rattle.world_model.specs.Machines.{News, Linked, Failed, Heard, TimerFired, Cancelled, Opening, Upper}
+use Rattle.shelf_model.specs.world_model.specs.Machines.{News, Linked, Failed, Heard, TimerFired, Cancelled, Opening, Upper}
 use Rattle.channel_laws.specs.Runs.{Occurrence, Comes, Gives, Fires}
 
 -- `G` is what the host is given with the news that it hears

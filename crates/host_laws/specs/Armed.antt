@@ -1,21 +1,21 @@
 -- What the timer of a host finds, as its own talk is read (Core 5.1, Volume 3 Part A, 4.1, 6.2 and 8.6; Part B, 4.2).
 use Rattle.std.specs.Prelude.{◌≡◌, true, false, List, Option}
 use Rattle.std.specs.List.{AllByRecursion}
-use Rattle.bt_base.specs.declared.settings.Settings.{Settings}
-use Rattle.bt_base.specs.Objects.{Contents}
-use Rattle.link_talk.specs.declared.party.Party.{Party}
-use Rattle.link_talk.specs.Waits.{waits}
-use Rattle.channel_model.specs.Calls.{armed}
-use Rattle.channel_model.specs.Policies.{policy}
+use Rattle.shelf_model.specs.bt_base.specs.declared.settings.Settings.{Settings}
+use Rattle.shelf_model.specs.bt_base.specs.Objects.{Contents}
+use Rattle.push_laws.specs.link_talk.specs.declared.party.Party.{Party}
+use Rattle.push_laws.specs.link_talk.specs.Waits.{waits}
+use Rattle.channel_laws.specs.channel_model.specs.Calls.{armed}
+use Rattle.channel_laws.specs.channel_model.specs.Policies.{policy}
 use Rattle.channel_laws.specs.Armed.{services_wait}
 use Rattle.channel_laws.specs.Frames.{AreUttered}
 use Rattle.channel_laws.specs.Runs.{Occurrence, run_of}
 use Rattle.channel_laws.specs.Sdus.{StatesFrame}
 use Rattle.channel_laws.specs.Services.{AsksNoServices}
-use Rattle.host_model.specs.Profiles.{Profile}
-use Rattle.host_model.specs.Hosts.{Host}
-use Rattle.host_model.specs.Machines.{upper, server_host}
-use Rattle.host_model.specs.Servers.{ServerProfile, server_profile}
+use Rattle.shelf_model.specs.host_model.specs.Profiles.{Profile}
+use Rattle.shelf_model.specs.host_model.specs.Hosts.{Host}
+use Rattle.shelf_model.specs.host_model.specs.Machines.{upper, server_host}
+use Rattle.shelf_model.specs.host_model.specs.Servers.{ServerProfile, server_profile}
 use Rattle.host_laws.specs.Calls.{Asks}
 use Rattle.host_laws.specs.Lives.{Mark, Lives}
 

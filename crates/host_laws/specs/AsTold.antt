@@ -1,10 +1,10 @@
 -- A client goes by what service discovery told it on its link (Object Push Profile 1.2, 4.3 and 5; Core 5.1, Volume 3 Part B, 4.7).
 use Rattle.std.specs.Prelude.{◌≡◌, false, List}
-use Rattle.bt_base.specs.declared.settings.Settings.{Settings}
-use Rattle.link_talk.specs.declared.party.Party.{Party}
-use Rattle.channel_model.specs.Policies.{policy}
+use Rattle.shelf_model.specs.bt_base.specs.declared.settings.Settings.{Settings}
+use Rattle.push_laws.specs.link_talk.specs.declared.party.Party.{Party}
+use Rattle.channel_laws.specs.channel_model.specs.Policies.{policy}
 use Rattle.channel_laws.specs.Runs.{Occurrence, run_of}
-use Rattle.host_model.specs.Clients.{ClientProfile, client_profile}
+use Rattle.shelf_model.specs.host_model.specs.Clients.{ClientProfile, client_profile}
 use Rattle.host_laws.specs.Calls.{Asks}
 use Rattle.host_laws.specs.Feeds.{Feed, all_fed}
 use Rattle.host_laws.specs.InOrder.{CallsInOrder}

@@ -2,9 +2,9 @@
 use Rattle.std.specs.Prelude.{Bool, true, false, List, [], ◌∷◌}
 use Rattle.std.specs.List.{AllByRecursion}
 use Rattle.channel_laws.specs.Runs.{Occurrence}
-use Rattle.world_model.specs.Machines.{LinkEvent, Up, Down, News, Linked, Failed, Heard, TimerFired, Cancelled, Opening}
-use Rattle.world_model.specs.Carriages.{linked_by}
-use Rattle.host_model.specs.Profiles.{Profile}
+use Rattle.shelf_model.specs.world_model.specs.Machines.{LinkEvent, Up, Down, News, Linked, Failed, Heard, TimerFired, Cancelled, Opening}
+use Rattle.shelf_model.specs.world_model.specs.Carriages.{linked_by}
+use Rattle.shelf_model.specs.host_model.specs.Profiles.{Profile}
 use Rattle.host_laws.specs.Acts.{Act, Hears, Says}
 use Rattle.host_laws.specs.Calls.{Asks}
 use Rattle.host_laws.specs.Fed.{behind_span, AreFed}

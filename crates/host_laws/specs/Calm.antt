@@ -2,20 +2,20 @@
 -- was meant (Core 5.1, Volume 3 Part A, 3.1 and 4).
 use Rattle.std.specs.Prelude.{ℕ, ◌≡◌, List, [], ◌∷◌, Some, None, map, ◌++◌}
 use Rattle.std.specs.List.{AllByRecursion, filter_map, flat_map}
-use Rattle.capture.specs.declared.flow.Flow.TheVariants.{Out, Into}
-use Rattle.capture.specs.Pdus.{Pdu}
-use Rattle.link_talk.specs.Sayings.{said_by}
-use Rattle.channel_model.specs.Value.{Channels, no_channels}
-use Rattle.channel_model.specs.Policies.{Policy}
-use Rattle.channel_model.specs.Giving.{Given, next_given}
+use Rattle.shelf_model.specs.capture.specs.declared.flow.Flow.TheVariants.{Out, Into}
+use Rattle.shelf_model.specs.capture.specs.Pdus.{Pdu}
+use Rattle.push_laws.specs.link_talk.specs.Sayings.{said_by}
+use Rattle.channel_laws.specs.channel_model.specs.Value.{Channels, no_channels}
+use Rattle.channel_laws.specs.channel_model.specs.Policies.{Policy}
+use Rattle.channel_laws.specs.channel_model.specs.Giving.{Given, next_given}
 use Rattle.channel_laws.specs.Frames.{AreUttered}
 use Rattle.channel_laws.specs.Runs.{Occurrence, run_of}
-use Rattle.world_model.specs.Machines.{Up, News, Linked, Failed, Heard, TimerFired, Cancelled, Opening}
-use Rattle.world_model.specs.Talks.{Talk, Told, Said, Unsent, Met, Done}
-use Rattle.host_model.specs.Circumstances.{Circumstance}
-use Rattle.host_model.specs.Profiles.{Profile}
-use Rattle.host_model.specs.Hosts.{Host, hear, next}
-use Rattle.host_model.specs.Machines.{upper}
+use Rattle.shelf_model.specs.world_model.specs.Machines.{Up, News, Linked, Failed, Heard, TimerFired, Cancelled, Opening}
+use Rattle.shelf_model.specs.world_model.specs.Talks.{Talk, Told, Said, Unsent, Met, Done}
+use Rattle.shelf_model.specs.host_model.specs.Circumstances.{Circumstance}
+use Rattle.shelf_model.specs.host_model.specs.Profiles.{Profile}
+use Rattle.shelf_model.specs.host_model.specs.Hosts.{Host, hear, next}
+use Rattle.shelf_model.specs.host_model.specs.Machines.{upper}
 use Rattle.host_laws.specs.Acts.{Act, Hears, Says, Does, Acting, StaysOnLink, from_acts}
 use Rattle.host_laws.specs.Turning.{OnLink}
 use Rattle.host_laws.specs.Lives.{Occurred, Turned, act_marks, Lives}

@@ -2,27 +2,27 @@
 -- (Object Push Profile 1.2, 4.3; IrOBEX 1.5, 2.2 and 3.4.3).
 use Rattle.std.specs.Prelude.{ℕ, ◌≡◌, ◌==◌, true, List, [], ◌∷◌, ◌++◌, Option, Some, None, if◌then◌else◌}
 use Rattle.std.specs.List.{AllByRecursion, AllZip, filter_map, flat_map}
-use Rattle.bt_base.specs.declared.settings.Settings.{Settings}
-use Rattle.bt_base.specs.declared.settings.Transport.{Transport}
-use Rattle.bt_base.specs.declared.settings.Transport.TheVariants.{L2cap, Rfcomm}
-use Rattle.bt_base.specs.Objects.{Object, Contents}
-use Rattle.capture.specs.declared.flow.Flow.TheVariants.{Out, Into}
-use Rattle.rfcomm_frames.specs.declared.connection.Role.TheVariants.{Responder}
-use Rattle.link_talk.specs.declared.channel.Channel.{Channel}
-use Rattle.link_talk.specs.declared.party.Party.{Party}
-use Rattle.link_talk.specs.ObjectsHeard.{objects}
-use Rattle.link_talk.specs.Sayings.{Saying}
-use Rattle.link_talk.specs.Sdus.{Spoken, spoken_as, spoken, sdus}
-use Rattle.push_model.specs.Client.{own_maximum}
-use Rattle.push_model.specs.Server.{object_psm, rfcomm_psm}
-use Rattle.push_model.specs.Sessions.{other_of}
+use Rattle.shelf_model.specs.bt_base.specs.declared.settings.Settings.{Settings}
+use Rattle.shelf_model.specs.bt_base.specs.declared.settings.Transport.{Transport}
+use Rattle.shelf_model.specs.bt_base.specs.declared.settings.Transport.TheVariants.{L2cap, Rfcomm}
+use Rattle.shelf_model.specs.bt_base.specs.Objects.{Object, Contents}
+use Rattle.shelf_model.specs.capture.specs.declared.flow.Flow.TheVariants.{Out, Into}
+use Rattle.shelf_model.specs.rfcomm_frames.specs.declared.connection.Role.TheVariants.{Responder}
+use Rattle.push_laws.specs.link_talk.specs.declared.channel.Channel.{Channel}
+use Rattle.push_laws.specs.link_talk.specs.declared.party.Party.{Party}
+use Rattle.push_laws.specs.link_talk.specs.ObjectsHeard.{objects}
+use Rattle.push_laws.specs.link_talk.specs.Sayings.{Saying}
+use Rattle.push_laws.specs.link_talk.specs.Sdus.{Spoken, spoken_as, spoken, sdus}
+use Rattle.push_laws.specs.push_model.specs.Client.{own_maximum}
+use Rattle.push_laws.specs.push_model.specs.Server.{object_psm, rfcomm_psm}
+use Rattle.push_laws.specs.push_model.specs.Sessions.{other_of}
 use Rattle.push_laws.specs.Faults.{psm_of}
 use Rattle.push_laws.specs.Laws.{stored_in}
 use Rattle.push_laws.specs.Occurrences.{Occurrence, Came, Went, Closed, LinkDown, Asked, Answering, begun}
 use Rattle.push_laws.specs.Premises.{AllMayCome}
 use Rattle.push_laws.specs.Readings.{closes, came_on}
-use Rattle.host_model.specs.Hosts.{Host}
-use Rattle.host_model.specs.Servers.{ServerProfile, server_profile}
+use Rattle.shelf_model.specs.host_model.specs.Hosts.{Host}
+use Rattle.shelf_model.specs.host_model.specs.Servers.{ServerProfile, server_profile}
 use Rattle.host_laws.specs.Calls.{Asks}
 use Rattle.host_laws.specs.Lives.{Mark, Lives}
 use Rattle.host_laws.specs.OneCarrier.{CarriesAlone}

@@ -2,16 +2,16 @@
 -- Profile 1.2, 4.3 and 5).
 use Rattle.std.specs.Prelude.{false, List, ◌≤◌}
 use Rattle.std.specs.List.{AllByRecursion, flat_map}
-use Rattle.bt_base.specs.declared.settings.Settings.{Settings}
-use Rattle.capture.specs.declared.flow.Flow.TheVariants.{Out}
-use Rattle.channel_model.specs.Policies.{policy}
+use Rattle.shelf_model.specs.bt_base.specs.declared.settings.Settings.{Settings}
+use Rattle.shelf_model.specs.capture.specs.declared.flow.Flow.TheVariants.{Out}
+use Rattle.channel_laws.specs.channel_model.specs.Policies.{policy}
 use Rattle.channel_laws.specs.Connections.{requests_for}
 use Rattle.channel_laws.specs.Runs.{Occurrence}
 use Rattle.channel_laws.specs.Singly.{calls_that_went, AreOneByOne}
-use Rattle.world_model.specs.Talks.{Talk}
-use Rattle.host_model.specs.Hosts.{Host, first_host}
-use Rattle.host_model.specs.Machines.{upper}
-use Rattle.host_model.specs.Clients.{ClientProfile, client_profile}
+use Rattle.shelf_model.specs.world_model.specs.Talks.{Talk}
+use Rattle.shelf_model.specs.host_model.specs.Hosts.{Host, first_host}
+use Rattle.shelf_model.specs.host_model.specs.Machines.{upper}
+use Rattle.shelf_model.specs.host_model.specs.Clients.{ClientProfile, client_profile}
 use Rattle.host_laws.specs.Calls.{Asks}
 use Rattle.host_laws.specs.InOrder.{may_ask, CallsInOrder}
 use Rattle.host_laws.specs.Lives.{on_links}

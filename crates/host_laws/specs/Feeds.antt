@@ -1,14 +1,14 @@
 -- What a profile goes through (this project's own), and what of it its channels tell.
 use Rattle.std.specs.Prelude.{ℕ, List, [], ◌∷◌, ◌++◌, map, fold}
 use Rattle.std.specs.List.{flat_map}
-use Rattle.channel_model.specs.declared.event.ChannelEvent.{ChannelEvent}
-use Rattle.channel_model.specs.Value.{Channels}
-use Rattle.channel_model.specs.Policies.{Policy}
-use Rattle.channel_model.specs.Carrying.{Up, Nothing, Received}
+use Rattle.channel_laws.specs.channel_model.specs.declared.event.ChannelEvent.{ChannelEvent}
+use Rattle.channel_laws.specs.channel_model.specs.Value.{Channels}
+use Rattle.channel_laws.specs.channel_model.specs.Policies.{Policy}
+use Rattle.channel_laws.specs.channel_model.specs.Carrying.{Up, Nothing, Received}
 use Rattle.channel_laws.specs.Runs.{Occurrence, value_after, told_in, up_with}
-use Rattle.world_model.specs.Machines.{LinkEvent, News, Linked, Failed, Heard, TimerFired, Cancelled, Opening}
-use Rattle.host_model.specs.Circumstances.{Circumstance}
-use Rattle.host_model.specs.Profiles.{Profile}
+use Rattle.shelf_model.specs.world_model.specs.Machines.{LinkEvent, News, Linked, Failed, Heard, TimerFired, Cancelled, Opening}
+use Rattle.shelf_model.specs.host_model.specs.Circumstances.{Circumstance}
+use Rattle.shelf_model.specs.host_model.specs.Profiles.{Profile}
 use Rattle.host_laws.specs.Calls.{Asks, from_call}
 
 pub data Feed : Type 0 where

@@ -1,15 +1,15 @@
 -- A host holds back nothing that its channels have to give, whatever its ports answer (this project's own).
 use Rattle.std.specs.Prelude.{◌≡◌, true, false, List, [], Option}
 use Rattle.std.specs.List.{AllByRecursion}
-use Rattle.bt_base.specs.Objects.{Contents}
-use Rattle.bt_base.specs.declared.settings.Settings.{Settings}
-use Rattle.channel_model.specs.Policies.{policy}
-use Rattle.host_model.specs.Circumstances.{Circumstance}
-use Rattle.host_model.specs.Clients.{ClientProfile, client_profile}
-use Rattle.host_model.specs.Hosts.{Host, first_host}
-use Rattle.host_model.specs.Machines.{upper}
-use Rattle.host_model.specs.Profiles.{Profile}
-use Rattle.host_model.specs.Servers.{ServerProfile, server_profile}
+use Rattle.shelf_model.specs.bt_base.specs.Objects.{Contents}
+use Rattle.shelf_model.specs.bt_base.specs.declared.settings.Settings.{Settings}
+use Rattle.channel_laws.specs.channel_model.specs.Policies.{policy}
+use Rattle.shelf_model.specs.host_model.specs.Circumstances.{Circumstance}
+use Rattle.shelf_model.specs.host_model.specs.Clients.{ClientProfile, client_profile}
+use Rattle.shelf_model.specs.host_model.specs.Hosts.{Host, first_host}
+use Rattle.shelf_model.specs.host_model.specs.Machines.{upper}
+use Rattle.shelf_model.specs.host_model.specs.Profiles.{Profile}
+use Rattle.shelf_model.specs.host_model.specs.Servers.{ServerProfile, server_profile}
 use Rattle.host_laws.specs.Acts.{Act, Acting}
 use Rattle.host_laws.specs.Calm.{HoldsNothingBack}
 use Rattle.host_laws.specs.Read.{IsActSo}

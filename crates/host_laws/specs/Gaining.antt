@@ -2,27 +2,27 @@
 -- IrOBEX 1.5, 3.4.3).
 use Rattle.std.specs.Prelude.{◌≡◌, true, List, [], ◌++◌, Option, Some, None}
 use Rattle.std.specs.List.{AllByRecursion, flat_map}
-use Rattle.bt_base.specs.declared.settings.Settings.{Settings}
-use Rattle.bt_base.specs.declared.settings.Transport.TheVariants.{L2cap}
-use Rattle.bt_base.specs.Objects.{Object, Contents}
-use Rattle.link_talk.specs.declared.channel.Channel.{Channel}
-use Rattle.link_talk.specs.declared.party.Party.{Party}
-use Rattle.link_talk.specs.ObjectsHeard.{objects}
-use Rattle.link_talk.specs.Sdus.{sdus}
-use Rattle.capture.specs.declared.flow.Flow.TheVariants.{Into}
-use Rattle.channel_model.specs.declared.event.ChannelEvent.{ChannelEvent}
-use Rattle.channel_model.specs.declared.event.ChannelEvent.TheVariants as events
-use Rattle.channel_model.specs.Policies.{Policy, policy}
-use Rattle.channel_model.specs.Telling.{is_told_broken}
+use Rattle.shelf_model.specs.bt_base.specs.declared.settings.Settings.{Settings}
+use Rattle.shelf_model.specs.bt_base.specs.declared.settings.Transport.TheVariants.{L2cap}
+use Rattle.shelf_model.specs.bt_base.specs.Objects.{Object, Contents}
+use Rattle.push_laws.specs.link_talk.specs.declared.channel.Channel.{Channel}
+use Rattle.push_laws.specs.link_talk.specs.declared.party.Party.{Party}
+use Rattle.push_laws.specs.link_talk.specs.ObjectsHeard.{objects}
+use Rattle.push_laws.specs.link_talk.specs.Sdus.{sdus}
+use Rattle.shelf_model.specs.capture.specs.declared.flow.Flow.TheVariants.{Into}
+use Rattle.channel_laws.specs.channel_model.specs.declared.event.ChannelEvent.{ChannelEvent}
+use Rattle.channel_laws.specs.channel_model.specs.declared.event.ChannelEvent.TheVariants as events
+use Rattle.channel_laws.specs.channel_model.specs.Policies.{Policy, policy}
+use Rattle.channel_laws.specs.channel_model.specs.Telling.{is_told_broken}
 use Rattle.channel_laws.specs.Runs.{Occurrence, run_of}
 use Rattle.channel_laws.specs.Sdus.{StatesFrame}
-use Rattle.push_model.specs.Client.{own_maximum}
+use Rattle.push_laws.specs.push_model.specs.Client.{own_maximum}
 use Rattle.push_laws.specs.Occurrences as push
 use Rattle.push_laws.specs.Premises.{AllMayCome}
 use Rattle.push_laws.specs.Laws.{stored_in}
-use Rattle.world_model.specs.Machines.{LinkEvent, Up, Down}
-use Rattle.host_model.specs.Hosts.{Host}
-use Rattle.host_model.specs.Servers.{ServerProfile, server_profile}
+use Rattle.shelf_model.specs.world_model.specs.Machines.{LinkEvent, Up, Down}
+use Rattle.shelf_model.specs.host_model.specs.Hosts.{Host}
+use Rattle.shelf_model.specs.host_model.specs.Servers.{ServerProfile, server_profile}
 use Rattle.host_laws.specs.Calls.{Asks}
 use Rattle.host_laws.specs.Feeds.{Tiding, Brings, Tells, Turns}
 use Rattle.host_laws.specs.Lives.{Mark, Span, Lives, on_links}

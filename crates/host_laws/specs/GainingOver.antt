@@ -2,23 +2,23 @@
 -- (Object Push Profile 1.2, 4.3; IrOBEX 1.5, 3.4.3).
 use Rattle.std.specs.Prelude.{◌≡◌, ◌⊎◌, true, List, [], ◌++◌, Option, Some, None}
 use Rattle.std.specs.List.{AllByRecursion, flat_map}
-use Rattle.bt_base.specs.declared.settings.Settings.{Settings}
-use Rattle.bt_base.specs.declared.settings.Transport.TheVariants.{L2cap}
-use Rattle.bt_base.specs.Objects.{Object, Contents}
-use Rattle.link_talk.specs.declared.party.Party.{Party}
-use Rattle.link_talk.specs.ObjectsHeard.{objects}
-use Rattle.channel_model.specs.Policies.{Policy, policy}
+use Rattle.shelf_model.specs.bt_base.specs.declared.settings.Settings.{Settings}
+use Rattle.shelf_model.specs.bt_base.specs.declared.settings.Transport.TheVariants.{L2cap}
+use Rattle.shelf_model.specs.bt_base.specs.Objects.{Object, Contents}
+use Rattle.push_laws.specs.link_talk.specs.declared.party.Party.{Party}
+use Rattle.push_laws.specs.link_talk.specs.ObjectsHeard.{objects}
+use Rattle.channel_laws.specs.channel_model.specs.Policies.{Policy, policy}
 use Rattle.channel_laws.specs.Runs.{Occurrence, Comes, Connects, AsksFeatures, Disconnects, Sends, Gives, Fires, Tells}
 use Rattle.channel_laws.specs.Sdus.{StatesFrame}
-use Rattle.push_model.specs.Client.{own_maximum}
+use Rattle.push_laws.specs.push_model.specs.Client.{own_maximum}
 use Rattle.push_laws.specs.Gains as gains
 use Rattle.push_laws.specs.Occurrences as push
 use Rattle.push_laws.specs.Premises.{AllMayCome}
 use Rattle.push_laws.specs.Laws.{stored_in}
-use Rattle.world_model.specs.Machines.{LinkEvent, Up, Down}
-use Rattle.world_model.specs.Talks.{Talk}
-use Rattle.host_model.specs.Hosts.{Host}
-use Rattle.host_model.specs.Servers.{ServerProfile, server_profile}
+use Rattle.shelf_model.specs.world_model.specs.Machines.{LinkEvent, Up, Down}
+use Rattle.shelf_model.specs.world_model.specs.Talks.{Talk}
+use Rattle.shelf_model.specs.host_model.specs.Hosts.{Host}
+use Rattle.shelf_model.specs.host_model.specs.Servers.{ServerProfile, server_profile}
 use Rattle.host_laws.specs.Calls.{Asks}
 use Rattle.host_laws.specs.Lives.{Span}
 use Rattle.host_laws.specs.Gaining.{IsDirect, OneObjectChannel}

@@ -1,7 +1,7 @@
 -- What the ports of a host answer, as it is given to the host with the news that it hears (this project's own).
 use Rattle.std.specs.Prelude.{List, [], ◌∷◌}
 use Rattle.std.specs.List.{flat_map}
-use Rattle.host_model.specs.Circumstances.{Circumstance}
+use Rattle.shelf_model.specs.host_model.specs.Circumstances.{Circumstance}
 use Rattle.host_laws.specs.Acts.{Act, Hears, Says}
 use Rattle.host_laws.specs.Feeds.{Feed, Gifts, Learns, Receives, Happens, Sent, Steps}
 use Rattle.host_laws.specs.Woven.{Strand, Hearing, Giving, Firing, Telling, Gifting, Learning, Checking, Stepping}

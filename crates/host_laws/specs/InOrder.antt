@@ -2,25 +2,25 @@
 -- 4.3; RFCOMM 1.2, 2.1).
 use Rattle.std.specs.Prelude.{ℕ, ◌≡◌, ◌==◌, ◌&&◌, ◌||◌, not, Bool, true, false, List, [], Option, Some, None}
 use Rattle.std.specs.List.{AllByRecursion, flat_map, list_any}
-use Rattle.bt_base.specs.declared.settings.Settings.{Settings}
-use Rattle.bt_base.specs.declared.settings.Transport.{Transport}
-use Rattle.bt_base.specs.declared.settings.Transport.TheVariants.{L2cap, Rfcomm}
-use Rattle.bt_base.specs.Objects.{Contents}
-use Rattle.capture.specs.Histories.{EachAfter}
-use Rattle.capture.specs.declared.flow.Flow.TheVariants.{Out, Into}
-use Rattle.link_talk.specs.declared.call.Call.{Call}
-use Rattle.link_talk.specs.declared.call.Wanted.{Wanted}
-use Rattle.link_talk.specs.declared.channel.Channel.{Channel}
-use Rattle.link_talk.specs.Sayings.{Saying}
-use Rattle.channel_model.specs.Policies.{Policy, policy}
-use Rattle.channel_model.specs.Value.{Channels}
+use Rattle.shelf_model.specs.bt_base.specs.declared.settings.Settings.{Settings}
+use Rattle.shelf_model.specs.bt_base.specs.declared.settings.Transport.{Transport}
+use Rattle.shelf_model.specs.bt_base.specs.declared.settings.Transport.TheVariants.{L2cap, Rfcomm}
+use Rattle.shelf_model.specs.bt_base.specs.Objects.{Contents}
+use Rattle.shelf_model.specs.capture.specs.Histories.{EachAfter}
+use Rattle.shelf_model.specs.capture.specs.declared.flow.Flow.TheVariants.{Out, Into}
+use Rattle.push_laws.specs.link_talk.specs.declared.call.Call.{Call}
+use Rattle.push_laws.specs.link_talk.specs.declared.call.Wanted.{Wanted}
+use Rattle.push_laws.specs.link_talk.specs.declared.channel.Channel.{Channel}
+use Rattle.push_laws.specs.link_talk.specs.Sayings.{Saying}
+use Rattle.channel_laws.specs.channel_model.specs.Policies.{Policy, policy}
+use Rattle.channel_laws.specs.channel_model.specs.Value.{Channels}
 use Rattle.channel_laws.specs.Runs.{Occurrence, run_of}
 use Rattle.channel_laws.specs.Singly.{calls_that_went, AreOneByOne, AsksSo}
-use Rattle.world_model.specs.Talks.{Talk}
-use Rattle.host_model.specs.Hosts.{Host}
-use Rattle.host_model.specs.Clients.{ClientProfile, client_profile}
-use Rattle.host_model.specs.Profiles.{Profile}
-use Rattle.host_model.specs.Servers.{ServerProfile, server_profile}
+use Rattle.shelf_model.specs.world_model.specs.Talks.{Talk}
+use Rattle.shelf_model.specs.host_model.specs.Hosts.{Host}
+use Rattle.shelf_model.specs.host_model.specs.Clients.{ClientProfile, client_profile}
+use Rattle.shelf_model.specs.host_model.specs.Profiles.{Profile}
+use Rattle.shelf_model.specs.host_model.specs.Servers.{ServerProfile, server_profile}
 use Rattle.host_laws.specs.Calls.{Asks, Connect, HostsAsk}
 use Rattle.host_laws.specs.Gaining.{IsDirect, HandsAllUp}
 use Rattle.host_laws.specs.GainingOver.{CarriedOne, CarriesOne}

@@ -2,25 +2,25 @@
 -- Part A, 4.6 and 6.2; Part B, 4.2).
 use Rattle.std.specs.Prelude.{◌≡◌, Bool, true, false, List, [], Option, Some, None}
 use Rattle.std.specs.List.{AllByRecursion, list_any}
-use Rattle.bt_base.specs.declared.settings.Settings.{Settings}
-use Rattle.bt_base.specs.Objects.{Contents}
-use Rattle.capture.specs.Histories.{EachAfter}
-use Rattle.link_talk.specs.declared.party.Party.{Party}
-use Rattle.channel_model.specs.declared.event.ChannelEvent.{ChannelEvent}
-use Rattle.channel_model.specs.declared.event.ChannelEvent.TheVariants.{Opened, Closed, Features, FeaturesLost, DisconnectLost}
-use Rattle.channel_model.specs.declared.event.CloseReason.{CloseReason}
-use Rattle.channel_model.specs.declared.event.CloseReason.TheVariants.{PeerClosed, Refused, NoAgreement, RetryLimit, Ertm, LinkDown, OwnClosed}
-use Rattle.channel_model.specs.Changing.{held_at}
-use Rattle.channel_model.specs.Policies.{Policy, policy}
-use Rattle.channel_model.specs.Value.{Stage, Requested, Connected, Leaving, Closing, Crossed, Held, Channels}
+use Rattle.shelf_model.specs.bt_base.specs.declared.settings.Settings.{Settings}
+use Rattle.shelf_model.specs.bt_base.specs.Objects.{Contents}
+use Rattle.shelf_model.specs.capture.specs.Histories.{EachAfter}
+use Rattle.push_laws.specs.link_talk.specs.declared.party.Party.{Party}
+use Rattle.channel_laws.specs.channel_model.specs.declared.event.ChannelEvent.{ChannelEvent}
+use Rattle.channel_laws.specs.channel_model.specs.declared.event.ChannelEvent.TheVariants.{Opened, Closed, Features, FeaturesLost, DisconnectLost}
+use Rattle.channel_laws.specs.channel_model.specs.declared.event.CloseReason.{CloseReason}
+use Rattle.channel_laws.specs.channel_model.specs.declared.event.CloseReason.TheVariants.{PeerClosed, Refused, NoAgreement, RetryLimit, Ertm, LinkDown, OwnClosed}
+use Rattle.channel_laws.specs.channel_model.specs.Changing.{held_at}
+use Rattle.channel_laws.specs.channel_model.specs.Policies.{Policy, policy}
+use Rattle.channel_laws.specs.channel_model.specs.Value.{Stage, Requested, Connected, Leaving, Closing, Crossed, Held, Channels}
 use Rattle.channel_laws.specs.Frames.{AreUttered}
 use Rattle.channel_laws.specs.Runs.{Occurrence, Comes, Connects, AsksFeatures, Disconnects, Sends, Gives, Fires, Tells, run_of, arisen}
 use Rattle.channel_laws.specs.Sdus.{StatesFrame}
-use Rattle.push_model.specs.Server.{Lent, lends, lent_sdu}
-use Rattle.host_model.specs.Hosts.{Host}
-use Rattle.host_model.specs.Pdus.{sdu_of}
-use Rattle.host_model.specs.Clients.{ClientProfile, client_profile}
-use Rattle.host_model.specs.Servers.{ServerProfile, server_profile}
+use Rattle.push_laws.specs.push_model.specs.Server.{Lent, lends, lent_sdu}
+use Rattle.shelf_model.specs.host_model.specs.Hosts.{Host}
+use Rattle.shelf_model.specs.host_model.specs.Pdus.{sdu_of}
+use Rattle.shelf_model.specs.host_model.specs.Clients.{ClientProfile, client_profile}
+use Rattle.shelf_model.specs.host_model.specs.Servers.{ServerProfile, server_profile}
 use Rattle.host_laws.specs.Armed.{AwaitsServices}
 use Rattle.host_laws.specs.Calls.{Call, Connect, AskFeatures, Disconnect, Send, Asks, HostsAsk}
 use Rattle.host_laws.specs.Leaving.{is_off}

@@ -1,13 +1,13 @@
 -- A client that is told of a loss ends its link (Core 5.1, Volume 3 Part A, 6.2; Object Push Profile 1.2, 4.3).
 use Rattle.std.specs.Prelude.{ℕ, ◌≡◌, Bool, true, false, Option, Some, None, is_some}
-use Rattle.bt_base.specs.declared.settings.Settings.{Settings}
-use Rattle.push_model.specs.declared.closing.CloseCause.TheVariants.{RetryLimit, Own}
-use Rattle.push_model.specs.declared.course.Point.TheVariants.{Due, Asked}
-use Rattle.push_model.specs.declared.course.Stage.{Stage}
-use Rattle.push_model.specs.declared.course.Stage.TheVariants.{Rest, Link, SearchChannel, Search, SearchEnd, Features, ObjectChannel, Object, ObjectEnd, LinkEnd, Over}
-use Rattle.push_model.specs.Client.{Client}
-use Rattle.push_model.specs.Events.{ChannelClosed, FeaturesLost, search_psm, is_asking_features, hears_news}
-use Rattle.host_model.specs.Clients.{ClientProfile, client_profile}
+use Rattle.shelf_model.specs.bt_base.specs.declared.settings.Settings.{Settings}
+use Rattle.push_laws.specs.push_model.specs.declared.closing.CloseCause.TheVariants.{RetryLimit, Own}
+use Rattle.push_laws.specs.push_model.specs.declared.course.Point.TheVariants.{Due, Asked}
+use Rattle.push_laws.specs.push_model.specs.declared.course.Stage.{Stage}
+use Rattle.push_laws.specs.push_model.specs.declared.course.Stage.TheVariants.{Rest, Link, SearchChannel, Search, SearchEnd, Features, ObjectChannel, Object, ObjectEnd, LinkEnd, Over}
+use Rattle.push_laws.specs.push_model.specs.Client.{Client}
+use Rattle.push_laws.specs.push_model.specs.Events.{ChannelClosed, FeaturesLost, search_psm, is_asking_features, hears_news}
+use Rattle.shelf_model.specs.host_model.specs.Clients.{ClientProfile, client_profile}
 
 -- the channel that it uses, where the one of the object has that PSM: it asked for it, and was not told its end
 abbrev pub in_use : Stage → (object : ℕ) → Option ℕ

@@ -1,15 +1,15 @@
 -- A host from its first moment on, over all its links.
 use Rattle.std.specs.Prelude.{◌≡◌, List, [], ◌∷◌, ◌++◌, map}
 use Rattle.std.specs.List.{AllByRecursion, flat_map, filter_map}
-use Rattle.channel_model.specs.Value.{Channels, no_channels}
-use Rattle.channel_model.specs.Calls.{link_down}
-use Rattle.channel_model.specs.Policies.{Policy}
+use Rattle.channel_laws.specs.channel_model.specs.Value.{Channels, no_channels}
+use Rattle.channel_laws.specs.channel_model.specs.Calls.{link_down}
+use Rattle.channel_laws.specs.channel_model.specs.Policies.{Policy}
 use Rattle.channel_laws.specs.Runs.{Occurrence, Comes, Gives, Fires, run_of}
-use Rattle.world_model.specs.Machines.{LinkEvent, Up, Down, News, Linked, Failed, Heard, TimerFired, Cancelled, Opening}
-use Rattle.host_model.specs.Circumstances.{Circumstance}
-use Rattle.host_model.specs.Profiles.{Profile}
-use Rattle.host_model.specs.Hosts.{Host, first_host}
-use Rattle.host_model.specs.Machines.{upper}
+use Rattle.shelf_model.specs.world_model.specs.Machines.{LinkEvent, Up, Down, News, Linked, Failed, Heard, TimerFired, Cancelled, Opening}
+use Rattle.shelf_model.specs.host_model.specs.Circumstances.{Circumstance}
+use Rattle.shelf_model.specs.host_model.specs.Profiles.{Profile}
+use Rattle.shelf_model.specs.host_model.specs.Hosts.{Host, first_host}
+use Rattle.shelf_model.specs.host_model.specs.Machines.{upper}
 use Rattle.host_laws.specs.Acts.{Act, Hears, Says, Acting}
 use Rattle.host_laws.specs.Calls.{Asks, values_after, asked, outer}
 use Rattle.host_laws.specs.Feeds.{Feed, all_fed, asked_from, Tiding, Tells, Turns, tidings_of, tidings_from}

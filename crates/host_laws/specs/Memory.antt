@@ -1,11 +1,11 @@
 -- A client never lacks memory of its own: it has failed only where its shelf answered so (this project's own).
 use Rattle.std.specs.Prelude.{◌≡◌, false, List, Result, Ok, Err}
 use Rattle.std.specs.List.{AllByRecursion}
-use Rattle.bt_base.specs.declared.ports.PortFault.{PortFault}
-use Rattle.bt_base.specs.declared.ports.PortFault.TheVariants as fault
-use Rattle.bt_base.specs.declared.settings.Settings.{Settings}
-use Rattle.host_model.specs.Circumstances.{Circumstance, Size, Part, Stored}
-use Rattle.host_model.specs.Clients.{client_profile}
+use Rattle.shelf_model.specs.bt_base.specs.declared.ports.PortFault.{PortFault}
+use Rattle.shelf_model.specs.bt_base.specs.declared.ports.PortFault.TheVariants as fault
+use Rattle.shelf_model.specs.bt_base.specs.declared.settings.Settings.{Settings}
+use Rattle.shelf_model.specs.host_model.specs.Circumstances.{Circumstance, Size, Part, Stored}
+use Rattle.shelf_model.specs.host_model.specs.Clients.{client_profile}
 use Rattle.host_laws.specs.Feeds.{Feed, Gifts, Learns, Receives, Happens, Sent, Steps, all_fed}
 
 -- an answer of the shelf other than that it lacks memory

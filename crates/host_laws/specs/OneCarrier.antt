@@ -1,11 +1,11 @@
 -- Links on which one channel alone carries packets (Object Push Profile 1.2, 4.3).
 use Rattle.std.specs.Prelude.{ℕ, ◌≡◌, ◌==◌, true, false, List}
 use Rattle.std.specs.List.{AllByRecursion}
-use Rattle.link_talk.specs.declared.channel.Channel.{Channel}
-use Rattle.link_talk.specs.declared.party.Party.{Party}
-use Rattle.link_talk.specs.Sayings.{Saying}
-use Rattle.link_talk.specs.Channels.{Entry, reading}
-use Rattle.link_talk.specs.ObjectsHeard.{channel_objects, objects}
+use Rattle.push_laws.specs.link_talk.specs.declared.channel.Channel.{Channel}
+use Rattle.push_laws.specs.link_talk.specs.declared.party.Party.{Party}
+use Rattle.push_laws.specs.link_talk.specs.Sayings.{Saying}
+use Rattle.push_laws.specs.link_talk.specs.Channels.{Entry, reading}
+use Rattle.push_laws.specs.link_talk.specs.ObjectsHeard.{channel_objects, objects}
 
 -- a PSM on which no packets go
 abbrev pub IsAside : ℕ → Type 0

@@ -1,17 +1,17 @@
 -- Hosts on whose links one channel alone carries packets, over either transport (Object Push Profile 1.2, 4.3; RFCOMM 1.2, 2.1).
 use Rattle.std.specs.Prelude.{ℕ, ◌≡◌, true, List, Option}
 use Rattle.std.specs.List.{AllByRecursion, flat_map}
-use Rattle.bt_base.specs.declared.settings.Settings.{Settings}
-use Rattle.bt_base.specs.declared.settings.Transport.{Transport}
-use Rattle.bt_base.specs.declared.settings.Transport.TheVariants.{L2cap, Rfcomm}
-use Rattle.bt_base.specs.Objects.{Contents}
-use Rattle.link_talk.specs.declared.channel.Channel.{Channel}
-use Rattle.channel_model.specs.Policies.{Policy, policy}
+use Rattle.shelf_model.specs.bt_base.specs.declared.settings.Settings.{Settings}
+use Rattle.shelf_model.specs.bt_base.specs.declared.settings.Transport.{Transport}
+use Rattle.shelf_model.specs.bt_base.specs.declared.settings.Transport.TheVariants.{L2cap, Rfcomm}
+use Rattle.shelf_model.specs.bt_base.specs.Objects.{Contents}
+use Rattle.push_laws.specs.link_talk.specs.declared.channel.Channel.{Channel}
+use Rattle.channel_laws.specs.channel_model.specs.Policies.{Policy, policy}
 use Rattle.channel_laws.specs.Runs.{Occurrence, run_of}
-use Rattle.push_model.specs.Server.{object_psm, rfcomm_psm}
-use Rattle.world_model.specs.Talks.{Talk}
-use Rattle.host_model.specs.Hosts.{Host}
-use Rattle.host_model.specs.Servers.{ServerProfile, server_profile}
+use Rattle.push_laws.specs.push_model.specs.Server.{object_psm, rfcomm_psm}
+use Rattle.shelf_model.specs.world_model.specs.Talks.{Talk}
+use Rattle.shelf_model.specs.host_model.specs.Hosts.{Host}
+use Rattle.shelf_model.specs.host_model.specs.Servers.{ServerProfile, server_profile}
 use Rattle.host_laws.specs.Calls.{Asks}
 use Rattle.host_laws.specs.InOrder.{AsksForOneObject, AsksNoChannels}
 use Rattle.host_laws.specs.Lives.{on_links}

@@ -2,23 +2,23 @@
 -- is to be closed (Core 5.1, Volume 3 Part B, 4.2).
 use Rattle.std.specs.Prelude.{ℕ, ◌≡◌, Bool, true, false, List, Option, Some, None, Result, ◌⊎◌}
 use Rattle.std.specs.List.{AllByRecursion}
-use Rattle.bt_base.specs.declared.ports.PortFault.{PortFault}
-use Rattle.bt_base.specs.declared.settings.Settings.{Settings}
-use Rattle.sdp_client.specs.Asking.{Asking, begun}
-use Rattle.sdp_client.specs.Views.{is_awaiting}
-use Rattle.channel_model.specs.Value.{Channels}
-use Rattle.channel_model.specs.Calls.{waits}
-use Rattle.channel_model.specs.Giving.{next_given}
-use Rattle.push_model.specs.declared.course.Point.TheVariants.{Due, Asked}
-use Rattle.push_model.specs.declared.course.Stage.{Stage}
-use Rattle.push_model.specs.declared.course.Stage.TheVariants.{Rest, Link, SearchChannel, Search, SearchEnd, Features, ObjectChannel, Object, ObjectEnd, LinkEnd, Over}
-use Rattle.push_model.specs.Client.{Client, new_client, begins, cancelled}
-use Rattle.push_model.specs.Events.{News, hears_news}
-use Rattle.push_model.specs.Steps.{Part, steps}
-use Rattle.world_model.specs.Machines as machines
-use Rattle.host_model.specs.Circumstances.{Circumstance}
-use Rattle.host_model.specs.Hosts.{Host, first_host, hear, next}
-use Rattle.host_model.specs.Clients.{ClientProfile, client_profile}
+use Rattle.shelf_model.specs.bt_base.specs.declared.ports.PortFault.{PortFault}
+use Rattle.shelf_model.specs.bt_base.specs.declared.settings.Settings.{Settings}
+use Rattle.shelf_model.specs.sdp_client.specs.Asking.{Asking, begun}
+use Rattle.shelf_model.specs.sdp_client.specs.Views.{is_awaiting}
+use Rattle.channel_laws.specs.channel_model.specs.Value.{Channels}
+use Rattle.channel_laws.specs.channel_model.specs.Calls.{waits}
+use Rattle.channel_laws.specs.channel_model.specs.Giving.{next_given}
+use Rattle.push_laws.specs.push_model.specs.declared.course.Point.TheVariants.{Due, Asked}
+use Rattle.push_laws.specs.push_model.specs.declared.course.Stage.{Stage}
+use Rattle.push_laws.specs.push_model.specs.declared.course.Stage.TheVariants.{Rest, Link, SearchChannel, Search, SearchEnd, Features, ObjectChannel, Object, ObjectEnd, LinkEnd, Over}
+use Rattle.push_laws.specs.push_model.specs.Client.{Client, new_client, begins, cancelled}
+use Rattle.push_laws.specs.push_model.specs.Events.{News, hears_news}
+use Rattle.push_laws.specs.push_model.specs.Steps.{Part, steps}
+use Rattle.shelf_model.specs.world_model.specs.Machines as machines
+use Rattle.shelf_model.specs.host_model.specs.Circumstances.{Circumstance}
+use Rattle.shelf_model.specs.host_model.specs.Hosts.{Host, first_host, hear, next}
+use Rattle.shelf_model.specs.host_model.specs.Clients.{ClientProfile, client_profile}
 use Rattle.host_laws.specs.Searching.{BeginsSearch}
 use Rattle.host_laws.specs.Feeds.{Feed, Gifts, Learns, Receives, Happens, Sent, Steps, all_fed}
 

@@ -1,11 +1,11 @@
 -- The request of a client for services was sent, where its channels have nothing to give (Core 5.1, Volume 3 Part A, 3.1; Part B, 4.2).
 use Rattle.std.specs.Prelude.{◌≡◌, false, [], List}
-use Rattle.bt_base.specs.declared.settings.Settings.{Settings}
-use Rattle.channel_model.specs.Policies.{policy}
-use Rattle.channel_model.specs.Value.{no_channels}
+use Rattle.shelf_model.specs.bt_base.specs.declared.settings.Settings.{Settings}
+use Rattle.channel_laws.specs.channel_model.specs.Policies.{policy}
+use Rattle.channel_laws.specs.channel_model.specs.Value.{no_channels}
 use Rattle.channel_laws.specs.Runs.{Occurrence, run_of}
-use Rattle.push_model.specs.declared.course.Stage.TheVariants.{Search}
-use Rattle.host_model.specs.Clients.{ClientProfile, client_profile}
+use Rattle.push_laws.specs.push_model.specs.declared.course.Stage.TheVariants.{Search}
+use Rattle.shelf_model.specs.host_model.specs.Clients.{ClientProfile, client_profile}
 use Rattle.host_laws.specs.Calls.{Asks}
 use Rattle.host_laws.specs.Searching.{AsksAsItSteps, SearchesOn}
 use Rattle.host_laws.specs.SearchOrder.{IsSent}

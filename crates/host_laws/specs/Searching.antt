@@ -1,27 +1,27 @@
 -- A client waits for services as its own talk says (Core 5.1, Volume 3 Part B, 4.2 and 4.7).
 use Rattle.std.specs.Prelude.{ℕ, ◌≡◌, true, false, List, [], Option, Some, None, ◌⊎◌, if◌then◌else◌}
 use Rattle.std.specs.List.{AllByRecursion}
-use Rattle.bt_base.specs.Objects.{Contents}
-use Rattle.bt_base.specs.Octets.{IsOctets}
-use Rattle.bt_base.specs.declared.settings.Settings.{Settings}
-use Rattle.link_talk.specs.declared.party.Party.{Party}
-use Rattle.sdp_client.specs.Asking.{begun}
-use Rattle.sdp_client.specs.Views.{is_awaiting}
-use Rattle.channel_model.specs.Calls as channels
-use Rattle.channel_model.specs.Policies.{policy}
-use Rattle.channel_model.specs.Value.{Channels}
+use Rattle.shelf_model.specs.bt_base.specs.Objects.{Contents}
+use Rattle.shelf_model.specs.bt_base.specs.Octets.{IsOctets}
+use Rattle.shelf_model.specs.bt_base.specs.declared.settings.Settings.{Settings}
+use Rattle.push_laws.specs.link_talk.specs.declared.party.Party.{Party}
+use Rattle.shelf_model.specs.sdp_client.specs.Asking.{begun}
+use Rattle.shelf_model.specs.sdp_client.specs.Views.{is_awaiting}
+use Rattle.channel_laws.specs.channel_model.specs.Calls as channels
+use Rattle.channel_laws.specs.channel_model.specs.Policies.{policy}
+use Rattle.channel_laws.specs.channel_model.specs.Value.{Channels}
 use Rattle.channel_laws.specs.Armed.{services_wait}
 use Rattle.channel_laws.specs.Frames.{AreUttered}
 use Rattle.channel_laws.specs.Runs.{Occurrence, Comes, Connects, AsksFeatures, Disconnects, Sends, Gives, Fires, Tells, run_of}
-use Rattle.push_model.specs.declared.course.Point.TheVariants.{Due}
-use Rattle.push_model.specs.declared.course.Stage.TheVariants.{SearchChannel, SearchEnd}
-use Rattle.push_model.specs.Events.{armed}
-use Rattle.push_model.specs.Payloads.{Payload}
-use Rattle.push_model.specs.Steps.{Step, Wait, MakeLink, AskFeatures, OpenChannel, SendSdu, CloseChannel, BreakLink, Ended, NoMemory, steps}
-use Rattle.host_model.specs.Endpoints.{endpoint_of, takes_sdu}
-use Rattle.host_model.specs.Pdus.{sdu_of}
-use Rattle.host_model.specs.Clients.{ClientProfile, client_profile, fitted}
-use Rattle.host_model.specs.Shelves.{unused}
+use Rattle.push_laws.specs.push_model.specs.declared.course.Point.TheVariants.{Due}
+use Rattle.push_laws.specs.push_model.specs.declared.course.Stage.TheVariants.{SearchChannel, SearchEnd}
+use Rattle.push_laws.specs.push_model.specs.Events.{armed}
+use Rattle.push_laws.specs.push_model.specs.Payloads.{Payload}
+use Rattle.push_laws.specs.push_model.specs.Steps.{Step, Wait, MakeLink, AskFeatures, OpenChannel, SendSdu, CloseChannel, BreakLink, Ended, NoMemory, steps}
+use Rattle.shelf_model.specs.host_model.specs.Endpoints.{endpoint_of, takes_sdu}
+use Rattle.shelf_model.specs.host_model.specs.Pdus.{sdu_of}
+use Rattle.shelf_model.specs.host_model.specs.Clients.{ClientProfile, client_profile, fitted}
+use Rattle.shelf_model.specs.host_model.specs.Shelves.{unused}
 use Rattle.host_laws.specs.Asked.{BeginsNone}
 use Rattle.host_laws.specs.Calls.{Call, Connect, Disconnect, Send, Asks, HostsAsk}
 use Rattle.host_laws.specs.Calls as calls

@@ -2,16 +2,16 @@
 -- (Core 5.1, Volume 3 Part A, 3.1 and 4).
 use Rattle.std.specs.Prelude.{ℕ, ◌≡◌, ◌≤◌, Bool, true, false, List, [], ◌∷◌, ◌++◌, length, drop, filter, is_some, Option, Some, None}
 use Rattle.std.specs.List.{AllByRecursion, filter_map, flat_map}
-use Rattle.acl_fragments.specs.Pieces.{channel_of}
-use Rattle.bt_base.specs.Octets.{IsOctets}
-use Rattle.capture.specs.declared.flow.Flow.TheVariants.{Out, Into}
-use Rattle.capture.specs.Pdus.{Pdu}
-use Rattle.l2cap_signal.specs.Reading.{answers}
-use Rattle.link_talk.specs.Sayings.{Saying, Command, Carried, GaveUp, said_by}
-use Rattle.channel_model.specs.Value.{Queued, Answer, Ask, Channels, no_channels}
-use Rattle.channel_model.specs.Timing.{timed_out}
-use Rattle.channel_model.specs.Policies.{Policy}
-use Rattle.channel_model.specs.Giving.{Given, Signal, Whole, Framed, IsPdu, next_given, command_of, headed}
+use Rattle.shelf_model.specs.acl_fragments.specs.Pieces.{channel_of}
+use Rattle.shelf_model.specs.bt_base.specs.Octets.{IsOctets}
+use Rattle.shelf_model.specs.capture.specs.declared.flow.Flow.TheVariants.{Out, Into}
+use Rattle.shelf_model.specs.capture.specs.Pdus.{Pdu}
+use Rattle.shelf_model.specs.l2cap_signal.specs.Reading.{answers}
+use Rattle.push_laws.specs.link_talk.specs.Sayings.{Saying, Command, Carried, GaveUp, said_by}
+use Rattle.channel_laws.specs.channel_model.specs.Value.{Queued, Answer, Ask, Channels, no_channels}
+use Rattle.channel_laws.specs.channel_model.specs.Timing.{timed_out}
+use Rattle.channel_laws.specs.channel_model.specs.Policies.{Policy}
+use Rattle.channel_laws.specs.channel_model.specs.Giving.{Given, Signal, Whole, Framed, IsPdu, next_given, command_of, headed}
 use Rattle.channel_laws.specs.OwnTalk.{spoken, said_of}
 use Rattle.channel_laws.specs.Runs.{Occurrence, Comes, Connects, AsksFeatures, Disconnects, Sends, Gives, Fires, Tells, said_in, value_after, run_of}
 

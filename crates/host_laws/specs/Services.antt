@@ -2,24 +2,24 @@
 -- and Part B, 4.7; RFCOMM 1.2, 5.4).
 use Rattle.std.specs.Prelude.{ℕ, ◌≡◌, ◌*◌, ◌==◌, ◌&&◌, ◌||◌, not, Bool, true, false, List, [], drop, Option, Some, None, is_some, option_map, Result, Ok, Err, if◌then◌else◌, IfSome}
 use Rattle.std.specs.List.{filter_map, list_any}
-use Rattle.bt_base.specs.declared.settings.Transport.{Transport}
-use Rattle.bt_base.specs.declared.settings.Transport.TheVariants.{L2cap, Rfcomm}
-use Rattle.capture.specs.declared.flow.Flow.TheVariants.{Out, Into}
-use Rattle.capture.specs.Histories.{EachAfter}
-use Rattle.rfcomm_frames.specs.declared.frame.MuxKind.{MuxKind}
-use Rattle.rfcomm_frames.specs.declared.frame.MuxKind.TheVariants.{Sabm, Ua, Dm, Disc, Uih}
-use Rattle.rfcomm_frames.specs.Answers.{Answer}
-use Rattle.rfcomm_frames.specs.FrameReading.{frame_answer}
-use Rattle.rfcomm_frames.specs.Frames.{PlainFrame}
-use Rattle.sdp_elements.specs.declared.target.Target.{Target}
-use Rattle.sdp_elements.specs.Targets.{target_in}
-use Rattle.link_talk.specs.declared.call.Call.{Call}
-use Rattle.link_talk.specs.declared.call.Wanted.{Wanted}
-use Rattle.link_talk.specs.declared.party.Party.{Party}
-use Rattle.link_talk.specs.Requests.{call, went}
-use Rattle.link_talk.specs.Sayings.{Saying, Command, Carried, GaveUp}
-use Rattle.link_talk.specs.Senses.{sense}
-use Rattle.link_talk.specs.ServiceAnswers.{service_answers}
+use Rattle.shelf_model.specs.bt_base.specs.declared.settings.Transport.{Transport}
+use Rattle.shelf_model.specs.bt_base.specs.declared.settings.Transport.TheVariants.{L2cap, Rfcomm}
+use Rattle.shelf_model.specs.capture.specs.declared.flow.Flow.TheVariants.{Out, Into}
+use Rattle.shelf_model.specs.capture.specs.Histories.{EachAfter}
+use Rattle.shelf_model.specs.rfcomm_frames.specs.declared.frame.MuxKind.{MuxKind}
+use Rattle.shelf_model.specs.rfcomm_frames.specs.declared.frame.MuxKind.TheVariants.{Sabm, Ua, Dm, Disc, Uih}
+use Rattle.shelf_model.specs.rfcomm_frames.specs.Answers.{Answer}
+use Rattle.shelf_model.specs.rfcomm_frames.specs.FrameReading.{frame_answer}
+use Rattle.shelf_model.specs.rfcomm_frames.specs.Frames.{PlainFrame}
+use Rattle.shelf_model.specs.sdp_elements.specs.declared.target.Target.{Target}
+use Rattle.shelf_model.specs.sdp_elements.specs.Targets.{target_in}
+use Rattle.push_laws.specs.link_talk.specs.declared.call.Call.{Call}
+use Rattle.push_laws.specs.link_talk.specs.declared.call.Wanted.{Wanted}
+use Rattle.push_laws.specs.link_talk.specs.declared.party.Party.{Party}
+use Rattle.push_laws.specs.link_talk.specs.Requests.{call, went}
+use Rattle.push_laws.specs.link_talk.specs.Sayings.{Saying, Command, Carried, GaveUp}
+use Rattle.push_laws.specs.link_talk.specs.Senses.{sense}
+use Rattle.push_laws.specs.link_talk.specs.ServiceAnswers.{service_answers}
 
 -- ---- what was told
 

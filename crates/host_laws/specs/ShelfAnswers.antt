@@ -2,13 +2,13 @@
 -- body of its next PUT begins (IrOBEX 1.5, 3.4; Object Push Profile 1.2, 4.3).
 use Rattle.std.specs.Prelude.{ℕ, ◌≡◌, ◌≤◌, List, Option, Some, Result, Ok, IfSome}
 use Rattle.std.specs.List.{AllByRecursion}
-use Rattle.bt_base.specs.Objects.{Object}
-use Rattle.bt_base.specs.declared.settings.Settings.{Settings}
-use Rattle.push_model.specs.Client.{Client}
+use Rattle.shelf_model.specs.bt_base.specs.Objects.{Object}
+use Rattle.shelf_model.specs.bt_base.specs.declared.settings.Settings.{Settings}
+use Rattle.push_laws.specs.push_model.specs.Client.{Client}
 use Rattle.push_laws.specs.Sending.{AnswersTo}
-use Rattle.world_model.specs.Machines.{News, Linked, Failed, Heard, TimerFired, Cancelled, Opening}
-use Rattle.host_model.specs.Circumstances.{Circumstance, size_in, parts_in}
-use Rattle.host_model.specs.Clients.{ClientProfile}
+use Rattle.shelf_model.specs.world_model.specs.Machines.{News, Linked, Failed, Heard, TimerFired, Cancelled, Opening}
+use Rattle.shelf_model.specs.host_model.specs.Circumstances.{Circumstance, size_in, parts_in}
+use Rattle.shelf_model.specs.host_model.specs.Clients.{ClientProfile}
 use Rattle.shelf_model.specs.Held.{longest_octets, IsHeld, length_of}
 use Rattle.host_laws.specs.Feeds.{Feed, Gifts, Learns, Receives, Happens, Sent, Steps}
 use Rattle.host_laws.specs.Pushing.{Affair, Begins, Does, AllAsked, pushed_from}

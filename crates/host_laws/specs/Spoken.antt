@@ -1,17 +1,17 @@
 -- Objects are read off what moved: what a host gave up, and what it said last, spells none (Core 5.1, Volume 3 Part A, 4.2 to 4.7).
 use Rattle.std.specs.Prelude.{◌≡◌, ◌==◌, true, false, IfSome, List, [], ◌++◌}
 use Rattle.std.specs.List.{AllByRecursion}
-use Rattle.capture.specs.Histories.{EachAfter}
-use Rattle.capture.specs.declared.flow.Flow.TheVariants.{Out}
-use Rattle.link_talk.specs.declared.channel.Channel.{Channel}
-use Rattle.link_talk.specs.declared.party.Party.{Party}
-use Rattle.link_talk.specs.declared.call.Call.{Call}
-use Rattle.link_talk.specs.Sayings.{Saying}
-use Rattle.link_talk.specs.Senses.{sense}
-use Rattle.link_talk.specs.Requests.{call, went}
-use Rattle.link_talk.specs.Meanings.{meant}
-use Rattle.link_talk.specs.Channels.{Entry, made_by, reading}
-use Rattle.link_talk.specs.ObjectsHeard.{objects}
+use Rattle.shelf_model.specs.capture.specs.Histories.{EachAfter}
+use Rattle.shelf_model.specs.capture.specs.declared.flow.Flow.TheVariants.{Out}
+use Rattle.push_laws.specs.link_talk.specs.declared.channel.Channel.{Channel}
+use Rattle.push_laws.specs.link_talk.specs.declared.party.Party.{Party}
+use Rattle.push_laws.specs.link_talk.specs.declared.call.Call.{Call}
+use Rattle.push_laws.specs.link_talk.specs.Sayings.{Saying}
+use Rattle.push_laws.specs.link_talk.specs.Senses.{sense}
+use Rattle.push_laws.specs.link_talk.specs.Requests.{call, went}
+use Rattle.push_laws.specs.link_talk.specs.Meanings.{meant}
+use Rattle.push_laws.specs.link_talk.specs.Channels.{Entry, made_by, reading}
+use Rattle.push_laws.specs.link_talk.specs.ObjectsHeard.{objects}
 use Rattle.host_laws.specs.OverLinks.{GoesOut}
 use Rattle.host_laws.specs.Seen.{spoken_of}
 

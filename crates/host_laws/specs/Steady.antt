@@ -1,8 +1,8 @@
 -- Firings of which all that is said waits to be given (Core 5.1, Volume 3 Part A, 4.1 and 6.2.1).
 use Rattle.std.specs.Prelude.{ℕ, ◌≡◌, nat_le, true, List, Option, Some, None}
-use Rattle.channel_model.specs.Value.{Request, Own, Unasked, Asking, Granted, Stage, Requested, Connected, Leaving, Closing, Crossed, Held, Channels}
-use Rattle.channel_model.specs.Policies.{Policy}
-use Rattle.channel_model.specs.Changing.{held_at}
+use Rattle.channel_laws.specs.channel_model.specs.Value.{Request, Own, Unasked, Asking, Granted, Stage, Requested, Connected, Leaving, Closing, Crossed, Held, Channels}
+use Rattle.channel_laws.specs.channel_model.specs.Policies.{Policy}
+use Rattle.channel_laws.specs.channel_model.specs.Changing.{held_at}
 use Rattle.channel_laws.specs.Runs.{Occurrence, run_of}
 use Rattle.host_laws.specs.Seen.{FiresPlainly}
 

@@ -1,22 +1,22 @@
 -- What happens to the channels of a host and what its profile goes through, in one order (this project's own).
 use Rattle.std.specs.Prelude.{ℕ, ◌≡◌, false, List, [], ◌∷◌, ◌++◌}
 use Rattle.std.specs.List.{AllByRecursion}
-use Rattle.acl_fragments.specs.Pieces.{channel_of}
-use Rattle.channel_model.specs.declared.event.ChannelEvent.{ChannelEvent}
-use Rattle.channel_model.specs.Value.{Channels, no_channels}
-use Rattle.channel_model.specs.Calls.{link_down}
-use Rattle.channel_model.specs.Hearing.{up}
+use Rattle.shelf_model.specs.acl_fragments.specs.Pieces.{channel_of}
+use Rattle.channel_laws.specs.channel_model.specs.declared.event.ChannelEvent.{ChannelEvent}
+use Rattle.channel_laws.specs.channel_model.specs.Value.{Channels, no_channels}
+use Rattle.channel_laws.specs.channel_model.specs.Calls.{link_down}
+use Rattle.channel_laws.specs.channel_model.specs.Hearing.{up}
 use Rattle.channel_laws.specs.Runs.{Occurrence, Comes, Gives, Fires, Tells}
-use Rattle.world_model.specs.Machines.{LinkEvent, Up, Down, News, Linked}
-use Rattle.host_model.specs.Circumstances.{Circumstance}
-use Rattle.host_model.specs.Profiles.{Profile}
-use Rattle.host_model.specs.Hosts.{Host, first_host, tells_each, handed}
-use Rattle.host_model.specs.Machines.{upper}
+use Rattle.shelf_model.specs.world_model.specs.Machines.{LinkEvent, Up, Down, News, Linked}
+use Rattle.shelf_model.specs.host_model.specs.Circumstances.{Circumstance}
+use Rattle.shelf_model.specs.host_model.specs.Profiles.{Profile}
+use Rattle.shelf_model.specs.host_model.specs.Hosts.{Host, first_host, tells_each, handed}
+use Rattle.shelf_model.specs.host_model.specs.Machines.{upper}
 use Rattle.host_laws.specs.Calls.{Asks, from_call, values_after}
 use Rattle.host_laws.specs.Feeds.{tidings_by}
 use Rattle.host_laws.specs.Lives.{Span}
 use Rattle.host_laws.specs.OverLinks.{OverLinks, AreGentleUp, TalksOverLinks}
-use Rattle.world_model.specs.Talks.{Talk}
+use Rattle.shelf_model.specs.world_model.specs.Talks.{Talk}
 
 -- ---- one thing after the other
 

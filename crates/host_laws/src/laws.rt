@@ -34,8 +34,8 @@ ghost use Rattle.host_laws.specs.Steady.{SteadyFirePlainly};
 ghost use Rattle.host_laws.specs.Told.{AllEndsAreTold, AllSdusAreTold, ChecksAreRead, ProfilesAreTold};
 ghost use Rattle.host_laws.specs.Turning.{LinksAreActs, TurnsAreActs};
 ghost use Rattle.host_laws.specs.Woven.{HostsTalkWoven};
-ghost use Rattle.host_model.specs.Profiles.{Profile};
-ghost use Rattle.world_model.specs.Machines.{Upper};
+ghost use Rattle.shelf_model.specs.host_model.specs.Profiles.{Profile};
+ghost use Rattle.shelf_model.specs.world_model.specs.Machines.{Upper};
 
 /// With each step of its profile a client or a server asks for one thing of its channels at most.
 pub fn hosts_ask()

@@ -1,10 +1,10 @@
 -- A client waits within a few steps: each channel that it ends is one less.
 use Rattle.std.proofs.Common.{ap, ◌≡◌, ◌≤◌, ℕ, ◌==◌, nat_lt, min, Bool, true, false, List, [], ◌∷◌, Option, Some, None, refl, arith, if◌then◌else◌}
-use Rattle.bt_base.specs.declared.settings.Settings.{Settings}
-use Rattle.bt_base.specs.declared.settings.Transport.{Transport}
-use Rattle.bt_base.specs.declared.settings.Transport.TheVariants.{L2cap, Rfcomm}
-use Rattle.push_terms.specs.declared.outcome.Outcome.{Outcome}
-use Rattle.push_terms.specs.declared.outcome.Outcome.TheVariants as outcomes
+use Rattle.rest_laws.specs.bt_base.specs.declared.settings.Settings.{Settings}
+use Rattle.rest_laws.specs.bt_base.specs.declared.settings.Transport.{Transport}
+use Rattle.rest_laws.specs.bt_base.specs.declared.settings.Transport.TheVariants.{L2cap, Rfcomm}
+use Rattle.rest_laws.specs.push_terms.specs.declared.outcome.Outcome.{Outcome}
+use Rattle.rest_laws.specs.push_terms.specs.declared.outcome.Outcome.TheVariants as outcomes
 use Rattle.channel_model.specs.declared.event.ChannelEvent.{ChannelEvent}
 use Rattle.channel_model.specs.declared.event.ChannelEvent.TheVariants as event
 use Rattle.channel_model.specs.Value.{Channels}

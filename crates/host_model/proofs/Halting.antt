@@ -1,13 +1,13 @@
 -- A client is asked again only behind the end of a channel, so it soon waits.
 use Rattle.std.proofs.Common.{true≢false, sym, ◌∙◌, ◌≡◌, ◌≤◌, ◌<◌, ℕ, zero, suc, ◌-◌, Bool, true, false, is_some, List, [], Option, Some, None, Result, Ok, Err, refl, arith, if◌then◌else◌}
-use Rattle.bt_base.specs.declared.ports.PortFault.{PortFault}
-use Rattle.bt_base.specs.declared.settings.Settings.{Settings}
-use Rattle.bt_base.specs.declared.settings.Transport.{Transport}
-use Rattle.bt_base.specs.declared.settings.Transport.TheVariants.{L2cap, Rfcomm}
-use Rattle.push_terms.specs.declared.outcome.Outcome.{Outcome}
-use Rattle.rfcomm_model.specs.Machine.{leaves}
-use Rattle.rfcomm_model.specs.Saying.{Said, next}
-use Rattle.sdp_client.specs.Asking.{is_due, request_octets, after_request}
+use Rattle.rest_laws.specs.bt_base.specs.declared.ports.PortFault.{PortFault}
+use Rattle.rest_laws.specs.bt_base.specs.declared.settings.Settings.{Settings}
+use Rattle.rest_laws.specs.bt_base.specs.declared.settings.Transport.{Transport}
+use Rattle.rest_laws.specs.bt_base.specs.declared.settings.Transport.TheVariants.{L2cap, Rfcomm}
+use Rattle.rest_laws.specs.push_terms.specs.declared.outcome.Outcome.{Outcome}
+use Rattle.push_model.specs.rfcomm_model.specs.Machine.{leaves}
+use Rattle.push_model.specs.rfcomm_model.specs.Saying.{Said, next}
+use Rattle.push_model.specs.sdp_client.specs.Asking.{is_due, request_octets, after_request}
 use Rattle.channel_model.specs.Value.{Channels}
 use Rattle.channel_model.specs.Calls.{waits, sends}
 use Rattle.channel_model.specs.Giving.{next_given}

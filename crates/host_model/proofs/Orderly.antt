@@ -1,17 +1,17 @@
 -- Both hosts are orderly.
 use Rattle.std.proofs.Common.{true≢false, ap, sym, subst, ◌≡◌, ◌⊎◌, inl, inr, ℕ, zero, suc, Bool, true, false, ◌&&◌, not, List, [], ◌∷◌, length, nat_lt, nat_le, ◌==◌, Option, Some, None, refl, if◌then◌else◌, tests, arith}
 use Rattle.std.proofs.lemmas.Bool.{ltb-true}
-use Rattle.bt_base.specs.Octets.{IsOctets}
-use Rattle.bt_base.specs.declared.settings.Settings.{Settings}
-use Rattle.h4_framing.proofs.OctetLists.{IsOctets-cons, IsOctets-nil}
-use Rattle.acl_fragments.specs.Pieces.{pdu_length}
+use Rattle.rest_laws.specs.bt_base.specs.Octets.{IsOctets}
+use Rattle.rest_laws.specs.bt_base.specs.declared.settings.Settings.{Settings}
+use Rattle.rest_laws.specs.h4_framing.proofs.OctetLists.{IsOctets-cons, IsOctets-nil}
+use Rattle.rest_laws.specs.acl_fragments.specs.Pieces.{pdu_length}
 use Rattle.channel_model.specs.Giving.{Given, next_given}
 use Rattle.push_model.specs.declared.course.Stage.{Stage}
 use Rattle.push_model.specs.declared.course.Stage.TheVariants.{Rest}
 use Rattle.push_model.specs.Client.{is_rest, is_idle}
-use Rattle.world_model.specs.Machines.{News, Linked, Up}
-use Rattle.world_model.specs.Stations.{longest_pdu}
-use Rattle.turn_laws.specs.Premises.{IsFrame, SaysFrames, IsAside, Idles}
+use Rattle.rest_laws.specs.world_model.specs.Machines.{News, Linked, Up}
+use Rattle.rest_laws.specs.world_model.specs.Stations.{longest_pdu}
+use Rattle.rest_laws.specs.turn_laws.specs.Premises.{IsFrame, SaysFrames, IsAside, Idles}
 use Rattle.rest_laws.specs.Premises.{AsksOnce}
 use Rattle.host_model.specs.Circumstances.{Circumstance}
 use Rattle.host_model.specs.Pdus.{pdu_of, are_octets, is_frame}

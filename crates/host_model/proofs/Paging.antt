@@ -1,12 +1,12 @@
 -- A client asks for a link as a push begins, and not before.
 use Rattle.std.proofs.Common.{◌≡◌, ℕ, Bool, true, false, Option, Some, None, refl, if◌then◌else◌}
-use Rattle.bt_base.specs.declared.settings.Settings.{Settings}
+use Rattle.rest_laws.specs.bt_base.specs.declared.settings.Settings.{Settings}
 use Rattle.channel_model.specs.Value.{Channels}
 use Rattle.channel_model.specs.Calls.{waits, sends}
 use Rattle.push_model.specs.Payloads.{Payload}
 use Rattle.push_model.specs.Steps.{Step, Wait, MakeLink, AskFeatures, OpenChannel, SendSdu, CloseChannel, BreakLink, Ended, NoMemory, steps}
-use Rattle.world_model.specs.Machines.{News, Linked, Up, Down, Failed, Heard, TimerFired, Cancelled, Opening}
-use Rattle.turn_laws.specs.Premises.{IsAside}
+use Rattle.rest_laws.specs.world_model.specs.Machines.{News, Linked, Up, Down, Failed, Heard, TimerFired, Cancelled, Opening}
+use Rattle.rest_laws.specs.turn_laws.specs.Premises.{IsAside}
 use Rattle.host_model.specs.Pdus.{sdu_of}
 use Rattle.host_model.specs.Endpoints.{endpoint_of, takes_sdu}
 use Rattle.host_model.specs.Clients.{ClientProfile, client_profile, sent_on, done, submits, takes, next_stride, waiting, is_paging, fitted}

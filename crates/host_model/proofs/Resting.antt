@@ -1,20 +1,20 @@
 -- A client that rests goes on resting, whatever it hears but a begin.
 use Rattle.std.proofs.Common.{true≢false, ◌≡◌, ℕ, Bool, true, false, List, [], Option, Some, None, refl, if◌then◌else◌}
-use Rattle.bt_base.specs.declared.settings.Settings.{Settings}
+use Rattle.rest_laws.specs.bt_base.specs.declared.settings.Settings.{Settings}
 use Rattle.channel_model.specs.declared.event.ChannelEvent.{ChannelEvent}
 use Rattle.channel_model.specs.declared.event.ChannelEvent.TheVariants.{Opened, Closed, Features, FeaturesLost, DisconnectLost}
 use Rattle.channel_model.specs.Value.{Channels}
 use Rattle.channel_model.specs.Calls.{peer_mtu, waits, sends}
 use Rattle.push_model.specs.declared.closing.CloseCause.{CloseCause}
 use Rattle.push_model.specs.declared.course.Stage.TheVariants.{Rest}
-use Rattle.push_terms.specs.declared.outcome.Outcome.TheVariants as outcome
+use Rattle.rest_laws.specs.push_terms.specs.declared.outcome.Outcome.TheVariants as outcome
 use Rattle.push_model.specs.Client.{Client, cancelled, may_cancel, ends}
 use Rattle.push_model.specs.Payloads.{Payload}
 use Rattle.push_model.specs.Events as events
 use Rattle.push_model.specs.Events.{hears_news, linked_at, opened_at, closed_at, sdu_at, is_linked, is_paging, is_asking_features}
 use Rattle.push_model.specs.Steps.{Part, Step, Wait, MakeLink, AskFeatures, OpenChannel, SendSdu, CloseChannel, BreakLink, Ended, NoMemory, steps, steps_at, rests}
-use Rattle.turn_laws.specs.Premises.{IsAside}
-use Rattle.world_model.specs.Machines.{News, Linked, Up, Down, Failed, Heard, TimerFired, Cancelled, Opening}
+use Rattle.rest_laws.specs.turn_laws.specs.Premises.{IsAside}
+use Rattle.rest_laws.specs.world_model.specs.Machines.{News, Linked, Up, Down, Failed, Heard, TimerFired, Cancelled, Opening}
 use Rattle.host_model.specs.Pdus.{sdu_of}
 use Rattle.host_model.proofs.Keeping.{Keeps, KeepsNews}
 use Rattle.host_model.specs.Endpoints.{endpoint_of, takes_sdu}

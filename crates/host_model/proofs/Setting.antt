@@ -1,8 +1,8 @@
 -- Hosts that keep their settings.
 use Rattle.std.proofs.Common.{◌≡◌, ℕ, false, true, List, Option, Some, None, refl, sym, ap, subst, ◌∙◌}
-use Rattle.bt_base.specs.Octets.{IsOctets}
-use Rattle.bt_base.specs.declared.settings.Settings.{Settings}
-use Rattle.turn_laws.specs.Premises.{IsFrame, SaysFrames, Idles}
+use Rattle.rest_laws.specs.bt_base.specs.Octets.{IsOctets}
+use Rattle.rest_laws.specs.bt_base.specs.declared.settings.Settings.{Settings}
+use Rattle.rest_laws.specs.turn_laws.specs.Premises.{IsFrame, SaysFrames, Idles}
 use Rattle.rest_laws.specs.Premises.{AsksOnce}
 use Rattle.host_model.specs.Profiles.{Profile}
 use Rattle.host_model.specs.Hosts.{Host, next}

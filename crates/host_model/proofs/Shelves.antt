@@ -6,9 +6,9 @@ use Rattle.std.proofs.lemmas.Str.{chars-nil}
 use Rattle.std.specs.Char.Escape.{encode_utf16}
 use Rattle.std.specs.List.{flat_map}
 use Rattle.std.specs.Str.{bytes_eq}
-use Rattle.bt_base.specs.declared.ports.PortFault.{PortFault}
-use Rattle.bt_base.specs.declared.ports.PortFault.TheVariants.{Failed}
-use Rattle.obex_session.specs.PutPackets.{units_in, place_of}
+use Rattle.rest_laws.specs.bt_base.specs.declared.ports.PortFault.{PortFault}
+use Rattle.rest_laws.specs.bt_base.specs.declared.ports.PortFault.TheVariants.{Failed}
+use Rattle.push_model.specs.obex_session.specs.PutPackets.{units_in, place_of}
 use Rattle.push_model.specs.Client.{Client}
 use Rattle.push_model.specs.Steps.{Part, put_count}
 use Rattle.host_model.specs.Circumstances.{Circumstance, Excerpt, size_in}

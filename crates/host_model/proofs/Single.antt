@@ -1,16 +1,16 @@
 -- The octets of what a host gives are those that are worked out, and no others; a PDU that is given says its own length.
 use Rattle.std.proofs.Common.{ap, sym, subst, ◌∙◌, ◌≡◌, ◌<◌, ◌≤◌, ℕ, suc, ◌+◌, ◌*◌, ◌/◌, ◌%◌, ◌^◌, ◌==◌, ◌&&◌, nat_lt, nat_le, Bool, true, false, List, [], ◌∷◌, ◌++◌, length, refl, arith, tests, length-append, append_assoc, inl, inr, if◌then◌else◌}
 use Rattle.std.proofs.lemmas.Bool.{cases_lt}
-use Rattle.bt_base.specs.Octets.{IsOctets, le16}
-use Rattle.h4_framing.proofs.OctetLists.{IsOctets-tail}
-use Rattle.check_words.specs.CheckWords.{L2capCheckHolds, l2cap_check, rfcomm_check, low_bits}
-use Rattle.check_words.proofs.Octets.{word-holds}
-use Rattle.check_words.proofs.LowBits.{low_bits-same}
-use Rattle.acl_fragments.specs.Pieces.{pdu_length}
-use Rattle.l2cap_signal.specs.Commands.{spelling}
-use Rattle.ertm_frames.specs.Frames.{PlainFrame, Spells, covered, control_of, body_of}
-use Rattle.rfcomm_frames.specs.Lengths.{shortest, one_octet, two_octets, States}
-use Rattle.rfcomm_frames.specs.Frames as mux
+use Rattle.rest_laws.specs.bt_base.specs.Octets.{IsOctets, le16}
+use Rattle.rest_laws.specs.h4_framing.proofs.OctetLists.{IsOctets-tail}
+use Rattle.push_model.specs.check_words.specs.CheckWords.{L2capCheckHolds, l2cap_check, rfcomm_check, low_bits}
+use Rattle.push_model.specs.check_words.proofs.Octets.{word-holds}
+use Rattle.push_model.specs.check_words.proofs.LowBits.{low_bits-same}
+use Rattle.rest_laws.specs.acl_fragments.specs.Pieces.{pdu_length}
+use Rattle.channel_model.specs.l2cap_signal.specs.Commands.{spelling}
+use Rattle.channel_model.specs.ertm_frames.specs.Frames.{PlainFrame, Spells, covered, control_of, body_of}
+use Rattle.push_model.specs.rfcomm_frames.specs.Lengths.{shortest, one_octet, two_octets, States}
+use Rattle.push_model.specs.rfcomm_frames.specs.Frames as mux
 use Rattle.channel_model.specs.Giving.{Given, Signal, Whole, Framed, headed, IsPdu}
 use Rattle.push_model.specs.Payloads.{Payload, Octets, Framed as Muxed, IsSaid, IsShortest}
 use Rattle.host_model.specs.Pdus.{number_of, checked, frame_octets, pdu_of, mux_octets, sdu_of, are_octets, is_frame}

@@ -2,17 +2,17 @@
 use Rattle.std.proofs.Common.{ap, sym, subst, ◌∙◌, ◌≡◌, ◌<◌, ℕ, suc, ◌+◌, ◌*◌, ◌/◌, ◌%◌, ◌^◌, ◌==◌, Bool, true, false, not, List, [], ◌∷◌, length, refl, arith, length-append, replicate}
 use Rattle.std.proofs.Math.Nat.{pow-suc}
 use Rattle.std.proofs.lemmas.List.{length-map}
-use Rattle.check_words.specs.CheckWords.{low_bits, bits_of, l2cap_check, rfcomm_check, rfcomm_rest}
-use Rattle.check_words.specs.Division.{zeros}
-use Rattle.check_words.proofs.Steps.{length-kept_all}
-use Rattle.check_words.proofs.CheckWord as l2cap
-use Rattle.check_words.proofs.RfcommWord as rfcomm
-use Rattle.check_words.proofs.Octets.{word-holds}
-use Rattle.ertm_frames.proofs.Parts.{number}
-use Rattle.ertm_frames.specs.Frames.{PlainFrame, Spells, covered, control_of, body_of}
-use Rattle.rfcomm_frames.specs.Lengths.{shortest}
-use Rattle.rfcomm_frames.proofs.Lengths.{states-shortest}
-use Rattle.rfcomm_frames.specs.Frames as mux
+use Rattle.push_model.specs.check_words.specs.CheckWords.{low_bits, bits_of, l2cap_check, rfcomm_check, rfcomm_rest}
+use Rattle.push_model.specs.check_words.specs.Division.{zeros}
+use Rattle.push_model.specs.check_words.proofs.Steps.{length-kept_all}
+use Rattle.push_model.specs.check_words.proofs.CheckWord as l2cap
+use Rattle.push_model.specs.check_words.proofs.RfcommWord as rfcomm
+use Rattle.push_model.specs.check_words.proofs.Octets.{word-holds}
+use Rattle.channel_model.specs.ertm_frames.proofs.Parts.{number}
+use Rattle.channel_model.specs.ertm_frames.specs.Frames.{PlainFrame, Spells, covered, control_of, body_of}
+use Rattle.push_model.specs.rfcomm_frames.specs.Lengths.{shortest}
+use Rattle.push_model.specs.rfcomm_frames.proofs.Lengths.{states-shortest}
+use Rattle.push_model.specs.rfcomm_frames.specs.Frames as mux
 use Rattle.channel_model.specs.Giving.{Given, Signal, Whole, Framed, IsPdu}
 use Rattle.push_model.specs.Payloads.{IsShortest}
 use Rattle.host_model.specs.Pdus.{number_of, frame_octets, pdu_of, mux_octets}

@@ -6,10 +6,10 @@ use Rattle.std.proofs.lemmas.Str.{chars-encodes}
 use Rattle.std.specs.Char.Escape.{encode_utf16}
 use Rattle.std.specs.List.{flat_map}
 use Rattle.std.specs.Str.{chars}
-use Rattle.bt_base.specs.declared.settings.Settings.{Settings}
-use Rattle.l2cap_signal.specs.Reading.{first, answers_within, answers}
-use Rattle.obex_session.specs.PutPackets.{units_in}
-use Rattle.world_model.specs.Machines.{Linked, Up}
+use Rattle.rest_laws.specs.bt_base.specs.declared.settings.Settings.{Settings}
+use Rattle.channel_model.specs.l2cap_signal.specs.Reading.{first, answers_within, answers}
+use Rattle.push_model.specs.obex_session.specs.PutPackets.{units_in}
+use Rattle.rest_laws.specs.world_model.specs.Machines.{Linked, Up}
 use Rattle.host_model.specs.Circumstances.{Size}
 use Rattle.host_model.specs.Clients.{ClientProfile, client_profile, opens}
 use Rattle.host_model.specs.Hosts.{Host, drives, driven, ready, first_host}

@@ -2,9 +2,9 @@
 -- own).
 use Rattle.std.specs.Prelude.{ℕ, List, [], ◌∷◌, Result, Err}
 use Rattle.std.specs.List.{flat_map}
-use Rattle.bt_base.specs.declared.ports.PortFault.{PortFault}
-use Rattle.bt_base.specs.declared.ports.PortFault.TheVariants.{Failed}
-use Rattle.obex_session.specs.InboxCalls.{Answer}
+use Rattle.rest_laws.specs.bt_base.specs.declared.ports.PortFault.{PortFault}
+use Rattle.rest_laws.specs.bt_base.specs.declared.ports.PortFault.TheVariants.{Failed}
+use Rattle.push_model.specs.obex_session.specs.InboxCalls.{Answer}
 use Rattle.push_model.specs.Steps.{Part as Octets}
 
 -- what the shelf answers where it is asked for octets of the object of that name, from that place of it on

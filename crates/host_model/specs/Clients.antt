@@ -1,7 +1,7 @@
 -- The profile of a client: its push, the answers of its shelf, its channels and what it asks of its line (Object Push Profile 1.2, 4.3).
 use Rattle.std.specs.Prelude.{ℕ, ◌&&◌, not, Bool, true, false, List, [], Option, Some, None, Result, if◌then◌else◌}
-use Rattle.bt_base.specs.declared.ports.PortFault.{PortFault}
-use Rattle.bt_base.specs.declared.settings.Settings.{Settings}
+use Rattle.rest_laws.specs.bt_base.specs.declared.ports.PortFault.{PortFault}
+use Rattle.rest_laws.specs.bt_base.specs.declared.settings.Settings.{Settings}
 use Rattle.channel_model.specs.declared.event.ChannelEvent.{ChannelEvent}
 use Rattle.channel_model.specs.declared.event.ChannelEvent.TheVariants.{Opened, Closed, Features, FeaturesLost, DisconnectLost}
 use Rattle.channel_model.specs.declared.event.CloseReason.{CloseReason}
@@ -9,7 +9,7 @@ use Rattle.channel_model.specs.declared.event.CloseReason.TheVariants as reasons
 use Rattle.channel_model.specs.Value.{Channels}
 use Rattle.channel_model.specs.Policies.{policy}
 use Rattle.channel_model.specs.Calls.{connected, connect_answer, disconnected, asks_features, sends, peer_mtu, waits}
-use Rattle.ertm_model.specs.Reasons.{number_of}
+use Rattle.channel_model.specs.ertm_model.specs.Reasons.{number_of}
 use Rattle.push_model.specs.declared.closing.CloseCause.{CloseCause}
 use Rattle.push_model.specs.declared.closing.CloseCause.TheVariants as causes
 use Rattle.push_model.specs.declared.course.Stage.{Stage}
@@ -19,7 +19,7 @@ use Rattle.push_model.specs.Events as events
 use Rattle.push_model.specs.Events.{hears_news, armed}
 use Rattle.push_model.specs.Payloads.{Payload}
 use Rattle.push_model.specs.Steps.{Part, Step, Wait, MakeLink, AskFeatures, OpenChannel, SendSdu, CloseChannel, BreakLink, Ended, NoMemory, steps, stepped}
-use Rattle.world_model.specs.Machines.{News, Linked, Up, Down, Failed, Heard, TimerFired, Cancelled, Opening}
+use Rattle.rest_laws.specs.world_model.specs.Machines.{News, Linked, Up, Down, Failed, Heard, TimerFired, Cancelled, Opening}
 use Rattle.host_model.specs.Circumstances.{Circumstance, Excerpt, parts_in}
 use Rattle.host_model.specs.Pdus.{sdu_of}
 use Rattle.host_model.specs.Endpoints.{Endpoint, endpoint_of, with_answer, takes_sdu}

@@ -2,9 +2,9 @@
 -- records, PSM 0x0001, whose own endpoint is 0x0040; a server answers with its endpoint and asks for its options (Core 5.1, Volume 3
 -- Part A, 4.2 and 4.3).
 use Rattle.std.specs.Prelude.{ℕ, ◌≡◌, true, false, List, [], ◌∷◌, Option, Some, None, Ok, option_map}
-use Rattle.bt_base.specs.declared.settings.Settings.{Settings}
-use Rattle.bt_base.specs.Objects.{Contents}
-use Rattle.world_model.specs.Machines.{Linked, Up, Heard, Opening}
+use Rattle.rest_laws.specs.bt_base.specs.declared.settings.Settings.{Settings}
+use Rattle.rest_laws.specs.bt_base.specs.Objects.{Contents}
+use Rattle.rest_laws.specs.world_model.specs.Machines.{Linked, Up, Heard, Opening}
 use Rattle.host_model.specs.Circumstances.{Size}
 use Rattle.host_model.specs.Hosts.{Host}
 use Rattle.host_model.specs.Clients.{ClientProfile}

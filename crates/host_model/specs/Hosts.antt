@@ -2,7 +2,7 @@
 -- thing that it hears or says its profile is asked for steps, until the channels have a PDU or the profile waits; what it says is the
 -- channels' next PDU (this project's own).
 use Rattle.std.specs.Prelude.{ℕ, zero, suc, ◌^◌, ◌&&◌, nat_lt, nat_le, Bool, List, [], ◌∷◌, Option, Some, None, is_some, if◌then◌else◌}
-use Rattle.acl_fragments.specs.Pieces.{channel_of}
+use Rattle.rest_laws.specs.acl_fragments.specs.Pieces.{channel_of}
 use Rattle.channel_model.specs.declared.event.ChannelEvent.{ChannelEvent}
 use Rattle.channel_model.specs.Value.{Channels, no_channels}
 use Rattle.channel_model.specs.Calls.{link_up, link_down}
@@ -10,7 +10,7 @@ use Rattle.channel_model.specs.Carrying.{Up as Handed, Nothing, Received}
 use Rattle.channel_model.specs.Hearing.{hears, up}
 use Rattle.channel_model.specs.Timing.{timed_out}
 use Rattle.channel_model.specs.Giving.{Given, next_given, after_given}
-use Rattle.world_model.specs.Machines.{News, Linked, Up, Down, Failed, Heard, TimerFired, Cancelled, Opening}
+use Rattle.rest_laws.specs.world_model.specs.Machines.{News, Linked, Up, Down, Failed, Heard, TimerFired, Cancelled, Opening}
 use Rattle.host_model.specs.Circumstances.{Circumstance}
 use Rattle.host_model.specs.Pdus.{pdu_of, is_frame}
 use Rattle.host_model.specs.Profiles.{Stride, Profile}

@@ -1,8 +1,8 @@
 -- What both hosts promise a world that they are put into, whatever their settings and whatever the inbox holds.
 use Rattle.std.specs.Prelude.{ℕ, ◌≡◌, List, Option, Some}
-use Rattle.bt_base.specs.Octets.{IsOctets}
-use Rattle.bt_base.specs.declared.settings.Settings.{Settings}
-use Rattle.bt_base.specs.Objects.{Contents}
+use Rattle.rest_laws.specs.bt_base.specs.Octets.{IsOctets}
+use Rattle.rest_laws.specs.bt_base.specs.declared.settings.Settings.{Settings}
+use Rattle.rest_laws.specs.bt_base.specs.Objects.{Contents}
 use Rattle.rest_laws.specs.Premises.{AreOrderly}
 use Rattle.run_laws.specs.Embedding.{Embeds}
 use Rattle.host_model.specs.Profiles.{Profile}

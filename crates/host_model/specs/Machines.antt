@@ -1,9 +1,9 @@
 -- Both hosts as upper machines of a world of turns (this project's own).
 use Rattle.std.specs.Prelude.{Option, ◌||◌, ◌&&◌, not}
-use Rattle.bt_base.specs.declared.settings.Settings.{Settings}
-use Rattle.bt_base.specs.Objects.{Contents}
+use Rattle.rest_laws.specs.bt_base.specs.declared.settings.Settings.{Settings}
+use Rattle.rest_laws.specs.bt_base.specs.Objects.{Contents}
 use Rattle.channel_model.specs.Calls as channels
-use Rattle.world_model.specs.Machines.{Upper}
+use Rattle.rest_laws.specs.world_model.specs.Machines.{Upper}
 use Rattle.host_model.specs.Circumstances.{Circumstance}
 use Rattle.host_model.specs.Profiles.{Profile}
 use Rattle.host_model.specs.Hosts.{Host, first_host, hear, next, has_more}

@@ -1,16 +1,16 @@
 -- The octets of what a host gives: commands, SDUs and frames (Core 5.1, Volume 3 Part A, 3.1, 3.3 and 4; TS 07.10, 5.2.1).
 use Rattle.std.specs.Prelude.{ℕ, ◌+◌, ◌*◌, ◌==◌, ◌&&◌, nat_lt, nat_le, Bool, true, false, List, [], ◌∷◌, ◌++◌, length}
-use Rattle.bt_base.specs.Octets.{le16}
-use Rattle.check_words.specs.CheckWords.{l2cap_check, rfcomm_check}
-use Rattle.acl_fragments.specs.Pieces.{pdu_length}
-use Rattle.l2cap_signal.specs.Commands.{spelling}
-use Rattle.ertm_frames.specs.Frames.{PlainFrame, control_of, body_of, covered}
-use Rattle.rfcomm_frames.specs.Lengths.{shortest}
-use Rattle.rfcomm_frames.specs.Frames as mux
+use Rattle.rest_laws.specs.bt_base.specs.Octets.{le16}
+use Rattle.push_model.specs.check_words.specs.CheckWords.{l2cap_check, rfcomm_check}
+use Rattle.rest_laws.specs.acl_fragments.specs.Pieces.{pdu_length}
+use Rattle.channel_model.specs.l2cap_signal.specs.Commands.{spelling}
+use Rattle.channel_model.specs.ertm_frames.specs.Frames.{PlainFrame, control_of, body_of, covered}
+use Rattle.push_model.specs.rfcomm_frames.specs.Lengths.{shortest}
+use Rattle.push_model.specs.rfcomm_frames.specs.Frames as mux
 use Rattle.channel_model.specs.Giving.{Given, Signal, Whole, Framed, headed}
 use Rattle.push_model.specs.Payloads as payloads
 use Rattle.push_model.specs.Payloads.{Payload}
-use Rattle.world_model.specs.Stations.{longest_pdu}
+use Rattle.rest_laws.specs.world_model.specs.Stations.{longest_pdu}
 
 -- the number of bits, the lowest first
 unfoldable pub number_of : List Bool → ℕ

@@ -1,11 +1,11 @@
 -- What stands above the channels of a host: any machine that is told what happens to links and channels and hears SDUs, and that
 -- asks its host for one step after the other (this project's own).
 use Rattle.std.specs.Prelude.{ℕ, Bool, List, Option}
-use Rattle.push_terms.specs.declared.outcome.Outcome.{Outcome}
+use Rattle.rest_laws.specs.push_terms.specs.declared.outcome.Outcome.{Outcome}
 use Rattle.channel_model.specs.declared.event.ChannelEvent.{ChannelEvent}
 use Rattle.channel_model.specs.Value.{Channels}
 use Rattle.channel_model.specs.Policies.{Policy}
-use Rattle.world_model.specs.Machines.{News}
+use Rattle.rest_laws.specs.world_model.specs.Machines.{News}
 use Rattle.host_model.specs.Circumstances.{Circumstance}
 
 -- a step was taken: the channels and the profile then, and whether the profile is to be asked again

@@ -1,7 +1,7 @@
 -- The profile of a server: its sessions and replies, its inbox, and the channels that its clients use (Object Push Profile 1.2, 4.3).
 use Rattle.std.specs.Prelude.{ℕ, Bool, true, false, List, [], Option, Some, None, if◌then◌else◌}
-use Rattle.bt_base.specs.declared.settings.Settings.{Settings}
-use Rattle.bt_base.specs.Objects.{Contents}
+use Rattle.rest_laws.specs.bt_base.specs.declared.settings.Settings.{Settings}
+use Rattle.rest_laws.specs.bt_base.specs.Objects.{Contents}
 use Rattle.channel_model.specs.declared.event.ChannelEvent.{ChannelEvent}
 use Rattle.channel_model.specs.declared.event.ChannelEvent.TheVariants.{Opened, Closed, Features, FeaturesLost, DisconnectLost}
 use Rattle.channel_model.specs.declared.event.CloseReason.{CloseReason}
@@ -12,7 +12,7 @@ use Rattle.channel_model.specs.Calls.{sends}
 use Rattle.push_model.specs.Sessions.{Gift}
 use Rattle.push_model.specs.Server as push
 use Rattle.push_model.specs.Server.{Server, Reacted, Lent, new_server, on_sdu, channel_down, lends, lent_sdu, stepped}
-use Rattle.world_model.specs.Machines.{News, Linked, Up, Down, Failed, Heard, TimerFired, Cancelled, Opening}
+use Rattle.rest_laws.specs.world_model.specs.Machines.{News, Linked, Up, Down, Failed, Heard, TimerFired, Cancelled, Opening}
 use Rattle.host_model.specs.Circumstances.{Circumstance, answers_in}
 use Rattle.host_model.specs.Pdus.{sdu_of}
 use Rattle.host_model.specs.Endpoints.{Endpoint, endpoint_of, with_endpoint, takes_sdu}

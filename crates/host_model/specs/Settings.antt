@@ -1,10 +1,10 @@
 -- Hosts that keep their settings: one machine for a host of any settings (this project's own).
 use Rattle.std.specs.Prelude.{ℕ, ◌≡◌, ◌<◌, false, List, Option, Some, None, option_map}
 use Rattle.std.proofs.Common.{arith, subst}
-use Rattle.bt_base.specs.declared.settings.Settings.{Settings}
-use Rattle.bt_base.specs.declared.settings.Transport.TheVariants as transports
-use Rattle.bt_base.specs.declared.settings.Serves.TheVariants as services
-use Rattle.world_model.specs.Machines.{Upper}
+use Rattle.rest_laws.specs.bt_base.specs.declared.settings.Settings.{Settings}
+use Rattle.rest_laws.specs.bt_base.specs.declared.settings.Transport.TheVariants as transports
+use Rattle.rest_laws.specs.bt_base.specs.declared.settings.Serves.TheVariants as services
+use Rattle.rest_laws.specs.world_model.specs.Machines.{Upper}
 use Rattle.host_model.specs.Circumstances.{Circumstance}
 use Rattle.host_model.specs.Profiles.{Profile}
 use Rattle.host_model.specs.Hosts.{Host, next}

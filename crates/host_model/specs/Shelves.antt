@@ -1,10 +1,10 @@
 -- What a client makes of what its shelf answers: an excerpt of another object or from another place than was asked for, or one that is not as
 -- long, is a fault of the shelf, and a name that is too long is that of no object (this project's own).
 use Rattle.std.specs.Prelude.{ℕ, ◌-◌, ◌==◌, ◌&&◌, nat_le, Bool, true, false, List, [], ◌∷◌, length, map, drop, Result, Ok, Err, if◌then◌else◌}
-use Rattle.bt_base.specs.declared.ports.PortFault.{PortFault}
-use Rattle.bt_base.specs.declared.ports.PortFault.TheVariants.{Failed}
+use Rattle.rest_laws.specs.bt_base.specs.declared.ports.PortFault.{PortFault}
+use Rattle.rest_laws.specs.bt_base.specs.declared.ports.PortFault.TheVariants.{Failed}
 use Rattle.std.specs.Str.{bytes_eq}
-use Rattle.obex_session.specs.PutPackets.{units_in, place_of}
+use Rattle.push_model.specs.obex_session.specs.PutPackets.{units_in, place_of}
 use Rattle.push_model.specs.Client.{Client}
 use Rattle.push_model.specs.Steps.{Part, put_count}
 use Rattle.host_model.specs.Circumstances.{Circumstance, Excerpt, size_in}

@@ -1,7 +1,7 @@
 -- The octets that are worked out are those of what a host gives.
 use Rattle.std.specs.Prelude.{ℕ, ◌+◌, ◌^◌, ◌<◌, length}
-use Rattle.ertm_frames.specs.Frames.{PlainFrame, IsFrame, body_of}
-use Rattle.rfcomm_frames.specs.Frames as mux
+use Rattle.channel_model.specs.ertm_frames.specs.Frames.{PlainFrame, IsFrame, body_of}
+use Rattle.push_model.specs.rfcomm_frames.specs.Frames as mux
 use Rattle.channel_model.specs.Giving.{Given, Signal, Whole, Framed, IsPdu}
 use Rattle.push_model.specs.Payloads.{IsShortest}
 use Rattle.host_model.specs.Pdus.{pdu_of, mux_octets}

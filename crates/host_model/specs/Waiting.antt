@@ -1,6 +1,6 @@
 -- When a profile waits, and that more steps then change nothing.
 use Rattle.std.specs.Prelude.{ℕ, zero, suc, ◌≡◌, ◌+◌, Bool, true, false, is_some, if◌then◌else◌}
-use Rattle.bt_base.specs.declared.settings.Settings.{Settings}
+use Rattle.rest_laws.specs.bt_base.specs.declared.settings.Settings.{Settings}
 use Rattle.channel_model.specs.Giving.{next_given}
 use Rattle.host_model.specs.Profiles.{Stride, Profile}
 use Rattle.host_model.specs.Hosts.{Host, settles, strides, drives, most_steps}

@@ -1,17 +1,17 @@
 -- What an inbox answers decides what happens to its host, and not what it holds.
 use Rattle.std.proofs.Common.{◌≡◌, ℕ, List, Option, Some, None, refl, sym, ap, ◌∙◌}
-use Rattle.bt_base.specs.Objects.{Contents}
-use Rattle.bt_base.specs.declared.settings.Settings.{Settings}
-use Rattle.world_model.specs.Machines.{News, Upper}
-use Rattle.run_laws.specs.Embedding.{said_as, Embeds}
-use Rattle.alike_laws.proofs.Alike.{AreAlike, runs_on}
-use Rattle.host_model.specs.Circumstances.{Circumstance}
-use Rattle.host_model.specs.Clients.{ClientProfile, client_profile}
-use Rattle.host_model.specs.Hosts.{Host, first_host}
-use Rattle.host_model.specs.Machines.{server_host}
-use Rattle.host_model.specs.Servers.{ServerProfile, server_profile}
-use Rattle.push_script.specs.declared.scenario.Scenario.{Scenario}
-use Rattle.scenario_laws.specs.Captures.{client_of, server_of, beginning}
+use Rattle.pair_laws.specs.bt_base.specs.Objects.{Contents}
+use Rattle.pair_laws.specs.bt_base.specs.declared.settings.Settings.{Settings}
+use Rattle.pair_laws.specs.world_model.specs.Machines.{News, Upper}
+use Rattle.pair_laws.specs.run_laws.specs.Embedding.{said_as, Embeds}
+use Rattle.pair_laws.specs.alike_laws.proofs.Alike.{AreAlike, runs_on}
+use Rattle.pair_laws.specs.host_model.specs.Circumstances.{Circumstance}
+use Rattle.pair_laws.specs.host_model.specs.Clients.{ClientProfile, client_profile}
+use Rattle.pair_laws.specs.host_model.specs.Hosts.{Host, first_host}
+use Rattle.pair_laws.specs.host_model.specs.Machines.{server_host}
+use Rattle.pair_laws.specs.host_model.specs.Servers.{ServerProfile, server_profile}
+use Rattle.pair_laws.specs.push_script.specs.declared.scenario.Scenario.{Scenario}
+use Rattle.pair_laws.specs.scenario_laws.specs.Captures.{client_of, server_of, beginning}
 use Rattle.pair_laws.specs.Granted.{answered_by}
 use Rattle.pair_laws.proofs.Answered.{IsSame}
 use Rattle.inbox_laws.specs.Untold.{untold, untold_host, AnswersAloneDecide}

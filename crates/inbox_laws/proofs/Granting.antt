@@ -1,20 +1,20 @@
 -- A server uses up the answers of its inbox, and what holds of all that it was to give holds of those that are left.
 use Rattle.std.proofs.Common.{true, ℕ, List, [], ◌∷◌, Option, Some, None, Ok, Err}
 use Rattle.std.specs.List.{AllByRecursion}
-use Rattle.bt_base.specs.declared.settings.Settings.{Settings}
-use Rattle.channel_model.specs.declared.event.ChannelEvent.{ChannelEvent}
-use Rattle.channel_model.specs.declared.event.ChannelEvent.TheVariants.{Opened, Closed, Features, FeaturesLost, DisconnectLost}
-use Rattle.channel_model.specs.Calls.{sends}
-use Rattle.channel_model.specs.Value.{Channels}
-use Rattle.obex_session.specs.InboxCalls.{InboxCall, Answer, left_by}
-use Rattle.push_model.specs.Server.{Server, Lent, channel_down, lends, lent_sdu, stepped}
+use Rattle.pair_laws.specs.bt_base.specs.declared.settings.Settings.{Settings}
+use Rattle.pair_laws.specs.channel_model.specs.declared.event.ChannelEvent.{ChannelEvent}
+use Rattle.pair_laws.specs.channel_model.specs.declared.event.ChannelEvent.TheVariants.{Opened, Closed, Features, FeaturesLost, DisconnectLost}
+use Rattle.pair_laws.specs.channel_model.specs.Calls.{sends}
+use Rattle.pair_laws.specs.channel_model.specs.Value.{Channels}
+use Rattle.pair_laws.specs.obex_session.specs.InboxCalls.{InboxCall, Answer, left_by}
+use Rattle.pair_laws.specs.push_model.specs.Server.{Server, Lent, channel_down, lends, lent_sdu, stepped}
 use Rattle.answer_laws.proofs.Using.{either, sdu_heard, channel_closed, link_gone}
-use Rattle.world_model.specs.Machines.{Up, Down, News, Linked, Failed, Heard, TimerFired, Cancelled, Opening}
-use Rattle.host_model.specs.Circumstances.{Circumstance}
-use Rattle.host_model.specs.Endpoints.{endpoint_of, takes_sdu}
-use Rattle.host_model.specs.Pdus.{sdu_of}
-use Rattle.host_model.specs.Profiles.{Stride}
-use Rattle.host_model.specs.Servers.{ServerProfile, told, happened, is_told, waiting, submits, takes}
+use Rattle.pair_laws.specs.world_model.specs.Machines.{Up, Down, News, Linked, Failed, Heard, TimerFired, Cancelled, Opening}
+use Rattle.pair_laws.specs.host_model.specs.Circumstances.{Circumstance}
+use Rattle.pair_laws.specs.host_model.specs.Endpoints.{endpoint_of, takes_sdu}
+use Rattle.pair_laws.specs.host_model.specs.Pdus.{sdu_of}
+use Rattle.pair_laws.specs.host_model.specs.Profiles.{Stride}
+use Rattle.pair_laws.specs.host_model.specs.Servers.{ServerProfile, told, happened, is_told, waiting, submits, takes}
 use Rattle.inbox_laws.specs.Owned.{own_profile}
 use Rattle.inbox_laws.proofs.Keeping.{KeepsSo}
 

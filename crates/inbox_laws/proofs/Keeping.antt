@@ -1,18 +1,18 @@
 -- What all that a profile does keeps, its host keeps.
 use Rattle.std.proofs.Common.{◌≡◌, ℕ, zero, suc, Bool, true, false, List, [], ◌∷◌, Option, Some, None, is_some, subst, if◌then◌else◌}
-use Rattle.acl_fragments.specs.Pieces.{channel_of}
-use Rattle.channel_model.specs.declared.event.ChannelEvent.{ChannelEvent}
-use Rattle.channel_model.specs.Calls.{link_down}
-use Rattle.channel_model.specs.Carrying.{Up as Handed, Nothing, Received}
-use Rattle.channel_model.specs.Hearing as channels
-use Rattle.channel_model.specs.Timing.{timed_out}
-use Rattle.channel_model.specs.Giving.{Given, next_given, after_given}
-use Rattle.channel_model.specs.Value.{Channels}
-use Rattle.world_model.specs.Machines.{Up, Down, News, Linked, Failed, Heard, TimerFired, Cancelled, Opening}
-use Rattle.host_model.specs.Circumstances.{Circumstance}
-use Rattle.host_model.specs.Pdus.{pdu_of, is_frame}
-use Rattle.host_model.specs.Profiles.{Profile}
-use Rattle.host_model.specs.Hosts.{Host, drives, most_steps, steps_behind, goes_by, strides, settles, tells_each, tells_events, handed, hears_news, ready, hear, after_said, says, next, with_channels}
+use Rattle.pair_laws.specs.acl_fragments.specs.Pieces.{channel_of}
+use Rattle.pair_laws.specs.channel_model.specs.declared.event.ChannelEvent.{ChannelEvent}
+use Rattle.pair_laws.specs.channel_model.specs.Calls.{link_down}
+use Rattle.pair_laws.specs.channel_model.specs.Carrying.{Up as Handed, Nothing, Received}
+use Rattle.pair_laws.specs.channel_model.specs.Hearing as channels
+use Rattle.pair_laws.specs.channel_model.specs.Timing.{timed_out}
+use Rattle.pair_laws.specs.channel_model.specs.Giving.{Given, next_given, after_given}
+use Rattle.pair_laws.specs.channel_model.specs.Value.{Channels}
+use Rattle.pair_laws.specs.world_model.specs.Machines.{Up, Down, News, Linked, Failed, Heard, TimerFired, Cancelled, Opening}
+use Rattle.pair_laws.specs.host_model.specs.Circumstances.{Circumstance}
+use Rattle.pair_laws.specs.host_model.specs.Pdus.{pdu_of, is_frame}
+use Rattle.pair_laws.specs.host_model.specs.Profiles.{Profile}
+use Rattle.pair_laws.specs.host_model.specs.Hosts.{Host, drives, most_steps, steps_behind, goes_by, strides, settles, tells_each, tells_events, handed, hears_news, ready, hear, after_said, says, next, with_channels}
 
 pub record KeepsSo {P : Type 0} (A : Profile P) (Z : P → Type 0) : Type 0 where
   pub given : (circumstances : List Circumstance) (p : P) → Z p → Z (A.given circumstances p)

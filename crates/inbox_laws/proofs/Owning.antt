@@ -2,24 +2,24 @@
 -- hears; where these answers are grants, it is the one whose inbox grants all, and where none of them is want of memory, the one whose inbox lacks none.
 use Rattle.std.proofs.Common.{◌≡◌, ℕ, List, [], ◌∷◌, map, Some, None, Ok, Err, refl, sym, ap, ap₂, subst, ◌∙◌}
 use Rattle.std.specs.List.{AllByRecursion}
-use Rattle.bt_base.specs.declared.settings.Settings.{Settings}
-use Rattle.channel_model.specs.Giving.{next_given}
-use Rattle.bt_base.specs.declared.ports.PortFault.TheVariants as fault
-use Rattle.obex_session.specs.InboxCalls.{Answer}
+use Rattle.pair_laws.specs.bt_base.specs.declared.settings.Settings.{Settings}
+use Rattle.pair_laws.specs.channel_model.specs.Giving.{next_given}
+use Rattle.pair_laws.specs.bt_base.specs.declared.ports.PortFault.TheVariants as fault
+use Rattle.pair_laws.specs.obex_session.specs.InboxCalls.{Answer}
 use Rattle.answer_laws.specs.Memory.{HadMemory}
-use Rattle.world_model.specs.Machines.{Upper, Up, Down, News, Linked, Failed, Heard, TimerFired, Cancelled, Opening}
-use Rattle.world_model.specs.Worlds.{World, Happening, Runs}
-use Rattle.rest_laws.specs.Premises.{AreOrderly}
-use Rattle.alike_laws.specs.Twins.{world_with}
-use Rattle.alike_laws.proofs.Alike.{AreAlike, runs_on, rest_on}
-use Rattle.host_model.specs.Circumstances.{Circumstance, Stored, answers_in}
-use Rattle.host_model.specs.Profiles.{Profile}
-use Rattle.host_model.specs.Hosts.{Host, most_said, driven, hears_news, hear, next}
-use Rattle.host_model.specs.Clients.{ClientProfile}
-use Rattle.host_model.specs.Servers.{ServerProfile, with_answers, server_profile}
-use Rattle.host_model.specs.Settings.{SetHost, set_to, said_with, client_machine, server_machine}
-use Rattle.host_model.proofs.Setting.{said_by, set_hosts_are_orderly}
-use Rattle.scenario_laws.proofs.SetHosts.{hear_same, says_same}
+use Rattle.pair_laws.specs.world_model.specs.Machines.{Upper, Up, Down, News, Linked, Failed, Heard, TimerFired, Cancelled, Opening}
+use Rattle.pair_laws.specs.world_model.specs.Worlds.{World, Happening, Runs}
+use Rattle.pair_laws.specs.rest_laws.specs.Premises.{AreOrderly}
+use Rattle.pair_laws.specs.alike_laws.specs.Twins.{world_with}
+use Rattle.pair_laws.specs.alike_laws.proofs.Alike.{AreAlike, runs_on, rest_on}
+use Rattle.pair_laws.specs.host_model.specs.Circumstances.{Circumstance, Stored, answers_in}
+use Rattle.pair_laws.specs.host_model.specs.Profiles.{Profile}
+use Rattle.pair_laws.specs.host_model.specs.Hosts.{Host, most_said, driven, hears_news, hear, next}
+use Rattle.pair_laws.specs.host_model.specs.Clients.{ClientProfile}
+use Rattle.pair_laws.specs.host_model.specs.Servers.{ServerProfile, with_answers, server_profile}
+use Rattle.pair_laws.specs.host_model.specs.Settings.{SetHost, set_to, said_with, client_machine, server_machine}
+use Rattle.pair_laws.specs.host_model.proofs.Setting.{said_by, set_hosts_are_orderly}
+use Rattle.pair_laws.specs.scenario_laws.proofs.SetHosts.{hear_same, says_same}
 use Rattle.pair_laws.specs.Enough.{remembered}
 use Rattle.pair_laws.specs.Granted.{answered_by, granted}
 use Rattle.pair_laws.proofs.Answered.{IsSame, same_alike}

@@ -1,25 +1,25 @@
 -- What a host does whose profile is seen as another, the host of that other does.
 use Rattle.std.proofs.Common.{◌≡◌, ◌&&◌, ◌||◌, not, ℕ, zero, suc, Bool, true, false, List, [], ◌∷◌, Option, Some, None, is_some, refl, sym, ap, ◌∙◌, if◌then◌else◌}
-use Rattle.bt_base.specs.declared.settings.Settings.{Settings}
-use Rattle.acl_fragments.specs.Pieces.{channel_of}
-use Rattle.channel_model.specs.declared.event.ChannelEvent.{ChannelEvent}
-use Rattle.channel_model.specs.Value.{Channels}
-use Rattle.channel_model.specs.Calls.{link_down}
-use Rattle.channel_model.specs.Calls as channels
-use Rattle.channel_model.specs.Carrying.{Up as Handed, Nothing, Received}
-use Rattle.channel_model.specs.Giving.{Given, next_given, after_given}
-use Rattle.channel_model.specs.Hearing.{hears, up}
-use Rattle.channel_model.specs.Policies.{Policy}
-use Rattle.channel_model.specs.Timing.{timed_out}
-use Rattle.push_terms.specs.declared.outcome.Outcome.{Outcome}
-use Rattle.world_model.specs.Machines.{Upper, News, Linked, Up, Down, Failed, Heard, TimerFired, Cancelled, Opening}
-use Rattle.run_laws.specs.Embedding.{said_as, Embeds}
-use Rattle.host_model.specs.Circumstances.{Circumstance}
-use Rattle.host_model.specs.Hosts.{Host, with_channels, tells_each, tells_events, settles, strides, goes_on, drives, handed, told, hears_news, ready, hear, most_steps, steps_behind, has_more, after_said, says, next}
-use Rattle.host_model.specs.Machines.{upper}
-use Rattle.host_model.specs.Pdus.{pdu_of, is_frame}
-use Rattle.host_model.specs.Profiles.{Stride, Profile}
-use Rattle.host_model.specs.Settings.{SetHost, set_to, said_with, with_settings}
+use Rattle.pair_laws.specs.bt_base.specs.declared.settings.Settings.{Settings}
+use Rattle.pair_laws.specs.acl_fragments.specs.Pieces.{channel_of}
+use Rattle.pair_laws.specs.channel_model.specs.declared.event.ChannelEvent.{ChannelEvent}
+use Rattle.pair_laws.specs.channel_model.specs.Value.{Channels}
+use Rattle.pair_laws.specs.channel_model.specs.Calls.{link_down}
+use Rattle.pair_laws.specs.channel_model.specs.Calls as channels
+use Rattle.pair_laws.specs.channel_model.specs.Carrying.{Up as Handed, Nothing, Received}
+use Rattle.pair_laws.specs.channel_model.specs.Giving.{Given, next_given, after_given}
+use Rattle.pair_laws.specs.channel_model.specs.Hearing.{hears, up}
+use Rattle.pair_laws.specs.channel_model.specs.Policies.{Policy}
+use Rattle.pair_laws.specs.channel_model.specs.Timing.{timed_out}
+use Rattle.pair_laws.specs.push_terms.specs.declared.outcome.Outcome.{Outcome}
+use Rattle.pair_laws.specs.world_model.specs.Machines.{Upper, News, Linked, Up, Down, Failed, Heard, TimerFired, Cancelled, Opening}
+use Rattle.pair_laws.specs.run_laws.specs.Embedding.{said_as, Embeds}
+use Rattle.pair_laws.specs.host_model.specs.Circumstances.{Circumstance}
+use Rattle.pair_laws.specs.host_model.specs.Hosts.{Host, with_channels, tells_each, tells_events, settles, strides, goes_on, drives, handed, told, hears_news, ready, hear, most_steps, steps_behind, has_more, after_said, says, next}
+use Rattle.pair_laws.specs.host_model.specs.Machines.{upper}
+use Rattle.pair_laws.specs.host_model.specs.Pdus.{pdu_of, is_frame}
+use Rattle.pair_laws.specs.host_model.specs.Profiles.{Stride, Profile}
+use Rattle.pair_laws.specs.host_model.specs.Settings.{SetHost, set_to, said_with, with_settings}
 
 abbrev pub stride_seen : {P Q : Type 0} → (P → Q) → Stride P → Stride Q
 stride_seen seen stride = record { channels = stride.channels; profile = seen stride.profile; more = stride.more }

@@ -1,30 +1,30 @@
 -- A server reacts in the same way whatever its inbox holds.
 use Rattle.std.proofs.Common.{◌≡◌, ◌==◌, ◌||◌, ℕ, zero, suc, Bool, true, false, List, [], ◌∷◌, ◌++◌, length, take, Option, Some, None, Ok, Err, refl, sym, ap, ◌∙◌, if◌then◌else◌}
-use Rattle.bt_base.specs.Objects.{Contents}
-use Rattle.bt_base.specs.declared.settings.Settings.{Settings}
-use Rattle.bt_base.specs.declared.settings.Transport.{Transport}
-use Rattle.bt_base.specs.declared.settings.Transport.TheVariants.{L2cap, Rfcomm}
-use Rattle.channel_model.specs.declared.event.ChannelEvent.{ChannelEvent}
-use Rattle.channel_model.specs.declared.event.ChannelEvent.TheVariants.{Opened, Closed, Features, FeaturesLost, DisconnectLost}
-use Rattle.channel_model.specs.Calls.{sends}
-use Rattle.channel_model.specs.Value.{Channels}
-use Rattle.obex_session.specs.InboxCalls.{InboxCall, Answer, held_after, left_by}
-use Rattle.obex_session.specs.Rules.{aborts, progress_in}
-use Rattle.obex_session.specs.Serving.{ruling_on}
-use Rattle.push_model.specs.Sessions.{Sessions, Gift, Parted, Heard as Answered, session_of, other_of, after_calls, lets_go, is_naming, answers_to, hears_after, hears}
-use Rattle.push_model.specs.Service.{Service, Served, is_ignored, after_heard, after_parted, hears_packet}
-use Rattle.push_model.specs.Streams.{Front, Whole, Partial, Broken, front_of}
-use Rattle.push_model.specs.Listening.{Listener, Heeded, Received, heeded_by, heeds, breaks_at, heeds_carried, stops, received, hears_on, hears_front, hears_stream}
-use Rattle.push_model.specs.Server as push
-use Rattle.push_model.specs.Server.{Server, Reacted, Lent, rfcomm_psm, object_psm, search_psm, hears_search, hears_octets, hears_up, received_by, reacted_by, lets_go_on, lets_go_twice, remuxed, unreplied, unanswered, closed_on, unless_failed, on_sdu, channel_down, link_down, lends, lent_sdu, stepped}
-use Rattle.rfcomm_model.specs.Hearing.{Up as Muxed, nothing, opened, bytes, closed, up}
-use Rattle.rfcomm_model.specs.Hearing as hearing
-use Rattle.world_model.specs.Machines.{Up, Down, News, Linked, Failed, Heard, TimerFired, Cancelled, Opening}
-use Rattle.host_model.specs.Circumstances.{Circumstance}
-use Rattle.host_model.specs.Endpoints.{endpoint_of, with_endpoint, takes_sdu}
-use Rattle.host_model.specs.Pdus.{sdu_of}
-use Rattle.host_model.specs.Profiles.{Stride}
-use Rattle.host_model.specs.Servers.{ServerProfile, told, happened, is_told, reacts, unlinked, waiting, submits, takes, server_profile}
+use Rattle.pair_laws.specs.bt_base.specs.Objects.{Contents}
+use Rattle.pair_laws.specs.bt_base.specs.declared.settings.Settings.{Settings}
+use Rattle.pair_laws.specs.bt_base.specs.declared.settings.Transport.{Transport}
+use Rattle.pair_laws.specs.bt_base.specs.declared.settings.Transport.TheVariants.{L2cap, Rfcomm}
+use Rattle.pair_laws.specs.channel_model.specs.declared.event.ChannelEvent.{ChannelEvent}
+use Rattle.pair_laws.specs.channel_model.specs.declared.event.ChannelEvent.TheVariants.{Opened, Closed, Features, FeaturesLost, DisconnectLost}
+use Rattle.pair_laws.specs.channel_model.specs.Calls.{sends}
+use Rattle.pair_laws.specs.channel_model.specs.Value.{Channels}
+use Rattle.pair_laws.specs.obex_session.specs.InboxCalls.{InboxCall, Answer, held_after, left_by}
+use Rattle.pair_laws.specs.obex_session.specs.Rules.{aborts, progress_in}
+use Rattle.pair_laws.specs.obex_session.specs.Serving.{ruling_on}
+use Rattle.pair_laws.specs.push_model.specs.Sessions.{Sessions, Gift, Parted, Heard as Answered, session_of, other_of, after_calls, lets_go, is_naming, answers_to, hears_after, hears}
+use Rattle.pair_laws.specs.push_model.specs.Service.{Service, Served, is_ignored, after_heard, after_parted, hears_packet}
+use Rattle.pair_laws.specs.push_model.specs.Streams.{Front, Whole, Partial, Broken, front_of}
+use Rattle.pair_laws.specs.push_model.specs.Listening.{Listener, Heeded, Received, heeded_by, heeds, breaks_at, heeds_carried, stops, received, hears_on, hears_front, hears_stream}
+use Rattle.pair_laws.specs.push_model.specs.Server as push
+use Rattle.pair_laws.specs.push_model.specs.Server.{Server, Reacted, Lent, rfcomm_psm, object_psm, search_psm, hears_search, hears_octets, hears_up, received_by, reacted_by, lets_go_on, lets_go_twice, remuxed, unreplied, unanswered, closed_on, unless_failed, on_sdu, channel_down, link_down, lends, lent_sdu, stepped}
+use Rattle.pair_laws.specs.rfcomm_model.specs.Hearing.{Up as Muxed, nothing, opened, bytes, closed, up}
+use Rattle.pair_laws.specs.rfcomm_model.specs.Hearing as hearing
+use Rattle.pair_laws.specs.world_model.specs.Machines.{Up, Down, News, Linked, Failed, Heard, TimerFired, Cancelled, Opening}
+use Rattle.pair_laws.specs.host_model.specs.Circumstances.{Circumstance}
+use Rattle.pair_laws.specs.host_model.specs.Endpoints.{endpoint_of, with_endpoint, takes_sdu}
+use Rattle.pair_laws.specs.host_model.specs.Pdus.{sdu_of}
+use Rattle.pair_laws.specs.host_model.specs.Profiles.{Stride}
+use Rattle.pair_laws.specs.host_model.specs.Servers.{ServerProfile, told, happened, is_told, reacts, unlinked, waiting, submits, takes, server_profile}
 use Rattle.inbox_laws.specs.Untold.{untold}
 use Rattle.inbox_laws.proofs.Seen.{IsSeen, stride_seen}
 

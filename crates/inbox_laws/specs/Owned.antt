@@ -1,14 +1,14 @@
 -- A server that keeps what its inbox is to answer, from its first moment on (this project's own).
 use Rattle.std.specs.Prelude.{List, None}
-use Rattle.bt_base.specs.declared.settings.Settings.{Settings}
-use Rattle.push_laws.specs.Premises.{AllGranted, NoneShort}
-use Rattle.world_model.specs.Machines.{Upper}
-use Rattle.world_model.specs.Worlds.{World, Happening, Runs, IsAtRest}
-use Rattle.host_model.specs.Circumstances.{Circumstance}
-use Rattle.host_model.specs.Profiles.{Profile}
-use Rattle.host_model.specs.Clients.{ClientProfile}
-use Rattle.host_model.specs.Servers.{ServerProfile, server_profile}
-use Rattle.host_model.specs.Settings.{SetHost, with_settings, client_machine, server_machine}
+use Rattle.pair_laws.specs.bt_base.specs.declared.settings.Settings.{Settings}
+use Rattle.pair_laws.specs.push_laws.specs.Premises.{AllGranted, NoneShort}
+use Rattle.pair_laws.specs.world_model.specs.Machines.{Upper}
+use Rattle.pair_laws.specs.world_model.specs.Worlds.{World, Happening, Runs, IsAtRest}
+use Rattle.pair_laws.specs.host_model.specs.Circumstances.{Circumstance}
+use Rattle.pair_laws.specs.host_model.specs.Profiles.{Profile}
+use Rattle.pair_laws.specs.host_model.specs.Clients.{ClientProfile}
+use Rattle.pair_laws.specs.host_model.specs.Servers.{ServerProfile, server_profile}
+use Rattle.pair_laws.specs.host_model.specs.Settings.{SetHost, with_settings, client_machine, server_machine}
 use Rattle.pair_laws.specs.Enough.{remembering}
 use Rattle.pair_laws.specs.Granted.{granting}
 

@@ -1,16 +1,16 @@
 -- An inbox that answers one list, and goes on with what is left of it, with each thing that its host hears (this project's own).
 use Rattle.std.specs.Prelude.{◌≡◌, ◌≤◌, List, [], ◌∷◌, Option}
 use Rattle.std.specs.List.{AllByRecursion}
-use Rattle.bt_base.specs.declared.settings.Settings.{Settings}
-use Rattle.bt_base.specs.Objects.{Contents}
-use Rattle.obex_session.specs.InboxCalls.{Answer}
-use Rattle.push_laws.specs.Faults.{faults_of, spent_from}
-use Rattle.push_laws.specs.Premises.{NoneShort}
-use Rattle.host_model.specs.Circumstances.{Circumstance, answers_in}
-use Rattle.host_model.specs.Servers.{ServerProfile, server_profile}
-use Rattle.host_laws.specs.Feeds.{Feed, Gifts, Learns, Receives, Happens, Sent, Steps, fed}
-use Rattle.host_laws.specs.Gifts.{gifts_of}
-use Rattle.host_laws.specs.Serving.{served_from, reacted}
+use Rattle.pair_laws.specs.bt_base.specs.declared.settings.Settings.{Settings}
+use Rattle.pair_laws.specs.bt_base.specs.Objects.{Contents}
+use Rattle.pair_laws.specs.obex_session.specs.InboxCalls.{Answer}
+use Rattle.pair_laws.specs.push_laws.specs.Faults.{faults_of, spent_from}
+use Rattle.pair_laws.specs.push_laws.specs.Premises.{NoneShort}
+use Rattle.pair_laws.specs.host_model.specs.Circumstances.{Circumstance, answers_in}
+use Rattle.pair_laws.specs.host_model.specs.Servers.{ServerProfile, server_profile}
+use Rattle.pair_laws.specs.host_laws.specs.Feeds.{Feed, Gifts, Learns, Receives, Happens, Sent, Steps, fed}
+use Rattle.pair_laws.specs.host_laws.specs.Gifts.{gifts_of}
+use Rattle.pair_laws.specs.host_laws.specs.Serving.{served_from, reacted}
 
 -- a server is given what its inbox is still to answer
 abbrev pub IsLeft : ServerProfile → Feed → Type 0

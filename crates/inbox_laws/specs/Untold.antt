@@ -1,15 +1,15 @@
 -- That what an inbox answers decides what its host does, and not what it holds (this project's own).
 use Rattle.std.specs.Prelude.{◌≡◌, List, Option, None}
-use Rattle.bt_base.specs.Objects.{Contents}
-use Rattle.push_script.specs.declared.scenario.Scenario.{Scenario}
-use Rattle.world_model.specs.Machines.{News}
-use Rattle.world_model.specs.Worlds.{Happening, Runs}
-use Rattle.alike_laws.specs.Twins.{WorldsAlike}
-use Rattle.host_model.specs.Circumstances.{Circumstance}
-use Rattle.host_model.specs.Clients.{ClientProfile}
-use Rattle.host_model.specs.Hosts.{Host}
-use Rattle.host_model.specs.Servers.{ServerProfile}
-use Rattle.scenario_laws.specs.Captures.{client_of, server_of, BothHosts, beginning}
+use Rattle.pair_laws.specs.bt_base.specs.Objects.{Contents}
+use Rattle.pair_laws.specs.push_script.specs.declared.scenario.Scenario.{Scenario}
+use Rattle.pair_laws.specs.world_model.specs.Machines.{News}
+use Rattle.pair_laws.specs.world_model.specs.Worlds.{Happening, Runs}
+use Rattle.pair_laws.specs.alike_laws.specs.Twins.{WorldsAlike}
+use Rattle.pair_laws.specs.host_model.specs.Circumstances.{Circumstance}
+use Rattle.pair_laws.specs.host_model.specs.Clients.{ClientProfile}
+use Rattle.pair_laws.specs.host_model.specs.Hosts.{Host}
+use Rattle.pair_laws.specs.host_model.specs.Servers.{ServerProfile}
+use Rattle.pair_laws.specs.scenario_laws.specs.Captures.{client_of, server_of, BothHosts, beginning}
 use Rattle.pair_laws.specs.Granted.{answered_by}
 
 -- a server whose inbox does not tell what it holds

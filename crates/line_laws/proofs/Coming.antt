@@ -1,11 +1,11 @@
 -- What comes to a host in code, and what its controller took.
 use Rattle.std.proofs.Common.{refl}
-use Rattle.radio_air.specs.Controllers.{answer_packet, piece_packet}
-use Rattle.host_link.specs.Hearing.{heard}
-use Rattle.world_model.specs.Machines.{Upper}
-use Rattle.world_model.specs.Stations.{hears_answer, hears_piece}
-use Rattle.station_laws.proofs.Answering.{answers_are_heard}
-use Rattle.station_laws.proofs.Hearing.{pieces_are_heard}
+use Rattle.radio_world.specs.radio_air.specs.Controllers.{answer_packet, piece_packet}
+use Rattle.radio_world.specs.host_link.specs.Hearing.{heard}
+use Rattle.radio_world.specs.world_model.specs.Machines.{Upper}
+use Rattle.radio_world.specs.world_model.specs.Stations.{hears_answer, hears_piece}
+use Rattle.radio_world.specs.station_laws.proofs.Answering.{answers_are_heard}
+use Rattle.radio_world.specs.station_laws.proofs.Hearing.{pieces_are_heard}
 use Rattle.line_laws.specs.Seeing.{seen}
 use Rattle.line_laws.specs.Laws.{HeardIsSeen, TakenIsSeen}
 use Rattle.line_laws.proofs.Sending.{answer_sends, piece_sends}

@@ -1,18 +1,18 @@
 -- A host in code asks for its link, and for the end of it.
 use Rattle.std.proofs.Common.{◌≡◌, ℕ, ◌&&◌, ◌||◌, not, Bool, true, false, List, [], ◌∷◌, map, Option, Some, None, is_some, refl, ap₂, ◌∙◌}
 use Rattle.std.specs.List.{list_any}
-use Rattle.push_terms.specs.declared.word.Side.TheVariants.{A, B}
-use Rattle.radio_air.specs.Controllers.{address}
-use Rattle.host_link.specs.declared.host_command.HostCommand.{HostCommand}
-use Rattle.host_link.specs.declared.host_command.HostCommand.TheVariants.{Reset, ReadBufferSize, ReadBdAddr, WriteScanEnable, CreateConnection, AcceptConnection, Disconnect}
-use Rattle.host_link.specs.HostCommands as code
-use Rattle.host_link.specs.Calling.{ends, may_end}
-use Rattle.host_link.specs.Lines.{Line}
-use Rattle.host_link.specs.PuttingOut.{connecting, leaving}
-use Rattle.world_model.specs.Machines.{Upper}
-use Rattle.world_model.specs.Stations.{Asking, Leaving, asks, is_end}
-use Rattle.station_laws.specs.Seen.{order_of}
-use Rattle.station_laws.proofs.Striving.{links_are_asked, links_are_ended}
+use Rattle.radio_world.specs.push_terms.specs.declared.word.Side.TheVariants.{A, B}
+use Rattle.radio_world.specs.radio_air.specs.Controllers.{address}
+use Rattle.radio_world.specs.host_link.specs.declared.host_command.HostCommand.{HostCommand}
+use Rattle.radio_world.specs.host_link.specs.declared.host_command.HostCommand.TheVariants.{Reset, ReadBufferSize, ReadBdAddr, WriteScanEnable, CreateConnection, AcceptConnection, Disconnect}
+use Rattle.radio_world.specs.host_link.specs.HostCommands as code
+use Rattle.radio_world.specs.host_link.specs.Calling.{ends, may_end}
+use Rattle.radio_world.specs.host_link.specs.Lines.{Line}
+use Rattle.radio_world.specs.host_link.specs.PuttingOut.{connecting, leaving}
+use Rattle.radio_world.specs.world_model.specs.Machines.{Upper}
+use Rattle.radio_world.specs.world_model.specs.Stations.{Asking, Leaving, asks, is_end}
+use Rattle.radio_world.specs.station_laws.specs.Seen.{order_of}
+use Rattle.radio_world.specs.station_laws.proofs.Striving.{links_are_asked, links_are_ended}
 use Rattle.line_laws.specs.Seeing.{seen}
 use Rattle.line_laws.specs.Laws.{CallsAreSeen, EndsAreSeen}
 use Rattle.line_laws.proofs.Seeing.{seen_station, goes_as_seen}

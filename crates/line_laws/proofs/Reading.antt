@@ -3,17 +3,17 @@ use Rattle.std.proofs.Common.{◌≡◌, ℕ, zero, suc, ◌+◌, ◌*◌, ◌/�
 use Rattle.std.proofs.Math.Seq.{take-append_seam}
 use Rattle.std.proofs.lemmas.List.{drop-append-le, drop_all}
 use Rattle.byteorder.specs.Endian.{little_number}
-use Rattle.bt_base.specs.Octets.{le16}
-use Rattle.bt_base.proofs.OctetLemmas.{le16-number}
-use Rattle.h4_framing.specs.Packets.{Packet, Command, Acl, Sync, Event, spelling}
-use Rattle.hci_packets.specs.declared.acl.Boundary.{Boundary}
-use Rattle.hci_packets.specs.declared.acl.Boundary.TheVariants.{First, Continuing, FirstFromController}
-use Rattle.hci_packets.specs.AclWords.{flag_of}
-use Rattle.acl_fragments.specs.Pieces.{Piece}
-use Rattle.push_terms.specs.declared.word.Side.{Side}
-use Rattle.push_terms.specs.declared.word.Side.TheVariants.{A, B}
-use Rattle.world_model.specs.Stations.{Order, ReadBuffers, ReadAddress, Scan, Page, Accept, End, Data, order_packet}
-use Rattle.world_model.specs.Stations as orders
+use Rattle.radio_world.specs.bt_base.specs.Octets.{le16}
+use Rattle.radio_world.specs.bt_base.proofs.OctetLemmas.{le16-number}
+use Rattle.radio_world.specs.h4_framing.specs.Packets.{Packet, Command, Acl, Sync, Event, spelling}
+use Rattle.radio_world.specs.hci_packets.specs.declared.acl.Boundary.{Boundary}
+use Rattle.radio_world.specs.hci_packets.specs.declared.acl.Boundary.TheVariants.{First, Continuing, FirstFromController}
+use Rattle.radio_world.specs.hci_packets.specs.AclWords.{flag_of}
+use Rattle.radio_world.specs.acl_fragments.specs.Pieces.{Piece}
+use Rattle.radio_world.specs.push_terms.specs.declared.word.Side.{Side}
+use Rattle.radio_world.specs.push_terms.specs.declared.word.Side.TheVariants.{A, B}
+use Rattle.radio_world.specs.world_model.specs.Stations.{Order, ReadBuffers, ReadAddress, Scan, Page, Accept, End, Data, order_packet}
+use Rattle.radio_world.specs.world_model.specs.Stations as orders
 use Rattle.radio_world.specs.Hosts.{order_octets, IsSent, AreSent}
 use Rattle.line_laws.specs.Reading.{boundary_by, data_in, orders_by}
 use Rattle.line_laws.specs.Laws.{OrdersAreRead}

@@ -1,14 +1,14 @@
 -- A host in code is what its octets say, and is so again behind each of its calls.
 use Rattle.std.proofs.Common.{◌≡◌, ◌<◌, List, [], ◌∷◌, length, refl, sym, ap, subst, ◌∙◌, arith}
-use Rattle.h4_framing.specs.Packets.{Packet, Command, Acl, Sync, Event, spelling}
-use Rattle.push_terms.specs.declared.word.Side.{Side}
-use Rattle.host_link.specs.Lines.{Line}
-use Rattle.host_link.specs.PuttingOut.{started}
-use Rattle.world_model.specs.Machines.{Upper}
-use Rattle.world_model.specs.Stations.{Order, order_packet, Station, Effort, Commanding, first_station}
-use Rattle.station_laws.specs.Seen.{role_of, IsWithin, IsStation, station_of}
-use Rattle.station_laws.specs.Striving.{Makes, Strives}
-use Rattle.station_laws.proofs.Striving.{starts_as_first}
+use Rattle.radio_world.specs.h4_framing.specs.Packets.{Packet, Command, Acl, Sync, Event, spelling}
+use Rattle.radio_world.specs.push_terms.specs.declared.word.Side.{Side}
+use Rattle.radio_world.specs.host_link.specs.Lines.{Line}
+use Rattle.radio_world.specs.host_link.specs.PuttingOut.{started}
+use Rattle.radio_world.specs.world_model.specs.Machines.{Upper}
+use Rattle.radio_world.specs.world_model.specs.Stations.{Order, order_packet, Station, Effort, Commanding, first_station}
+use Rattle.radio_world.specs.station_laws.specs.Seen.{role_of, IsWithin, IsStation, station_of}
+use Rattle.radio_world.specs.station_laws.specs.Striving.{Makes, Strives}
+use Rattle.radio_world.specs.station_laws.proofs.Striving.{starts_as_first}
 use Rattle.radio_world.specs.Hosts.{order_octets, MakesEfforts}
 use Rattle.line_laws.specs.Reading.{orders_in}
 use Rattle.line_laws.specs.Seeing.{seen, SaysOctets, MaySend, IsSeen}

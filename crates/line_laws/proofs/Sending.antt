@@ -5,22 +5,22 @@ use Rattle.std.proofs.Math.Nat.{min-le_right}
 use Rattle.std.proofs.lemmas.Bool.{ltb-true}
 use Rattle.std.proofs.lemmas.List.{length-take}
 use Rattle.byteorder.specs.Endian.{little_number}
-use Rattle.bt_base.specs.Octets.{IsOctets, le16}
-use Rattle.h4_framing.proofs.OctetLists.{IsOctets-cons, IsOctets-drop, IsOctets-nil, IsOctets-take}
-use Rattle.hci_packets.specs.declared.acl.Boundary.{Boundary}
-use Rattle.hci_packets.specs.declared.acl.Boundary.TheVariants.{First, Continuing, FirstFromController}
-use Rattle.hci_packets.specs.AclWords.{flag_of}
-use Rattle.hci_packets.specs.Commands.{command_params}
-use Rattle.acl_fragments.specs.Pieces.{Piece}
-use Rattle.acl_fragments.specs.Cuts.{first_pieces}
-use Rattle.push_terms.specs.declared.word.Side.{Side}
-use Rattle.push_terms.specs.declared.word.Side.TheVariants.{A, B}
-use Rattle.radio_air.specs.Controllers.{Answer, Returned, Stated, Called, LinkMade, LinkGone, GivenBack}
-use Rattle.world_model.specs.Machines.{Upper}
-use Rattle.world_model.specs.Stations.{Order, ReadBuffers, ReadAddress, Scan, Page, Accept, End, Data, Station, Effort, Taking, Putting, Asking, Leaving, Commanding, MakesEffort, command_of, first_station, learns, may_accept, is_handle, hears_answer, hears_piece}
-use Rattle.world_model.specs.Stations as orders
-use Rattle.station_laws.specs.Coming.{MayCome}
-use Rattle.station_laws.specs.Striving.{Makes}
+use Rattle.radio_world.specs.bt_base.specs.Octets.{IsOctets, le16}
+use Rattle.radio_world.specs.h4_framing.proofs.OctetLists.{IsOctets-cons, IsOctets-drop, IsOctets-nil, IsOctets-take}
+use Rattle.radio_world.specs.hci_packets.specs.declared.acl.Boundary.{Boundary}
+use Rattle.radio_world.specs.hci_packets.specs.declared.acl.Boundary.TheVariants.{First, Continuing, FirstFromController}
+use Rattle.radio_world.specs.hci_packets.specs.AclWords.{flag_of}
+use Rattle.radio_world.specs.hci_packets.specs.Commands.{command_params}
+use Rattle.radio_world.specs.acl_fragments.specs.Pieces.{Piece}
+use Rattle.radio_world.specs.acl_fragments.specs.Cuts.{first_pieces}
+use Rattle.radio_world.specs.push_terms.specs.declared.word.Side.{Side}
+use Rattle.radio_world.specs.push_terms.specs.declared.word.Side.TheVariants.{A, B}
+use Rattle.radio_world.specs.radio_air.specs.Controllers.{Answer, Returned, Stated, Called, LinkMade, LinkGone, GivenBack}
+use Rattle.radio_world.specs.world_model.specs.Machines.{Upper}
+use Rattle.radio_world.specs.world_model.specs.Stations.{Order, ReadBuffers, ReadAddress, Scan, Page, Accept, End, Data, Station, Effort, Taking, Putting, Asking, Leaving, Commanding, MakesEffort, command_of, first_station, learns, may_accept, is_handle, hears_answer, hears_piece}
+use Rattle.radio_world.specs.world_model.specs.Stations as orders
+use Rattle.radio_world.specs.station_laws.specs.Coming.{MayCome}
+use Rattle.radio_world.specs.station_laws.specs.Striving.{Makes}
 use Rattle.radio_world.specs.Hosts.{IsSent}
 use Rattle.line_laws.specs.Seeing.{SaysOctets, IsCarried, MaySend}
 

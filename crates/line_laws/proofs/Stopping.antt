@@ -1,18 +1,18 @@
 -- A host in code that has done all that it can.
 use Rattle.std.proofs.Common.{◌≡◌, ℕ, suc, ◌&&◌, ◌||◌, ◌==◌, not, nat_lt, Bool, true, false, List, [], ◌∷◌, length, map, Option, Some, None, is_none, is_some, refl, sym, ap, ap₂, subst, ◌∙◌, arith}
 use Rattle.std.proofs.lemmas.Bool.{lt-ltb, ne_eqb}
-use Rattle.acl_fragments.specs.Pieces.{Piece}
-use Rattle.acl_credits.specs.Ledgers.{packets_of}
-use Rattle.push_terms.specs.declared.word.Side.{Side}
-use Rattle.push_terms.specs.declared.word.Side.TheVariants.{A, B}
-use Rattle.host_link.specs.declared.host_command.HostCommand.{HostCommand}
-use Rattle.host_link.specs.Lines.{Line}
-use Rattle.host_link.specs.PuttingOut.{has_room, has_buffer, is_waiting, can_take_pdu, put_command}
-use Rattle.world_model.specs.Machines.{Upper}
-use Rattle.world_model.specs.Stations.{Order, Station, Taking, Putting, Asking, Leaving, Commanding, Takes, Puts, Commands}
-use Rattle.station_laws.specs.Seen.{IsHostOf, order_of}
-use Rattle.station_laws.proofs.Stopping.{pieces_stop, commands_stop}
-use Rattle.host_link.specs.Calling.{may_end}
+use Rattle.radio_world.specs.acl_fragments.specs.Pieces.{Piece}
+use Rattle.radio_world.specs.acl_credits.specs.Ledgers.{packets_of}
+use Rattle.radio_world.specs.push_terms.specs.declared.word.Side.{Side}
+use Rattle.radio_world.specs.push_terms.specs.declared.word.Side.TheVariants.{A, B}
+use Rattle.radio_world.specs.host_link.specs.declared.host_command.HostCommand.{HostCommand}
+use Rattle.radio_world.specs.host_link.specs.Lines.{Line}
+use Rattle.radio_world.specs.host_link.specs.PuttingOut.{has_room, has_buffer, is_waiting, can_take_pdu, put_command}
+use Rattle.radio_world.specs.world_model.specs.Machines.{Upper}
+use Rattle.radio_world.specs.world_model.specs.Stations.{Order, Station, Taking, Putting, Asking, Leaving, Commanding, Takes, Puts, Commands}
+use Rattle.radio_world.specs.station_laws.specs.Seen.{IsHostOf, order_of}
+use Rattle.radio_world.specs.station_laws.proofs.Stopping.{pieces_stop, commands_stop}
+use Rattle.radio_world.specs.host_link.specs.Calling.{may_end}
 use Rattle.line_laws.specs.Seeing.{seen, is_asking, IsSpent}
 use Rattle.line_laws.specs.Laws.{SpentHostsStop}
 use Rattle.line_laws.proofs.Linking.{same_asking, same_ending}

@@ -1,19 +1,19 @@
 -- What a host in code over `host_link` is to the world (this project's own).
 use Rattle.std.specs.Prelude.{ℕ, ◌≡◌, true, false, List, [], ◌∷◌, None}
-use Rattle.bt_base.specs.Numbers.{IsHandle}
-use Rattle.acl_fragments.specs.Pieces.{Piece}
-use Rattle.push_terms.specs.declared.word.Side.{Side}
-use Rattle.push_terms.specs.declared.word.Side.TheVariants.{A, B}
-use Rattle.radio_air.specs.Controllers.{Answer, answer_packet, piece_packet, address}
-use Rattle.host_link.specs.Lines.{Line}
-use Rattle.host_link.specs.Calling.{may_end}
-use Rattle.host_link.specs.PuttingOut.{connecting, leaving, started}
-use Rattle.host_link.specs.Hearing.{heard}
-use Rattle.world_model.specs.Machines.{Upper}
-use Rattle.world_model.specs.Stations.{Order, Station, Effort, Asking, Leaving, Commanding, first_station, hears_answer, hears_piece, IsStopped}
-use Rattle.station_laws.specs.Seen.{role_of}
-use Rattle.station_laws.specs.Coming.{MayCome}
-use Rattle.station_laws.specs.Striving.{Strives}
+use Rattle.radio_world.specs.bt_base.specs.Numbers.{IsHandle}
+use Rattle.radio_world.specs.acl_fragments.specs.Pieces.{Piece}
+use Rattle.radio_world.specs.push_terms.specs.declared.word.Side.{Side}
+use Rattle.radio_world.specs.push_terms.specs.declared.word.Side.TheVariants.{A, B}
+use Rattle.radio_world.specs.radio_air.specs.Controllers.{Answer, answer_packet, piece_packet, address}
+use Rattle.radio_world.specs.host_link.specs.Lines.{Line}
+use Rattle.radio_world.specs.host_link.specs.Calling.{may_end}
+use Rattle.radio_world.specs.host_link.specs.PuttingOut.{connecting, leaving, started}
+use Rattle.radio_world.specs.host_link.specs.Hearing.{heard}
+use Rattle.radio_world.specs.world_model.specs.Machines.{Upper}
+use Rattle.radio_world.specs.world_model.specs.Stations.{Order, Station, Effort, Asking, Leaving, Commanding, first_station, hears_answer, hears_piece, IsStopped}
+use Rattle.radio_world.specs.station_laws.specs.Seen.{role_of}
+use Rattle.radio_world.specs.station_laws.specs.Coming.{MayCome}
+use Rattle.radio_world.specs.station_laws.specs.Striving.{Strives}
 use Rattle.radio_world.specs.Hosts.{order_octets, AreSent, MakesEfforts}
 use Rattle.line_laws.specs.Reading.{orders_in}
 use Rattle.line_laws.specs.Seeing.{seen, SaysOctets, is_asking, IsSeen, IsSpent}

@@ -1,10 +1,10 @@
 -- What a host put out, read off its octets (Core 5.1, Volume 4 Part A, 2; Volume 2 Part E, 5.4).
 use Rattle.std.specs.Prelude.{ℕ, zero, suc, ◌==◌, ◌/◌, ◌%◌, List, [], ◌∷◌, length, take, drop, slice_index, if◌then◌else◌}
 use Rattle.byteorder.specs.Endian.{little_number}
-use Rattle.hci_packets.specs.declared.acl.Boundary.{Boundary}
-use Rattle.hci_packets.specs.declared.acl.Boundary.TheVariants.{First, Continuing, FirstFromController}
-use Rattle.world_model.specs.Stations.{Order, ReadBuffers, ReadAddress, Scan, Page, Accept, End, Data}
-use Rattle.world_model.specs.Stations as orders
+use Rattle.radio_world.specs.hci_packets.specs.declared.acl.Boundary.{Boundary}
+use Rattle.radio_world.specs.hci_packets.specs.declared.acl.Boundary.TheVariants.{First, Continuing, FirstFromController}
+use Rattle.radio_world.specs.world_model.specs.Stations.{Order, ReadBuffers, ReadAddress, Scan, Page, Accept, End, Data}
+use Rattle.radio_world.specs.world_model.specs.Stations as orders
 
 abbrev pub boundary_by : ℕ → Boundary
 boundary_by flag = if flag == 0 then First else (if flag == 1 then Continuing else FirstFromController)

@@ -1,16 +1,16 @@
 -- A host in code as the station that its octets tell of (this project's own).
 use Rattle.std.specs.Prelude.{ℕ, ◌≡◌, ◌≤◌, ◌||◌, Bool, true, false, List, [], Some, None, length}
 use Rattle.std.specs.List.{AllByRecursion, list_any}
-use Rattle.bt_base.specs.Octets.{IsOctets}
-use Rattle.acl_fragments.specs.Pieces.{Piece}
-use Rattle.push_terms.specs.declared.word.Side.{Side}
-use Rattle.host_link.specs.Calling.{may_end}
-use Rattle.host_link.specs.HostCommands.{asks}
-use Rattle.host_link.specs.Lines.{Line}
-use Rattle.host_link.specs.PuttingOut.{can_take_pdu, put_pieces, put_command}
-use Rattle.world_model.specs.Machines.{Upper}
-use Rattle.world_model.specs.Stations.{Station}
-use Rattle.station_laws.specs.Seen.{IsHostOf, station_of}
+use Rattle.radio_world.specs.bt_base.specs.Octets.{IsOctets}
+use Rattle.radio_world.specs.acl_fragments.specs.Pieces.{Piece}
+use Rattle.radio_world.specs.push_terms.specs.declared.word.Side.{Side}
+use Rattle.radio_world.specs.host_link.specs.Calling.{may_end}
+use Rattle.radio_world.specs.host_link.specs.HostCommands.{asks}
+use Rattle.radio_world.specs.host_link.specs.Lines.{Line}
+use Rattle.radio_world.specs.host_link.specs.PuttingOut.{can_take_pdu, put_pieces, put_command}
+use Rattle.radio_world.specs.world_model.specs.Machines.{Upper}
+use Rattle.radio_world.specs.world_model.specs.Stations.{Station}
+use Rattle.radio_world.specs.station_laws.specs.Seen.{IsHostOf, station_of}
 use Rattle.radio_world.specs.Hosts.{order_octets, IsSent, AreSent}
 use Rattle.line_laws.specs.Reading.{orders_in}
 

@@ -3,7 +3,7 @@
 #![tactic(auto)]
 
 ghost use Rattle.line_laws.specs.Laws.{CallsAreSeen, EndsAreSeen, OrdersAreRead, StationsAreSeen, StrivesAreSeen, HeardIsSeen, TakenIsSeen, SpentHostsStop};
-ghost use Rattle.world_model.specs.Machines.{Upper};
+ghost use Rattle.radio_world.specs.world_model.specs.Machines.{Upper};
 
 /// The orders that a host may put out are read off their octets.
 #[tactic(auto, using(crate::proofs::Reading::orders_are_read))]

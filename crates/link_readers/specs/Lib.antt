@@ -1,3 +1,6 @@
+pub use Rattle.l2cap_config
+pub use Rattle.talk_laws.specs.push_script
+pub use Rattle.talk_laws
 pub mod Lent
 pub mod Spans
 pub mod Frames

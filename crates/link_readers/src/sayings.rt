@@ -2,7 +2,7 @@
 
 ghost use Rattle.std.specs.Prelude.{◌≡◌, ◌++◌, IfOk, OnOk, map, slice_index, length, drop, option_to_list};
 ghost use Rattle.std.specs.List.{flat_map};
-ghost use Rattle.acl_fragments.specs.Pieces.{channel_of};
+ghost use Rattle.talk_laws.specs.acl_fragments.specs.Pieces.{channel_of};
 ghost use Rattle.l2cap_signal.specs.Reading.{answer, answers};
 ghost use Rattle.capture.specs.Lent.{plain_pdu};
 ghost use Rattle.capture.specs.ReadPdus.{plain_pdus};

@@ -1,3 +1,16 @@
+pub use Rattle.acl_fragments
+pub use Rattle.bt_base
+pub use Rattle.capture
+pub use Rattle.ertm_frames
+pub use Rattle.capture.specs.h4_framing
+pub use Rattle.l2cap_config
+pub use Rattle.l2cap_signal
+pub use Rattle.obex_headers
+pub use Rattle.capture.specs.push_script
+pub use Rattle.push_terms
+pub use Rattle.rfcomm_frames
+pub use Rattle.sdp_client
+pub use Rattle.sdp_elements
 pub mod Sayings
 pub mod Senses
 pub mod Requests

@@ -6,18 +6,18 @@ use Rattle.bt_base.specs.Counts.{HasRisen}
 use Rattle.bt_base.specs.Memory.{MemoryShelved, MemoryStored, no_calls}
 use Rattle.bt_base.specs.Objects.{Object, Contents}
 use Rattle.bt_base.specs.Streams.{gained}
-use Rattle.capture.specs.Entries.{Entry}
-use Rattle.push_terms.specs.declared.outcome.Outcome.{Outcome}
-use Rattle.push_terms.specs.declared.outcome.Outcome.TheVariants.{ScriptEnded}
-use Rattle.push_terms.specs.declared.peaks.Peaks.{Peaks}
+use Rattle.object_push.specs.capture.specs.Entries.{Entry}
+use Rattle.object_push.specs.push_terms.specs.declared.outcome.Outcome.{Outcome}
+use Rattle.object_push.specs.push_terms.specs.declared.outcome.Outcome.TheVariants.{ScriptEnded}
+use Rattle.object_push.specs.push_terms.specs.declared.peaks.Peaks.{Peaks}
 use Rattle.push_script.specs.declared.scenario.Scenario.{Scenario}
 use Rattle.push_script.specs.declared.refusal.ScriptRefusal.{ScriptRefusal}
 use Rattle.push_script.specs.Made.{made_script, made_names, made_objects, put_first}
 use Rattle.push_script.specs.Reading.{Script, script_of, reading, with_defaults}
 use Rattle.push_script.specs.Reports.{report_text, peaks_text}
-use Rattle.radio_world.specs.declared.fault.WorldFault.{WorldFault}
-use Rattle.radio_world.specs.declared.fault.WorldFault.TheVariants as world
-use Rattle.scenario_laws.specs.Outcomes.{outcomes_in}
+use Rattle.object_push.specs.radio_world.specs.declared.fault.WorldFault.{WorldFault}
+use Rattle.object_push.specs.radio_world.specs.declared.fault.WorldFault.TheVariants as world
+use Rattle.object_push.specs.scenario_laws.specs.Outcomes.{outcomes_in}
 use Rattle.btpush_forms.specs.declared.status.Status.{Status}
 use Rattle.btpush_forms.specs.declared.status.Status.TheVariants as status
 use Rattle.btpush_forms.specs.Run.{HasEnded, HasCauses}

@@ -7,10 +7,10 @@ use Rattle.std.specs.Prelude.{codes, decimal}
 use Rattle.std.specs.List.{flat_map, AllByRecursion}
 use Rattle.bt_base.specs.declared.settings.Transport.{Transport}
 use Rattle.bt_base.specs.declared.settings.Transport.TheVariants as transports
-use Rattle.push_terms.specs.Words.{word_text}
-use Rattle.push_terms.specs.declared.word.Word.{Word}
-use Rattle.push_terms.specs.declared.word.Word.TheVariants.{Pass, Lose, Repeat}
-use Rattle.push_terms.specs.declared.word.Way.TheVariants.{Ab}
+use Rattle.object_push.specs.push_terms.specs.Words.{word_text}
+use Rattle.object_push.specs.push_terms.specs.declared.word.Word.{Word}
+use Rattle.object_push.specs.push_terms.specs.declared.word.Word.TheVariants.{Pass, Lose, Repeat}
+use Rattle.object_push.specs.push_terms.specs.declared.word.Way.TheVariants.{Ab}
 use Rattle.push_script.specs.declared.scenario.Scenario.{Scenario}
 use Rattle.push_script.specs.Made.{made_script, made_names, made_runs, made_transport, made_objects, is_even, stated_only}
 use Rattle.push_script.specs.Reading.{Script, script_of, reading, text_limit, with_defaults}

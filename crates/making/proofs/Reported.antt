@@ -5,10 +5,10 @@ use Rattle.std.proofs.lemmas.List.{take_at}
 use Rattle.std.specs.Prelude.{codes, nat_lt, decimal, ◌==◌}
 use Rattle.std.specs.Fmt.{digits, digits_onto, digit_glyph}
 use Rattle.std.specs.List.{before_first, after_first, position_or_len, list_all, starts_with, AllByRecursion}
-use Rattle.push_terms.specs.Words.{hex_digit, hex_octet}
-use Rattle.push_terms.specs.Outcomes.{outcome_text}
-use Rattle.push_terms.specs.declared.outcome.Outcome.{Outcome}
-use Rattle.push_terms.specs.declared.outcome.Outcome.TheVariants.{Done, LinkLost, RetryLimit, Refused, NoService, ShelfFault, Cancelled, PeerClosed, PeerFault, ScriptEnded}
+use Rattle.object_push.specs.push_terms.specs.Words.{hex_digit, hex_octet}
+use Rattle.object_push.specs.push_terms.specs.Outcomes.{outcome_text}
+use Rattle.object_push.specs.push_terms.specs.declared.outcome.Outcome.{Outcome}
+use Rattle.object_push.specs.push_terms.specs.declared.outcome.Outcome.TheVariants.{Done, LinkLost, RetryLimit, Refused, NoService, ShelfFault, Cancelled, PeerClosed, PeerFault, ScriptEnded}
 use Rattle.push_script.specs.Reports.{push_line, push_lines}
 use Rattle.push_script.proofs.OutcomesWritten.{fault_text}
 use Rattle.push_script.proofs.Splitting.{differs, all_append}

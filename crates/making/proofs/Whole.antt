@@ -2,7 +2,7 @@
 use Rattle.std.proofs.Common.{◌≡◌, ℕ, ◌≤◌, List, length, inl, inr, ap, subst, ◌∙◌}
 use Rattle.bt_base.specs.Objects.{Object}
 use Rattle.bt_base.specs.Streams.{gained}
-use Rattle.push_terms.specs.declared.outcome.Outcome.{Outcome}
+use Rattle.object_push.specs.push_terms.specs.declared.outcome.Outcome.{Outcome}
 use Rattle.push_script.specs.Made.{made_names}
 use Rattle.push_script.specs.Reading.{script_of}
 use Rattle.btpush_forms.specs.declared.status.Status.{Status}

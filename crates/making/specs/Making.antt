@@ -4,9 +4,9 @@ use Rattle.std.specs.List.{list_all}
 use Rattle.bt_base.specs.Counts.{HasRisen}
 use Rattle.bt_base.specs.Objects.{Object}
 use Rattle.bt_base.specs.Streams.{gained, GainedFront}
-use Rattle.capture.specs.Entries.{Entry}
-use Rattle.push_terms.specs.declared.outcome.Outcome.{Outcome}
-use Rattle.push_terms.specs.declared.peaks.Peaks.{Peaks}
+use Rattle.object_push.specs.capture.specs.Entries.{Entry}
+use Rattle.object_push.specs.push_terms.specs.declared.outcome.Outcome.{Outcome}
+use Rattle.object_push.specs.push_terms.specs.declared.peaks.Peaks.{Peaks}
 use Rattle.push_script.specs.declared.scenario.Scenario.{Scenario}
 use Rattle.push_script.specs.Made.{made_names, made_objects, made_script, put_first}
 use Rattle.push_script.specs.Reading.{script_of}

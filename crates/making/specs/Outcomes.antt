@@ -1,6 +1,6 @@
 -- How many pushes are done (this project's own).
 use Rattle.std.specs.Prelude.{ℕ, ◌+◌, cond, List, [], ◌∷◌}
-use Rattle.push_terms.specs.declared.outcome.Outcome.{Outcome}
+use Rattle.object_push.specs.push_terms.specs.declared.outcome.Outcome.{Outcome}
 use Rattle.object_push.specs.Running.{is_done}
 
 -- how many of the objects of these names are done, of which each has its outcome

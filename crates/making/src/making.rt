@@ -2,7 +2,7 @@
 
 ghost use Rattle.std.specs.Prelude.{◌≡◌, length};
 ghost use Rattle.bt_base.specs.Counts.{HasRisen};
-ghost use Rattle.h4_view.specs.View.{IsAnswered};
+ghost use Rattle.btpush_forms.specs.h4_view.specs.View.{IsAnswered};
 ghost use Rattle.btpush_forms.specs.Run.{HasCauses, HasEnded};
 ghost use Rattle.btpush_forms.specs.Ports.{written};
 ghost use Rattle.making.specs.Counting.{done_lines, octets_counted};

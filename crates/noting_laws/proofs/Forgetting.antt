@@ -1,6 +1,6 @@
 -- Hosts that note what they hold are the hosts that they are.
 use Rattle.std.proofs.Common.{ℕ, refl}
-use Rattle.host_model.specs.Profiles.{Profile}
+use Rattle.bt_host.specs.host_model.specs.Profiles.{Profile}
 use Rattle.inbox_laws.proofs.Seen.{IsSeen, set_embeds}
 use Rattle.bt_host.specs.Noting.{Noted, noting}
 use Rattle.noting_laws.specs.Noting.{plain_set}

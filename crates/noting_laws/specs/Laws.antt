@@ -1,9 +1,9 @@
 -- That notes change nothing else of a host (this project's own).
 use Rattle.std.specs.Prelude.{ℕ}
-use Rattle.bt_base.specs.declared.settings.Settings.{Settings}
-use Rattle.run_laws.specs.Embedding.{Embeds}
-use Rattle.host_model.specs.Profiles.{Profile}
-use Rattle.host_model.specs.Settings.{with_settings}
+use Rattle.bt_host.specs.bt_base.specs.declared.settings.Settings.{Settings}
+use Rattle.bt_host.specs.run_laws.specs.Embedding.{Embeds}
+use Rattle.bt_host.specs.host_model.specs.Profiles.{Profile}
+use Rattle.bt_host.specs.host_model.specs.Settings.{with_settings}
 use Rattle.bt_host.specs.Noting.{noting}
 use Rattle.noting_laws.specs.Noting.{plain_set}
 

@@ -1,7 +1,7 @@
 -- Hosts without what they noted (this project's own).
 use Rattle.bt_host.specs.Noting.{Noted}
-use Rattle.host_model.specs.Hosts.{Host}
-use Rattle.host_model.specs.Settings.{SetHost, set_to}
+use Rattle.bt_host.specs.host_model.specs.Hosts.{Host}
+use Rattle.bt_host.specs.host_model.specs.Settings.{SetHost, set_to}
 
 abbrev pub plain_host : {S : Type 0} → Host (Noted S) → Host S
 plain_host host = record { channels = host.channels; profile = host.profile.end; may_say = host.may_say }

@@ -10,7 +10,7 @@ use Rattle.obex_headers.specs.Reader.{objects_seen}
 use Rattle.capture.specs.declared.flow.Flow.{Flow}
 use Rattle.capture.specs.declared.flow.Flow.TheVariants.{Out, Into}
 use Rattle.capture.specs.Histories.{given_by}
-use Rattle.l2cap_config.specs.declared.wish.Mode.{Mode}
+use Rattle.link_readers.specs.l2cap_config.specs.declared.wish.Mode.{Mode}
 use Rattle.link_talk.specs.declared.channel.Channel.{Channel}
 use Rattle.link_talk.specs.declared.party.Party.{Party}
 use Rattle.link_talk.specs.Sayings.{Saying}
@@ -22,12 +22,12 @@ use Rattle.link_talk.specs.ObjectsHeard.{spelled_within, channel_objects, object
 use Rattle.link_readers.specs.declared.entries.Entry.{Entry as LentEntry}
 use Rattle.link_readers.specs.Lent.{plain_entry, plain_entries}
 use Rattle.link_talk.proofs.Ways.{over_l2cap, over_nothing}
-use Rattle.talk_laws.specs.Sdus.{Ears, sdus_with, ears_so_far, spoken_now, ear_of, heard_so_far}
-use Rattle.talk_laws.proofs.Passes.{from_end}
-use Rattle.talk_laws.proofs.Sdus.{sdus-grow, sdus-look_back}
-use Rattle.talk_laws.proofs.Owning.{found_passes, some_is}
-use Rattle.talk_laws.specs.LinkObjects.{PlacedObject, placed_objects, object_on}
-use Rattle.talk_laws.proofs.LinkObjects.{objects-fall_to_channels}
+use Rattle.link_readers.specs.talk_laws.specs.Sdus.{Ears, sdus_with, ears_so_far, spoken_now, ear_of, heard_so_far}
+use Rattle.link_readers.specs.talk_laws.proofs.Passes.{from_end}
+use Rattle.link_readers.specs.talk_laws.proofs.Sdus.{sdus-grow, sdus-look_back}
+use Rattle.link_readers.specs.talk_laws.proofs.Owning.{found_passes, some_is}
+use Rattle.link_readers.specs.talk_laws.specs.LinkObjects.{PlacedObject, placed_objects, object_on}
+use Rattle.link_readers.specs.talk_laws.proofs.LinkObjects.{objects-fall_to_channels}
 use Rattle.object_lines.specs.Alone.{has_endpoint, IsSilent, AreSilent, IsSole}
 
 -- ---- the SDUs that come in

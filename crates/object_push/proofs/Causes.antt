@@ -2,7 +2,7 @@
 use Rattle.std.proofs.Common.{◌≡◌, ℕ, ◌⊎◌, arith, inl, inr, refl}
 use Rattle.std.proofs.lemmas.Bool.{cases_lt}
 use Rattle.bt_base.specs.Counts.{HasRisen}
-use Rattle.h4_view.specs.View.{IsAnswered}
+use Rattle.btpush_forms.specs.h4_view.specs.View.{IsAnswered}
 use Rattle.btpush_forms.specs.declared.status.Status.{Status}
 use Rattle.btpush_forms.specs.declared.status.Status.TheVariants as status
 use Rattle.btpush_forms.specs.Run.{HasCauses}

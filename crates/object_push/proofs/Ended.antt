@@ -6,17 +6,17 @@ use Rattle.std.specs.List.{AllByRecursion}
 use Rattle.bt_base.specs.Objects.{Object, Contents}
 use Rattle.bt_base.specs.Streams.{gained, GainedFront}
 use Rattle.bt_base.proofs.PortLaws.{gained-gained, front_whole}
-use Rattle.obex_session.specs.Counting.{Counts}
+use Rattle.scenario_play.specs.obex_session.specs.Counting.{Counts}
 use Rattle.push_script.specs.declared.scenario.Scenario.{Scenario}
 use Rattle.push_terms.specs.declared.outcome.Outcome.{Outcome}
 use Rattle.push_terms.specs.declared.outcome.Outcome.TheVariants.{ScriptEnded}
 use Rattle.push_terms.specs.declared.peaks.Peaks.{Peaks}
 use Rattle.push_terms.specs.declared.word.Word.{Word}
-use Rattle.capture.specs.Entries.{Entry, Ended, entry_octets, capture_octets, IsEntry}
-use Rattle.world_model.specs.Pushes.{Pushes}
-use Rattle.world_model.specs.Worlds.{Happening, all_entries, all_words}
+use Rattle.scenario_play.specs.capture.specs.Entries.{Entry, Ended, entry_octets, capture_octets, IsEntry}
+use Rattle.scenario_play.specs.world_model.specs.Pushes.{Pushes}
+use Rattle.scenario_play.specs.world_model.specs.Worlds.{Happening, all_entries, all_words}
 use Rattle.radio_world.specs.Standing.{last_entries}
-use Rattle.scenario_laws.specs.Captures.{client_of}
+use Rattle.scenario_play.specs.scenario_laws.specs.Captures.{client_of}
 use Rattle.scenario_play.specs.Breaking.{IsBroken}
 use Rattle.scenario_play.specs.Playing.{RanAnswered, IsPlayed}
 

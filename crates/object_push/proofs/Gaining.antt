@@ -5,8 +5,8 @@ use Rattle.bt_base.specs.Objects.{Object, Contents}
 use Rattle.bt_base.specs.declared.settings.Transport.TheVariants.{L2cap}
 use Rattle.watched_ports.specs.Gains.{most_kept}
 use Rattle.push_script.specs.declared.scenario.Scenario.{Scenario}
-use Rattle.push_laws.specs.Laws.{stored_in}
-use Rattle.scenario_laws.specs.Gains.{holding}
+use Rattle.scenario_play.specs.push_laws.specs.Laws.{stored_in}
+use Rattle.scenario_play.specs.scenario_laws.specs.Gains.{holding}
 use Rattle.scenario_play.specs.Breaking.{IsBroken}
 use Rattle.scenario_play.specs.Gaining.{PlaysGain}
 use Rattle.scenario_play.specs.Playing.{IsPlayed}

@@ -3,8 +3,8 @@ use Rattle.std.proofs.Common.{◌≡◌, ℕ, ◌≤◌, false, length, Option, 
 use Rattle.std.specs.Prelude.{IsErrOf, is_ok, IfErr, IfOk}
 use Rattle.bt_base.specs.Counts.{HasRisen}
 use Rattle.bt_base.specs.Objects.{Contents}
-use Rattle.h4_view.specs.View.{IsAnswered}
-use Rattle.obex_session.specs.Counting.{HasRisenBy}
+use Rattle.btpush_forms.specs.h4_view.specs.View.{IsAnswered}
+use Rattle.scenario_play.specs.obex_session.specs.Counting.{HasRisenBy}
 use Rattle.push_script.specs.declared.scenario.Scenario.{Scenario}
 use Rattle.radio_world.specs.declared.fault.WorldFault.{WorldFault}
 use Rattle.radio_world.specs.declared.fault.WorldFault.TheVariants.{TraceFault, NoMemory}

@@ -4,7 +4,7 @@ use Rattle.std.specs.Prelude.{IsErrOf, is_ok, IfErr, IfOk}
 use Rattle.std.proofs.lemmas.Bool.{cases_lt}
 use Rattle.bt_base.specs.Counts.{HasRisen, last_count}
 use Rattle.bt_base.specs.Objects.{Contents}
-use Rattle.h4_view.specs.View.{IsAnswered}
+use Rattle.btpush_forms.specs.h4_view.specs.View.{IsAnswered}
 use Rattle.watched_ports.specs.Counts.{IsNoted, count_behind}
 use Rattle.push_script.specs.declared.scenario.Scenario.{Scenario}
 use Rattle.radio_world.specs.Causes.{Blames}

@@ -3,7 +3,7 @@ use Rattle.std.proofs.Common.{◌≡◌, ℕ, List, Option, subst}
 use Rattle.bt_base.specs.Objects.{Object, Contents}
 use Rattle.bt_base.specs.declared.settings.Transport.TheVariants.{Rfcomm}
 use Rattle.push_script.specs.declared.scenario.Scenario.{Scenario}
-use Rattle.scenario_laws.specs.Gains.{holding}
+use Rattle.scenario_play.specs.scenario_laws.specs.Gains.{holding}
 use Rattle.scenario_play.specs.Breaking.{IsBroken}
 use Rattle.scenario_play.specs.Playing.{IsPlayed}
 use Rattle.scenario_play.specs.Streaming.{PlaysStream}

@@ -4,7 +4,7 @@ use Rattle.std.specs.Prelude.{◌^◌, is_some, replicate}
 use Rattle.std.proofs.lemmas.Bool.{cases_lt, lt-ltb}
 use Rattle.std.proofs.lemmas.List.{take_all, length-take, length-replicate, drop_all}
 use Rattle.bt_base.specs.Objects.{Object, Contents}
-use Rattle.capture.specs.Air.{words_of}
+use Rattle.scenario_play.specs.capture.specs.Air.{words_of}
 use Rattle.push_terms.specs.declared.word.Word.{Word}
 use Rattle.push_script.specs.declared.scenario.Scenario.{Scenario}
 use Rattle.push_script.specs.declared.refusal.ScriptRefusal.{ScriptRefusal}

@@ -4,17 +4,17 @@ use Rattle.std.proofs.lemmas.List.{append_cancel_left}
 use Rattle.std.specs.Prelude.{◌^◌}
 use Rattle.bt_base.specs.Counts.{HasRisen}
 use Rattle.bt_base.specs.Objects.{Object, Contents}
-use Rattle.capture.specs.Air.{words_of}
-use Rattle.capture.specs.Entries.{Entry}
-use Rattle.obex_session.specs.Counting.{Counts, HasRisenBy}
+use Rattle.scenario_play.specs.capture.specs.Air.{words_of}
+use Rattle.scenario_play.specs.capture.specs.Entries.{Entry}
+use Rattle.scenario_play.specs.obex_session.specs.Counting.{Counts, HasRisenBy}
 use Rattle.push_script.specs.declared.scenario.Scenario.{Scenario}
 use Rattle.push_terms.specs.declared.outcome.Outcome.{Outcome}
 use Rattle.push_terms.specs.declared.peaks.Peaks.{Peaks}
-use Rattle.world_model.specs.Worlds.{all_entries}
+use Rattle.scenario_play.specs.world_model.specs.Worlds.{all_entries}
 use Rattle.radio_world.specs.declared.fault.WorldFault.{WorldFault}
 use Rattle.radio_world.specs.declared.fault.WorldFault.TheVariants.{TraceFault, NoMemory}
-use Rattle.scenario_laws.specs.Gains.{holding}
-use Rattle.scenario_laws.proofs.Broken.{crowds_are_told}
+use Rattle.scenario_play.specs.scenario_laws.specs.Gains.{holding}
+use Rattle.scenario_play.specs.scenario_laws.proofs.Broken.{crowds_are_told}
 use Rattle.scenario_play.specs.Breaking as breaking
 use Rattle.scenario_play.specs.Breaking.{IsBroken, IsWanting}
 use Rattle.scenario_play.specs.Failing.{shelf_faults}

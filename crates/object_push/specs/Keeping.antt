@@ -1,7 +1,7 @@
 -- What is so of each run of a scenario, over L2CAP or over RFCOMM, over its capture (this project's own).
 use Rattle.std.specs.Prelude.{◌++◌}
 use Rattle.push_script.specs.declared.scenario.Scenario.{Scenario}
-use Rattle.world_model.specs.Worlds.{all_entries}
+use Rattle.scenario_play.specs.world_model.specs.Worlds.{all_entries}
 use Rattle.scenario_play.specs.Gaining.{KeepsPlayed, KeepsBroken}
 use Rattle.btpush_forms.specs.declared.status.Status.{Status}
 use Rattle.object_push.specs.Ports.{Ports}

@@ -1,3 +1,7 @@
+pub use Rattle.scenario_play.specs.capture
+pub use Rattle.push_terms
+pub use Rattle.radio_world
+pub use Rattle.scenario_play.specs.scenario_laws
 pub mod Ports
 pub mod Gains
 pub mod Halting

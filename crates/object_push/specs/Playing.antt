@@ -2,8 +2,8 @@
 use Rattle.std.specs.Prelude.{ℕ, ◌≡◌, ◌≤◌, false, List, length, Option, Result, IfErr, IfOk, IsErrOf, is_ok}
 use Rattle.bt_base.specs.Counts.{HasRisen}
 use Rattle.bt_base.specs.Objects.{Object, Contents}
-use Rattle.h4_view.specs.View.{IsAnswered}
-use Rattle.obex_session.specs.Counting.{HasRisenBy}
+use Rattle.btpush_forms.specs.h4_view.specs.View.{IsAnswered}
+use Rattle.scenario_play.specs.obex_session.specs.Counting.{HasRisenBy}
 use Rattle.push_script.specs.declared.scenario.Scenario.{Scenario}
 use Rattle.radio_world.specs.declared.fault.WorldFault.{WorldFault}
 use Rattle.radio_world.specs.declared.fault.WorldFault.TheVariants.{TraceFault, NoMemory}

@@ -4,7 +4,7 @@ use Rattle.bt_base.specs.Objects.{Object, Contents}
 use Rattle.bt_base.specs.declared.ports.Sink as sink
 use Rattle.bt_base.specs.declared.ports.Shelf as shelf
 use Rattle.bt_base.specs.declared.ports.Inbox as inbox
-use Rattle.obex_session.specs.Counting.{Counts}
+use Rattle.scenario_play.specs.obex_session.specs.Counting.{Counts}
 use Rattle.btpush_forms.specs.Ports.{Written, written}
 
 -- a shelf: its objects, where it tells them, and how often it failed, found no memory, and was asked for what it lacks

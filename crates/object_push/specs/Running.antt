@@ -3,7 +3,7 @@ use Rattle.std.specs.Prelude.{ℕ, ◌≡◌, Bool, true, false, List, Option}
 use Rattle.std.specs.List.{list_all}
 use Rattle.bt_base.specs.Counts.{HasRisen}
 use Rattle.bt_base.specs.Streams.{gained, GainedFront}
-use Rattle.obex_session.specs.Counting.{HasRisenBy}
+use Rattle.scenario_play.specs.obex_session.specs.Counting.{HasRisenBy}
 use Rattle.push_terms.specs.declared.outcome.Outcome.{Outcome}
 use Rattle.push_terms.specs.declared.outcome.Outcome.TheVariants as outcomes
 use Rattle.push_terms.specs.declared.peaks.Peaks.{Peaks}

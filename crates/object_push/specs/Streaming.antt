@@ -7,10 +7,10 @@ use Rattle.push_terms.specs.declared.outcome.Outcome.{Outcome}
 use Rattle.push_terms.specs.declared.peaks.Peaks.{Peaks}
 use Rattle.push_terms.specs.declared.word.Side.TheVariants.{B}
 use Rattle.push_script.specs.declared.scenario.Scenario.{Scenario}
-use Rattle.link_talk.specs.Captures.{objects_heard}
-use Rattle.host_laws.specs.Calls.{HostsAsk}
-use Rattle.scenario_laws.specs.Gains.{holding}
-use Rattle.scenario_laws.specs.Parties.{party_of}
+use Rattle.scenario_play.specs.link_talk.specs.Captures.{objects_heard}
+use Rattle.scenario_play.specs.host_laws.specs.Calls.{HostsAsk}
+use Rattle.scenario_play.specs.scenario_laws.specs.Gains.{holding}
+use Rattle.scenario_play.specs.scenario_laws.specs.Parties.{party_of}
 use Rattle.scenario_play.specs.Breaking.{IsBroken}
 use Rattle.scenario_play.specs.Playing.{IsPlayed}
 use Rattle.scenario_play.specs.Streaming.{HaveStreamed, StreamsPlayed, StreamsBroken}

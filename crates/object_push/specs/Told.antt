@@ -4,12 +4,12 @@ use Rattle.std.specs.List.{AllByRecursion}
 use Rattle.bt_base.specs.Counts.{HasRisen}
 use Rattle.bt_base.specs.Objects.{Object}
 use Rattle.bt_base.specs.Streams.{gained, GainedFront}
-use Rattle.capture.specs.Air.{words_of}
-use Rattle.capture.specs.Entries.{Entry, IsEntry, capture_octets}
-use Rattle.air_laws.specs.Crowded.{IsCrowded}
-use Rattle.link_talk.specs.Captures.{objects_heard}
-use Rattle.push_laws.specs.Spelled.{ArePushed}
-use Rattle.obex_session.specs.Counting.{Counts, HasRisenBy}
+use Rattle.scenario_play.specs.capture.specs.Air.{words_of}
+use Rattle.scenario_play.specs.capture.specs.Entries.{Entry, IsEntry, capture_octets}
+use Rattle.scenario_play.specs.air_laws.specs.Crowded.{IsCrowded}
+use Rattle.scenario_play.specs.link_talk.specs.Captures.{objects_heard}
+use Rattle.scenario_play.specs.push_laws.specs.Spelled.{ArePushed}
+use Rattle.scenario_play.specs.obex_session.specs.Counting.{Counts, HasRisenBy}
 use Rattle.push_script.specs.declared.scenario.Scenario.{Scenario}
 use Rattle.push_script.specs.Reports.{report_text}
 use Rattle.push_terms.specs.declared.outcome.Outcome.{Outcome}
@@ -18,11 +18,11 @@ use Rattle.push_terms.specs.declared.word.Side.{Side}
 use Rattle.push_terms.specs.declared.word.Side.TheVariants.{B}
 use Rattle.radio_world.specs.declared.fault.WorldFault.{WorldFault}
 use Rattle.radio_world.specs.declared.fault.WorldFault.TheVariants as world
-use Rattle.scenario_laws.specs.Air.{hosts_of}
-use Rattle.scenario_laws.specs.Parties.{party_of}
-use Rattle.cause_laws.specs.FirstCauses.{CausesAreShown}
-use Rattle.drop_laws.specs.Dropped.{LossesAreDrops}
-use Rattle.credit_laws.specs.Kept.{StaysSolvent}
+use Rattle.scenario_play.specs.scenario_laws.specs.Air.{hosts_of}
+use Rattle.scenario_play.specs.scenario_laws.specs.Parties.{party_of}
+use Rattle.scenario_play.specs.cause_laws.specs.FirstCauses.{CausesAreShown}
+use Rattle.scenario_play.specs.drop_laws.specs.Dropped.{LossesAreDrops}
+use Rattle.scenario_play.specs.credit_laws.specs.Kept.{StaysSolvent}
 use Rattle.scenario_play.specs.BufferPeaks.{AreBufferPeaks}
 use Rattle.scenario_play.specs.Failing.{shelf_faults}
 use Rattle.scenario_play.specs.Gaining.{KeepsPlayed, KeepsBroken}

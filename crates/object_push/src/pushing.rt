@@ -1,7 +1,7 @@
 //! The form `push`: a scenario is read and run, and what came of it is written.
 
 ghost use Rattle.std.specs.Prelude.{◌≡◌, ◌≢◌, ◌≤◌, false, [], IfSome};
-ghost use Rattle.h4_view.specs.View.{IsAnswered};
+ghost use Rattle.btpush_forms.specs.h4_view.specs.View.{IsAnswered};
 ghost use Rattle.btpush_forms.specs.Run.{HasCauses, HasEnded};
 ghost use Rattle.object_push.specs.Ports.{ports_of};
 ghost use Rattle.object_push.specs.Pushing.{IsShort, Pushes};

@@ -3,7 +3,7 @@
 ghost use Rattle.std.specs.Prelude.{◌≡◌, List, length};
 ghost use Rattle.std.specs.List.{list_all};
 ghost use Rattle.bt_base.specs.Counts.{HasRisen};
-ghost use Rattle.h4_view.specs.View.{IsAnswered};
+ghost use Rattle.btpush_forms.specs.h4_view.specs.View.{IsAnswered};
 ghost use Rattle.push_script.specs.Refusals.{refusal_line};
 ghost use Rattle.push_script.specs.Reports.{report_text};
 ghost use Rattle.btpush_forms.specs.Refusing.{Refuses};

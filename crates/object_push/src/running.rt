@@ -2,10 +2,10 @@
 
 ghost use Rattle.std.specs.Prelude.{◌≡◌, ◌≤◌, ◌||◌, ℕ, false, length, IfErr, IfOk, IsErrOf, is_ok};
 ghost use Rattle.bt_base.specs.Counts.{HasRisen};
-ghost use Rattle.h4_view.specs.View.{IsAnswered};
+ghost use Rattle.btpush_forms.specs.h4_view.specs.View.{IsAnswered};
 ghost use Rattle.watched_ports.specs.Gains.{Keeps};
 ghost use Rattle.watched_ports.specs.Pasts.{IsSink, IsShelf, IsInbox};
-ghost use Rattle.obex_session.specs.Counting.{counts_of, HasRisenBy};
+ghost use Rattle.scenario_play.specs.obex_session.specs.Counting.{counts_of, HasRisenBy};
 ghost use Rattle.scenario_play.specs.Breaking.{IsBroken};
 ghost use Rattle.scenario_play.specs.Failing.{shelf_faults};
 ghost use Rattle.scenario_play.specs.Playing.{IsPlayed};

@@ -3,30 +3,30 @@ use Rattle.std.proofs.Common.{◌≡◌, ◌≤◌, ◌+◌, ℕ, suc, Bool, tru
 use Rattle.std.specs.Prelude.{not, nat_lt}
 use Rattle.std.specs.List.{AllByRecursion, cons_option}
 use Rattle.std.proofs.lemmas.Bool.{eqb-true}
-use Rattle.bt_base.specs.declared.settings.Settings.{Settings}
-use Rattle.bt_base.specs.declared.settings.Transport.{Transport}
-use Rattle.bt_base.specs.declared.settings.Transport.TheVariants.{L2cap, Rfcomm}
-use Rattle.bt_base.specs.Objects.{Object}
-use Rattle.obex_headers.specs.declared.packet.Phase.TheVariants.{Request}
-use Rattle.obex_headers.specs.Reading.{packet_in}
-use Rattle.obex_headers.specs.Runs.{names}
-use Rattle.obex_session.specs.Laws.{without_fault}
-use Rattle.obex_session.specs.Past.{open_headers}
-use Rattle.obex_session.specs.Views.{is_silent}
-use Rattle.rfcomm_frames.specs.FrameReading.{is_empty}
-use Rattle.push_model.specs.Client.{own_maximum}
-use Rattle.push_model.specs.Listening.{has_bad_length}
-use Rattle.push_model.specs.Service.{Service, is_ignored}
-use Rattle.push_model.specs.Server.{Reacted, object_psm, rfcomm_psm}
-use Rattle.push_laws.specs.Answers.{Replied, said, requests, responses, went_on, AnswersInTurn}
-use Rattle.push_laws.specs.Laws.{new_over}
-use Rattle.push_laws.specs.Occurrences.{Occurrence, Came, Went, Closed, LinkDown, Asked, Answering, done, all_done}
-use Rattle.push_laws.specs.Parties.{sdu_if, NoFrame, ServesDirectly, AllServeDirectly}
-use Rattle.push_laws.specs.Premises.{AllGranted, IsHeard, MayCome, AllMayCome, new_packets}
-use Rattle.push_laws.specs.Readings.{closes, came_on, packets_over}
-use Rattle.push_laws.proofs.Answering.{answers-come_in_turn}
-use Rattle.push_laws.proofs.Calm.{IsCalm, calm_more, is_orderly, silent_stream, none_muxed, none_direct, one_direct, first_calm}
-use Rattle.push_laws.proofs.Readings.{read, read_more, read_same, read_closed}
+use Rattle.request_laws.specs.bt_base.specs.declared.settings.Settings.{Settings}
+use Rattle.request_laws.specs.bt_base.specs.declared.settings.Transport.{Transport}
+use Rattle.request_laws.specs.bt_base.specs.declared.settings.Transport.TheVariants.{L2cap, Rfcomm}
+use Rattle.request_laws.specs.bt_base.specs.Objects.{Object}
+use Rattle.request_laws.specs.obex_headers.specs.declared.packet.Phase.TheVariants.{Request}
+use Rattle.request_laws.specs.obex_headers.specs.Reading.{packet_in}
+use Rattle.request_laws.specs.obex_headers.specs.Runs.{names}
+use Rattle.request_laws.specs.obex_session.specs.Laws.{without_fault}
+use Rattle.request_laws.specs.obex_session.specs.Past.{open_headers}
+use Rattle.request_laws.specs.obex_session.specs.Views.{is_silent}
+use Rattle.request_laws.specs.rfcomm_frames.specs.FrameReading.{is_empty}
+use Rattle.request_laws.specs.push_model.specs.Client.{own_maximum}
+use Rattle.request_laws.specs.push_model.specs.Listening.{has_bad_length}
+use Rattle.request_laws.specs.push_model.specs.Service.{Service, is_ignored}
+use Rattle.request_laws.specs.push_model.specs.Server.{Reacted, object_psm, rfcomm_psm}
+use Rattle.request_laws.specs.push_laws.specs.Answers.{Replied, said, requests, responses, went_on, AnswersInTurn}
+use Rattle.request_laws.specs.push_laws.specs.Laws.{new_over}
+use Rattle.request_laws.specs.push_laws.specs.Occurrences.{Occurrence, Came, Went, Closed, LinkDown, Asked, Answering, done, all_done}
+use Rattle.request_laws.specs.push_laws.specs.Parties.{sdu_if, NoFrame, ServesDirectly, AllServeDirectly}
+use Rattle.request_laws.specs.push_laws.specs.Premises.{AllGranted, IsHeard, MayCome, AllMayCome, new_packets}
+use Rattle.request_laws.specs.push_laws.specs.Readings.{closes, came_on, packets_over}
+use Rattle.request_laws.specs.push_laws.proofs.Answering.{answers-come_in_turn}
+use Rattle.request_laws.specs.push_laws.proofs.Calm.{IsCalm, calm_more, is_orderly, silent_stream, none_muxed, none_direct, one_direct, first_calm}
+use Rattle.request_laws.specs.push_laws.proofs.Readings.{read, read_more, read_same, read_closed}
 
 -- ---- how many came and went on the channel of the object since the link came up
 

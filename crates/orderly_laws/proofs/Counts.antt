@@ -3,47 +3,47 @@ use Rattle.std.proofs.Common.{◌≡◌, ◌≤◌, ◌+◌, ℕ, Bool, true, fa
 use Rattle.std.specs.List.{AllByRecursion, cons_option}
 use Rattle.std.proofs.lemmas.Bool.{eq-eqb}
 use Rattle.std.proofs.lemmas.List.Elements.{filter_map-append}
-use Rattle.acl_fragments.specs.Pieces.{channel_of}
-use Rattle.bt_base.specs.declared.settings.Settings.{Settings}
-use Rattle.capture.specs.declared.flow.Flow.TheVariants.{Out, Into}
-use Rattle.capture.specs.Histories.{EachAfter}
-use Rattle.l2cap_config.specs.declared.wish.Mode.TheVariants.{Enhanced}
-use Rattle.l2cap_signal.specs.Reading.{answers}
-use Rattle.link_talk.specs.declared.channel.Channel.{Channel}
-use Rattle.link_talk.specs.declared.party.Party.{Party}
-use Rattle.link_talk.specs.Carriages.{has_own, mode_of, pdus_of, stretch}
-use Rattle.link_talk.specs.Channels.{Entry, reading}
-use Rattle.link_talk.specs.GrowingLaws.{has_opened}
-use Rattle.link_talk.specs.Sayings.{Saying, Command, Carried, GaveUp}
-use Rattle.link_talk.specs.Sdus.{sdus, sdus_by}
-use Rattle.push_terms.specs.declared.word.Side.TheVariants as sides
-use Rattle.channel_model.specs.Carrying.{takes, Up as Handed, Nothing, Received, up_at}
-use Rattle.channel_model.specs.Hearing.{up}
-use Rattle.channel_model.specs.Policies.{Policy, policy}
-use Rattle.channel_model.specs.Value.{Channels}
-use Rattle.channel_laws.specs.Endpoints.{IsOf}
-use Rattle.channel_laws.specs.Frames.{IsUttered, AreUttered}
-use Rattle.channel_laws.specs.OwnTalk.{asked_between, said_with_all}
-use Rattle.channel_laws.specs.Runs.{Occurrence, Comes, Run, run_of, sdus_up}
-use Rattle.channel_laws.specs.Sdus.{StatesFrame, IsHandedUp}
-use Rattle.channel_laws.specs.Taken.{taken_of}
-use Rattle.channel_laws.specs.Views.{channel_by, read_at}
-use Rattle.channel_laws.proofs.Entries.{read-own}
-use Rattle.channel_laws.proofs.Incoming.{sdus-are_read}
-use Rattle.channel_laws.proofs.Signalling.{bare-asked, bare-comes}
-use Rattle.channel_laws.proofs.Stretching.{NoneComes, stays-heard}
-use Rattle.channel_laws.proofs.Taken.{taken-goes_out}
-use Rattle.push_laws.specs.Answers.{said}
-use Rattle.push_model.specs.Server.{object_psm}
-use Rattle.host_laws.specs.Gaining.{HandsAllUp}
-use Rattle.host_laws.specs.OneCarrier.{CarriesAlone}
-use Rattle.host_laws.specs.OverLinks.{GoesOut}
-use Rattle.host_laws.specs.Told.{sdus_told, told_on}
-use Rattle.host_laws.proofs.Profiles.{sdus-so}
-use Rattle.host_laws.proofs.SearchingWeave.{each_split}
-use Rattle.host_laws.proofs.Telling.{sdus_run}
-use Rattle.scenario_laws.specs.Parties.{party_of}
-use Rattle.scenario_laws.proofs.Wishes.{states_frame}
+use Rattle.request_laws.specs.acl_fragments.specs.Pieces.{channel_of}
+use Rattle.request_laws.specs.bt_base.specs.declared.settings.Settings.{Settings}
+use Rattle.request_laws.specs.capture.specs.declared.flow.Flow.TheVariants.{Out, Into}
+use Rattle.request_laws.specs.capture.specs.Histories.{EachAfter}
+use Rattle.request_laws.specs.l2cap_config.specs.declared.wish.Mode.TheVariants.{Enhanced}
+use Rattle.request_laws.specs.l2cap_signal.specs.Reading.{answers}
+use Rattle.request_laws.specs.link_talk.specs.declared.channel.Channel.{Channel}
+use Rattle.request_laws.specs.link_talk.specs.declared.party.Party.{Party}
+use Rattle.request_laws.specs.link_talk.specs.Carriages.{has_own, mode_of, pdus_of, stretch}
+use Rattle.request_laws.specs.link_talk.specs.Channels.{Entry, reading}
+use Rattle.request_laws.specs.link_talk.specs.GrowingLaws.{has_opened}
+use Rattle.request_laws.specs.link_talk.specs.Sayings.{Saying, Command, Carried, GaveUp}
+use Rattle.request_laws.specs.link_talk.specs.Sdus.{sdus, sdus_by}
+use Rattle.request_laws.specs.push_terms.specs.declared.word.Side.TheVariants as sides
+use Rattle.request_laws.specs.channel_model.specs.Carrying.{takes, Up as Handed, Nothing, Received, up_at}
+use Rattle.request_laws.specs.channel_model.specs.Hearing.{up}
+use Rattle.request_laws.specs.channel_model.specs.Policies.{Policy, policy}
+use Rattle.request_laws.specs.channel_model.specs.Value.{Channels}
+use Rattle.request_laws.specs.channel_laws.specs.Endpoints.{IsOf}
+use Rattle.request_laws.specs.channel_laws.specs.Frames.{IsUttered, AreUttered}
+use Rattle.request_laws.specs.channel_laws.specs.OwnTalk.{asked_between, said_with_all}
+use Rattle.request_laws.specs.channel_laws.specs.Runs.{Occurrence, Comes, Run, run_of, sdus_up}
+use Rattle.request_laws.specs.channel_laws.specs.Sdus.{StatesFrame, IsHandedUp}
+use Rattle.request_laws.specs.channel_laws.specs.Taken.{taken_of}
+use Rattle.request_laws.specs.channel_laws.specs.Views.{channel_by, read_at}
+use Rattle.request_laws.specs.channel_laws.proofs.Entries.{read-own}
+use Rattle.request_laws.specs.channel_laws.proofs.Incoming.{sdus-are_read}
+use Rattle.request_laws.specs.channel_laws.proofs.Signalling.{bare-asked, bare-comes}
+use Rattle.request_laws.specs.channel_laws.proofs.Stretching.{NoneComes, stays-heard}
+use Rattle.request_laws.specs.channel_laws.proofs.Taken.{taken-goes_out}
+use Rattle.request_laws.specs.push_laws.specs.Answers.{said}
+use Rattle.request_laws.specs.push_model.specs.Server.{object_psm}
+use Rattle.request_laws.specs.host_laws.specs.Gaining.{HandsAllUp}
+use Rattle.request_laws.specs.host_laws.specs.OneCarrier.{CarriesAlone}
+use Rattle.request_laws.specs.host_laws.specs.OverLinks.{GoesOut}
+use Rattle.request_laws.specs.host_laws.specs.Told.{sdus_told, told_on}
+use Rattle.request_laws.specs.host_laws.proofs.Profiles.{sdus-so}
+use Rattle.request_laws.specs.host_laws.proofs.SearchingWeave.{each_split}
+use Rattle.request_laws.specs.host_laws.proofs.Telling.{sdus_run}
+use Rattle.unit_laws.specs.scenario_laws.specs.Parties.{party_of}
+use Rattle.unit_laws.specs.scenario_laws.proofs.Wishes.{states_frame}
 use Rattle.request_laws.specs.HandedUp.{up_for, handed_for}
 use Rattle.request_laws.proofs.Accepted.{Accepted, accepted-stays, Opened, OpenedUp, opened-up, up-stays, all-opened}
 use Rattle.request_laws.proofs.Sole.{is_of, for_of, IsSole, sole}

@@ -2,53 +2,53 @@
 use Rattle.std.proofs.Common.{◌≡◌, true, false, List, [], ◌∷◌, ◌++◌, map, Option, Some, refl, sym, ap, ap₂, subst, ◌∙◌, append_assoc, inl, inr}
 use Rattle.std.specs.List.{AllByRecursion, AllZip, flat_map}
 use Rattle.std.proofs.lemmas.List.Concat.{flat_map-append}
-use Rattle.bt_base.specs.declared.settings.Settings.{Settings}
-use Rattle.bt_base.specs.declared.settings.Transport.{Transport}
-use Rattle.bt_base.specs.declared.settings.Transport.TheVariants.{L2cap}
-use Rattle.bt_base.specs.Objects.{Object, Contents}
-use Rattle.push_terms.specs.declared.word.Side.TheVariants as sides
-use Rattle.capture.specs.Links.{Link, links}
-use Rattle.capture.specs.Pdus.{Pdu, pdus}
-use Rattle.link_talk.specs.Captures.{talks}
-use Rattle.link_talk.specs.Sayings.{Saying, said_by, talk}
-use Rattle.channel_model.specs.Policies.{policy}
-use Rattle.channel_model.specs.Value.{Channels}
-use Rattle.channel_laws.specs.Frames.{AreUttered}
-use Rattle.channel_laws.specs.Runs.{Occurrence, run_of}
-use Rattle.channel_laws.specs.Singly.{AsksForNoChannel}
-use Rattle.obex_session.specs.InboxCalls.{Answer}
-use Rattle.push_model.specs.Client.{own_maximum}
-use Rattle.push_model.specs.Server.{object_psm}
-use Rattle.push_laws.specs.Premises.{AllGranted}
-use Rattle.world_model.specs.Talks.{Talk}
-use Rattle.world_model.specs.Machines.{Upper}
-use Rattle.host_model.specs.Circumstances.{Circumstance, Size, Part, Stored, answers_in}
-use Rattle.host_model.specs.Machines.{upper}
-use Rattle.host_model.proofs.Orderly.{says_frames}
-use Rattle.host_laws.specs.Acts.{Act, Hears, Says}
-use Rattle.host_laws.specs.Calls.{Asks}
-use Rattle.host_laws.specs.Gifts.{gifts_with}
-use Rattle.host_laws.specs.InOrder.{AsksForOneObject}
-use Rattle.host_laws.specs.Keeping.{GivesNothingUp}
-use Rattle.host_laws.specs.Lives.{Span}
-use Rattle.host_laws.specs.OneOnLinks.{CarriesOneOn}
-use Rattle.host_laws.specs.OverLinks.{AreTimely, parts, moved_in, talk_marks, IsTalkOf}
-use Rattle.host_laws.specs.Serving.{served_from}
-use Rattle.host_laws.specs.Spoken.{IsServed}
-use Rattle.host_laws.proofs.Asking.{hosts_ask}
-use Rattle.host_laws.proofs.GainingOver.{hosts_read_over_links}
-use Rattle.host_laws.proofs.InOrder.{asks-nothing, links-ask_none, servers-ask_for_nothing}
-use Rattle.host_laws.proofs.Keeping.{servers_lend}
-use Rattle.host_laws.proofs.OneOnLinks.{servers-carry_alone}
-use Rattle.host_laws.proofs.Seeking.{is-served}
-use Rattle.host_laws.proofs.Serving.{hosts_gain}
-use Rattle.scenario_laws.specs.Coming.{out_of, FallTo, CameOver}
-use Rattle.scenario_laws.specs.Gains.{holding, serving}
-use Rattle.scenario_laws.specs.Parties.{party_of}
-use Rattle.scenario_laws.proofs.Gaining.{all-out, both_out, all_spell, link_talks}
-use Rattle.scenario_laws.proofs.Orderly.{parts_asked, asked_talks}
-use Rattle.scenario_laws.proofs.Wishes.{states_frame}
-use Rattle.pair_laws.specs.Granted.{granted}
+use Rattle.request_laws.specs.bt_base.specs.declared.settings.Settings.{Settings}
+use Rattle.request_laws.specs.bt_base.specs.declared.settings.Transport.{Transport}
+use Rattle.request_laws.specs.bt_base.specs.declared.settings.Transport.TheVariants.{L2cap}
+use Rattle.request_laws.specs.bt_base.specs.Objects.{Object, Contents}
+use Rattle.request_laws.specs.push_terms.specs.declared.word.Side.TheVariants as sides
+use Rattle.request_laws.specs.capture.specs.Links.{Link, links}
+use Rattle.request_laws.specs.capture.specs.Pdus.{Pdu, pdus}
+use Rattle.request_laws.specs.link_talk.specs.Captures.{talks}
+use Rattle.request_laws.specs.link_talk.specs.Sayings.{Saying, said_by, talk}
+use Rattle.request_laws.specs.channel_model.specs.Policies.{policy}
+use Rattle.request_laws.specs.channel_model.specs.Value.{Channels}
+use Rattle.request_laws.specs.channel_laws.specs.Frames.{AreUttered}
+use Rattle.request_laws.specs.channel_laws.specs.Runs.{Occurrence, run_of}
+use Rattle.request_laws.specs.channel_laws.specs.Singly.{AsksForNoChannel}
+use Rattle.request_laws.specs.obex_session.specs.InboxCalls.{Answer}
+use Rattle.request_laws.specs.push_model.specs.Client.{own_maximum}
+use Rattle.request_laws.specs.push_model.specs.Server.{object_psm}
+use Rattle.request_laws.specs.push_laws.specs.Premises.{AllGranted}
+use Rattle.request_laws.specs.world_model.specs.Talks.{Talk}
+use Rattle.request_laws.specs.world_model.specs.Machines.{Upper}
+use Rattle.request_laws.specs.host_model.specs.Circumstances.{Circumstance, Size, Part, Stored, answers_in}
+use Rattle.request_laws.specs.host_model.specs.Machines.{upper}
+use Rattle.request_laws.specs.host_model.proofs.Orderly.{says_frames}
+use Rattle.request_laws.specs.host_laws.specs.Acts.{Act, Hears, Says}
+use Rattle.request_laws.specs.host_laws.specs.Calls.{Asks}
+use Rattle.request_laws.specs.host_laws.specs.Gifts.{gifts_with}
+use Rattle.request_laws.specs.host_laws.specs.InOrder.{AsksForOneObject}
+use Rattle.request_laws.specs.host_laws.specs.Keeping.{GivesNothingUp}
+use Rattle.request_laws.specs.host_laws.specs.Lives.{Span}
+use Rattle.request_laws.specs.host_laws.specs.OneOnLinks.{CarriesOneOn}
+use Rattle.request_laws.specs.host_laws.specs.OverLinks.{AreTimely, parts, moved_in, talk_marks, IsTalkOf}
+use Rattle.request_laws.specs.host_laws.specs.Serving.{served_from}
+use Rattle.request_laws.specs.host_laws.specs.Spoken.{IsServed}
+use Rattle.request_laws.specs.host_laws.proofs.Asking.{hosts_ask}
+use Rattle.request_laws.specs.host_laws.proofs.GainingOver.{hosts_read_over_links}
+use Rattle.request_laws.specs.host_laws.proofs.InOrder.{asks-nothing, links-ask_none, servers-ask_for_nothing}
+use Rattle.request_laws.specs.host_laws.proofs.Keeping.{servers_lend}
+use Rattle.request_laws.specs.host_laws.proofs.OneOnLinks.{servers-carry_alone}
+use Rattle.request_laws.specs.host_laws.proofs.Seeking.{is-served}
+use Rattle.request_laws.specs.host_laws.proofs.Serving.{hosts_gain}
+use Rattle.unit_laws.specs.scenario_laws.specs.Coming.{out_of, FallTo, CameOver}
+use Rattle.unit_laws.specs.scenario_laws.specs.Gains.{holding, serving}
+use Rattle.unit_laws.specs.scenario_laws.specs.Parties.{party_of}
+use Rattle.unit_laws.specs.scenario_laws.proofs.Gaining.{all-out, both_out, all_spell, link_talks}
+use Rattle.unit_laws.specs.scenario_laws.proofs.Orderly.{parts_asked, asked_talks}
+use Rattle.unit_laws.specs.scenario_laws.proofs.Wishes.{states_frame}
+use Rattle.request_laws.specs.pair_laws.specs.Granted.{granted}
 use Rattle.request_laws.proofs.Lending.{serve_all}
 use Rattle.request_laws.proofs.Together.{all_granted}
 use Rattle.unit_laws.specs.Calls.{gifts_in}

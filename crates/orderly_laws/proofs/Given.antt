@@ -2,44 +2,44 @@
 use Rattle.std.proofs.Common.{◌≡◌, ℕ, Bool, true, false, cond, eqb, List, [], ◌∷◌, ◌++◌, map, filter_map, drop, fold, Option, Some, None, refl, sym, ap, subst, ◌∙◌, append_assoc, append-nil, if◌then◌else◌}
 use Rattle.std.specs.Prelude.{option_map, option_to_list}
 use Rattle.std.specs.List.{AllByRecursion, AllZip, flat_map}
-use Rattle.acl_fragments.specs.Pieces.{channel_of}
-use Rattle.l2cap_signal.specs.Commands.{Command}
-use Rattle.l2cap_signal.specs.Reading.{Answer as Read, answers}
-use Rattle.link_talk.specs.Sayings as sayings
-use Rattle.link_talk.specs.Sayings.{Saying, Carried}
-use Rattle.capture.specs.declared.flow.Flow.TheVariants.{Into}
-use Rattle.channel_model.specs.Carrying.{takes}
-use Rattle.channel_model.specs.Giving.{Given as GivenPdu, Signal, Whole, Framed, next_given}
-use Rattle.channel_model.specs.Hearing.{hears_command}
-use Rattle.channel_model.specs.Following.{can_say}
-use Rattle.channel_model.specs.Calls.{carrier_at}
-use Rattle.channel_model.specs.Changing.{held_at}
-use Rattle.channel_model.specs.Policies.{Policy}
-use Rattle.channel_model.specs.Value.{Channels}
-use Rattle.channel_laws.specs.Frames.{AreUttered}
-use Rattle.channel_laws.specs.OwnTalk.{spoken, exchanged, reply_to, asked_between, said_with, said_with_all}
-use Rattle.channel_laws.specs.Runs.{Occurrence, Comes, Connects, AsksFeatures, Disconnects, Sends, Gives, Fires, Tells, peer_at, said_as, said_in, Run, new_link, run_on, run_of}
-use Rattle.world_model.specs.Machines.{LinkEvent, News, Linked, Failed, Heard, TimerFired, Cancelled, Opening}
-use Rattle.world_model.specs.Talks.{Talk, Told, Said, Unsent, Met, Done}
-use Rattle.host_model.specs.Circumstances.{Circumstance}
-use Rattle.host_model.specs.Hosts.{Host, first_host, ready, driven, hears_news, most_steps}
-use Rattle.host_model.specs.Machines.{upper}
-use Rattle.host_model.specs.Profiles.{Profile}
-use Rattle.host_laws.specs.Acts.{Act, Hears, Says, Does, Acting, StaysOnLink, from_news, from_act}
-use Rattle.host_laws.specs.Calls.{Asks, outer}
-use Rattle.host_laws.specs.Calm.{IsCalmAct, AreCalm}
-use Rattle.host_laws.specs.Fed.{TalksFed}
-use Rattle.host_laws.specs.Gifts.{gifts_with, gifts_of}
-use Rattle.host_laws.specs.Keeping.{AsksForNothing, GivesNothingUp}
-use Rattle.host_laws.specs.Lives.{Mark, Occurred, Turned, act_marks, Span, on_links}
-use Rattle.host_laws.specs.OverLinks.{is_up_behind, AreInTurn, turns_link, parts_from, parts, talk_marks, talk_outer, OverLinks, AreGentleUp, IsTalkOf}
-use Rattle.host_laws.proofs.Forgoing.{AllSpoken, both_spoken, asked_spoken, carrier_spoken, all_passed}
-use Rattle.host_laws.proofs.Gifts.{first-given, goes-given, turns-given}
-use Rattle.host_laws.proofs.Growing.{Gifted, act_gifted, drives_plain, readies_plain}
-use Rattle.host_laws.proofs.Links.{drives_told, act_told}
-use Rattle.host_laws.proofs.OverLinks.{Calmly, first_calmly, goes_calmly, turns_calmly, calmly_fed, all_spans, acts_marks, talks_marks}
-use Rattle.host_laws.proofs.Talking.{act_calm}
-use Rattle.pair_laws.proofs.Pairing.{all_utter}
+use Rattle.request_laws.specs.acl_fragments.specs.Pieces.{channel_of}
+use Rattle.request_laws.specs.l2cap_signal.specs.Commands.{Command}
+use Rattle.request_laws.specs.l2cap_signal.specs.Reading.{Answer as Read, answers}
+use Rattle.request_laws.specs.link_talk.specs.Sayings as sayings
+use Rattle.request_laws.specs.link_talk.specs.Sayings.{Saying, Carried}
+use Rattle.request_laws.specs.capture.specs.declared.flow.Flow.TheVariants.{Into}
+use Rattle.request_laws.specs.channel_model.specs.Carrying.{takes}
+use Rattle.request_laws.specs.channel_model.specs.Giving.{Given as GivenPdu, Signal, Whole, Framed, next_given}
+use Rattle.request_laws.specs.channel_model.specs.Hearing.{hears_command}
+use Rattle.request_laws.specs.channel_model.specs.Following.{can_say}
+use Rattle.request_laws.specs.channel_model.specs.Calls.{carrier_at}
+use Rattle.request_laws.specs.channel_model.specs.Changing.{held_at}
+use Rattle.request_laws.specs.channel_model.specs.Policies.{Policy}
+use Rattle.request_laws.specs.channel_model.specs.Value.{Channels}
+use Rattle.request_laws.specs.channel_laws.specs.Frames.{AreUttered}
+use Rattle.request_laws.specs.channel_laws.specs.OwnTalk.{spoken, exchanged, reply_to, asked_between, said_with, said_with_all}
+use Rattle.request_laws.specs.channel_laws.specs.Runs.{Occurrence, Comes, Connects, AsksFeatures, Disconnects, Sends, Gives, Fires, Tells, peer_at, said_as, said_in, Run, new_link, run_on, run_of}
+use Rattle.request_laws.specs.world_model.specs.Machines.{LinkEvent, News, Linked, Failed, Heard, TimerFired, Cancelled, Opening}
+use Rattle.request_laws.specs.world_model.specs.Talks.{Talk, Told, Said, Unsent, Met, Done}
+use Rattle.request_laws.specs.host_model.specs.Circumstances.{Circumstance}
+use Rattle.request_laws.specs.host_model.specs.Hosts.{Host, first_host, ready, driven, hears_news, most_steps}
+use Rattle.request_laws.specs.host_model.specs.Machines.{upper}
+use Rattle.request_laws.specs.host_model.specs.Profiles.{Profile}
+use Rattle.request_laws.specs.host_laws.specs.Acts.{Act, Hears, Says, Does, Acting, StaysOnLink, from_news, from_act}
+use Rattle.request_laws.specs.host_laws.specs.Calls.{Asks, outer}
+use Rattle.request_laws.specs.host_laws.specs.Calm.{IsCalmAct, AreCalm}
+use Rattle.request_laws.specs.host_laws.specs.Fed.{TalksFed}
+use Rattle.request_laws.specs.host_laws.specs.Gifts.{gifts_with, gifts_of}
+use Rattle.request_laws.specs.host_laws.specs.Keeping.{AsksForNothing, GivesNothingUp}
+use Rattle.request_laws.specs.host_laws.specs.Lives.{Mark, Occurred, Turned, act_marks, Span, on_links}
+use Rattle.request_laws.specs.host_laws.specs.OverLinks.{is_up_behind, AreInTurn, turns_link, parts_from, parts, talk_marks, talk_outer, OverLinks, AreGentleUp, IsTalkOf}
+use Rattle.request_laws.specs.host_laws.proofs.Forgoing.{AllSpoken, both_spoken, asked_spoken, carrier_spoken, all_passed}
+use Rattle.request_laws.specs.host_laws.proofs.Gifts.{first-given, goes-given, turns-given}
+use Rattle.request_laws.specs.host_laws.proofs.Growing.{Gifted, act_gifted, drives_plain, readies_plain}
+use Rattle.request_laws.specs.host_laws.proofs.Links.{drives_told, act_told}
+use Rattle.request_laws.specs.host_laws.proofs.OverLinks.{Calmly, first_calmly, goes_calmly, turns_calmly, calmly_fed, all_spans, acts_marks, talks_marks}
+use Rattle.request_laws.specs.host_laws.proofs.Talking.{act_calm}
+use Rattle.request_laws.specs.pair_laws.proofs.Pairing.{all_utter}
 use Rattle.unit_laws.specs.Laws.{IsUnfired}
 
 -- ---- with what its ports gave it

@@ -1,13 +1,13 @@
 -- A machine whose ports answer so is one whose ports answer whatever, where the answers were so.
 use Rattle.std.proofs.Common.{◌≡◌, Bool, false, List, [], ◌∷◌, map, refl, sym, ap, subst, ◌∙◌}
 use Rattle.std.specs.List.{AllByRecursion}
-use Rattle.host_link.specs.Hearing.{PlainNews, Nothing, LinkUp, LinkFailed, LinkDown, Pdu, news_of, heard}
-use Rattle.world_model.specs.Machines.{Linked, Up, Down, Failed, Heard, TimerFired, Cancelled, Opening, Upper}
-use Rattle.world_model.specs.Talks.{Talk}
-use Rattle.turn_laws.specs.Premises.{SaysFrames}
-use Rattle.host_laws.specs.Acts.{Act, Hears, Says as Saying, Does, Acting}
-use Rattle.host_laws.specs.OverLinks.{is_up_behind, IsTimely, AreInTurn, OverLinks}
-use Rattle.host_laws.specs.Turning.{deed_of, IsActInQuiet}
+use Rattle.request_laws.specs.host_link.specs.Hearing.{PlainNews, Nothing, LinkUp, LinkFailed, LinkDown, Pdu, news_of, heard}
+use Rattle.request_laws.specs.world_model.specs.Machines.{Linked, Up, Down, Failed, Heard, TimerFired, Cancelled, Opening, Upper}
+use Rattle.request_laws.specs.world_model.specs.Talks.{Talk}
+use Rattle.request_laws.specs.turn_laws.specs.Premises.{SaysFrames}
+use Rattle.request_laws.specs.host_laws.specs.Acts.{Act, Hears, Says as Saying, Does, Acting}
+use Rattle.request_laws.specs.host_laws.specs.OverLinks.{is_up_behind, IsTimely, AreInTurn, OverLinks}
+use Rattle.request_laws.specs.host_laws.specs.Turning.{deed_of, IsActInQuiet}
 use Rattle.request_laws.proofs.Feeding.{all_ahead}
 use Rattle.unit_laws.specs.Calls.{gifts_of, gifts_in}
 use Rattle.unit_laws.specs.Units.{Lined, Occasion, Comes, Learns, Says, Puts, Commands, Waits, hears_line, Happens, Runs, HasSaidAll, IsToldInTurn, ComesInTurn}

@@ -2,50 +2,50 @@
 use Rattle.std.proofs.Common.{◌≡◌, ◌≤◌, ℕ, Bool, true, false, cond, eqb, List, [], ◌∷◌, ◌++◌, length, filter_map, Option, Some, None, refl, sym, ap, ap₂, subst, ◌∙◌, append_assoc, append-nil, arith, inl, inr}
 use Rattle.std.specs.List.{AllByRecursion}
 use Rattle.std.proofs.lemmas.Bool.{eqb-true}
-use Rattle.bt_base.specs.declared.settings.Settings.{Settings}
-use Rattle.bt_base.specs.Objects.{Contents}
-use Rattle.push_terms.specs.declared.word.Side.TheVariants as sides
-use Rattle.link_talk.specs.declared.channel.Channel.{Channel}
-use Rattle.link_talk.specs.Channels.{Entry, reading}
-use Rattle.link_talk.specs.Sayings.{Saying}
-use Rattle.channel_model.specs.declared.event.ChannelEvent.{ChannelEvent}
-use Rattle.channel_model.specs.declared.event.ChannelEvent.TheVariants as events
-use Rattle.channel_model.specs.Calls.{link_down}
-use Rattle.channel_model.specs.Policies.{policy}
-use Rattle.channel_model.specs.Value.{Channels, no_channels}
-use Rattle.channel_laws.specs.Closings.{IsClosingRead}
-use Rattle.channel_laws.specs.Endpoints.{IsOf}
-use Rattle.channel_laws.specs.Frames.{AreUttered}
-use Rattle.channel_laws.specs.Runs.{run_of}
-use Rattle.channel_laws.specs.Runs as channels
-use Rattle.channel_laws.specs.Singly.{AsksForNoChannel}
-use Rattle.channel_laws.specs.Taken.{taken_of}
-use Rattle.channel_laws.specs.Views.{channel_by, read_at}
-use Rattle.channel_laws.proofs.Shutting.{closings-are_read}
-use Rattle.push_model.specs.Server.{object_psm}
-use Rattle.push_laws.specs.Answers.{said}
-use Rattle.push_laws.specs.Occurrences.{Occurrence, Came, Went, Closed, LinkDown, Asked, Answering}
-use Rattle.push_laws.specs.Parties.{sdu_if}
-use Rattle.world_model.specs.Machines.{LinkEvent, Up, Down, Linked}
-use Rattle.host_model.specs.Circumstances.{Circumstance}
-use Rattle.host_model.specs.Profiles.{Profile}
-use Rattle.host_model.specs.Servers.{ServerProfile, is_told, server_profile}
-use Rattle.host_laws.specs.Calls.{Asks, values_after}
-use Rattle.host_laws.specs.Fed.{WovenFed, happenings, turned_feeds, FedSpan, span_feeds, behind_span, AreFed}
-use Rattle.host_laws.specs.Feeds.{Feed, Happens, Learns, fed}
-use Rattle.host_laws.specs.Gaining.{IsDirect, ClosesItself, OneObjectChannel}
-use Rattle.host_laws.specs.GainingOver.{IsNoPdu, CarriedOne, CarriesOne}
-use Rattle.host_laws.specs.Lives.{Span, all_marks}
-use Rattle.host_laws.specs.OneCarrier.{IsFor}
-use Rattle.host_laws.specs.OneOnLinks.{CarriesOneOn}
-use Rattle.host_laws.specs.OverLinks.{AreTimely, GoesOut}
-use Rattle.host_laws.specs.Serving.{event_served, served_from}
-use Rattle.host_laws.specs.Woven.{turned}
-use Rattle.host_laws.proofs.Asking.{hosts_ask}
-use Rattle.host_laws.proofs.Gaining.{found_in}
-use Rattle.host_laws.proofs.StrandsFed.{here_so, span_so}
-use Rattle.host_laws.proofs.Telling.{events_run}
-use Rattle.scenario_laws.specs.Parties.{party_of}
+use Rattle.request_laws.specs.bt_base.specs.declared.settings.Settings.{Settings}
+use Rattle.request_laws.specs.bt_base.specs.Objects.{Contents}
+use Rattle.request_laws.specs.push_terms.specs.declared.word.Side.TheVariants as sides
+use Rattle.request_laws.specs.link_talk.specs.declared.channel.Channel.{Channel}
+use Rattle.request_laws.specs.link_talk.specs.Channels.{Entry, reading}
+use Rattle.request_laws.specs.link_talk.specs.Sayings.{Saying}
+use Rattle.request_laws.specs.channel_model.specs.declared.event.ChannelEvent.{ChannelEvent}
+use Rattle.request_laws.specs.channel_model.specs.declared.event.ChannelEvent.TheVariants as events
+use Rattle.request_laws.specs.channel_model.specs.Calls.{link_down}
+use Rattle.request_laws.specs.channel_model.specs.Policies.{policy}
+use Rattle.request_laws.specs.channel_model.specs.Value.{Channels, no_channels}
+use Rattle.request_laws.specs.channel_laws.specs.Closings.{IsClosingRead}
+use Rattle.request_laws.specs.channel_laws.specs.Endpoints.{IsOf}
+use Rattle.request_laws.specs.channel_laws.specs.Frames.{AreUttered}
+use Rattle.request_laws.specs.channel_laws.specs.Runs.{run_of}
+use Rattle.request_laws.specs.channel_laws.specs.Runs as channels
+use Rattle.request_laws.specs.channel_laws.specs.Singly.{AsksForNoChannel}
+use Rattle.request_laws.specs.channel_laws.specs.Taken.{taken_of}
+use Rattle.request_laws.specs.channel_laws.specs.Views.{channel_by, read_at}
+use Rattle.request_laws.specs.channel_laws.proofs.Shutting.{closings-are_read}
+use Rattle.request_laws.specs.push_model.specs.Server.{object_psm}
+use Rattle.request_laws.specs.push_laws.specs.Answers.{said}
+use Rattle.request_laws.specs.push_laws.specs.Occurrences.{Occurrence, Came, Went, Closed, LinkDown, Asked, Answering}
+use Rattle.request_laws.specs.push_laws.specs.Parties.{sdu_if}
+use Rattle.request_laws.specs.world_model.specs.Machines.{LinkEvent, Up, Down, Linked}
+use Rattle.request_laws.specs.host_model.specs.Circumstances.{Circumstance}
+use Rattle.request_laws.specs.host_model.specs.Profiles.{Profile}
+use Rattle.request_laws.specs.host_model.specs.Servers.{ServerProfile, is_told, server_profile}
+use Rattle.request_laws.specs.host_laws.specs.Calls.{Asks, values_after}
+use Rattle.request_laws.specs.host_laws.specs.Fed.{WovenFed, happenings, turned_feeds, FedSpan, span_feeds, behind_span, AreFed}
+use Rattle.request_laws.specs.host_laws.specs.Feeds.{Feed, Happens, Learns, fed}
+use Rattle.request_laws.specs.host_laws.specs.Gaining.{IsDirect, ClosesItself, OneObjectChannel}
+use Rattle.request_laws.specs.host_laws.specs.GainingOver.{IsNoPdu, CarriedOne, CarriesOne}
+use Rattle.request_laws.specs.host_laws.specs.Lives.{Span, all_marks}
+use Rattle.request_laws.specs.host_laws.specs.OneCarrier.{IsFor}
+use Rattle.request_laws.specs.host_laws.specs.OneOnLinks.{CarriesOneOn}
+use Rattle.request_laws.specs.host_laws.specs.OverLinks.{AreTimely, GoesOut}
+use Rattle.request_laws.specs.host_laws.specs.Serving.{event_served, served_from}
+use Rattle.request_laws.specs.host_laws.specs.Woven.{turned}
+use Rattle.request_laws.specs.host_laws.proofs.Asking.{hosts_ask}
+use Rattle.request_laws.specs.host_laws.proofs.Gaining.{found_in}
+use Rattle.request_laws.specs.host_laws.proofs.StrandsFed.{here_so, span_so}
+use Rattle.request_laws.specs.host_laws.proofs.Telling.{events_run}
+use Rattle.unit_laws.specs.scenario_laws.specs.Parties.{party_of}
 use Rattle.request_laws.specs.BothFed.{IsDown}
 use Rattle.request_laws.specs.HandedUp.{handed_for}
 use Rattle.request_laws.proofs.Accepted.{Opened}

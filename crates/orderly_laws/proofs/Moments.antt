@@ -5,29 +5,29 @@ use Rattle.std.specs.Option.{option_or}
 use Rattle.std.specs.List.{list_any}
 use Rattle.std.proofs.lemmas.List.Elements.{filter_map-append}
 use Rattle.std.proofs.lemmas.List.Sums.{fold-append}
-use Rattle.capture.specs.declared.flow.Flow.TheVariants.{Out, Into}
-use Rattle.capture.specs.Histories.{EachAfter}
-use Rattle.l2cap_config.specs.declared.wish.Mode.{Mode}
-use Rattle.l2cap_config.specs.declared.wish.Mode.TheVariants.{Basic, Enhanced}
-use Rattle.link_talk.specs.declared.channel.Channel.{Channel}
-use Rattle.link_talk.specs.declared.party.Party.{Party}
-use Rattle.link_talk.specs.Carriages.{Carriage, is_heard, one_way, carried, stretch, pdus_of, has_own, mode_of}
-use Rattle.link_talk.specs.Channels.{Entry, fresh, entry_after, is_owner, with_fresh, made_by, entries_after, Reading, nothing_read, read_on, reading}
-use Rattle.link_talk.specs.GrowingLaws.{has_opened, HasOpened}
-use Rattle.link_talk.specs.Meanings.{Meaning, meant}
-use Rattle.link_talk.specs.Sayings.{Saying}
-use Rattle.link_talk.specs.Sdus.{sdus_by, sdus}
-use Rattle.link_talk.specs.Senses.{sense}
-use Rattle.link_talk.proofs.Growing.{stretch-grows, mode-stands}
-use Rattle.channel_model.proofs.Lookups.{find-map}
-use Rattle.channel_laws.specs.Endpoints.{IsOf}
-use Rattle.channel_laws.specs.Pipes.{IsFront}
-use Rattle.channel_laws.specs.Views.{read_at}
-use Rattle.channel_laws.proofs.Entries.{own_read, read-append}
-use Rattle.channel_laws.proofs.Flowing.{front-of_front}
-use Rattle.channel_laws.proofs.Stretching.{unopened-stretch, one-more-sdu}
-use Rattle.host_laws.proofs.Gaining.{found_in}
-use Rattle.push_laws.specs.Answers.{said}
+use Rattle.request_laws.specs.capture.specs.declared.flow.Flow.TheVariants.{Out, Into}
+use Rattle.request_laws.specs.capture.specs.Histories.{EachAfter}
+use Rattle.request_laws.specs.l2cap_config.specs.declared.wish.Mode.{Mode}
+use Rattle.request_laws.specs.l2cap_config.specs.declared.wish.Mode.TheVariants.{Basic, Enhanced}
+use Rattle.request_laws.specs.link_talk.specs.declared.channel.Channel.{Channel}
+use Rattle.request_laws.specs.link_talk.specs.declared.party.Party.{Party}
+use Rattle.request_laws.specs.link_talk.specs.Carriages.{Carriage, is_heard, one_way, carried, stretch, pdus_of, has_own, mode_of}
+use Rattle.request_laws.specs.link_talk.specs.Channels.{Entry, fresh, entry_after, is_owner, with_fresh, made_by, entries_after, Reading, nothing_read, read_on, reading}
+use Rattle.request_laws.specs.link_talk.specs.GrowingLaws.{has_opened, HasOpened}
+use Rattle.request_laws.specs.link_talk.specs.Meanings.{Meaning, meant}
+use Rattle.request_laws.specs.link_talk.specs.Sayings.{Saying}
+use Rattle.request_laws.specs.link_talk.specs.Sdus.{sdus_by, sdus}
+use Rattle.request_laws.specs.link_talk.specs.Senses.{sense}
+use Rattle.request_laws.specs.link_talk.proofs.Growing.{stretch-grows, mode-stands}
+use Rattle.request_laws.specs.channel_model.proofs.Lookups.{find-map}
+use Rattle.request_laws.specs.channel_laws.specs.Endpoints.{IsOf}
+use Rattle.request_laws.specs.channel_laws.specs.Pipes.{IsFront}
+use Rattle.request_laws.specs.channel_laws.specs.Views.{read_at}
+use Rattle.request_laws.specs.channel_laws.proofs.Entries.{own_read, read-append}
+use Rattle.request_laws.specs.channel_laws.proofs.Flowing.{front-of_front}
+use Rattle.request_laws.specs.channel_laws.proofs.Stretching.{unopened-stretch, one-more-sdu}
+use Rattle.request_laws.specs.host_laws.proofs.Gaining.{found_in}
+use Rattle.request_laws.specs.push_laws.specs.Answers.{said}
 use Rattle.orderly_laws.specs.Answered.{responses_on, ComesBehind, IsAnswered, AreAnswered}
 
 -- ---- a channel that is read stays so

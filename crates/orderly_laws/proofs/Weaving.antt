@@ -2,35 +2,35 @@
 use Rattle.std.proofs.Common.{◌≡◌, ◌≤◌, ◌+◌, ℕ, Bool, true, false, cond, eqb, List, [], ◌∷◌, ◌++◌, length, filter_map, Option, Some, None, refl, sym, ap, ap₂, subst, ◌∙◌, append_assoc, append-nil, length-append, arith}
 use Rattle.std.specs.List.{AllByRecursion, flat_map, cons_option}
 use Rattle.std.proofs.lemmas.List.Elements.{filter_map-append}
-use Rattle.acl_fragments.specs.Pieces.{channel_of}
-use Rattle.bt_base.specs.declared.settings.Settings.{Settings}
-use Rattle.bt_base.specs.Objects.{Contents}
-use Rattle.channel_model.specs.declared.event.ChannelEvent.{ChannelEvent}
-use Rattle.channel_model.specs.declared.event.ChannelEvent.TheVariants as events
-use Rattle.channel_model.specs.Carrying.{Up as Handed, Nothing, Received}
-use Rattle.channel_model.specs.Hearing.{up}
-use Rattle.channel_model.specs.Policies.{Policy, policy}
-use Rattle.channel_model.specs.Value.{Channels, no_channels}
-use Rattle.channel_laws.specs.Runs.{Comes, run_of, up_with}
-use Rattle.channel_laws.specs.Runs as channels
-use Rattle.channel_laws.specs.Taken.{taken_of}
-use Rattle.push_model.specs.Server.{Lent, lends, lent_sdu, object_psm}
-use Rattle.push_laws.specs.Answers.{said}
-use Rattle.push_laws.specs.Occurrences.{Occurrence, Came, Went, Closed, LinkDown, Asked, Answering}
-use Rattle.push_laws.specs.Parties.{sdu_if}
-use Rattle.world_model.specs.Machines.{News, Linked, Failed, Heard, TimerFired, Cancelled, Opening}
-use Rattle.host_model.specs.Endpoints.{endpoint_of, takes_sdu}
-use Rattle.host_model.specs.Pdus.{sdu_of}
-use Rattle.host_model.specs.Profiles.{Profile}
-use Rattle.host_model.specs.Servers.{ServerProfile, is_told, server_profile}
-use Rattle.host_laws.specs.Calls.{Asks, values_after}
-use Rattle.host_laws.specs.Fed.{feeds_up, next_happening, strand_feeds, woven_feeds}
-use Rattle.host_laws.specs.Feeds.{tidings_by}
-use Rattle.host_laws.specs.Gaining.{IsDirect}
-use Rattle.host_laws.specs.Serving.{news_served, event_served, taken_by, lent_by, served_from}
-use Rattle.host_laws.specs.Woven.{Strand, Hearing, Giving, Firing, Telling, Gifting, Learning, Checking, Stepping, IsOnLink, strand_list, strand_profile, woven_list}
-use Rattle.host_laws.proofs.Asking.{hosts_ask}
-use Rattle.host_laws.proofs.StrandsFed.{strand_so}
+use Rattle.request_laws.specs.acl_fragments.specs.Pieces.{channel_of}
+use Rattle.request_laws.specs.bt_base.specs.declared.settings.Settings.{Settings}
+use Rattle.request_laws.specs.bt_base.specs.Objects.{Contents}
+use Rattle.request_laws.specs.channel_model.specs.declared.event.ChannelEvent.{ChannelEvent}
+use Rattle.request_laws.specs.channel_model.specs.declared.event.ChannelEvent.TheVariants as events
+use Rattle.request_laws.specs.channel_model.specs.Carrying.{Up as Handed, Nothing, Received}
+use Rattle.request_laws.specs.channel_model.specs.Hearing.{up}
+use Rattle.request_laws.specs.channel_model.specs.Policies.{Policy, policy}
+use Rattle.request_laws.specs.channel_model.specs.Value.{Channels, no_channels}
+use Rattle.request_laws.specs.channel_laws.specs.Runs.{Comes, run_of, up_with}
+use Rattle.request_laws.specs.channel_laws.specs.Runs as channels
+use Rattle.request_laws.specs.channel_laws.specs.Taken.{taken_of}
+use Rattle.request_laws.specs.push_model.specs.Server.{Lent, lends, lent_sdu, object_psm}
+use Rattle.request_laws.specs.push_laws.specs.Answers.{said}
+use Rattle.request_laws.specs.push_laws.specs.Occurrences.{Occurrence, Came, Went, Closed, LinkDown, Asked, Answering}
+use Rattle.request_laws.specs.push_laws.specs.Parties.{sdu_if}
+use Rattle.request_laws.specs.world_model.specs.Machines.{News, Linked, Failed, Heard, TimerFired, Cancelled, Opening}
+use Rattle.request_laws.specs.host_model.specs.Endpoints.{endpoint_of, takes_sdu}
+use Rattle.request_laws.specs.host_model.specs.Pdus.{sdu_of}
+use Rattle.request_laws.specs.host_model.specs.Profiles.{Profile}
+use Rattle.request_laws.specs.host_model.specs.Servers.{ServerProfile, is_told, server_profile}
+use Rattle.request_laws.specs.host_laws.specs.Calls.{Asks, values_after}
+use Rattle.request_laws.specs.host_laws.specs.Fed.{feeds_up, next_happening, strand_feeds, woven_feeds}
+use Rattle.request_laws.specs.host_laws.specs.Feeds.{tidings_by}
+use Rattle.request_laws.specs.host_laws.specs.Gaining.{IsDirect}
+use Rattle.request_laws.specs.host_laws.specs.Serving.{news_served, event_served, taken_by, lent_by, served_from}
+use Rattle.request_laws.specs.host_laws.specs.Woven.{Strand, Hearing, Giving, Firing, Telling, Gifting, Learning, Checking, Stepping, IsOnLink, strand_list, strand_profile, woven_list}
+use Rattle.request_laws.specs.host_laws.proofs.Asking.{hosts_ask}
+use Rattle.request_laws.specs.host_laws.proofs.StrandsFed.{strand_so}
 use Rattle.request_laws.specs.BothFed.{ComesNone}
 use Rattle.request_laws.specs.HandedUp.{up_for, handed_for}
 use Rattle.request_laws.specs.Streams.{gone_on}

@@ -2,17 +2,17 @@
 -- response to the one before; Core 5.1, Volume 3 Part A, 5.4 and 7.3).
 use Rattle.std.specs.Prelude.{ℕ, suc, ◌≡◌, ◌≤◌, List, [], ◌∷◌, ◌++◌, length, filter_map}
 use Rattle.std.specs.List.{AllByRecursion}
-use Rattle.capture.specs.declared.flow.Flow.TheVariants.{Out, Into}
-use Rattle.capture.specs.Histories.{EachAfter}
-use Rattle.l2cap_config.specs.declared.wish.Mode.TheVariants.{Enhanced}
-use Rattle.link_talk.specs.declared.channel.Channel.{Channel}
-use Rattle.link_talk.specs.declared.party.Party.{Party}
-use Rattle.link_talk.specs.Carriages.{mode_of}
-use Rattle.link_talk.specs.Channels.{Entry, reading}
-use Rattle.link_talk.specs.GrowingLaws.{HasOpened}
-use Rattle.link_talk.specs.Sayings.{Saying}
-use Rattle.link_talk.specs.Sdus.{sdus}
-use Rattle.push_laws.specs.Answers.{said}
+use Rattle.request_laws.specs.capture.specs.declared.flow.Flow.TheVariants.{Out, Into}
+use Rattle.request_laws.specs.capture.specs.Histories.{EachAfter}
+use Rattle.request_laws.specs.l2cap_config.specs.declared.wish.Mode.TheVariants.{Enhanced}
+use Rattle.request_laws.specs.link_talk.specs.declared.channel.Channel.{Channel}
+use Rattle.request_laws.specs.link_talk.specs.declared.party.Party.{Party}
+use Rattle.request_laws.specs.link_talk.specs.Carriages.{mode_of}
+use Rattle.request_laws.specs.link_talk.specs.Channels.{Entry, reading}
+use Rattle.request_laws.specs.link_talk.specs.GrowingLaws.{HasOpened}
+use Rattle.request_laws.specs.link_talk.specs.Sayings.{Saying}
+use Rattle.request_laws.specs.link_talk.specs.Sdus.{sdus}
+use Rattle.request_laws.specs.push_laws.specs.Answers.{said}
 
 -- each SDU on a channel that comes is a request, and each one with octets that goes is a response
 abbrev pub requests_on : Party → Channel → List Saying → List (List ℕ)

@@ -1,2 +1,3 @@
+pub use Rattle.unit_laws
 pub mod Answered
 pub mod Orderly

@@ -2,21 +2,21 @@
 -- 3.2 and 3.4.3).
 use Rattle.std.specs.Prelude.{◌≡◌, List, ◌++◌, Some}
 use Rattle.std.specs.List.{AllByRecursion}
-use Rattle.bt_base.specs.declared.settings.Settings.{Settings}
-use Rattle.bt_base.specs.declared.settings.Transport.TheVariants.{L2cap}
-use Rattle.bt_base.specs.Objects.{Object}
-use Rattle.push_terms.specs.declared.word.Side.TheVariants as sides
-use Rattle.capture.specs.Entries.{Entry}
-use Rattle.link_talk.specs.Captures.{talks, objects_heard}
-use Rattle.host_link.specs.declared.role.Role.TheVariants.{Server}
-use Rattle.push_laws.specs.Laws.{stored_in}
-use Rattle.push_laws.specs.Premises.{AllGranted}
-use Rattle.host_model.specs.Circumstances.{Circumstance, answers_in}
-use Rattle.host_model.specs.Hosts.{Host}
-use Rattle.host_model.specs.Servers.{ServerProfile}
-use Rattle.host_laws.specs.InOrder.{AsksForOneObject}
-use Rattle.scenario_laws.specs.Gains.{serving}
-use Rattle.scenario_laws.specs.Parties.{party_of}
+use Rattle.request_laws.specs.bt_base.specs.declared.settings.Settings.{Settings}
+use Rattle.request_laws.specs.bt_base.specs.declared.settings.Transport.TheVariants.{L2cap}
+use Rattle.request_laws.specs.bt_base.specs.Objects.{Object}
+use Rattle.request_laws.specs.push_terms.specs.declared.word.Side.TheVariants as sides
+use Rattle.request_laws.specs.capture.specs.Entries.{Entry}
+use Rattle.request_laws.specs.link_talk.specs.Captures.{talks, objects_heard}
+use Rattle.request_laws.specs.host_link.specs.declared.role.Role.TheVariants.{Server}
+use Rattle.request_laws.specs.push_laws.specs.Laws.{stored_in}
+use Rattle.request_laws.specs.push_laws.specs.Premises.{AllGranted}
+use Rattle.request_laws.specs.host_model.specs.Circumstances.{Circumstance, answers_in}
+use Rattle.request_laws.specs.host_model.specs.Hosts.{Host}
+use Rattle.request_laws.specs.host_model.specs.Servers.{ServerProfile}
+use Rattle.request_laws.specs.host_laws.specs.InOrder.{AsksForOneObject}
+use Rattle.unit_laws.specs.scenario_laws.specs.Gains.{serving}
+use Rattle.unit_laws.specs.scenario_laws.specs.Parties.{party_of}
 use Rattle.unit_laws.specs.Calls.{gifts_in}
 use Rattle.unit_laws.specs.Laws.{FiresNone}
 use Rattle.unit_laws.specs.Living.{Did, HaveCommands}

@@ -1,15 +1,15 @@
 -- Of two hosts that hear what becomes of their links the client is at most one event behind: the other does not leave a link of which the
 -- client has not heard.
 use Rattle.std.proofs.Common.{◌≡◌, ℕ, Bool, true, false, List, [], ◌∷◌, ◌++◌, Some, refl, sym, ap, subst, ◌∙◌, if◌then◌else◌}
-use Rattle.push_terms.specs.declared.word.Side.TheVariants.{A, B}
-use Rattle.push_terms.specs.declared.word.Way.TheVariants.{Ab, Ba}
-use Rattle.radio_air.specs.declared.deed.Deed.{Deed}
-use Rattle.radio_air.specs.declared.deed.Deed.TheVariants.{Nothing, Meets, Fires, FiresBoth, Breaks, Cancels}
-use Rattle.world_model.specs.Machines.{LinkEvent, Up, Down, Linked, TimerFired, Upper}
-use Rattle.world_model.specs.Carriages.{End, Carriage, Motion, Saying, Departure, Arrival, Telling, DoesMotion, Doing, Moved, Deeds, Misses, Rises, Falls, Opens, Closes, ActsOn, finds, told, IsDone, first_carriage}
-use Rattle.host_model.specs.Hosts.{Host}
-use Rattle.turn_laws.proofs.Advancing.{Both}
-use Rattle.turn_laws.proofs.Standing.{Sound, Chain}
+use Rattle.scenario_laws.specs.push_terms.specs.declared.word.Side.TheVariants.{A, B}
+use Rattle.scenario_laws.specs.push_terms.specs.declared.word.Way.TheVariants.{Ab, Ba}
+use Rattle.scenario_laws.specs.radio_air.specs.declared.deed.Deed.{Deed}
+use Rattle.scenario_laws.specs.radio_air.specs.declared.deed.Deed.TheVariants.{Nothing, Meets, Fires, FiresBoth, Breaks, Cancels}
+use Rattle.scenario_laws.specs.world_model.specs.Machines.{LinkEvent, Up, Down, Linked, TimerFired, Upper}
+use Rattle.scenario_laws.specs.world_model.specs.Carriages.{End, Carriage, Motion, Saying, Departure, Arrival, Telling, DoesMotion, Doing, Moved, Deeds, Misses, Rises, Falls, Opens, Closes, ActsOn, finds, told, IsDone, first_carriage}
+use Rattle.scenario_laws.specs.host_model.specs.Hosts.{Host}
+use Rattle.scenario_laws.specs.turn_laws.proofs.Advancing.{Both}
+use Rattle.scenario_laws.specs.turn_laws.proofs.Standing.{Sound, Chain}
 
 -- ---- what is owed
 

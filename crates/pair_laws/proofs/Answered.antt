@@ -1,20 +1,20 @@
 -- What happens where the ports of both hosts give other answers happens where they give those.
 use Rattle.std.proofs.Common.{◌≡◌, ℕ, Bool, List, refl, ap, ap₂, subst, ◌∙◌}
-use Rattle.push_terms.specs.declared.word.Side.TheVariants.{A, B}
-use Rattle.push_terms.specs.declared.word.Way.TheVariants.{Ab, Ba}
-use Rattle.radio_air.specs.Controllers.{Controller}
-use Rattle.radio_air.specs.Radio.{is_together}
-use Rattle.radio_air.specs.declared.fate.Fate.{Fate}
-use Rattle.radio_air.specs.declared.deed.Deed.{Deed}
-use Rattle.radio_air.specs.declared.deed.Deed.TheVariants.{Nothing, Meets, Fires, FiresBoth, Breaks, Cancels}
-use Rattle.world_model.specs.Machines.{News, Linked, Heard, TimerFired, Cancelled, Opening, Upper}
-use Rattle.world_model.specs.Pushes.{Pushes}
-use Rattle.world_model.specs.Turns.{IsCalm, FindsNothing}
-use Rattle.world_model.specs.Carriages.{End, Carriage, Motion, Saying, Departure, Arrival, Telling, DoesMotion, IsIdle, IsAtRest, Doing, Moved, Deeds, Misses, Rises, Falls, Opens, Closes, ActsOn, MeetsFate, finds, IsDone}
-use Rattle.world_model.specs.Stations.{Station}
-use Rattle.world_model.specs.Worlds.{World, Happening, Runs}
-use Rattle.world_model.specs.Worlds as worlds
-use Rattle.turn_laws.specs.WorldLaws.{Fits}
+use Rattle.scenario_laws.specs.push_terms.specs.declared.word.Side.TheVariants.{A, B}
+use Rattle.scenario_laws.specs.push_terms.specs.declared.word.Way.TheVariants.{Ab, Ba}
+use Rattle.scenario_laws.specs.radio_air.specs.Controllers.{Controller}
+use Rattle.scenario_laws.specs.radio_air.specs.Radio.{is_together}
+use Rattle.scenario_laws.specs.radio_air.specs.declared.fate.Fate.{Fate}
+use Rattle.scenario_laws.specs.radio_air.specs.declared.deed.Deed.{Deed}
+use Rattle.scenario_laws.specs.radio_air.specs.declared.deed.Deed.TheVariants.{Nothing, Meets, Fires, FiresBoth, Breaks, Cancels}
+use Rattle.scenario_laws.specs.world_model.specs.Machines.{News, Linked, Heard, TimerFired, Cancelled, Opening, Upper}
+use Rattle.scenario_laws.specs.world_model.specs.Pushes.{Pushes}
+use Rattle.scenario_laws.specs.world_model.specs.Turns.{IsCalm, FindsNothing}
+use Rattle.scenario_laws.specs.world_model.specs.Carriages.{End, Carriage, Motion, Saying, Departure, Arrival, Telling, DoesMotion, IsIdle, IsAtRest, Doing, Moved, Deeds, Misses, Rises, Falls, Opens, Closes, ActsOn, MeetsFate, finds, IsDone}
+use Rattle.scenario_laws.specs.world_model.specs.Stations.{Station}
+use Rattle.scenario_laws.specs.world_model.specs.Worlds.{World, Happening, Runs}
+use Rattle.scenario_laws.specs.world_model.specs.Worlds as worlds
+use Rattle.scenario_laws.specs.turn_laws.specs.WorldLaws.{Fits}
 use Rattle.alike_laws.specs.Twins.{world_with}
 use Rattle.alike_laws.proofs.Alike.{AreAlike, runs_on}
 use Rattle.pair_laws.specs.Granted.{answered_by}

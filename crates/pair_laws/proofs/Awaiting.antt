@@ -1,19 +1,19 @@
 -- A server that heard that its link came up, and nothing more, says nothing and does not leave.
 use Rattle.std.proofs.Common.{◌≡◌, ℕ, suc, Bool, true, false, not, List, [], Option, Some, None, is_some, refl, sym, ap, subst, ◌∙◌, if◌then◌else◌}
 use Rattle.std.proofs.lemmas.Bool.{and_right}
-use Rattle.bt_base.specs.declared.settings.Settings.{Settings}
-use Rattle.bt_base.specs.Objects.{Contents}
-use Rattle.channel_model.specs.declared.event.ChannelEvent.{ChannelEvent}
-use Rattle.channel_model.specs.Value.{Channels, no_channels}
-use Rattle.channel_model.specs.Giving.{next_given}
-use Rattle.push_model.specs.Server.{Server, Lent, lends, lent_sdu}
-use Rattle.world_model.specs.Machines.{Up, Linked, Upper}
-use Rattle.host_model.specs.Circumstances.{Circumstance}
-use Rattle.host_model.specs.Endpoints.{Endpoint, endpoint_of}
-use Rattle.host_model.specs.Hosts.{Host, strides, goes_by, drives, ready, hears_news, has_more, says}
-use Rattle.host_model.specs.Profiles.{Stride}
-use Rattle.host_model.specs.Servers.{ServerProfile, server_profile, submits, takes, next_stride}
-use Rattle.host_model.specs.Machines.{server_host}
+use Rattle.scenario_laws.specs.bt_base.specs.declared.settings.Settings.{Settings}
+use Rattle.scenario_laws.specs.bt_base.specs.Objects.{Contents}
+use Rattle.channel_laws.specs.channel_model.specs.declared.event.ChannelEvent.{ChannelEvent}
+use Rattle.channel_laws.specs.channel_model.specs.Value.{Channels, no_channels}
+use Rattle.channel_laws.specs.channel_model.specs.Giving.{next_given}
+use Rattle.scenario_laws.specs.push_model.specs.Server.{Server, Lent, lends, lent_sdu}
+use Rattle.scenario_laws.specs.world_model.specs.Machines.{Up, Linked, Upper}
+use Rattle.scenario_laws.specs.host_model.specs.Circumstances.{Circumstance}
+use Rattle.scenario_laws.specs.host_model.specs.Endpoints.{Endpoint, endpoint_of}
+use Rattle.scenario_laws.specs.host_model.specs.Hosts.{Host, strides, goes_by, drives, ready, hears_news, has_more, says}
+use Rattle.scenario_laws.specs.host_model.specs.Profiles.{Stride}
+use Rattle.scenario_laws.specs.host_model.specs.Servers.{ServerProfile, server_profile, submits, takes, next_stride}
+use Rattle.scenario_laws.specs.host_model.specs.Machines.{server_host}
 use Rattle.pair_laws.proofs.Abreast.{HasToldAll, Awaits}
 
 -- it has no channels, knows of none, and ends no link

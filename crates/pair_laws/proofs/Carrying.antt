@@ -2,37 +2,37 @@
 use Rattle.std.proofs.Common.{◌≡◌, ◌⊎◌, inl, inr, ℕ, zero, suc, ◌+◌, ◌≤◌, Bool, true, false, not, List, [], ◌∷◌, ◌++◌, map, length, refl, sym, ap, subst, ◌∙◌, arith, length-append, if◌then◌else◌}
 use Rattle.std.specs.List.{AllByRecursion, list_any}
 use Rattle.std.proofs.lemmas.Bool.{cases_eq}
-use Rattle.acl_fragments.specs.Pieces.{channel_of}
-use Rattle.push_terms.specs.declared.word.Side.TheVariants as sides
-use Rattle.push_terms.specs.declared.outcome.Outcome.{Outcome}
-use Rattle.push_terms.specs.declared.word.Way.TheVariants.{Ab, Ba}
-use Rattle.push_terms.specs.declared.word.Word.{Word}
-use Rattle.radio_air.specs.Controllers.{is_empty}
-use Rattle.radio_air.specs.declared.deed.Deed.{Deed}
-use Rattle.radio_air.specs.declared.deed.Deed.TheVariants.{Nothing, Meets, Fires, FiresBoth, Breaks, Cancels}
-use Rattle.radio_air.specs.declared.fate.Fate.{Fate}
-use Rattle.radio_air.specs.Fates.{meets, comes_of}
-use Rattle.channel_model.specs.Calls.{has_fcs}
-use Rattle.channel_model.specs.Changing.{is_answer}
-use Rattle.channel_model.specs.Giving.{next_given}
-use Rattle.channel_model.specs.Policies.{Policy}
-use Rattle.channel_model.specs.Value.{Channels, no_channels}
+use Rattle.scenario_laws.specs.acl_fragments.specs.Pieces.{channel_of}
+use Rattle.scenario_laws.specs.push_terms.specs.declared.word.Side.TheVariants as sides
+use Rattle.scenario_laws.specs.push_terms.specs.declared.outcome.Outcome.{Outcome}
+use Rattle.scenario_laws.specs.push_terms.specs.declared.word.Way.TheVariants.{Ab, Ba}
+use Rattle.scenario_laws.specs.push_terms.specs.declared.word.Word.{Word}
+use Rattle.scenario_laws.specs.radio_air.specs.Controllers.{is_empty}
+use Rattle.scenario_laws.specs.radio_air.specs.declared.deed.Deed.{Deed}
+use Rattle.scenario_laws.specs.radio_air.specs.declared.deed.Deed.TheVariants.{Nothing, Meets, Fires, FiresBoth, Breaks, Cancels}
+use Rattle.scenario_laws.specs.radio_air.specs.declared.fate.Fate.{Fate}
+use Rattle.scenario_laws.specs.radio_air.specs.Fates.{meets, comes_of}
+use Rattle.channel_laws.specs.channel_model.specs.Calls.{has_fcs}
+use Rattle.channel_laws.specs.channel_model.specs.Changing.{is_answer}
+use Rattle.channel_laws.specs.channel_model.specs.Giving.{next_given}
+use Rattle.channel_laws.specs.channel_model.specs.Policies.{Policy}
+use Rattle.channel_laws.specs.channel_model.specs.Value.{Channels, no_channels}
 use Rattle.channel_laws.specs.Runs.{Occurrence, run_of}
 use Rattle.channel_laws.specs.Tries.{one_if}
 use Rattle.channel_laws.proofs.Lasting.{answers_of}
-use Rattle.world_model.specs.Machines.{LinkEvent, Up, Down, News, Linked, Heard, TimerFired, Cancelled, Opening, Upper}
-use Rattle.world_model.specs.Talks.{Talk, Unsent, Met, Done}
-use Rattle.world_model.specs.Carriages.{Carriage, Motion, Saying, Departure, Arrival, Telling, DoesMotion, IsIdle, IsAtRest, MeetsFate, Doing, Moved, Deeds, Misses, Rises, Falls, Opens, Closes, ActsOn, finds, told, owing, IsDone, first_carriage, words_at, all_words}
-use Rattle.world_model.specs.Carriages as carriages
-use Rattle.turn_laws.proofs.Advancing.{Both, advances}
-use Rattle.turn_laws.proofs.Finishing.{nothing_more}
-use Rattle.turn_laws.proofs.Recounting.{IsOfScript, RestsIn, CarriesSo}
-use Rattle.turn_laws.proofs.Running.{first_both}
-use Rattle.turn_laws.proofs.Standing.{Sound, quiet_there, idle_linked}
-use Rattle.host_model.specs.Circumstances.{Circumstance}
-use Rattle.host_model.specs.Hosts.{Host, next}
-use Rattle.host_model.specs.Profiles.{Profile}
-use Rattle.host_model.specs.Machines.{upper}
+use Rattle.scenario_laws.specs.world_model.specs.Machines.{LinkEvent, Up, Down, News, Linked, Heard, TimerFired, Cancelled, Opening, Upper}
+use Rattle.scenario_laws.specs.world_model.specs.Talks.{Talk, Unsent, Met, Done}
+use Rattle.scenario_laws.specs.world_model.specs.Carriages.{Carriage, Motion, Saying, Departure, Arrival, Telling, DoesMotion, IsIdle, IsAtRest, MeetsFate, Doing, Moved, Deeds, Misses, Rises, Falls, Opens, Closes, ActsOn, finds, told, owing, IsDone, first_carriage, words_at, all_words}
+use Rattle.scenario_laws.specs.world_model.specs.Carriages as carriages
+use Rattle.scenario_laws.specs.turn_laws.proofs.Advancing.{Both, advances}
+use Rattle.scenario_laws.specs.turn_laws.proofs.Finishing.{nothing_more}
+use Rattle.scenario_laws.specs.turn_laws.proofs.Recounting.{IsOfScript, RestsIn, CarriesSo}
+use Rattle.scenario_laws.specs.turn_laws.proofs.Running.{first_both}
+use Rattle.scenario_laws.specs.turn_laws.proofs.Standing.{Sound, quiet_there, idle_linked}
+use Rattle.scenario_laws.specs.host_model.specs.Circumstances.{Circumstance}
+use Rattle.scenario_laws.specs.host_model.specs.Hosts.{Host, next}
+use Rattle.scenario_laws.specs.host_model.specs.Profiles.{Profile}
+use Rattle.scenario_laws.specs.host_model.specs.Machines.{upper}
 use Rattle.host_laws.specs.Acts.{Says, Acting}
 use Rattle.host_laws.specs.Asked.{IsOfLink, IsWantedAt}
 use Rattle.host_laws.specs.Calls.{Asks}

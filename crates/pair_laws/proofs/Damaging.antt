@@ -4,14 +4,14 @@ use Rattle.std.specs.Prelude.{◌/◌, ◌%◌, bit_xor, slice_index, slice_set}
 use Rattle.std.specs.Int.Bits.{xor_assoc, xor_self, xor_zero_l}
 use Rattle.std.proofs.lemmas.Bool.{cases_eq}
 use Rattle.std.proofs.lemmas.Nat.{xor_of_8}
-use Rattle.bt_base.specs.Octets.{IsOctets}
-use Rattle.acl_fragments.specs.Pieces.{channel_of}
-use Rattle.check_words.specs.CheckWords.{L2capCheckHolds}
-use Rattle.check_words.proofs.Octets.{changed-seen}
-use Rattle.ertm_frames.specs.declared.refusal.FrameRefusal.TheVariants.{Short, BadFcs, ReservedSet, BadStart, AboveMps}
-use Rattle.ertm_frames.specs.Answers.{Answer, IsAnswer}
-use Rattle.ertm_frames.specs.Reading.{answer_in}
-use Rattle.ertm_frames.proofs.WorkedOut.{answer-is_worked_out}
+use Rattle.scenario_laws.specs.bt_base.specs.Octets.{IsOctets}
+use Rattle.scenario_laws.specs.acl_fragments.specs.Pieces.{channel_of}
+use Rattle.scenario_laws.specs.check_words.specs.CheckWords.{L2capCheckHolds}
+use Rattle.scenario_laws.specs.check_words.proofs.Octets.{changed-seen}
+use Rattle.scenario_laws.specs.ertm_frames.specs.declared.refusal.FrameRefusal.TheVariants.{Short, BadFcs, ReservedSet, BadStart, AboveMps}
+use Rattle.scenario_laws.specs.ertm_frames.specs.Answers.{Answer, IsAnswer}
+use Rattle.scenario_laws.specs.ertm_frames.specs.Reading.{answer_in}
+use Rattle.scenario_laws.specs.ertm_frames.proofs.WorkedOut.{answer-is_worked_out}
 use Rattle.scenario_laws.proofs.Taming.{changed-channel}
 use Rattle.pair_laws.specs.Changes.{ChangesAreSeen}
 

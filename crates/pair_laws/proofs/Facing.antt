@@ -3,15 +3,15 @@ use Rattle.std.proofs.Common.{◌≡◌, ◌≤◌, ◌+◌, ℕ, Bool, true, fa
 use Rattle.std.specs.List.{AllByRecursion, flat_map, list_any}
 use Rattle.std.proofs.lemmas.List.Concat.{flat_map-append}
 use Rattle.std.proofs.lemmas.List.Sums.{fold-append}
-use Rattle.acl_fragments.specs.Pieces.{channel_of}
-use Rattle.capture.specs.Histories.{EachAfter}
-use Rattle.capture.proofs.HistoryLaws.{each_after-more}
-use Rattle.channel_model.specs.Policies.{Policy}
-use Rattle.channel_model.specs.Changing.{is_answer, has_room}
-use Rattle.channel_model.specs.Giving.{Given, next_given}
+use Rattle.scenario_laws.specs.acl_fragments.specs.Pieces.{channel_of}
+use Rattle.scenario_laws.specs.capture.specs.Histories.{EachAfter}
+use Rattle.scenario_laws.specs.capture.proofs.HistoryLaws.{each_after-more}
+use Rattle.channel_laws.specs.channel_model.specs.Policies.{Policy}
+use Rattle.channel_laws.specs.channel_model.specs.Changing.{is_answer, has_room}
+use Rattle.channel_laws.specs.channel_model.specs.Giving.{Given, next_given}
 use Rattle.channel_laws.specs.Adverse.{is_quiet, disturbs, disturbances, seen_from, IsRoomy}
 use Rattle.recovered_laws.specs.Calm.{owes, IsSettledAt, AreSettled}
-use Rattle.channel_model.specs.Giving.{gives}
+use Rattle.channel_laws.specs.channel_model.specs.Giving.{gives}
 use Rattle.channel_laws.specs.Runs.{Occurrence, Comes, Gives, Fires, Run, new_link, run_on, run_of}
 use Rattle.channel_laws.specs.Frames.{IsUttered, IsSpelled}
 use Rattle.channel_laws.specs.Pairs.{End, Pair, new_pair, Happening, Acts, Puts, Takes, Repeats, Loses, Damages, is_alone, occurs, with_near, put, puts, let_go, takes_first, repeats_first, loses_first, damages_first, happens_near, Near, Far, turned, Turn, pair_after, pair_of}

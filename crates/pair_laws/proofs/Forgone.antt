@@ -5,49 +5,49 @@ use Rattle.std.specs.List.{AllByRecursion, filter_map, list_any}
 use Rattle.std.proofs.lemmas.Bool.{eqb-true}
 use Rattle.std.proofs.lemmas.List.Elements.{filter-append}
 use Rattle.std.proofs.lemmas.List.Sums.{fold-append}
-use Rattle.acl_fragments.specs.Pieces.{channel_of}
-use Rattle.bt_base.proofs.OctetLemmas.{le16-number}
-use Rattle.capture.specs.declared.flow.Flow.{Flow}
-use Rattle.capture.specs.declared.flow.Flow.TheVariants.{Out, Into}
-use Rattle.capture.specs.Histories.{EachAfter}
-use Rattle.capture.proofs.HistoryLaws.{each_after-more}
-use Rattle.ertm_frames.specs.Frames.{PlainFrame}
-use Rattle.ertm_frames.specs.Picking.{Passage}
-use Rattle.ertm_frames.specs.Reading.{frame_in}
-use Rattle.ertm_model.specs.Giving.{next_frame}
-use Rattle.ertm_model.specs.Value.{Ertm}
-use Rattle.l2cap_config.specs.Writing.{written}
-use Rattle.l2cap_signal.specs.Commands.{Command as Signalled}
-use Rattle.l2cap_signal.specs.Reading.{Answer as Read, answers}
-use Rattle.link_talk.specs.Accounts.{passage_in, frames_passed}
-use Rattle.link_talk.specs.Carriages.{Carriage, endpoint, is_held, is_passed, carried, takes as takes_it}
-use Rattle.link_talk.specs.Channels.{Entry, entry_after, entries_after, life_after, is_there, made_by, Reading, reading, word}
-use Rattle.link_talk.specs.declared.channel.Channel.{Channel}
-use Rattle.link_talk.specs.declared.life.Life.{Life}
-use Rattle.link_talk.specs.declared.life.Life.TheVariants.{Alive, Leaving, Crossed, Over}
-use Rattle.link_talk.specs.declared.party.Party.{Party}
-use Rattle.link_talk.specs.declared.word.Word.{Word}
-use Rattle.link_talk.specs.declared.word.Word.TheVariants.{AsksEnd, AnswersEnd, EndAnswered, EndForgone}
-use Rattle.link_talk.specs.GrowingLaws.{has_opened, HasOpened}
-use Rattle.link_talk.specs.Meanings.{Meaning, Wishes, Parts, Nothing, meant}
-use Rattle.link_talk.specs.Requests.{Requests}
-use Rattle.link_talk.specs.Sayings.{Saying, Command, Carried, GaveUp, Forgone, Connection, Disconnection, Information}
-use Rattle.link_talk.specs.Senses.{sense}
-use Rattle.link_talk.specs.Setups.{Setup, Term, is_set, setup_after, term, with_term}
-use Rattle.link_talk.proofs.Growing.{mode-stands}
-use Rattle.link_talk.proofs.OnePass.{reading-more}
-use Rattle.talk_laws.proofs.Passes.{from_end}
-use Rattle.channel_model.specs.Calls.{open_carrier, carrier_if, carrier_at, setup_on, connected, asks_features, disconnected}
-use Rattle.channel_model.specs.Carrying.{takes}
-use Rattle.channel_model.specs.Changing.{held_at, is_open, setup_of}
-use Rattle.channel_model.specs.declared.errand.Errand.TheVariants as errands
-use Rattle.channel_model.specs.Following.{can_say}
-use Rattle.channel_model.specs.Giving.{Given, Signal, Whole, Framed, carrier_gives, next_given, headed}
-use Rattle.channel_model.specs.Hearing.{hears_command}
-use Rattle.channel_model.specs.Policies.{Policy}
-use Rattle.channel_model.specs.Timing.{times_held, times_end, times_features}
-use Rattle.channel_model.specs.Value.{Request, Carrier, Plain, Retransmitting, Setup as Agreed, Held, Channels}
-use Rattle.channel_model.proofs.Walking.{found-own}
+use Rattle.scenario_laws.specs.acl_fragments.specs.Pieces.{channel_of}
+use Rattle.scenario_laws.specs.bt_base.proofs.OctetLemmas.{le16-number}
+use Rattle.scenario_laws.specs.capture.specs.declared.flow.Flow.{Flow}
+use Rattle.scenario_laws.specs.capture.specs.declared.flow.Flow.TheVariants.{Out, Into}
+use Rattle.scenario_laws.specs.capture.specs.Histories.{EachAfter}
+use Rattle.scenario_laws.specs.capture.proofs.HistoryLaws.{each_after-more}
+use Rattle.scenario_laws.specs.ertm_frames.specs.Frames.{PlainFrame}
+use Rattle.scenario_laws.specs.ertm_frames.specs.Picking.{Passage}
+use Rattle.scenario_laws.specs.ertm_frames.specs.Reading.{frame_in}
+use Rattle.scenario_laws.specs.ertm_model.specs.Giving.{next_frame}
+use Rattle.scenario_laws.specs.ertm_model.specs.Value.{Ertm}
+use Rattle.scenario_laws.specs.l2cap_config.specs.Writing.{written}
+use Rattle.scenario_laws.specs.l2cap_signal.specs.Commands.{Command as Signalled}
+use Rattle.scenario_laws.specs.l2cap_signal.specs.Reading.{Answer as Read, answers}
+use Rattle.scenario_laws.specs.link_talk.specs.Accounts.{passage_in, frames_passed}
+use Rattle.scenario_laws.specs.link_talk.specs.Carriages.{Carriage, endpoint, is_held, is_passed, carried, takes as takes_it}
+use Rattle.scenario_laws.specs.link_talk.specs.Channels.{Entry, entry_after, entries_after, life_after, is_there, made_by, Reading, reading, word}
+use Rattle.scenario_laws.specs.link_talk.specs.declared.channel.Channel.{Channel}
+use Rattle.scenario_laws.specs.link_talk.specs.declared.life.Life.{Life}
+use Rattle.scenario_laws.specs.link_talk.specs.declared.life.Life.TheVariants.{Alive, Leaving, Crossed, Over}
+use Rattle.scenario_laws.specs.link_talk.specs.declared.party.Party.{Party}
+use Rattle.scenario_laws.specs.link_talk.specs.declared.word.Word.{Word}
+use Rattle.scenario_laws.specs.link_talk.specs.declared.word.Word.TheVariants.{AsksEnd, AnswersEnd, EndAnswered, EndForgone}
+use Rattle.scenario_laws.specs.link_talk.specs.GrowingLaws.{has_opened, HasOpened}
+use Rattle.scenario_laws.specs.link_talk.specs.Meanings.{Meaning, Wishes, Parts, Nothing, meant}
+use Rattle.scenario_laws.specs.link_talk.specs.Requests.{Requests}
+use Rattle.scenario_laws.specs.link_talk.specs.Sayings.{Saying, Command, Carried, GaveUp, Forgone, Connection, Disconnection, Information}
+use Rattle.scenario_laws.specs.link_talk.specs.Senses.{sense}
+use Rattle.scenario_laws.specs.link_talk.specs.Setups.{Setup, Term, is_set, setup_after, term, with_term}
+use Rattle.scenario_laws.specs.link_talk.proofs.Growing.{mode-stands}
+use Rattle.scenario_laws.specs.link_talk.proofs.OnePass.{reading-more}
+use Rattle.channel_laws.specs.talk_laws.proofs.Passes.{from_end}
+use Rattle.channel_laws.specs.channel_model.specs.Calls.{open_carrier, carrier_if, carrier_at, setup_on, connected, asks_features, disconnected}
+use Rattle.channel_laws.specs.channel_model.specs.Carrying.{takes}
+use Rattle.channel_laws.specs.channel_model.specs.Changing.{held_at, is_open, setup_of}
+use Rattle.channel_laws.specs.channel_model.specs.declared.errand.Errand.TheVariants as errands
+use Rattle.channel_laws.specs.channel_model.specs.Following.{can_say}
+use Rattle.channel_laws.specs.channel_model.specs.Giving.{Given, Signal, Whole, Framed, carrier_gives, next_given, headed}
+use Rattle.channel_laws.specs.channel_model.specs.Hearing.{hears_command}
+use Rattle.channel_laws.specs.channel_model.specs.Policies.{Policy}
+use Rattle.channel_laws.specs.channel_model.specs.Timing.{times_held, times_end, times_features}
+use Rattle.channel_laws.specs.channel_model.specs.Value.{Request, Carrier, Plain, Retransmitting, Setup as Agreed, Held, Channels}
+use Rattle.channel_laws.specs.channel_model.proofs.Walking.{found-own}
 use Rattle.channel_laws.specs.Frames.{IsSpelled, IsUttered, AreUttered}
 use Rattle.channel_laws.specs.OwnTalk.{spoken, reply_to, exchanged, asked_between, said_with, said_with_all}
 use Rattle.channel_laws.specs.Runs.{Occurrence, Comes, Connects, AsksFeatures, Disconnects, Sends, Gives, Fires, Tells, peer_at, given_up, features_given_up, said_again, said_on_firing, said_by_channel, fired_channel, said_by_channels, said_by_features, said_by_carrier, said_as, said_in, Run, new_link, run_on, run_of}

@@ -1,17 +1,17 @@
 -- What a host that lives over its links has of its ports: what it is given, and what it is told as a push begins.
 use Rattle.std.proofs.Common.{◌≡◌, List, [], ◌∷◌, ◌++◌, map, sym, subst}
 use Rattle.std.specs.List.{AllByRecursion}
-use Rattle.acl_fragments.specs.Pieces.{channel_of}
-use Rattle.channel_model.specs.declared.event.ChannelEvent.{ChannelEvent}
-use Rattle.channel_model.specs.Value.{Channels}
-use Rattle.channel_model.specs.Calls.{link_down}
-use Rattle.channel_model.specs.Carrying.{Up as Handed, Nothing, Received}
-use Rattle.channel_model.specs.Hearing.{up}
+use Rattle.scenario_laws.specs.acl_fragments.specs.Pieces.{channel_of}
+use Rattle.channel_laws.specs.channel_model.specs.declared.event.ChannelEvent.{ChannelEvent}
+use Rattle.channel_laws.specs.channel_model.specs.Value.{Channels}
+use Rattle.channel_laws.specs.channel_model.specs.Calls.{link_down}
+use Rattle.channel_laws.specs.channel_model.specs.Carrying.{Up as Handed, Nothing, Received}
+use Rattle.channel_laws.specs.channel_model.specs.Hearing.{up}
 use Rattle.channel_laws.specs.Runs.{Occurrence}
-use Rattle.world_model.specs.Machines.{LinkEvent, Up, Down, News, Linked, Failed, Heard, TimerFired, Cancelled, Opening}
-use Rattle.host_model.specs.Circumstances.{Circumstance}
-use Rattle.host_model.specs.Hosts.{Host, first_host, hears_news}
-use Rattle.host_model.specs.Profiles.{Profile}
+use Rattle.scenario_laws.specs.world_model.specs.Machines.{LinkEvent, Up, Down, News, Linked, Failed, Heard, TimerFired, Cancelled, Opening}
+use Rattle.scenario_laws.specs.host_model.specs.Circumstances.{Circumstance}
+use Rattle.scenario_laws.specs.host_model.specs.Hosts.{Host, first_host, hears_news}
+use Rattle.scenario_laws.specs.host_model.specs.Profiles.{Profile}
 use Rattle.host_laws.specs.Asked.{BeginsNone, IsOfLink}
 use Rattle.host_laws.specs.Calls.{Asks, values_after}
 use Rattle.host_laws.specs.Feeds.{Feed, Gifts, Learns, Receives, Happens, Sent, Steps}

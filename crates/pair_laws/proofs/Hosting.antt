@@ -3,28 +3,28 @@ use Rattle.std.proofs.Common.{◌≡◌, ◌⊎◌, inl, inr, ℕ, ◌≤◌, Bo
 use Rattle.std.specs.List.{AllByRecursion, flat_map, filter_map, list_any}
 use Rattle.std.proofs.lemmas.List.{map-append}
 use Rattle.std.proofs.lemmas.List.Concat.{flat_map-append}
-use Rattle.acl_fragments.specs.Pieces.{channel_of}
-use Rattle.capture.specs.Histories.{EachAfter}
-use Rattle.capture.proofs.HistoryLaws.{each_after-both}
+use Rattle.scenario_laws.specs.acl_fragments.specs.Pieces.{channel_of}
+use Rattle.scenario_laws.specs.capture.specs.Histories.{EachAfter}
+use Rattle.scenario_laws.specs.capture.proofs.HistoryLaws.{each_after-both}
 use Rattle.std.proofs.lemmas.List.Sums.{fold-append}
 use Rattle.recovered_laws.specs.Calm.{owes}
-use Rattle.channel_model.specs.Giving.{gives}
-use Rattle.channel_model.specs.Carrying.{Up as Handed, Nothing, Received}
-use Rattle.channel_model.specs.Changing.{is_answer, has_room}
-use Rattle.channel_model.specs.Hearing as channels
-use Rattle.channel_model.specs.Policies.{Policy}
-use Rattle.channel_model.specs.Value.{Channels, no_channels}
+use Rattle.channel_laws.specs.channel_model.specs.Giving.{gives}
+use Rattle.channel_laws.specs.channel_model.specs.Carrying.{Up as Handed, Nothing, Received}
+use Rattle.channel_laws.specs.channel_model.specs.Changing.{is_answer, has_room}
+use Rattle.channel_laws.specs.channel_model.specs.Hearing as channels
+use Rattle.channel_laws.specs.channel_model.specs.Policies.{Policy}
+use Rattle.channel_laws.specs.channel_model.specs.Value.{Channels, no_channels}
 use Rattle.channel_laws.specs.Runs.{Occurrence, Comes, Connects, AsksFeatures, Disconnects, Sends, Gives, Fires, Tells, Run, new_link, run_on, run_of}
 use Rattle.channel_laws.specs.Tries.{one_if}
 use Rattle.channel_laws.proofs.Lasting.{answers_of}
-use Rattle.world_model.specs.Machines.{LinkEvent, News, Linked, Failed, Heard, TimerFired, Cancelled, Opening}
-use Rattle.world_model.specs.Talks.{Talk, Told, Said, Unsent}
-use Rattle.world_model.specs.Carriages.{is_told, landed, linked_by, told}
-use Rattle.world_model.specs.Carriages as carriages
-use Rattle.host_model.specs.Circumstances.{Circumstance}
-use Rattle.host_model.specs.Hosts.{Host, ready, hears_news, driven, most_steps, handed, tells_events, hear}
-use Rattle.host_model.specs.Profiles.{Profile}
-use Rattle.host_model.specs.Machines.{upper}
+use Rattle.scenario_laws.specs.world_model.specs.Machines.{LinkEvent, News, Linked, Failed, Heard, TimerFired, Cancelled, Opening}
+use Rattle.scenario_laws.specs.world_model.specs.Talks.{Talk, Told, Said, Unsent}
+use Rattle.scenario_laws.specs.world_model.specs.Carriages.{is_told, landed, linked_by, told}
+use Rattle.scenario_laws.specs.world_model.specs.Carriages as carriages
+use Rattle.scenario_laws.specs.host_model.specs.Circumstances.{Circumstance}
+use Rattle.scenario_laws.specs.host_model.specs.Hosts.{Host, ready, hears_news, driven, most_steps, handed, tells_events, hear}
+use Rattle.scenario_laws.specs.host_model.specs.Profiles.{Profile}
+use Rattle.scenario_laws.specs.host_model.specs.Machines.{upper}
 use Rattle.host_laws.specs.Acts.{Act, Hears, Says}
 use Rattle.host_laws.specs.Asked.{IsOfLink, BeginsNone, IsWantedAt, up_behind}
 use Rattle.host_laws.specs.Calls.{Asks, values_after, outer}

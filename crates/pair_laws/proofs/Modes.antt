@@ -6,28 +6,28 @@ use Rattle.std.specs.List.{AllByRecursion, flat_map, list_any}
 use Rattle.std.proofs.lemmas.Bool.{eqb-true}
 use Rattle.std.proofs.lemmas.List.Elements.{filter-append}
 use Rattle.std.proofs.lemmas.List.Sums.{fold-append}
-use Rattle.bt_base.specs.declared.settings.Settings.{Settings}
-use Rattle.push_terms.specs.declared.word.Side.TheVariants as sides
-use Rattle.capture.specs.Histories.{EachAfter}
-use Rattle.capture.specs.Links.{links}
-use Rattle.capture.specs.Pdus.{Pdu, pdus}
-use Rattle.l2cap_config.specs.declared.wish.Mode.{Mode}
-use Rattle.l2cap_config.specs.declared.wish.Mode.TheVariants.{Enhanced}
-use Rattle.link_talk.specs.declared.channel.Channel.{Channel}
-use Rattle.link_talk.specs.Channels.{Entry, fresh, entry_after, entries_after, is_there, is_owner, made_by, Reading, reading}
-use Rattle.link_talk.specs.Meanings.{Meaning, meant}
-use Rattle.link_talk.specs.Packets.{OverL2cap, OverRfcomm, OverNothing, carrier}
-use Rattle.link_talk.specs.Sayings.{Saying, said_by, talk}
-use Rattle.link_talk.specs.Senses.{sense}
-use Rattle.link_talk.specs.Setups.{Setup, is_set, setup_after, term}
-use Rattle.link_talk.proofs.OnePass.{reading-more}
-use Rattle.channel_model.specs.Calls.{connected, asks_features, disconnected, carrier_at}
-use Rattle.channel_model.specs.Changing.{held_at}
-use Rattle.channel_model.specs.declared.errand.Errand.TheVariants as errands
-use Rattle.channel_model.specs.Giving.{Given, Signal, Whole, Framed, next_given}
-use Rattle.channel_model.specs.Policies.{Policy, policy}
-use Rattle.channel_model.specs.Timing.{times_held, times_end, times_features}
-use Rattle.channel_model.specs.Value.{Request, Carrier as Carrying, Plain, Retransmitting, Held, Channels}
+use Rattle.scenario_laws.specs.bt_base.specs.declared.settings.Settings.{Settings}
+use Rattle.scenario_laws.specs.push_terms.specs.declared.word.Side.TheVariants as sides
+use Rattle.scenario_laws.specs.capture.specs.Histories.{EachAfter}
+use Rattle.scenario_laws.specs.capture.specs.Links.{links}
+use Rattle.scenario_laws.specs.capture.specs.Pdus.{Pdu, pdus}
+use Rattle.scenario_laws.specs.l2cap_config.specs.declared.wish.Mode.{Mode}
+use Rattle.scenario_laws.specs.l2cap_config.specs.declared.wish.Mode.TheVariants.{Enhanced}
+use Rattle.scenario_laws.specs.link_talk.specs.declared.channel.Channel.{Channel}
+use Rattle.scenario_laws.specs.link_talk.specs.Channels.{Entry, fresh, entry_after, entries_after, is_there, is_owner, made_by, Reading, reading}
+use Rattle.scenario_laws.specs.link_talk.specs.Meanings.{Meaning, meant}
+use Rattle.scenario_laws.specs.link_talk.specs.Packets.{OverL2cap, OverRfcomm, OverNothing, carrier}
+use Rattle.scenario_laws.specs.link_talk.specs.Sayings.{Saying, said_by, talk}
+use Rattle.scenario_laws.specs.link_talk.specs.Senses.{sense}
+use Rattle.scenario_laws.specs.link_talk.specs.Setups.{Setup, is_set, setup_after, term}
+use Rattle.scenario_laws.specs.link_talk.proofs.OnePass.{reading-more}
+use Rattle.channel_laws.specs.channel_model.specs.Calls.{connected, asks_features, disconnected, carrier_at}
+use Rattle.channel_laws.specs.channel_model.specs.Changing.{held_at}
+use Rattle.channel_laws.specs.channel_model.specs.declared.errand.Errand.TheVariants as errands
+use Rattle.channel_laws.specs.channel_model.specs.Giving.{Given, Signal, Whole, Framed, next_given}
+use Rattle.channel_laws.specs.channel_model.specs.Policies.{Policy, policy}
+use Rattle.channel_laws.specs.channel_model.specs.Timing.{times_held, times_end, times_features}
+use Rattle.channel_laws.specs.channel_model.specs.Value.{Request, Carrier as Carrying, Plain, Retransmitting, Held, Channels}
 use Rattle.channel_laws.specs.Runs.{Occurrence, Comes, Connects, AsksFeatures, Disconnects, Sends, Gives, Fires, Tells, peer_at, features_given_up, said_again, said_on_firing, said_by_channel, fired_channel, said_by_channels, said_by_carrier, said_as, said_in, Run, new_link, run_on, run_of}
 use Rattle.channel_laws.specs.Views.{read_at}
 use Rattle.channel_laws.proofs.Entries.{either_same, makes-fresh, read-after, read-append}
@@ -35,8 +35,8 @@ use Rattle.channel_laws.proofs.Mild.{OwnAt, IsMild, KeepsOwn, one_saying, no_say
 use Rattle.channel_laws.proofs.Origins.{makes-it}
 use Rattle.channel_laws.proofs.OwnModes.{modes-are_own}
 use Rattle.channel_laws.proofs.Words.{Words, words-asked, words-again, words-left, words-firing}
-use Rattle.host_model.specs.Clients.{client_profile}
-use Rattle.host_model.specs.Servers.{server_profile}
+use Rattle.scenario_laws.specs.host_model.specs.Clients.{client_profile}
+use Rattle.scenario_laws.specs.host_model.specs.Servers.{server_profile}
 use Rattle.host_laws.specs.Keeping.{GivesNothingUp}
 use Rattle.host_laws.specs.Lives.{on_links}
 use Rattle.host_laws.specs.OverLinks.{talk_marks, parts}

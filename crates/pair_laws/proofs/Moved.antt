@@ -2,12 +2,12 @@
 use Rattle.std.proofs.Common.{◌≡◌, ℕ, List, [], ◌∷◌, ◌++◌, map, inl, inr, sym, ap, subst, ◌∙◌, append_assoc}
 use Rattle.std.specs.List.{AllByRecursion, AllZip, flat_map}
 use Rattle.std.proofs.lemmas.List.Concat.{flat_map-append}
-use Rattle.capture.specs.Links.{Link}
-use Rattle.capture.specs.Pdus.{Pdu, pdus}
-use Rattle.link_talk.specs.Sayings.{Saying, said_by, talk}
-use Rattle.channel_model.specs.Policies.{Policy}
+use Rattle.scenario_laws.specs.capture.specs.Links.{Link}
+use Rattle.scenario_laws.specs.capture.specs.Pdus.{Pdu, pdus}
+use Rattle.scenario_laws.specs.link_talk.specs.Sayings.{Saying, said_by, talk}
+use Rattle.channel_laws.specs.channel_model.specs.Policies.{Policy}
 use Rattle.channel_laws.specs.Runs.{Occurrence, run_of}
-use Rattle.world_model.specs.Talks.{Talk}
+use Rattle.scenario_laws.specs.world_model.specs.Talks.{Talk}
 use Rattle.host_laws.specs.Calm.{pdus_in}
 use Rattle.host_laws.specs.OverLinks.{IsTalkOf}
 use Rattle.host_laws.specs.Seen.{spoken_of}

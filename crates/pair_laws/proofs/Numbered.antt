@@ -1,11 +1,11 @@
 -- All links of two hosts at once, by their numbers, and what one of the hosts does on its link.
 use Rattle.std.proofs.Common.{◌≡◌, ◌⊎◌, inl, inr, ℕ, zero, suc, ◌+◌, ◌<◌, ◌≤◌, List, [], ◌∷◌, ◌++◌, map, length, get_or, refl, sym, ap, subst, ◌∙◌, arith, length-append}
 use Rattle.std.proofs.lemmas.Bool.{cases_eq}
-use Rattle.channel_model.specs.Policies.{Policy}
+use Rattle.channel_laws.specs.channel_model.specs.Policies.{Policy}
 use Rattle.channel_laws.specs.Runs.{Occurrence}
 use Rattle.host_laws.specs.Lives.{Span}
-use Rattle.world_model.specs.Machines.{LinkEvent, Up, Down}
-use Rattle.world_model.specs.Carriages as carriages
+use Rattle.scenario_laws.specs.world_model.specs.Machines.{LinkEvent, Up, Down}
+use Rattle.scenario_laws.specs.world_model.specs.Carriages as carriages
 use Rattle.pair_laws.proofs.Facing.{View, NearBy, FarBy, most_of, with_most, PairFrom, richer}
 
 -- ---- what happened on the link of a number

@@ -1,15 +1,15 @@
 -- What host a was told to push are the first objects of the scenario.
 use Rattle.std.proofs.Common.{◌≡◌, ℕ, suc, ◌+◌, Bool, true, false, Option, Some, None, List, [], ◌∷◌, ◌++◌, length, refl, sym, ap, subst, ◌∙◌, arith, append-nil, append_assoc, length-append, if◌then◌else◌}
 use Rattle.std.specs.Prelude.{slice_get}
-use Rattle.push_terms.specs.declared.word.Side.TheVariants.{A, B}
-use Rattle.push_terms.specs.declared.word.Way.TheVariants.{Ab, Ba}
-use Rattle.radio_air.specs.declared.deed.Deed.{Deed}
-use Rattle.radio_air.specs.declared.deed.Deed.TheVariants.{Nothing, Meets, Fires, FiresBoth, Breaks, Cancels}
-use Rattle.world_model.specs.Machines.{Heard, TimerFired, Cancelled, Opening, Upper}
-use Rattle.world_model.specs.Pushes.{next_name}
-use Rattle.world_model.specs.Talks.{Talk, Told, Said, Met, Done}
-use Rattle.world_model.specs.Carriages.{End, Carriage, Motion, Saying, Departure, Arrival, Telling, DoesMotion, Doing, Moved, Deeds, Misses, Rises, Falls, Opens, Closes, ActsOn, finds, IsDone, first_carriage, told, fired}
-use Rattle.turn_laws.proofs.Recounting.{CarriesSo}
+use Rattle.scenario_laws.specs.push_terms.specs.declared.word.Side.TheVariants.{A, B}
+use Rattle.scenario_laws.specs.push_terms.specs.declared.word.Way.TheVariants.{Ab, Ba}
+use Rattle.scenario_laws.specs.radio_air.specs.declared.deed.Deed.{Deed}
+use Rattle.scenario_laws.specs.radio_air.specs.declared.deed.Deed.TheVariants.{Nothing, Meets, Fires, FiresBoth, Breaks, Cancels}
+use Rattle.scenario_laws.specs.world_model.specs.Machines.{Heard, TimerFired, Cancelled, Opening, Upper}
+use Rattle.scenario_laws.specs.world_model.specs.Pushes.{next_name}
+use Rattle.scenario_laws.specs.world_model.specs.Talks.{Talk, Told, Said, Met, Done}
+use Rattle.scenario_laws.specs.world_model.specs.Carriages.{End, Carriage, Motion, Saying, Departure, Arrival, Telling, DoesMotion, Doing, Moved, Deeds, Misses, Rises, Falls, Opens, Closes, ActsOn, finds, IsDone, first_carriage, told, fired}
+use Rattle.scenario_laws.specs.turn_laws.proofs.Recounting.{CarriesSo}
 use Rattle.pair_laws.proofs.Openings.{names_talked, same_names, news_names, no_names, turned_names}
 
 -- ---- one host

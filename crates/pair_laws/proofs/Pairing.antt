@@ -3,18 +3,18 @@ use Rattle.std.proofs.Common.{◌≡◌, ◌≤◌, ◌+◌, arith, ℕ, Bool, t
 use Rattle.std.specs.Prelude.{IfSome}
 use Rattle.std.specs.List.{AllByRecursion, flat_map}
 use Rattle.std.proofs.lemmas.Bool.{cases_eq}
-use Rattle.bt_base.specs.Objects.{Object, Contents}
-use Rattle.bt_base.specs.declared.ports.PortFault.TheVariants as faults
-use Rattle.obex_session.specs.InboxCalls.{Answer}
-use Rattle.push_script.specs.declared.scenario.Scenario.{Scenario}
-use Rattle.push_terms.specs.declared.word.Side.{Side}
-use Rattle.push_terms.specs.declared.word.Side.TheVariants as sides
-use Rattle.capture.specs.Entries.{Entry}
-use Rattle.capture.specs.Histories.{EachAfter}
-use Rattle.capture.specs.Links.{linking}
-use Rattle.capture.specs.Moves.{moves}
-use Rattle.channel_model.specs.Policies.{Policy, policy}
-use Rattle.channel_model.specs.Value.{no_channels}
+use Rattle.scenario_laws.specs.bt_base.specs.Objects.{Object, Contents}
+use Rattle.scenario_laws.specs.bt_base.specs.declared.ports.PortFault.TheVariants as faults
+use Rattle.scenario_laws.specs.obex_session.specs.InboxCalls.{Answer}
+use Rattle.scenario_laws.specs.push_script.specs.declared.scenario.Scenario.{Scenario}
+use Rattle.scenario_laws.specs.push_terms.specs.declared.word.Side.{Side}
+use Rattle.scenario_laws.specs.push_terms.specs.declared.word.Side.TheVariants as sides
+use Rattle.scenario_laws.specs.capture.specs.Entries.{Entry}
+use Rattle.scenario_laws.specs.capture.specs.Histories.{EachAfter}
+use Rattle.scenario_laws.specs.capture.specs.Links.{linking}
+use Rattle.scenario_laws.specs.capture.specs.Moves.{moves}
+use Rattle.channel_laws.specs.channel_model.specs.Policies.{Policy, policy}
+use Rattle.channel_laws.specs.channel_model.specs.Value.{no_channels}
 use Rattle.channel_laws.specs.Adverse.{disturbances, AreRoomy}
 use Rattle.recovered_laws.specs.Calm.{AreSettled}
 use Rattle.channel_laws.specs.Belonging.{AreRead}
@@ -25,16 +25,16 @@ use Rattle.channel_laws.specs.Pairs as Pairs
 use Rattle.channel_laws.specs.Pairs.{End, Happening, Acts, Puts, Takes, Repeats, Loses, Damages, Near, Far, Turn, pair_of}
 use Rattle.channel_laws.specs.Pipes.{IsTakeable, IsCarried, AreCarried}
 use Rattle.channel_laws.specs.Runs.{Occurrence, Comes, Connects, AsksFeatures, Disconnects, Sends, Gives, Fires, Tells, run_of}
-use Rattle.world_model.specs.Carriages as carriages
-use Rattle.world_model.specs.PerLink.{linkage, captured}
-use Rattle.world_model.specs.Worlds.{Happening as Done, Runs, IsAtRest, all_entries, all_words}
-use Rattle.host_model.specs.Hosts.{Host}
-use Rattle.host_model.specs.Profiles.{Profile}
-use Rattle.push_laws.specs.Premises.{AllGranted, NoneShort}
-use Rattle.host_model.specs.Circumstances.{Circumstance, Size, Part, Stored, size_in, answers_in}
-use Rattle.host_model.specs.Clients.{ClientProfile, client_profile}
-use Rattle.host_model.specs.Servers.{ServerProfile, server_profile}
-use Rattle.host_model.specs.Machines.{upper}
+use Rattle.scenario_laws.specs.world_model.specs.Carriages as carriages
+use Rattle.scenario_laws.specs.world_model.specs.PerLink.{linkage, captured}
+use Rattle.scenario_laws.specs.world_model.specs.Worlds.{Happening as Done, Runs, IsAtRest, all_entries, all_words}
+use Rattle.scenario_laws.specs.host_model.specs.Hosts.{Host}
+use Rattle.scenario_laws.specs.host_model.specs.Profiles.{Profile}
+use Rattle.host_laws.specs.push_laws.specs.Premises.{AllGranted, NoneShort}
+use Rattle.scenario_laws.specs.host_model.specs.Circumstances.{Circumstance, Size, Part, Stored, size_in, answers_in}
+use Rattle.scenario_laws.specs.host_model.specs.Clients.{ClientProfile, client_profile}
+use Rattle.scenario_laws.specs.host_model.specs.Servers.{ServerProfile, server_profile}
+use Rattle.scenario_laws.specs.host_model.specs.Machines.{upper}
 use Rattle.host_laws.specs.Calls.{Asks, HostsAsk}
 use Rattle.host_laws.specs.Feeds.{Feed, Gifts, Learns, Receives, Happens, Sent, Steps}
 use Rattle.host_laws.specs.Gifts.{gifts_in, gifts_of}
@@ -57,11 +57,11 @@ use Rattle.scenario_laws.proofs.Fronts.{fits}
 use Rattle.scenario_laws.proofs.Gentle.{client-keeps, server-keeps}
 use Rattle.scenario_laws.proofs.UnlinkedClients.{HasNoLink, clients_keep}
 use Rattle.scenario_laws.proofs.UnlinkedServers.{KnowsNone, servers_keep}
-use Rattle.turn_laws.proofs.Ordering.{at}
-use Rattle.turn_laws.proofs.Recounting.{HoldsAtRests}
-use Rattle.world_model.specs.Machines.{LinkEvent, News, Linked, Failed, Heard, TimerFired, Cancelled, Opening, Upper}
-use Rattle.shelf_model.specs.Held.{given_by, length_of, held_by}
-use Rattle.shelf_model.proofs.Sizes.{shelves-give_what_they_hold, sizes-are_of_objects}
+use Rattle.scenario_laws.specs.turn_laws.proofs.Ordering.{at}
+use Rattle.scenario_laws.specs.turn_laws.proofs.Recounting.{HoldsAtRests}
+use Rattle.scenario_laws.specs.world_model.specs.Machines.{LinkEvent, News, Linked, Failed, Heard, TimerFired, Cancelled, Opening, Upper}
+use Rattle.host_laws.specs.shelf_model.specs.Held.{given_by, length_of, held_by}
+use Rattle.host_laws.specs.shelf_model.proofs.Sizes.{shelves-give_what_they_hold, sizes-are_of_objects}
 use Rattle.pair_laws.specs.Granted.{answered_by, granted, GrantedTakeTurns}
 use Rattle.pair_laws.specs.Heard.{IsHeardSo, HearsSo, HostsHearFirst}
 use Rattle.pair_laws.specs.InTurn.{PairsInTurn, HostsTakeTurns}

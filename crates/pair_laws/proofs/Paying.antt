@@ -3,20 +3,20 @@ use Rattle.std.proofs.Common.{◌≡◌, ◌<◌, ◌≤◌, ◌+◌, arith, Boo
 use Rattle.std.specs.Prelude.{nat_le}
 use Rattle.std.specs.List.{AllByRecursion, flat_map}
 use Rattle.std.proofs.lemmas.Bool.{leb-true, leb-false}
-use Rattle.push_terms.specs.declared.word.Side.TheVariants as sides
-use Rattle.channel_model.specs.declared.errand.Errand.{Errand}
-use Rattle.channel_model.specs.declared.errand.Errand.TheVariants as errands
-use Rattle.channel_model.specs.Policies.{Policy}
-use Rattle.channel_model.specs.Value.{Request}
+use Rattle.scenario_laws.specs.push_terms.specs.declared.word.Side.TheVariants as sides
+use Rattle.channel_laws.specs.channel_model.specs.declared.errand.Errand.{Errand}
+use Rattle.channel_laws.specs.channel_model.specs.declared.errand.Errand.TheVariants as errands
+use Rattle.channel_laws.specs.channel_model.specs.Policies.{Policy}
+use Rattle.channel_laws.specs.channel_model.specs.Value.{Request}
 use Rattle.channel_laws.specs.Adverse.{disturbances, seen_from, AreHeeded, DisturbancesAreCounted, FeaturesAreHeeded}
 use Rattle.channel_laws.specs.Connections.{NamesApart, ConnectionsAreMet, NamesAreApart}
 use Rattle.channel_laws.specs.Heeded.{MetIsHeeded}
 use Rattle.channel_laws.specs.Pairs.{Side, Near, Far, new_pair, pair_of}
 use Rattle.channel_laws.specs.Runs.{Occurrence, Run, run_of}
 use Rattle.channel_laws.specs.Tries.{request_of, copies, TriesAreKept}
-use Rattle.world_model.specs.Worlds.{all_words}
-use Rattle.host_model.specs.Clients.{client_profile}
-use Rattle.host_model.specs.Servers.{server_profile}
+use Rattle.scenario_laws.specs.world_model.specs.Worlds.{all_words}
+use Rattle.scenario_laws.specs.host_model.specs.Clients.{client_profile}
+use Rattle.scenario_laws.specs.host_model.specs.Servers.{server_profile}
 use Rattle.host_laws.specs.ClientCalls.{AsksWell, ClientsAskInOrder}
 use Rattle.host_laws.specs.InOrder.{may_ask}
 use Rattle.host_laws.specs.Keeping.{AsksForNothing, ServersAskForNothing}

@@ -2,9 +2,9 @@
 use Rattle.std.proofs.Common.{◌≡◌, ℕ, zero, suc, Bool, true, false, List, [], ◌∷◌, ◌++◌, sym, subst, ◌∙◌}
 use Rattle.std.specs.Prelude.{get_or}
 use Rattle.std.specs.List.{AllByRecursion, flat_map}
-use Rattle.capture.specs.Histories.{EachAfter}
-use Rattle.link_talk.specs.Channels.{reading}
-use Rattle.channel_model.specs.Policies.{Policy}
+use Rattle.scenario_laws.specs.capture.specs.Histories.{EachAfter}
+use Rattle.scenario_laws.specs.link_talk.specs.Channels.{reading}
+use Rattle.channel_laws.specs.channel_model.specs.Policies.{Policy}
 use Rattle.channel_laws.specs.Belonging.{IsRead}
 use Rattle.channel_laws.specs.Common.{mirrored}
 use Rattle.channel_laws.specs.Endpoints.{IsOf}
@@ -17,8 +17,8 @@ use Rattle.channel_laws.specs.Runs.{Occurrence, Run, sdus_up}
 use Rattle.channel_laws.specs.Taken.{taken_of}
 use Rattle.channel_laws.specs.Views.{read_at}
 use Rattle.channel_laws.proofs.PlainTaken.{plain-is_delivered}
-use Rattle.host_model.specs.Clients.{client_profile}
-use Rattle.host_model.specs.Servers.{server_profile}
+use Rattle.scenario_laws.specs.host_model.specs.Clients.{client_profile}
+use Rattle.scenario_laws.specs.host_model.specs.Servers.{server_profile}
 use Rattle.host_laws.specs.Lives.{on_links}
 use Rattle.host_laws.specs.OverLinks.{talk_marks}
 use Rattle.pair_laws.specs.Fronts.{IsFrontOfTurns}

@@ -3,23 +3,23 @@ use Rattle.std.proofs.Common.{◌≡◌, ℕ, Bool, true, false, eqb, cond, List
 use Rattle.std.specs.List.{AllByRecursion}
 use Rattle.std.proofs.lemmas.Bool.{eq-eqb}
 use Rattle.std.proofs.lemmas.List.Sums.{fold-append}
-use Rattle.acl_fragments.specs.Pieces.{channel_of}
-use Rattle.bt_base.specs.Octets.{IsOctets}
-use Rattle.bt_base.proofs.OctetLemmas.{le16-number}
-use Rattle.capture.specs.Histories.{EachAfter}
-use Rattle.capture.proofs.HistoryLaws.{each_after-more}
-use Rattle.ertm_frames.specs.Frames.{PlainFrame, Spells}
-use Rattle.ertm_model.specs.Giving.{next_frame}
-use Rattle.l2cap_config.specs.declared.wish.Mode.TheVariants.{Basic, Enhanced}
-use Rattle.l2cap_signal.specs.Commands.{Command, spelling}
-use Rattle.link_talk.specs.Sayings.{Saying}
-use Rattle.link_talk.specs.Channels.{Entry, read_on, nothing_read, reading}
-use Rattle.channel_model.specs.Calls.{has_fcs}
-use Rattle.channel_model.specs.Changing.{held_at, setup_of}
-use Rattle.channel_model.specs.Giving.{Given, Signal, Whole, Framed, next_given, queue_gives, command_of, held_gives, gives, some_carrier_gives}
-use Rattle.channel_model.specs.Policies.{Policy}
-use Rattle.channel_model.specs.Value.{Queued, Answer, Ask, Carrier, Plain, Retransmitting, Setup, Held}
-use Rattle.channel_model.proofs.Lookups.{own_of, found-distinct}
+use Rattle.scenario_laws.specs.acl_fragments.specs.Pieces.{channel_of}
+use Rattle.scenario_laws.specs.bt_base.specs.Octets.{IsOctets}
+use Rattle.scenario_laws.specs.bt_base.proofs.OctetLemmas.{le16-number}
+use Rattle.scenario_laws.specs.capture.specs.Histories.{EachAfter}
+use Rattle.scenario_laws.specs.capture.proofs.HistoryLaws.{each_after-more}
+use Rattle.scenario_laws.specs.ertm_frames.specs.Frames.{PlainFrame, Spells}
+use Rattle.scenario_laws.specs.ertm_model.specs.Giving.{next_frame}
+use Rattle.scenario_laws.specs.l2cap_config.specs.declared.wish.Mode.TheVariants.{Basic, Enhanced}
+use Rattle.scenario_laws.specs.l2cap_signal.specs.Commands.{Command, spelling}
+use Rattle.scenario_laws.specs.link_talk.specs.Sayings.{Saying}
+use Rattle.scenario_laws.specs.link_talk.specs.Channels.{Entry, read_on, nothing_read, reading}
+use Rattle.channel_laws.specs.channel_model.specs.Calls.{has_fcs}
+use Rattle.channel_laws.specs.channel_model.specs.Changing.{held_at, setup_of}
+use Rattle.channel_laws.specs.channel_model.specs.Giving.{Given, Signal, Whole, Framed, next_given, queue_gives, command_of, held_gives, gives, some_carrier_gives}
+use Rattle.channel_laws.specs.channel_model.specs.Policies.{Policy}
+use Rattle.channel_laws.specs.channel_model.specs.Value.{Queued, Answer, Ask, Carrier, Plain, Retransmitting, Setup, Held}
+use Rattle.channel_laws.specs.channel_model.proofs.Lookups.{own_of, found-distinct}
 use Rattle.channel_laws.specs.Belonging.{IsRead, AreRead, said_at}
 use Rattle.channel_laws.specs.CheckWords.{IsEnhancedAt}
 use Rattle.channel_laws.specs.Ends.{DoesSo, end_at}

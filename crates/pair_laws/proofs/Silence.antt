@@ -3,14 +3,14 @@ use Rattle.std.proofs.Common.{◌≡◌, ℕ, Bool, true, false, cond, ◌||◌,
 use Rattle.std.specs.Prelude.{filter, find, is_some, nat_lt}
 use Rattle.std.specs.List.{AllByRecursion, list_any, filter_map}
 use Rattle.std.proofs.lemmas.List.Sums.{fold-append}
-use Rattle.channel_model.specs.declared.errand.Errand.TheVariants as errands
-use Rattle.channel_model.specs.Asking.{asks, new_request, Fired, StillDue, OnceMore, Spent, fired}
-use Rattle.channel_model.specs.Calls.{asks_features}
-use Rattle.channel_model.specs.Changing.{held_at, is_answer, has_room}
-use Rattle.channel_model.specs.Giving.{gives}
-use Rattle.channel_model.specs.Policies.{Policy}
-use Rattle.channel_model.specs.Timing.{fires, loses_features, times_held, times_end, times_features, times_channels, timed_out}
-use Rattle.channel_model.specs.Value.{Request, Queued, Answer, Ask, Held, Channels, no_channels}
+use Rattle.channel_laws.specs.channel_model.specs.declared.errand.Errand.TheVariants as errands
+use Rattle.channel_laws.specs.channel_model.specs.Asking.{asks, new_request, Fired, StillDue, OnceMore, Spent, fired}
+use Rattle.channel_laws.specs.channel_model.specs.Calls.{asks_features}
+use Rattle.channel_laws.specs.channel_model.specs.Changing.{held_at, is_answer, has_room}
+use Rattle.channel_laws.specs.channel_model.specs.Giving.{gives}
+use Rattle.channel_laws.specs.channel_model.specs.Policies.{Policy}
+use Rattle.channel_laws.specs.channel_model.specs.Timing.{fires, loses_features, times_held, times_end, times_features, times_channels, timed_out}
+use Rattle.channel_laws.specs.channel_model.specs.Value.{Request, Queued, Answer, Ask, Held, Channels, no_channels}
 use Rattle.channel_laws.specs.Pairs.{is_alone}
 use Rattle.channel_laws.specs.Runs.{Occurrence, Comes, Connects, AsksFeatures, Disconnects, Sends, Gives, Fires, Tells, value_after, Run, new_link, run_on, run_of}
 use Rattle.channel_laws.proofs.Lasting.{answers_of, answers-asked, asked-with, connects-lasts, disconnects-last, sends-last, times-last, ends-last}

@@ -2,26 +2,26 @@
 use Rattle.std.proofs.Common.{◌≡◌, Bool, true, false, List, [], ◌∷◌, ◌++◌, map, Option, Some, None, refl, sym, ap, ◌∙◌}
 use Rattle.std.specs.List.{AllByRecursion, flat_map}
 use Rattle.std.specs.Option.{option_map}
-use Rattle.bt_base.specs.Objects.{Contents}
-use Rattle.bt_base.specs.declared.settings.Settings.{Settings}
-use Rattle.push_script.specs.declared.scenario.Scenario.{Scenario}
-use Rattle.push_terms.specs.declared.word.Side.{Side}
-use Rattle.push_terms.specs.declared.word.Side.TheVariants as sides
-use Rattle.capture.specs.Entries.{Entry}
-use Rattle.capture.specs.Links.{Link, link_up}
-use Rattle.capture.specs.Pdus.{Pdu, pdus}
-use Rattle.channel_model.specs.Policies.{policy}
-use Rattle.channel_model.specs.Value.{Channels}
+use Rattle.scenario_laws.specs.bt_base.specs.Objects.{Contents}
+use Rattle.scenario_laws.specs.bt_base.specs.declared.settings.Settings.{Settings}
+use Rattle.scenario_laws.specs.push_script.specs.declared.scenario.Scenario.{Scenario}
+use Rattle.scenario_laws.specs.push_terms.specs.declared.word.Side.{Side}
+use Rattle.scenario_laws.specs.push_terms.specs.declared.word.Side.TheVariants as sides
+use Rattle.scenario_laws.specs.capture.specs.Entries.{Entry}
+use Rattle.scenario_laws.specs.capture.specs.Links.{Link, link_up}
+use Rattle.scenario_laws.specs.capture.specs.Pdus.{Pdu, pdus}
+use Rattle.channel_laws.specs.channel_model.specs.Policies.{policy}
+use Rattle.channel_laws.specs.channel_model.specs.Value.{Channels}
 use Rattle.channel_laws.specs.Runs.{Occurrence}
-use Rattle.world_model.specs.Carriages as carriages
-use Rattle.world_model.specs.Machines.{Upper}
-use Rattle.world_model.specs.PerLink.{Linkage, linkage, captured}
-use Rattle.world_model.specs.Talks.{Talk}
-use Rattle.world_model.specs.Worlds.{Happening, all_entries}
-use Rattle.host_model.specs.Clients.{ClientProfile, client_profile}
-use Rattle.host_model.specs.Hosts.{Host}
-use Rattle.host_model.specs.Profiles.{Profile}
-use Rattle.host_model.specs.Servers.{ServerProfile, server_profile}
+use Rattle.scenario_laws.specs.world_model.specs.Carriages as carriages
+use Rattle.scenario_laws.specs.world_model.specs.Machines.{Upper}
+use Rattle.scenario_laws.specs.world_model.specs.PerLink.{Linkage, linkage, captured}
+use Rattle.scenario_laws.specs.world_model.specs.Talks.{Talk}
+use Rattle.scenario_laws.specs.world_model.specs.Worlds.{Happening, all_entries}
+use Rattle.scenario_laws.specs.host_model.specs.Clients.{ClientProfile, client_profile}
+use Rattle.scenario_laws.specs.host_model.specs.Hosts.{Host}
+use Rattle.scenario_laws.specs.host_model.specs.Profiles.{Profile}
+use Rattle.scenario_laws.specs.host_model.specs.Servers.{ServerProfile, server_profile}
 use Rattle.host_laws.specs.Calls.{Asks}
 use Rattle.host_laws.specs.Calm.{pdus_in}
 use Rattle.host_laws.specs.Fed.{AreFed, WovenFed}
@@ -39,7 +39,7 @@ use Rattle.scenario_laws.proofs.Freeing.{runs_are_free}
 use Rattle.scenario_laws.proofs.Fronts.{fits}
 use Rattle.scenario_laws.proofs.Keeping.{server_stays}
 use Rattle.scenario_laws.proofs.Onward.{pushes_go_onward}
-use Rattle.turn_laws.proofs.Recounting.{HoldsAtRests}
+use Rattle.scenario_laws.specs.turn_laws.proofs.Recounting.{HoldsAtRests}
 use Rattle.pair_laws.specs.Heard.{HearsSo}
 use Rattle.pair_laws.proofs.Carrying.{StayOn}
 use Rattle.pair_laws.proofs.Hosting.{AllHearSo, HostAt}

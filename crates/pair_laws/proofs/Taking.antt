@@ -3,29 +3,29 @@ use Rattle.std.proofs.Common.{◌≡◌, ℕ, zero, suc, ◌≤◌, Bool, true, 
 use Rattle.std.specs.Prelude.{not, ◌&&◌}
 use Rattle.std.proofs.lemmas.Bool.{and_parts, leb-true}
 use Rattle.std.proofs.lemmas.List.Sums.{fold-append}
-use Rattle.bt_base.specs.Objects.{Contents}
-use Rattle.bt_base.specs.declared.settings.Settings.{Settings}
-use Rattle.capture.specs.Histories.{EachAfter}
-use Rattle.channel_model.specs.Calls.{peer_mtu, waits}
-use Rattle.channel_model.specs.Policies.{Policy}
-use Rattle.channel_model.specs.Value.{Channels, no_channels}
+use Rattle.scenario_laws.specs.bt_base.specs.Objects.{Contents}
+use Rattle.scenario_laws.specs.bt_base.specs.declared.settings.Settings.{Settings}
+use Rattle.scenario_laws.specs.capture.specs.Histories.{EachAfter}
+use Rattle.channel_laws.specs.channel_model.specs.Calls.{peer_mtu, waits}
+use Rattle.channel_laws.specs.channel_model.specs.Policies.{Policy}
+use Rattle.channel_laws.specs.channel_model.specs.Value.{Channels, no_channels}
 use Rattle.channel_laws.specs.Pipes.{IsTakeable}
 use Rattle.channel_laws.specs.Runs.{Occurrence, Run, new_link, run_on, run_of, value_after}
-use Rattle.push_model.specs.Payloads.{Payload}
-use Rattle.push_model.specs.Server.{Lent, lends, lent_sdu}
-use Rattle.push_model.specs.Steps.{Step, Wait, MakeLink, AskFeatures as AskForFeatures, OpenChannel, SendSdu, CloseChannel, BreakLink, Ended, NoMemory, steps}
-use Rattle.host_model.specs.Clients.{ClientProfile, client_profile, fitted}
-use Rattle.host_model.specs.Servers.{ServerProfile, server_profile}
-use Rattle.host_model.specs.Endpoints.{endpoint_of, fits, takes_sdu}
-use Rattle.host_model.specs.Pdus.{sdu_of}
-use Rattle.host_model.specs.Profiles.{Profile}
+use Rattle.scenario_laws.specs.push_model.specs.Payloads.{Payload}
+use Rattle.scenario_laws.specs.push_model.specs.Server.{Lent, lends, lent_sdu}
+use Rattle.scenario_laws.specs.push_model.specs.Steps.{Step, Wait, MakeLink, AskFeatures as AskForFeatures, OpenChannel, SendSdu, CloseChannel, BreakLink, Ended, NoMemory, steps}
+use Rattle.scenario_laws.specs.host_model.specs.Clients.{ClientProfile, client_profile, fitted}
+use Rattle.scenario_laws.specs.host_model.specs.Servers.{ServerProfile, server_profile}
+use Rattle.scenario_laws.specs.host_model.specs.Endpoints.{endpoint_of, fits, takes_sdu}
+use Rattle.scenario_laws.specs.host_model.specs.Pdus.{sdu_of}
+use Rattle.scenario_laws.specs.host_model.specs.Profiles.{Profile}
 use Rattle.host_laws.specs.Calls.{Call, Connect, AskFeatures, Disconnect, Send, Asks, from_call, values_after}
 use Rattle.host_laws.specs.Lives.{Span}
 use Rattle.host_laws.specs.Woven.{Strand, Hearing, Giving, Firing, Telling, Gifting, Learning, Checking, Stepping, strand_list, strand_profile, woven_list, Woven}
 use Rattle.host_laws.specs.Feeds.{Feed}
 use Rattle.host_laws.specs.Fed.{AreFed, behind_span}
-use Rattle.host_model.specs.Pdus.{are_octets}
-use Rattle.host_model.specs.Shelves.{unused}
+use Rattle.scenario_laws.specs.host_model.specs.Pdus.{are_octets}
+use Rattle.scenario_laws.specs.host_model.specs.Shelves.{unused}
 use Rattle.host_laws.proofs.Asking.{send_if, sends_on, closes_on, asked, hosts_ask, clients_ask, clients-call, lent_call, servers-call}
 use Rattle.pair_laws.specs.Pairs.{TakesAll}
 use Rattle.pair_laws.proofs.Seeing.{all-damage_is_seen}

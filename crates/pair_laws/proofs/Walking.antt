@@ -2,18 +2,18 @@
 use Rattle.std.proofs.Common.{◌≡◌, ℕ, ◌^◌, ◌<◌, Bool, eqb, List, [], ◌∷◌, ◌++◌, map, drop, Some, Ok, refl, sym, ap, subst, ◌∙◌, append-nil, append_assoc, if◌then◌else◌}
 use Rattle.std.specs.List.{AllByRecursion, flat_map, filter_map}
 use Rattle.std.proofs.lemmas.List.Sums.{fold-append}
-use Rattle.bt_base.proofs.OctetLemmas.{le16-number}
-use Rattle.acl_fragments.specs.Pieces.{channel_of}
-use Rattle.capture.specs.Histories.{EachAfter}
-use Rattle.capture.specs.declared.flow.Flow.TheVariants.{Out}
-use Rattle.capture.specs.Pdus.{Pdu}
-use Rattle.l2cap_signal.specs.Commands.{Command}
-use Rattle.l2cap_signal.specs.Reading.{answers}
-use Rattle.link_talk.specs.Sayings.{Saying, Carried, said_by}
-use Rattle.link_talk.specs.Sayings as sayings
-use Rattle.channel_model.specs.Value.{Channels, no_channels}
-use Rattle.channel_model.specs.Policies.{Policy}
-use Rattle.channel_model.specs.Giving.{Given, Signal, Whole, Framed, next_given}
+use Rattle.scenario_laws.specs.bt_base.proofs.OctetLemmas.{le16-number}
+use Rattle.scenario_laws.specs.acl_fragments.specs.Pieces.{channel_of}
+use Rattle.scenario_laws.specs.capture.specs.Histories.{EachAfter}
+use Rattle.scenario_laws.specs.capture.specs.declared.flow.Flow.TheVariants.{Out}
+use Rattle.scenario_laws.specs.capture.specs.Pdus.{Pdu}
+use Rattle.scenario_laws.specs.l2cap_signal.specs.Commands.{Command}
+use Rattle.scenario_laws.specs.l2cap_signal.specs.Reading.{answers}
+use Rattle.scenario_laws.specs.link_talk.specs.Sayings.{Saying, Carried, said_by}
+use Rattle.scenario_laws.specs.link_talk.specs.Sayings as sayings
+use Rattle.channel_laws.specs.channel_model.specs.Value.{Channels, no_channels}
+use Rattle.channel_laws.specs.channel_model.specs.Policies.{Policy}
+use Rattle.channel_laws.specs.channel_model.specs.Giving.{Given, Signal, Whole, Framed, next_given}
 use Rattle.channel_laws.specs.Belonging.{IsReadAs}
 use Rattle.channel_laws.specs.Fit.{IsSoberFor}
 use Rattle.channel_laws.specs.Frames.{IsSpelled, IsUttered}

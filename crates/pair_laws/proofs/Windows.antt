@@ -5,30 +5,30 @@ use Rattle.std.specs.List.{AllByRecursion, AllZip, filter_map, flat_map}
 use Rattle.std.proofs.lemmas.List.{take_all, take-append-le, take-append-drop}
 use Rattle.std.proofs.lemmas.List.Elements.{filter_map-append}
 use Rattle.std.proofs.lemmas.Bool.{cases_lt}
-use Rattle.bt_base.specs.declared.settings.Settings.{Settings}
-use Rattle.bt_base.specs.Objects.{Contents}
-use Rattle.push_script.specs.declared.scenario.Scenario.{Scenario}
-use Rattle.push_terms.specs.declared.word.Side.{Side}
-use Rattle.push_terms.specs.declared.word.Side.TheVariants as sides
-use Rattle.capture.specs.Entries.{Entry}
-use Rattle.capture.specs.Histories.{each_after, AtEach}
-use Rattle.capture.specs.Links.{Link, links, link_up}
-use Rattle.capture.specs.Pdus.{Pdu, pdus}
-use Rattle.capture.proofs.HistoryLaws.{each_after-append, at_each-whole, at_each-none}
-use Rattle.ertm_frames.specs.Picking.{Passage, outs, ins, picked, last_req}
-use Rattle.l2cap_config.specs.declared.wish.Mode.{Mode}
-use Rattle.l2cap_config.specs.declared.wish.Mode.TheVariants.{Basic, Enhanced}
-use Rattle.link_talk.specs.Accounts.{passage_in, frames_passed, waiting_frames, window_used}
-use Rattle.link_talk.specs.Captures.{talk_on, talk_now}
-use Rattle.link_talk.specs.Carriages.{is_passed, carried, entry_mode, mode_of}
-use Rattle.link_talk.specs.Channels.{Entry as Known, reading}
-use Rattle.link_talk.specs.declared.channel.Channel.{Channel}
-use Rattle.link_talk.specs.declared.party.Party.{Party}
-use Rattle.link_talk.specs.GrowingLaws.{has_opened, HasOpened}
-use Rattle.link_talk.specs.Sayings.{Saying, said_by, talk}
-use Rattle.link_talk.specs.Setups.{Setup, is_set, is_enhanced, agreed_mode}
-use Rattle.link_talk.proofs.Growing.{mode-stands}
-use Rattle.channel_model.specs.Policies.{Policy, policy}
+use Rattle.scenario_laws.specs.bt_base.specs.declared.settings.Settings.{Settings}
+use Rattle.scenario_laws.specs.bt_base.specs.Objects.{Contents}
+use Rattle.scenario_laws.specs.push_script.specs.declared.scenario.Scenario.{Scenario}
+use Rattle.scenario_laws.specs.push_terms.specs.declared.word.Side.{Side}
+use Rattle.scenario_laws.specs.push_terms.specs.declared.word.Side.TheVariants as sides
+use Rattle.scenario_laws.specs.capture.specs.Entries.{Entry}
+use Rattle.scenario_laws.specs.capture.specs.Histories.{each_after, AtEach}
+use Rattle.scenario_laws.specs.capture.specs.Links.{Link, links, link_up}
+use Rattle.scenario_laws.specs.capture.specs.Pdus.{Pdu, pdus}
+use Rattle.scenario_laws.specs.capture.proofs.HistoryLaws.{each_after-append, at_each-whole, at_each-none}
+use Rattle.scenario_laws.specs.ertm_frames.specs.Picking.{Passage, outs, ins, picked, last_req}
+use Rattle.scenario_laws.specs.l2cap_config.specs.declared.wish.Mode.{Mode}
+use Rattle.scenario_laws.specs.l2cap_config.specs.declared.wish.Mode.TheVariants.{Basic, Enhanced}
+use Rattle.scenario_laws.specs.link_talk.specs.Accounts.{passage_in, frames_passed, waiting_frames, window_used}
+use Rattle.scenario_laws.specs.link_talk.specs.Captures.{talk_on, talk_now}
+use Rattle.scenario_laws.specs.link_talk.specs.Carriages.{is_passed, carried, entry_mode, mode_of}
+use Rattle.scenario_laws.specs.link_talk.specs.Channels.{Entry as Known, reading}
+use Rattle.scenario_laws.specs.link_talk.specs.declared.channel.Channel.{Channel}
+use Rattle.scenario_laws.specs.link_talk.specs.declared.party.Party.{Party}
+use Rattle.scenario_laws.specs.link_talk.specs.GrowingLaws.{has_opened, HasOpened}
+use Rattle.scenario_laws.specs.link_talk.specs.Sayings.{Saying, said_by, talk}
+use Rattle.scenario_laws.specs.link_talk.specs.Setups.{Setup, is_set, is_enhanced, agreed_mode}
+use Rattle.scenario_laws.specs.link_talk.proofs.Growing.{mode-stands}
+use Rattle.channel_laws.specs.channel_model.specs.Policies.{Policy, policy}
 use Rattle.channel_laws.specs.Endpoints.{IsOf}
 use Rattle.channel_laws.specs.Frames.{AreUttered}
 use Rattle.channel_laws.specs.Pairs.{pair_of}
@@ -39,9 +39,9 @@ use Rattle.channel_laws.specs.Windows.{HoldsWindow, HoldsWindows, WindowsHold}
 use Rattle.channel_laws.proofs.Conversing.{reading-on}
 use Rattle.channel_laws.proofs.Naming.{said-of}
 use Rattle.channel_laws.proofs.Entries.{read-own}
-use Rattle.world_model.specs.Talks.{Talk}
-use Rattle.host_model.specs.Clients.{client_profile}
-use Rattle.host_model.specs.Servers.{server_profile}
+use Rattle.scenario_laws.specs.world_model.specs.Talks.{Talk}
+use Rattle.scenario_laws.specs.host_model.specs.Clients.{client_profile}
+use Rattle.scenario_laws.specs.host_model.specs.Servers.{server_profile}
 use Rattle.host_laws.specs.Calls.{HostsAsk}
 use Rattle.host_laws.specs.Lives.{Span, on_links}
 use Rattle.host_laws.specs.OverLinks.{IsTalkOf, talk_marks, parts}

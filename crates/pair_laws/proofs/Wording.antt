@@ -1,21 +1,21 @@
 -- Each run of the world, at each moment of it, is one in which PDUs move one at a time, by the same words.
 use Rattle.std.proofs.Common.{◌≡◌, ℕ, Bool, true, false, List, Option, Some, None, refl, ap, sym}
 use Rattle.std.specs.Option.{option_map}
-use Rattle.push_terms.specs.declared.word.Side.{Side}
-use Rattle.push_terms.specs.declared.word.Side.TheVariants.{A, B}
-use Rattle.capture.specs.Links.{Link, linking}
-use Rattle.capture.specs.Moves.{moves}
-use Rattle.capture.specs.Entries.{Entry}
-use Rattle.capture.specs.Pdus.{Pdu, pdus}
-use Rattle.world_model.specs.Machines.{Upper}
-use Rattle.world_model.specs.PerLink.{Linkage, linkage, captured}
-use Rattle.world_model.specs.Carriages.{Carriage, all_words as words_carried}
-use Rattle.world_model.specs.Worlds.{World, Happening, Runs, all_entries, all_words, first_world}
-use Rattle.turn_laws.specs.WorldLaws.{Fits}
-use Rattle.turn_laws.proofs.Capturing.{View, ShownAt}
-use Rattle.turn_laws.proofs.Recounting.{HoldsAtRests, played_so}
-use Rattle.turn_laws.proofs.Showing.{ShownUp}
-use Rattle.turn_laws.proofs.Wording.{rests_alike}
+use Rattle.scenario_laws.specs.push_terms.specs.declared.word.Side.{Side}
+use Rattle.scenario_laws.specs.push_terms.specs.declared.word.Side.TheVariants.{A, B}
+use Rattle.scenario_laws.specs.capture.specs.Links.{Link, linking}
+use Rattle.scenario_laws.specs.capture.specs.Moves.{moves}
+use Rattle.scenario_laws.specs.capture.specs.Entries.{Entry}
+use Rattle.scenario_laws.specs.capture.specs.Pdus.{Pdu, pdus}
+use Rattle.scenario_laws.specs.world_model.specs.Machines.{Upper}
+use Rattle.scenario_laws.specs.world_model.specs.PerLink.{Linkage, linkage, captured}
+use Rattle.scenario_laws.specs.world_model.specs.Carriages.{Carriage, all_words as words_carried}
+use Rattle.scenario_laws.specs.world_model.specs.Worlds.{World, Happening, Runs, all_entries, all_words, first_world}
+use Rattle.scenario_laws.specs.turn_laws.specs.WorldLaws.{Fits}
+use Rattle.scenario_laws.specs.turn_laws.proofs.Capturing.{View, ShownAt}
+use Rattle.scenario_laws.specs.turn_laws.proofs.Recounting.{HoldsAtRests, played_so}
+use Rattle.scenario_laws.specs.turn_laws.proofs.Showing.{ShownUp}
+use Rattle.scenario_laws.specs.turn_laws.proofs.Wording.{rests_alike}
 use Rattle.scenario_laws.proofs.Carrying.{CarriedSo}
 
 shown_now : (up : Bool) (told : ℕ) (begun joining : List ℕ) (now : Option (List Pdu)) (known : Option Link) → ShownUp up told begun joining now known → option_map pdus known ≡ now

@@ -1,13 +1,13 @@
 -- What the air does to a PDU that it damages, at a host that has a check word there (this project's own).
 use Rattle.std.specs.Prelude.{ℕ, ◌≡◌, ◌+◌, ◌≤◌, ◌<◌, true, List, [], ◌∷◌, length}
-use Rattle.bt_base.specs.Octets.{IsOctets}
-use Rattle.acl_fragments.specs.Pieces.{channel_of}
-use Rattle.capture.specs.Histories.{EachAfter}
-use Rattle.ertm_frames.specs.Frames.{PlainFrame, Spells}
-use Rattle.radio_air.specs.Fates.{changed}
-use Rattle.channel_model.specs.Calls.{has_fcs}
-use Rattle.channel_model.specs.Policies.{Policy}
-use Rattle.channel_model.specs.Value.{Channels}
+use Rattle.scenario_laws.specs.bt_base.specs.Octets.{IsOctets}
+use Rattle.scenario_laws.specs.acl_fragments.specs.Pieces.{channel_of}
+use Rattle.scenario_laws.specs.capture.specs.Histories.{EachAfter}
+use Rattle.scenario_laws.specs.ertm_frames.specs.Frames.{PlainFrame, Spells}
+use Rattle.scenario_laws.specs.radio_air.specs.Fates.{changed}
+use Rattle.channel_laws.specs.channel_model.specs.Calls.{has_fcs}
+use Rattle.channel_laws.specs.channel_model.specs.Policies.{Policy}
+use Rattle.channel_laws.specs.channel_model.specs.Value.{Channels}
 use Rattle.channel_laws.specs.Pairs.{End, Happening, Acts, Puts, Takes, Repeats, Loses, Damages, Turn, pair_of}
 use Rattle.channel_laws.specs.Ends.{end_at}
 use Rattle.channel_laws.specs.Pipes.{IsSeen}

@@ -1,15 +1,15 @@
 -- Runs in which the inbox does not lack memory, though calls of it may fail (this project's own).
 use Rattle.std.specs.Prelude.{List, map, Option, Ok, Err}
 use Rattle.std.specs.List.{AllByRecursion}
-use Rattle.bt_base.specs.Objects.{Object, Contents}
-use Rattle.bt_base.specs.declared.ports.PortFault.TheVariants.{Failed, NoMemory}
-use Rattle.obex_session.specs.InboxCalls.{Answer}
-use Rattle.push_script.specs.declared.scenario.Scenario.{Scenario}
-use Rattle.capture.specs.Entries.{Entry}
-use Rattle.world_model.specs.Machines.{Upper}
-use Rattle.world_model.specs.Worlds.{Happening, Runs, all_words}
-use Rattle.push_laws.specs.Premises.{NoneShort}
-use Rattle.host_model.specs.Circumstances.{Circumstance, Size, Part, Stored, answers_in}
+use Rattle.scenario_laws.specs.bt_base.specs.Objects.{Object, Contents}
+use Rattle.scenario_laws.specs.bt_base.specs.declared.ports.PortFault.TheVariants.{Failed, NoMemory}
+use Rattle.scenario_laws.specs.obex_session.specs.InboxCalls.{Answer}
+use Rattle.scenario_laws.specs.push_script.specs.declared.scenario.Scenario.{Scenario}
+use Rattle.scenario_laws.specs.capture.specs.Entries.{Entry}
+use Rattle.scenario_laws.specs.world_model.specs.Machines.{Upper}
+use Rattle.scenario_laws.specs.world_model.specs.Worlds.{Happening, Runs, all_words}
+use Rattle.host_laws.specs.push_laws.specs.Premises.{NoneShort}
+use Rattle.scenario_laws.specs.host_model.specs.Circumstances.{Circumstance, Size, Part, Stored, answers_in}
 use Rattle.host_laws.specs.Calls.{HostsAsk}
 use Rattle.host_laws.specs.Gifts.{gifts_of}
 use Rattle.host_laws.specs.ShelfAnswers.{AnswersOf}

@@ -1,7 +1,7 @@
 -- What happened to both hosts' channels up to a moment is what a pair went through up to it (this project's own).
 use Rattle.std.specs.Prelude.{◌≡◌, List, ◌++◌}
 use Rattle.std.specs.List.{flat_map}
-use Rattle.channel_model.specs.Policies.{Policy}
+use Rattle.channel_laws.specs.channel_model.specs.Policies.{Policy}
 use Rattle.channel_laws.specs.Delivered.{IsRunBy}
 use Rattle.channel_laws.specs.Frames.{AreUttered}
 use Rattle.channel_laws.specs.Pairs.{Turn, new_pair, pair_of}

@@ -1,13 +1,13 @@
 -- Runs in which the inbox grants all that it is asked (this project's own).
 use Rattle.std.specs.Prelude.{List, map, Option, Ok}
 use Rattle.std.specs.List.{AllByRecursion}
-use Rattle.bt_base.specs.Objects.{Contents}
-use Rattle.push_script.specs.declared.scenario.Scenario.{Scenario}
-use Rattle.capture.specs.Entries.{Entry}
-use Rattle.world_model.specs.Machines.{News, Upper}
-use Rattle.world_model.specs.Worlds.{Happening, Runs}
-use Rattle.push_laws.specs.Premises.{AllGranted}
-use Rattle.host_model.specs.Circumstances.{Circumstance, Size, Part, Stored, answers_in}
+use Rattle.scenario_laws.specs.bt_base.specs.Objects.{Contents}
+use Rattle.scenario_laws.specs.push_script.specs.declared.scenario.Scenario.{Scenario}
+use Rattle.scenario_laws.specs.capture.specs.Entries.{Entry}
+use Rattle.scenario_laws.specs.world_model.specs.Machines.{News, Upper}
+use Rattle.scenario_laws.specs.world_model.specs.Worlds.{Happening, Runs}
+use Rattle.host_laws.specs.push_laws.specs.Premises.{AllGranted}
+use Rattle.scenario_laws.specs.host_model.specs.Circumstances.{Circumstance, Size, Part, Stored, answers_in}
 use Rattle.host_laws.specs.Calls.{HostsAsk}
 use Rattle.host_laws.specs.Gifts.{gifts_of}
 use Rattle.scenario_laws.specs.Captures.{client_of, server_of, BothHosts, beginning, Ran}

@@ -1,19 +1,19 @@
 -- A host hears nothing on its link behind what it gave up there, and so that takes no I-frame (Core 5.1, Volume 3 Part A, 6.2 and 8.6).
 use Rattle.std.specs.Prelude.{◌≡◌, false, true, List, [], Option}
 use Rattle.std.specs.List.{AllByRecursion, flat_map}
-use Rattle.bt_base.specs.Objects.{Contents}
-use Rattle.push_script.specs.declared.scenario.Scenario.{Scenario}
-use Rattle.capture.specs.Entries.{Entry}
-use Rattle.capture.specs.Histories.{EachAfter}
-use Rattle.link_talk.specs.Accounts.{frames_passed}
-use Rattle.link_talk.specs.declared.channel.Channel.{Channel}
-use Rattle.link_talk.specs.declared.party.Party.{Party}
-use Rattle.channel_model.specs.Policies.{Policy, policy}
+use Rattle.scenario_laws.specs.bt_base.specs.Objects.{Contents}
+use Rattle.scenario_laws.specs.push_script.specs.declared.scenario.Scenario.{Scenario}
+use Rattle.scenario_laws.specs.capture.specs.Entries.{Entry}
+use Rattle.scenario_laws.specs.capture.specs.Histories.{EachAfter}
+use Rattle.scenario_laws.specs.link_talk.specs.Accounts.{frames_passed}
+use Rattle.scenario_laws.specs.link_talk.specs.declared.channel.Channel.{Channel}
+use Rattle.scenario_laws.specs.link_talk.specs.declared.party.Party.{Party}
+use Rattle.channel_laws.specs.channel_model.specs.Policies.{Policy, policy}
 use Rattle.channel_laws.specs.Frames.{AreUttered}
 use Rattle.channel_laws.specs.Runs.{Occurrence, Comes, Connects, AsksFeatures, Disconnects, Sends, Gives, Fires, Tells, run_of}
 use Rattle.channel_laws.specs.Sdus.{StatesFrame}
-use Rattle.host_model.specs.Clients.{client_profile}
-use Rattle.host_model.specs.Servers.{server_profile}
+use Rattle.scenario_laws.specs.host_model.specs.Clients.{client_profile}
+use Rattle.scenario_laws.specs.host_model.specs.Servers.{server_profile}
 use Rattle.host_laws.specs.Calls.{HostsAsk}
 use Rattle.host_laws.specs.Keeping.{GivesNothingUp, SendsAsItLends}
 use Rattle.host_laws.specs.Lives.{on_links}

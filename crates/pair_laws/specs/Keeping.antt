@@ -1,14 +1,14 @@
 -- Where the words of a run lose, repeat and damage nothing, each way of each link keeps its order (this project's own).
 use Rattle.std.specs.Prelude.{ℕ, ◌≡◌, false, List, Option}
 use Rattle.std.specs.List.{AllByRecursion}
-use Rattle.bt_base.specs.Objects.{Contents}
-use Rattle.push_script.specs.declared.scenario.Scenario.{Scenario}
-use Rattle.push_script.specs.Runs.{is_lossy}
-use Rattle.push_terms.specs.declared.word.Word.{Word}
-use Rattle.capture.specs.Entries.{Entry}
+use Rattle.scenario_laws.specs.bt_base.specs.Objects.{Contents}
+use Rattle.scenario_laws.specs.push_script.specs.declared.scenario.Scenario.{Scenario}
+use Rattle.scenario_laws.specs.push_script.specs.Runs.{is_lossy}
+use Rattle.scenario_laws.specs.push_terms.specs.declared.word.Word.{Word}
+use Rattle.scenario_laws.specs.capture.specs.Entries.{Entry}
 use Rattle.channel_laws.specs.Ordered.{IsOrdered}
 use Rattle.channel_laws.specs.Pairs.{Near, Far}
-use Rattle.world_model.specs.Worlds.{all_words}
+use Rattle.scenario_laws.specs.world_model.specs.Worlds.{all_words}
 use Rattle.host_laws.specs.Calls.{HostsAsk}
 use Rattle.scenario_laws.specs.Captures.{Ran}
 use Rattle.pair_laws.specs.InTurn.{PairsInTurn}

@@ -1,16 +1,16 @@
 -- In what mode both hosts of a run have the channel of the object over L2CAP, over its capture (Core 5.1, Volume 3 Part A, 5.4 and 7.1).
 use Rattle.std.specs.Prelude.{ℕ, ◌≡◌, true, List, Option, Some}
 use Rattle.std.specs.List.{AllByRecursion}
-use Rattle.bt_base.specs.Objects.{Contents}
-use Rattle.push_script.specs.declared.scenario.Scenario.{Scenario}
-use Rattle.push_terms.specs.declared.word.Side.{Side}
-use Rattle.capture.specs.Entries.{Entry}
-use Rattle.l2cap_config.specs.declared.wish.Mode.TheVariants.{Enhanced}
-use Rattle.link_talk.specs.Captures.{talks}
-use Rattle.link_talk.specs.Channels.{Entry as Known, reading}
-use Rattle.link_talk.specs.Packets.{carrier, OverL2cap}
-use Rattle.link_talk.specs.Sayings.{Saying}
-use Rattle.link_talk.specs.Setups.{is_set}
+use Rattle.scenario_laws.specs.bt_base.specs.Objects.{Contents}
+use Rattle.scenario_laws.specs.push_script.specs.declared.scenario.Scenario.{Scenario}
+use Rattle.scenario_laws.specs.push_terms.specs.declared.word.Side.{Side}
+use Rattle.scenario_laws.specs.capture.specs.Entries.{Entry}
+use Rattle.scenario_laws.specs.l2cap_config.specs.declared.wish.Mode.TheVariants.{Enhanced}
+use Rattle.scenario_laws.specs.link_talk.specs.Captures.{talks}
+use Rattle.scenario_laws.specs.link_talk.specs.Channels.{Entry as Known, reading}
+use Rattle.scenario_laws.specs.link_talk.specs.Packets.{carrier, OverL2cap}
+use Rattle.scenario_laws.specs.link_talk.specs.Sayings.{Saying}
+use Rattle.scenario_laws.specs.link_talk.specs.Setups.{is_set}
 use Rattle.channel_laws.specs.Views.{read_at}
 use Rattle.scenario_laws.specs.Captures.{Ran}
 

@@ -1,8 +1,8 @@
 -- What happens to the channels at both ends of a pair, in the order of its turns (this project's own).
 use Rattle.std.specs.Prelude.{ℕ, List, [], ◌∷◌, ◌++◌, Option, Some, None, if◌then◌else◌}
-use Rattle.acl_fragments.specs.Pieces.{channel_of}
-use Rattle.channel_model.specs.Calls.{has_fcs}
-use Rattle.channel_model.specs.Giving.{Given, next_given}
+use Rattle.scenario_laws.specs.acl_fragments.specs.Pieces.{channel_of}
+use Rattle.channel_laws.specs.channel_model.specs.Calls.{has_fcs}
+use Rattle.channel_laws.specs.channel_model.specs.Giving.{Given, next_given}
 use Rattle.channel_laws.specs.Runs.{Occurrence, Comes, Gives}
 use Rattle.channel_laws.specs.Pairs.{End, Pair, Happening, Acts, Puts, Takes, Repeats, Loses, Damages, is_alone, Side, Near, Far, Turn, pair_after}
 

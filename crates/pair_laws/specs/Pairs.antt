@@ -1,8 +1,8 @@
 -- What happened to the channels of two hosts on a link is what a pair went through (this project's own).
 use Rattle.std.specs.Prelude.{◌≡◌, List, []}
 use Rattle.std.specs.List.{flat_map}
-use Rattle.capture.specs.Histories.{EachAfter}
-use Rattle.channel_model.specs.Policies.{Policy}
+use Rattle.scenario_laws.specs.capture.specs.Histories.{EachAfter}
+use Rattle.channel_laws.specs.channel_model.specs.Policies.{Policy}
 use Rattle.channel_laws.specs.Runs.{Occurrence, run_of}
 use Rattle.channel_laws.specs.Pairs.{Turn, new_pair, pair_of}
 use Rattle.channel_laws.specs.Ends.{AreFair}

@@ -1,8 +1,8 @@
 -- Damage of what comes to an endpoint with a check word is seen (Core 5.1, Volume 3 Part A, 3.3.5 and 5.4).
 use Rattle.std.specs.Prelude.{ℕ, ◌≡◌, List, []}
-use Rattle.capture.specs.Histories.{EachAfter}
-use Rattle.channel_model.specs.Giving.{next_given}
-use Rattle.channel_model.specs.Policies.{Policy}
+use Rattle.scenario_laws.specs.capture.specs.Histories.{EachAfter}
+use Rattle.channel_laws.specs.channel_model.specs.Giving.{next_given}
+use Rattle.channel_laws.specs.channel_model.specs.Policies.{Policy}
 use Rattle.channel_laws.specs.Belonging.{AreRead}
 use Rattle.channel_laws.specs.Ends.{end_at, AreFair}
 use Rattle.channel_laws.specs.Pairs.{End, Happening, Acts, Puts, Takes, Repeats, Loses, Damages, Turn, pair_of}

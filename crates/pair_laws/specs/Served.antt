@@ -1,14 +1,14 @@
 -- Runs in which the shelf of host a answers in octets and tells how long its objects are, and the inbox of host b grants all that it is asked (this project's own).
 use Rattle.std.specs.Prelude.{List, Option}
 use Rattle.std.specs.List.{AllByRecursion}
-use Rattle.bt_base.specs.Objects.{Object, Contents}
-use Rattle.push_script.specs.declared.scenario.Scenario.{Scenario}
-use Rattle.capture.specs.Entries.{Entry}
-use Rattle.world_model.specs.Machines.{Upper}
-use Rattle.world_model.specs.Worlds.{Happening, Runs}
-use Rattle.push_laws.specs.Premises.{AllGranted}
-use Rattle.host_model.specs.Circumstances.{Circumstance, answers_in}
-use Rattle.shelf_model.specs.Held.{held_by}
+use Rattle.scenario_laws.specs.bt_base.specs.Objects.{Object, Contents}
+use Rattle.scenario_laws.specs.push_script.specs.declared.scenario.Scenario.{Scenario}
+use Rattle.scenario_laws.specs.capture.specs.Entries.{Entry}
+use Rattle.scenario_laws.specs.world_model.specs.Machines.{Upper}
+use Rattle.scenario_laws.specs.world_model.specs.Worlds.{Happening, Runs}
+use Rattle.host_laws.specs.push_laws.specs.Premises.{AllGranted}
+use Rattle.scenario_laws.specs.host_model.specs.Circumstances.{Circumstance, answers_in}
+use Rattle.host_laws.specs.shelf_model.specs.Held.{held_by}
 use Rattle.host_laws.specs.Calls.{HostsAsk}
 use Rattle.host_laws.specs.Gifts.{gifts_of}
 use Rattle.host_laws.specs.ShelfAnswers.{AnswersOf}

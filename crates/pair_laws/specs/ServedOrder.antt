@@ -2,12 +2,12 @@
 -- own).
 use Rattle.std.specs.Prelude.{List, Option}
 use Rattle.std.specs.List.{AllByRecursion}
-use Rattle.bt_base.specs.Objects.{Object, Contents}
-use Rattle.push_script.specs.declared.scenario.Scenario.{Scenario}
-use Rattle.capture.specs.Entries.{Entry}
-use Rattle.world_model.specs.Worlds.{all_words}
-use Rattle.push_laws.specs.Premises.{AllGranted}
-use Rattle.host_model.specs.Circumstances.{Circumstance, answers_in}
+use Rattle.scenario_laws.specs.bt_base.specs.Objects.{Object, Contents}
+use Rattle.scenario_laws.specs.push_script.specs.declared.scenario.Scenario.{Scenario}
+use Rattle.scenario_laws.specs.capture.specs.Entries.{Entry}
+use Rattle.scenario_laws.specs.world_model.specs.Worlds.{all_words}
+use Rattle.host_laws.specs.push_laws.specs.Premises.{AllGranted}
+use Rattle.scenario_laws.specs.host_model.specs.Circumstances.{Circumstance, answers_in}
 use Rattle.host_laws.specs.Calls.{HostsAsk}
 use Rattle.host_laws.specs.Gifts.{gifts_of}
 use Rattle.host_laws.specs.ShelfAnswers.{AnswersOf}

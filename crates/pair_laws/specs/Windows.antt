@@ -1,20 +1,20 @@
 -- The windows of both hosts of a run over its capture, at each moment (Core 5.1, Volume 3 Part A, 5.4, 8.3 and 8.6).
 use Rattle.std.specs.Prelude.{ℕ, ◌≡◌, ◌≤◌, List, ◌++◌, Option, Some}
 use Rattle.std.specs.List.{AllByRecursion}
-use Rattle.bt_base.specs.declared.settings.Settings.{Settings}
-use Rattle.bt_base.specs.Objects.{Contents}
-use Rattle.push_script.specs.declared.scenario.Scenario.{Scenario}
-use Rattle.push_terms.specs.declared.word.Side.{Side}
-use Rattle.capture.specs.Entries.{Entry}
-use Rattle.capture.specs.Histories.{AtEach}
-use Rattle.capture.specs.Links.{Link, links}
-use Rattle.l2cap_config.specs.declared.wish.Mode.TheVariants.{Enhanced}
-use Rattle.link_talk.specs.Accounts.{frames_passed, window_used}
-use Rattle.link_talk.specs.Captures.{talk_now}
-use Rattle.link_talk.specs.Carriages.{mode_of}
-use Rattle.link_talk.specs.Channels.{Entry as Known, reading}
-use Rattle.link_talk.specs.declared.channel.Channel.{Channel}
-use Rattle.link_talk.specs.Sayings.{Saying, talk}
+use Rattle.scenario_laws.specs.bt_base.specs.declared.settings.Settings.{Settings}
+use Rattle.scenario_laws.specs.bt_base.specs.Objects.{Contents}
+use Rattle.scenario_laws.specs.push_script.specs.declared.scenario.Scenario.{Scenario}
+use Rattle.scenario_laws.specs.push_terms.specs.declared.word.Side.{Side}
+use Rattle.scenario_laws.specs.capture.specs.Entries.{Entry}
+use Rattle.scenario_laws.specs.capture.specs.Histories.{AtEach}
+use Rattle.scenario_laws.specs.capture.specs.Links.{Link, links}
+use Rattle.scenario_laws.specs.l2cap_config.specs.declared.wish.Mode.TheVariants.{Enhanced}
+use Rattle.scenario_laws.specs.link_talk.specs.Accounts.{frames_passed, window_used}
+use Rattle.scenario_laws.specs.link_talk.specs.Captures.{talk_now}
+use Rattle.scenario_laws.specs.link_talk.specs.Carriages.{mode_of}
+use Rattle.scenario_laws.specs.link_talk.specs.Channels.{Entry as Known, reading}
+use Rattle.scenario_laws.specs.link_talk.specs.declared.channel.Channel.{Channel}
+use Rattle.scenario_laws.specs.link_talk.specs.Sayings.{Saying, talk}
 use Rattle.channel_laws.specs.Endpoints.{IsOf}
 use Rattle.channel_laws.specs.Views.{read_at}
 use Rattle.channel_laws.specs.Windows.{HoldsWindow}

@@ -1,15 +1,15 @@
 -- Each SDU that a host has for a channel is one that the peer takes (Core 5.1, Volume 3 Part A, 5.1).
 use Rattle.std.specs.Prelude.{ℕ, ◌≡◌, ◌≤◌, List, length, Option, Some}
-use Rattle.bt_base.specs.declared.settings.Settings.{Settings}
-use Rattle.bt_base.specs.Objects.{Contents}
-use Rattle.push_script.specs.declared.scenario.Scenario.{Scenario}
-use Rattle.capture.specs.Entries.{Entry}
-use Rattle.channel_model.specs.Value.{Channels}
-use Rattle.channel_model.specs.Calls.{peer_mtu}
+use Rattle.scenario_laws.specs.bt_base.specs.declared.settings.Settings.{Settings}
+use Rattle.scenario_laws.specs.bt_base.specs.Objects.{Contents}
+use Rattle.scenario_laws.specs.push_script.specs.declared.scenario.Scenario.{Scenario}
+use Rattle.scenario_laws.specs.capture.specs.Entries.{Entry}
+use Rattle.channel_laws.specs.channel_model.specs.Value.{Channels}
+use Rattle.channel_laws.specs.channel_model.specs.Calls.{peer_mtu}
 use Rattle.channel_laws.specs.Pipes.{AreCarried}
-use Rattle.host_model.specs.Clients.{client_profile}
-use Rattle.host_model.specs.Servers.{server_profile}
-use Rattle.host_model.specs.Profiles.{Profile}
+use Rattle.scenario_laws.specs.host_model.specs.Clients.{client_profile}
+use Rattle.scenario_laws.specs.host_model.specs.Servers.{server_profile}
+use Rattle.scenario_laws.specs.host_model.specs.Profiles.{Profile}
 use Rattle.host_laws.specs.Calls.{Asks, Send, HostsAsk}
 use Rattle.scenario_laws.specs.Captures.{Ran}
 use Rattle.pair_laws.specs.OnLinks.{ArePairs}

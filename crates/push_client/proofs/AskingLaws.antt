@@ -15,7 +15,7 @@ use Rattle.push_model.specs.Client.{Client}
 use Rattle.push_model.specs.Steps.{Part, put_count, is_last_put, put_octets, puts_part, puts_from, puts}
 use Rattle.push_client.specs.Putting.{IsPut, PutsOr, Comes}
 use Rattle.push_client.specs.Requesting.{made_by, is_shortage}
-use Rattle.rfcomm_frames.proofs.Formed.{part_fits}
+use Rattle.push_model.specs.rfcomm_frames.proofs.Formed.{part_fits}
 
 -- ---- reactions
 

@@ -1,8 +1,8 @@
 -- A client hears a frame of the multiplexer.
 use Rattle.std.proofs.Common.{◌≡◌, ◌≤◌, ℕ, List, ◌++◌, length, sym, ap, subst, ◌∙◌}
-use Rattle.rfcomm_model.specs.Hearing.{Up, bytes, up, hears}
-use Rattle.rfcomm_model.specs.Machine.{Mux}
-use Rattle.rfcomm_model.proofs.Keeping.{hears_keeps}
+use Rattle.push_model.specs.rfcomm_model.specs.Hearing.{Up, bytes, up, hears}
+use Rattle.push_model.specs.rfcomm_model.specs.Machine.{Mux}
+use Rattle.push_model.specs.rfcomm_model.proofs.Keeping.{hears_keeps}
 use Rattle.push_model.specs.Client.{Client}
 use Rattle.push_model.specs.Responding.{hears_stream, hears_up, hears_frame}
 use Rattle.push_client.specs.Talking.{placed}

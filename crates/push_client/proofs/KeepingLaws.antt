@@ -6,13 +6,13 @@ use Rattle.bt_base.specs.declared.settings.Transport.{Transport}
 use Rattle.bt_base.specs.declared.settings.Transport.TheVariants.{L2cap, Rfcomm}
 use Rattle.push_terms.specs.declared.outcome.Outcome.{Outcome}
 use Rattle.push_terms.specs.declared.outcome.Outcome.TheVariants as outcomes
-use Rattle.rfcomm_model.specs.declared.state.MuxReason.{MuxReason}
-use Rattle.rfcomm_model.specs.Hearing.{Up, nothing, opened, bytes, closed, up, hears}
-use Rattle.rfcomm_model.specs.Machine.{leaves, is_ready, sends, taken_count}
-use Rattle.rfcomm_model.specs.Saying.{Said, next}
-use Rattle.rfcomm_frames.specs.FrameReading.{is_empty}
-use Rattle.sdp_elements.specs.declared.target.Target.{Target}
-use Rattle.sdp_elements.specs.Targets.{is_service_psm, is_server_channel}
+use Rattle.push_model.specs.rfcomm_model.specs.declared.state.MuxReason.{MuxReason}
+use Rattle.push_model.specs.rfcomm_model.specs.Hearing.{Up, nothing, opened, bytes, closed, up, hears}
+use Rattle.push_model.specs.rfcomm_model.specs.Machine.{leaves, is_ready, sends, taken_count}
+use Rattle.push_model.specs.rfcomm_model.specs.Saying.{Said, next}
+use Rattle.push_model.specs.rfcomm_frames.specs.FrameReading.{is_empty}
+use Rattle.push_model.specs.sdp_elements.specs.declared.target.Target.{Target}
+use Rattle.push_model.specs.sdp_elements.specs.Targets.{is_service_psm, is_server_channel}
 use Rattle.sdp_client.specs.declared.reason.Found.{Found}
 use Rattle.sdp_client.specs.declared.reason.Found.TheVariants.{More, Service, NoService, Refused}
 use Rattle.sdp_client.specs.Asking.{is_due, after_resend, after_request, request_octets}

@@ -1,7 +1,7 @@
 -- Octets that wait between two places of a room.
 use Rattle.std.proofs.Common.{◌≡◌, ◌≤◌, ◌-◌, ◌==◌, ℕ, List, [], ◌∷◌, length, take, drop, refl, ap, ◌∙◌, arith, length-take-le}
 use Rattle.std.proofs.lemmas.List.{length-drop}
-use Rattle.rfcomm_frames.specs.FrameReading.{is_empty}
+use Rattle.push_model.specs.rfcomm_frames.specs.FrameReading.{is_empty}
 
 empty_by_length : (xs : List ℕ) → (length xs == 0) ≡ is_empty xs
 empty_by_length [] = refl

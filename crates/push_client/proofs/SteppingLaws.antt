@@ -15,7 +15,7 @@ use Rattle.push_model.specs.Payloads.{Payload, Octets}
 use Rattle.push_model.specs.Responding.{is_object}
 use Rattle.push_model.specs.Steps as steps
 use Rattle.push_model.specs.Steps.{Part, Ask, Made, Stepped, put_count, requests, sends_direct, sends_muxed, filled, says, said_by, goes_muxed, steps_muxed, asks_muxed, asks_through, may_ask, next_ask, is_muxed, rests}
-use Rattle.rfcomm_model.specs.Saying.{Said, next, after_said}
+use Rattle.push_model.specs.rfcomm_model.specs.Saying.{Said, next, after_said}
 use Rattle.push_rooms.specs.Frames.{said_frame}
 use Rattle.push_client.specs.Putting.{AreAnswers, Comes}
 use Rattle.push_client.specs.Pushing.{frame_said, payload_in, gone, said_next}

@@ -1,3 +1,4 @@
+pub use Rattle.push_model
 pub mod Courses
 pub mod Talking
 pub mod Putting

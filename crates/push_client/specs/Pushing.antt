@@ -11,9 +11,9 @@ use Rattle.push_model.specs.Steps.{Part, Stepped, is_muxed}
 use Rattle.push_model.specs.declared.course.Contact.TheVariants.{Closing}
 use Rattle.push_model.specs.declared.course.Stage.{Stage}
 use Rattle.push_rooms.specs.Frames.{said_frame}
-use Rattle.rfcomm_frames.specs.Frames.{PlainFrame}
-use Rattle.rfcomm_model.specs.Machine.{leaves}
-use Rattle.rfcomm_model.specs.Saying.{next, after_next}
+use Rattle.push_model.specs.rfcomm_frames.specs.Frames.{PlainFrame}
+use Rattle.push_model.specs.rfcomm_model.specs.Machine.{leaves}
+use Rattle.push_model.specs.rfcomm_model.specs.Saying.{next, after_next}
 use Rattle.push_client.specs.Talking.{Suits}
 use Rattle.push_client.specs.declared.step.Step.{Step}
 use Rattle.push_client.specs.declared.step.Step.TheVariants.{Wait, MakeLink, AskFeatures, OpenChannel, SendSdu, CloseChannel, BreakLink, Ended, NoMemory}

@@ -7,7 +7,7 @@ ghost use Rattle.obex_session.specs.NextPut.{is_waiting};
 ghost use Rattle.obex_session.specs.PutPackets.{Reaches, units_in};
 ghost use Rattle.obex_session.specs.Views.{asks_connect, asks_abort, asks_disconnect};
 ghost use Rattle.push_model.specs.Steps.{connect_octets, abort_octets, disconnect_octets};
-ghost use Rattle.rfcomm_frames.specs.FrameReading.{is_empty};
+ghost use Rattle.push_model.specs.rfcomm_frames.specs.FrameReading.{is_empty};
 ghost use Rattle.sdp_client.specs.Asking.{is_due, after_request, request_octets};
 ghost use Rattle.push_client.specs.Putting.{PutsOr};
 

@@ -2,7 +2,7 @@
 use Rattle.std.proofs.Common.{ℕ, ◌≡◌, List, [], ◌∷◌, ◌++◌, refl, sym, ap, subst, ◌∙◌, inl, inr, append_assoc, append-nil}
 use Rattle.std.specs.Prelude.{◌⊎◌}
 use Rattle.std.specs.List.{AllByRecursion}
-use Rattle.bt_base.specs.Objects.{Object}
+use Rattle.link_talk.specs.bt_base.specs.Objects.{Object}
 use Rattle.push_model.specs.Laws.{Deed}
 use Rattle.push_laws.specs.Spelled.{IsOnce, ArePushed, AreAmong, name_by}
 

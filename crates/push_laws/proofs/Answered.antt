@@ -1,17 +1,17 @@
 -- The session of a client behind a response, by what the response says.
 use Rattle.std.proofs.Common.{◌≡◌, ℕ, ◌≤◌, min, Bool, true, false, eqb, List, Option, Some, None, Result, Ok, Err, refl, ap, arith, if◌then◌else◌}
 use Rattle.std.specs.Prelude.{slice_index}
-use Rattle.obex_headers.specs.declared.packet.Phase.TheVariants as phase
-use Rattle.obex_headers.specs.Packets.{PlainPacket, maximum_of}
-use Rattle.obex_headers.specs.Reading.{◌>>=◌, headers_in, front_at, packet_in}
-use Rattle.obex_headers.proofs.HeaderLaws.{bind_ok, ok_is}
-use Rattle.obex_headers.proofs.PacketLaws.{front_takes}
-use Rattle.obex_session.specs.declared.client.Answered.{Answered}
-use Rattle.obex_session.specs.declared.client.Answered.TheVariants.{Go, Done, Refused, Bad, Srmp}
-use Rattle.obex_session.specs.Asking.{Asking, phase_of, awaited_code, success_of, answer_read, limit_by, single_by, after_read}
-use Rattle.obex_session.specs.Marks.{marks_of}
-use Rattle.obex_session.specs.NextPut.{put_request}
-use Rattle.obex_session.specs.Views.{asks_connect, answer_at, after_at}
+use Rattle.push_model.specs.obex_headers.specs.declared.packet.Phase.TheVariants as phase
+use Rattle.push_model.specs.obex_headers.specs.Packets.{PlainPacket, maximum_of}
+use Rattle.push_model.specs.obex_headers.specs.Reading.{◌>>=◌, headers_in, front_at, packet_in}
+use Rattle.push_model.specs.obex_headers.proofs.HeaderLaws.{bind_ok, ok_is}
+use Rattle.push_model.specs.obex_headers.proofs.PacketLaws.{front_takes}
+use Rattle.push_model.specs.obex_session.specs.declared.client.Answered.{Answered}
+use Rattle.push_model.specs.obex_session.specs.declared.client.Answered.TheVariants.{Go, Done, Refused, Bad, Srmp}
+use Rattle.push_model.specs.obex_session.specs.Asking.{Asking, phase_of, awaited_code, success_of, answer_read, limit_by, single_by, after_read}
+use Rattle.push_model.specs.obex_session.specs.Marks.{marks_of}
+use Rattle.push_model.specs.obex_session.specs.NextPut.{put_request}
+use Rattle.push_model.specs.obex_session.specs.Views.{asks_connect, answer_at, after_at}
 
 of_option : {A : Type 0} → (x : Option A) (P : Option A → Type 0) → P None → ((a : A) → P (Some a)) → P x
 of_option None P none some = none

@@ -5,29 +5,29 @@ use Rattle.std.specs.List.{filter_map, cons_option, AllByRecursion}
 use Rattle.std.proofs.lemmas.Bool.{cond_both, cond-false, and_cases}
 use Rattle.std.proofs.lemmas.List.{map-append}
 use Rattle.std.proofs.lemmas.List.Elements.{filter_map-append}
-use Rattle.bt_base.specs.declared.settings.Settings.{Settings}
-use Rattle.bt_base.specs.declared.settings.Transport.{Transport}
-use Rattle.bt_base.specs.declared.settings.Transport.TheVariants.{L2cap, Rfcomm}
-use Rattle.bt_base.specs.Objects.{Object}
-use Rattle.capture.specs.Histories.{EachAfter}
-use Rattle.capture.proofs.HistoryLaws.{each_after-more}
-use Rattle.obex_headers.specs.declared.packet.Phase.TheVariants.{Request}
-use Rattle.obex_headers.specs.Reading.{packet_in}
-use Rattle.obex_session.specs.InboxCalls.{InboxCall, Answer, come_of}
-use Rattle.obex_session.specs.InboxCalls.{left_by as calls_left}
-use Rattle.obex_session.specs.Laws.{without_fault}
-use Rattle.obex_session.specs.Past.{Heard, stored_by, open_headers, progress_of, Serving}
-use Rattle.obex_session.specs.Rules.{aborts, progress_in}
-use Rattle.obex_session.specs.Serving.{ruling_on, heard_with}
-use Rattle.obex_session.specs.Views.{octets_said, is_silent}
-use Rattle.obex_session.proofs.GrantedLaws.{silence_is_none, stores_read, said_alike, no_aborts}
-use Rattle.obex_session.proofs.SuccessLaws.{success_is_stored}
-use Rattle.rfcomm_frames.specs.FrameReading.{is_empty}
-use Rattle.rfcomm_frames.specs.Frames.{PlainFrame}
-use Rattle.rfcomm_model.specs.Machine.{is_ready, leaves}
-use Rattle.rfcomm_model.specs.Hearing as hearing
-use Rattle.rfcomm_model.specs.Hearing.{Up, nothing, opened, bytes, closed, up}
-use Rattle.rfcomm_model.specs.Saying.{Said, next}
+use Rattle.link_talk.specs.bt_base.specs.declared.settings.Settings.{Settings}
+use Rattle.link_talk.specs.bt_base.specs.declared.settings.Transport.{Transport}
+use Rattle.link_talk.specs.bt_base.specs.declared.settings.Transport.TheVariants.{L2cap, Rfcomm}
+use Rattle.link_talk.specs.bt_base.specs.Objects.{Object}
+use Rattle.link_talk.specs.capture.specs.Histories.{EachAfter}
+use Rattle.link_talk.specs.capture.proofs.HistoryLaws.{each_after-more}
+use Rattle.push_model.specs.obex_headers.specs.declared.packet.Phase.TheVariants.{Request}
+use Rattle.push_model.specs.obex_headers.specs.Reading.{packet_in}
+use Rattle.push_model.specs.obex_session.specs.InboxCalls.{InboxCall, Answer, come_of}
+use Rattle.push_model.specs.obex_session.specs.InboxCalls.{left_by as calls_left}
+use Rattle.push_model.specs.obex_session.specs.Laws.{without_fault}
+use Rattle.push_model.specs.obex_session.specs.Past.{Heard, stored_by, open_headers, progress_of, Serving}
+use Rattle.push_model.specs.obex_session.specs.Rules.{aborts, progress_in}
+use Rattle.push_model.specs.obex_session.specs.Serving.{ruling_on, heard_with}
+use Rattle.push_model.specs.obex_session.specs.Views.{octets_said, is_silent}
+use Rattle.push_model.specs.obex_session.proofs.GrantedLaws.{silence_is_none, stores_read, said_alike, no_aborts}
+use Rattle.push_model.specs.obex_session.proofs.SuccessLaws.{success_is_stored}
+use Rattle.push_model.specs.rfcomm_frames.specs.FrameReading.{is_empty}
+use Rattle.push_model.specs.rfcomm_frames.specs.Frames.{PlainFrame}
+use Rattle.push_model.specs.rfcomm_model.specs.Machine.{is_ready, leaves}
+use Rattle.push_model.specs.rfcomm_model.specs.Hearing as hearing
+use Rattle.push_model.specs.rfcomm_model.specs.Hearing.{Up, nothing, opened, bytes, closed, up}
+use Rattle.push_model.specs.rfcomm_model.specs.Saying.{Said, next}
 use Rattle.link_talk.specs.Gains.{beyond}
 use Rattle.link_talk.specs.ObjectsHeard.{spelled_within}
 use Rattle.push_model.specs.declared.outlet.Outlet.{Outlet}

@@ -2,17 +2,17 @@
 use Rattle.std.proofs.Common.{◌≡◌, ℕ, ◌≤◌, ◌<◌, ◌++◌, ◌⊎◌, inl, inr, not, Bool, true, false, List, [], ◌∷◌, length, take, drop, Option, Some, None, is_some, refl, sym, ap, subst, ◌∙◌, append_assoc}
 use Rattle.std.specs.Prelude.{IfSome}
 use Rattle.std.proofs.Math.Seq.{take-append_seam}
-use Rattle.bt_base.specs.Objects.{Object, octets_of, HasAt}
-use Rattle.push_terms.specs.declared.outcome.Outcome.{Outcome}
-use Rattle.push_terms.specs.declared.outcome.Outcome.TheVariants as outcomes
-use Rattle.obex_headers.specs.Packets.{bare, packet_octets}
-use Rattle.obex_session.specs.declared.client.PutNext.TheVariants as put
-use Rattle.obex_session.specs.NextPut.{put_request, after_put, is_waiting}
-use Rattle.obex_session.specs.ObjectPuts.{HasPut, IsWhole, GoesOnTo}
-use Rattle.obex_session.specs.PutPackets.{ahead_of, place_of, put_packet}
-use Rattle.obex_session.specs.Responses.{connect_fields}
-use Rattle.obex_session.specs.Views.{asks_connect, asks_abort, asks_disconnect}
-use Rattle.obex_session.proofs.ObjectLaws.{puts_in_order}
+use Rattle.link_talk.specs.bt_base.specs.Objects.{Object, octets_of, HasAt}
+use Rattle.link_talk.specs.push_terms.specs.declared.outcome.Outcome.{Outcome}
+use Rattle.link_talk.specs.push_terms.specs.declared.outcome.Outcome.TheVariants as outcomes
+use Rattle.push_model.specs.obex_headers.specs.Packets.{bare, packet_octets}
+use Rattle.push_model.specs.obex_session.specs.declared.client.PutNext.TheVariants as put
+use Rattle.push_model.specs.obex_session.specs.NextPut.{put_request, after_put, is_waiting}
+use Rattle.push_model.specs.obex_session.specs.ObjectPuts.{HasPut, IsWhole, GoesOnTo}
+use Rattle.push_model.specs.obex_session.specs.PutPackets.{ahead_of, place_of, put_packet}
+use Rattle.push_model.specs.obex_session.specs.Responses.{connect_fields}
+use Rattle.push_model.specs.obex_session.specs.Views.{asks_connect, asks_abort, asks_disconnect}
+use Rattle.push_model.specs.obex_session.proofs.ObjectLaws.{puts_in_order}
 use Rattle.push_model.specs.declared.course.Contact.{Contact}
 use Rattle.push_model.specs.declared.course.Contact.TheVariants.{Unmet, Met, Left, Closing}
 use Rattle.push_model.specs.Client.{Client}

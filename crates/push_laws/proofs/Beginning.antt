@@ -2,17 +2,17 @@
 use Rattle.std.proofs.Common.{false, ◌≤◌, ◌≡◌, ℕ, List, [], ◌∷◌, ◌++◌, length, arith, refl, sym, ap, subst, ◌∙◌, append-nil}
 use Rattle.std.specs.Prelude.{nat_lt}
 use Rattle.std.specs.List.{AllByRecursion}
-use Rattle.bt_base.specs.declared.settings.Settings.{Settings}
-use Rattle.bt_base.specs.declared.settings.Transport.{Transport}
-use Rattle.bt_base.specs.declared.settings.Transport.TheVariants.{L2cap, Rfcomm}
-use Rattle.bt_base.specs.Objects.{Object}
-use Rattle.obex_headers.specs.declared.packet.Phase.TheVariants.{Request}
-use Rattle.obex_headers.specs.Reading.{packet_in}
-use Rattle.obex_headers.specs.Runs.{names}
-use Rattle.obex_session.specs.Laws.{without_fault}
-use Rattle.obex_session.specs.Past.{open_headers}
+use Rattle.link_talk.specs.bt_base.specs.declared.settings.Settings.{Settings}
+use Rattle.link_talk.specs.bt_base.specs.declared.settings.Transport.{Transport}
+use Rattle.link_talk.specs.bt_base.specs.declared.settings.Transport.TheVariants.{L2cap, Rfcomm}
+use Rattle.link_talk.specs.bt_base.specs.Objects.{Object}
+use Rattle.push_model.specs.obex_headers.specs.declared.packet.Phase.TheVariants.{Request}
+use Rattle.push_model.specs.obex_headers.specs.Reading.{packet_in}
+use Rattle.push_model.specs.obex_headers.specs.Runs.{names}
+use Rattle.push_model.specs.obex_session.specs.Laws.{without_fault}
+use Rattle.push_model.specs.obex_session.specs.Past.{open_headers}
 use Rattle.push_model.specs.Listening.{has_bad_length}
-use Rattle.rfcomm_frames.specs.ObexPackets.{obex_packets}
+use Rattle.push_model.specs.rfcomm_frames.specs.ObexPackets.{obex_packets}
 use Rattle.link_talk.specs.Gains.{beyond}
 use Rattle.link_talk.specs.ObjectsHeard.{spelled_within}
 use Rattle.push_model.specs.Client.{own_maximum}

@@ -1,27 +1,27 @@
 -- What a client sends once it met its server is no longer than the maximum that the server stated.
 use Rattle.std.proofs.Common.{inl, inr, ◌⊎◌, zero, suc, Bool, true, false, ◌≡◌, ◌==◌, ◌&&◌, ◌≤◌, ℕ, List, [], ◌++◌, Option, Some, None, Result, Ok, Err, refl, sym, ap, subst, ◌∙◌, arith, if◌then◌else◌}
 use Rattle.std.specs.Prelude.{min}
-use Rattle.obex_headers.specs.declared.fault.ObexRefusal.{ObexRefusal}
-use Rattle.obex_headers.specs.declared.packet.Phase.TheVariants.{ConnectResponse}
-use Rattle.obex_headers.specs.Packets.{PlainPacket, maximum_of}
-use Rattle.obex_headers.specs.Reading.{packet_in}
-use Rattle.obex_session.specs.declared.asking.Request.{Request}
-use Rattle.obex_session.specs.declared.asking.Request.TheVariants as requests_of
-use Rattle.obex_session.specs.declared.client.Answered.{Answered}
-use Rattle.obex_session.specs.declared.client.Answered.TheVariants as answer
-use Rattle.obex_session.specs.Asking.{Asking, answer_read, after_read}
-use Rattle.obex_session.specs.Marks.{marks_of}
-use Rattle.obex_session.specs.Views.{answer_at, after_at}
-use Rattle.obex_session.proofs.StatingLaws.{States}
-use Rattle.push_terms.specs.declared.outcome.Outcome.{Outcome}
-use Rattle.push_terms.specs.declared.outcome.Outcome.TheVariants as outcomes
+use Rattle.push_model.specs.obex_headers.specs.declared.fault.ObexRefusal.{ObexRefusal}
+use Rattle.push_model.specs.obex_headers.specs.declared.packet.Phase.TheVariants.{ConnectResponse}
+use Rattle.push_model.specs.obex_headers.specs.Packets.{PlainPacket, maximum_of}
+use Rattle.push_model.specs.obex_headers.specs.Reading.{packet_in}
+use Rattle.push_model.specs.obex_session.specs.declared.asking.Request.{Request}
+use Rattle.push_model.specs.obex_session.specs.declared.asking.Request.TheVariants as requests_of
+use Rattle.push_model.specs.obex_session.specs.declared.client.Answered.{Answered}
+use Rattle.push_model.specs.obex_session.specs.declared.client.Answered.TheVariants as answer
+use Rattle.push_model.specs.obex_session.specs.Asking.{Asking, answer_read, after_read}
+use Rattle.push_model.specs.obex_session.specs.Marks.{marks_of}
+use Rattle.push_model.specs.obex_session.specs.Views.{answer_at, after_at}
+use Rattle.push_model.specs.obex_session.proofs.StatingLaws.{States}
+use Rattle.link_talk.specs.push_terms.specs.declared.outcome.Outcome.{Outcome}
+use Rattle.link_talk.specs.push_terms.specs.declared.outcome.Outcome.TheVariants as outcomes
 use Rattle.push_model.specs.declared.course.Contact.{Contact}
 use Rattle.push_model.specs.declared.course.Contact.TheVariants.{Unmet, Met, Left, Closing}
 use Rattle.push_model.specs.Causes.{cause_of_obex, unawaited_response, unknown_parameters}
 use Rattle.push_model.specs.Client.{Client, ends, ends_by}
 use Rattle.push_model.specs.Responding.{met, takes, is_success, is_early, hears_answer, hears_response, is_object, hears_front, hears_stream}
 use Rattle.push_model.specs.Streams.{Front, front_of}
-use Rattle.rfcomm_frames.specs.ObexPackets.{IsPacket}
+use Rattle.push_model.specs.rfcomm_frames.specs.ObexPackets.{IsPacket}
 use Rattle.push_laws.proofs.Late.{either}
 use Rattle.push_laws.proofs.Muxing.{limit_kept}
 use Rattle.push_laws.proofs.Parsing.{Less, Waits, Refuses, less_front, All, Takes, Rejects, all_front, empty_front}

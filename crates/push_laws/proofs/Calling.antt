@@ -1,10 +1,10 @@
 -- The inbox is called by the runs of packets.
 use Rattle.std.proofs.Common.{List, [], refl, ap, arith, ◌∙◌}
-use Rattle.obex_headers.specs.Packets.{PlainPacket}
-use Rattle.obex_headers.specs.Runs.{run_headers, KeepsRules}
-use Rattle.obex_session.specs.Past.{progress_of}
-use Rattle.obex_session.specs.Rules.{aborts}
-use Rattle.obex_session.proofs.CallLaws.{puts_within, made_from, calls_fall, open_falls, aborts_behind}
+use Rattle.push_model.specs.obex_headers.specs.Packets.{PlainPacket}
+use Rattle.push_model.specs.obex_headers.specs.Runs.{run_headers, KeepsRules}
+use Rattle.push_model.specs.obex_session.specs.Past.{progress_of}
+use Rattle.push_model.specs.obex_session.specs.Rules.{aborts}
+use Rattle.push_model.specs.obex_session.proofs.CallLaws.{puts_within, made_from, calls_fall, open_falls, aborts_behind}
 use Rattle.push_laws.specs.Calls.{new_session, InboxIsCalledByRuns}
 
 nothing_kept : KeepsRules []

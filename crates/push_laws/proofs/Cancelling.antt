@@ -1,12 +1,12 @@
 -- Where a push without a cause may not be cancelled all its PUTs were sent.
 use Rattle.std.proofs.Common.{inl, inr, Bool, true, false, ◌≡◌, ◌&&◌, ℕ, List, [], Option, Some, None, is_some, is_none, refl, sym, ap, subst, ◌∙◌}
 use Rattle.std.specs.Prelude.{not}
-use Rattle.push_terms.specs.declared.outcome.Outcome.{Outcome}
-use Rattle.push_terms.specs.declared.outcome.Outcome.TheVariants as outcomes
-use Rattle.obex_session.specs.declared.asking.Request.{Request}
-use Rattle.obex_session.specs.Asking.{Asking}
-use Rattle.obex_session.specs.NextPut.{put_request}
-use Rattle.obex_session.specs.Views.{is_final_put, asks_connect}
+use Rattle.link_talk.specs.push_terms.specs.declared.outcome.Outcome.{Outcome}
+use Rattle.link_talk.specs.push_terms.specs.declared.outcome.Outcome.TheVariants as outcomes
+use Rattle.push_model.specs.obex_session.specs.declared.asking.Request.{Request}
+use Rattle.push_model.specs.obex_session.specs.Asking.{Asking}
+use Rattle.push_model.specs.obex_session.specs.NextPut.{put_request}
+use Rattle.push_model.specs.obex_session.specs.Views.{is_final_put, asks_connect}
 use Rattle.push_model.specs.declared.course.Contact.{Contact}
 use Rattle.push_model.specs.Client.{is_rest, with_object}
 use Rattle.push_model.specs.Laws.{all_done}

@@ -3,29 +3,29 @@ use Rattle.std.proofs.Common.{inl, inr, Bool, true, false, ◌||◌, ◌&&◌, �
 use Rattle.std.specs.Prelude.{not, nat_lt}
 use Rattle.std.specs.List.{AllByRecursion, flat_map}
 use Rattle.std.proofs.lemmas.Bool.{eqb-true, ne_eqb}
-use Rattle.bt_base.specs.declared.settings.Settings.{Settings}
-use Rattle.bt_base.specs.declared.settings.Transport.{Transport}
-use Rattle.bt_base.specs.declared.settings.Transport.TheVariants.{L2cap, Rfcomm}
-use Rattle.bt_base.specs.Objects.{Object as Stored}
-use Rattle.obex_headers.specs.declared.packet.Phase.TheVariants.{Request}
-use Rattle.obex_headers.specs.Reading.{packet_in}
-use Rattle.obex_session.specs.Asking.{Asking}
-use Rattle.obex_headers.specs.Runs.{names}
-use Rattle.obex_session.specs.InboxCalls.{Answer}
-use Rattle.obex_session.specs.Laws.{without_fault}
-use Rattle.obex_session.specs.Past.{open_headers}
-use Rattle.rfcomm_frames.specs.declared.connection.Role.TheVariants.{Initiator, Responder}
-use Rattle.rfcomm_frames.specs.FrameReading.{frame_answer, is_empty}
-use Rattle.rfcomm_frames.specs.ObexPackets.{obex_packets}
-use Rattle.rfcomm_frames.specs.Multiplexing.{Passed}
-use Rattle.rfcomm_frames.specs.UserChannel.{user_octets}
+use Rattle.link_talk.specs.bt_base.specs.declared.settings.Settings.{Settings}
+use Rattle.link_talk.specs.bt_base.specs.declared.settings.Transport.{Transport}
+use Rattle.link_talk.specs.bt_base.specs.declared.settings.Transport.TheVariants.{L2cap, Rfcomm}
+use Rattle.link_talk.specs.bt_base.specs.Objects.{Object as Stored}
+use Rattle.push_model.specs.obex_headers.specs.declared.packet.Phase.TheVariants.{Request}
+use Rattle.push_model.specs.obex_headers.specs.Reading.{packet_in}
+use Rattle.push_model.specs.obex_session.specs.Asking.{Asking}
+use Rattle.push_model.specs.obex_headers.specs.Runs.{names}
+use Rattle.push_model.specs.obex_session.specs.InboxCalls.{Answer}
+use Rattle.push_model.specs.obex_session.specs.Laws.{without_fault}
+use Rattle.push_model.specs.obex_session.specs.Past.{open_headers}
+use Rattle.push_model.specs.rfcomm_frames.specs.declared.connection.Role.TheVariants.{Initiator, Responder}
+use Rattle.push_model.specs.rfcomm_frames.specs.FrameReading.{frame_answer, is_empty}
+use Rattle.push_model.specs.rfcomm_frames.specs.ObexPackets.{obex_packets}
+use Rattle.push_model.specs.rfcomm_frames.specs.Multiplexing.{Passed}
+use Rattle.push_model.specs.rfcomm_frames.specs.UserChannel.{user_octets}
 use Rattle.rfcomm_laws.specs.Pairs.{IsFront}
-use Rattle.rfcomm_model.specs.Hearing as hearing
-use Rattle.rfcomm_model.specs.Hearing.{up}
-use Rattle.rfcomm_model.specs.Machine.{Mux}
-use Rattle.rfcomm_model.specs.Sides.{handed}
-use Rattle.obex_session.specs.Views.{is_silent}
-use Rattle.push_terms.specs.declared.outcome.Outcome.TheVariants as outcomes
+use Rattle.push_model.specs.rfcomm_model.specs.Hearing as hearing
+use Rattle.push_model.specs.rfcomm_model.specs.Hearing.{up}
+use Rattle.push_model.specs.rfcomm_model.specs.Machine.{Mux}
+use Rattle.push_model.specs.rfcomm_model.specs.Sides.{handed}
+use Rattle.push_model.specs.obex_session.specs.Views.{is_silent}
+use Rattle.link_talk.specs.push_terms.specs.declared.outcome.Outcome.TheVariants as outcomes
 use Rattle.push_model.specs.Client.{Client, own_maximum}
 use Rattle.push_model.specs.Sessions.{session_of}
 use Rattle.push_model.specs.Laws as deeds

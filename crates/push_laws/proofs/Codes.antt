@@ -1,17 +1,17 @@
 -- The code of a response is the one that is due.
 use Rattle.std.proofs.Common.{◌||◌, Bool, true, false, cond, eqb, ◌≡◌, ℕ, List, Some, None, Result, Ok, Err, refl, ap, subst, sym}
 use Rattle.std.specs.Prelude.{slice_index, IfSome}
-use Rattle.obex_headers.specs.declared.fault.ObexRefusal.{ObexRefusal}
-use Rattle.obex_headers.specs.declared.packet.Phase.TheVariants.{Request}
-use Rattle.obex_headers.specs.Packets.{PlainPacket}
-use Rattle.obex_headers.specs.Reading.{packet_in}
-use Rattle.obex_session.specs.declared.codes.Code.TheVariants.{Success, NotImplemented}
-use Rattle.obex_session.specs.InboxCalls.{Answer, come_of}
-use Rattle.obex_session.specs.Past.{Serving}
-use Rattle.obex_session.specs.Rules.{ends, at_put_in, at_packet, progress_in}
-use Rattle.obex_session.specs.Serving.{kind_heard, ruling_on, verdict_or, heard_with}
-use Rattle.obex_session.specs.Turns.{said_after}
-use Rattle.obex_session.specs.Views.{octets_said}
+use Rattle.push_model.specs.obex_headers.specs.declared.fault.ObexRefusal.{ObexRefusal}
+use Rattle.push_model.specs.obex_headers.specs.declared.packet.Phase.TheVariants.{Request}
+use Rattle.push_model.specs.obex_headers.specs.Packets.{PlainPacket}
+use Rattle.push_model.specs.obex_headers.specs.Reading.{packet_in}
+use Rattle.push_model.specs.obex_session.specs.declared.codes.Code.TheVariants.{Success, NotImplemented}
+use Rattle.push_model.specs.obex_session.specs.InboxCalls.{Answer, come_of}
+use Rattle.push_model.specs.obex_session.specs.Past.{Serving}
+use Rattle.push_model.specs.obex_session.specs.Rules.{ends, at_put_in, at_packet, progress_in}
+use Rattle.push_model.specs.obex_session.specs.Serving.{kind_heard, ruling_on, verdict_or, heard_with}
+use Rattle.push_model.specs.obex_session.specs.Turns.{said_after}
+use Rattle.push_model.specs.obex_session.specs.Views.{octets_said}
 use Rattle.push_laws.specs.Answers.{code_due}
 
 abbrev pub said_to : Serving → List ℕ → List Answer → List ℕ

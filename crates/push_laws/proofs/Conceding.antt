@@ -1,24 +1,24 @@
 -- A responder that does not leave: it answers each SABM and DISC once, and says nothing else that opens or closes a connection.
 use Rattle.std.proofs.Common.{arith, Bool, true, false, cond, ◌&&◌, ◌==◌, ◌≡◌, ◌≤◌, ◌+◌, ◌*◌, ◌-◌, ℕ, List, [], ◌∷◌, Option, Some, None, sym, ap, subst, ◌∙◌}
 use Rattle.std.specs.Prelude.{not, nat_lt}
-use Rattle.rfcomm_frames.specs.declared.frame.MuxKind.{MuxKind}
-use Rattle.rfcomm_frames.specs.declared.frame.MuxKind.TheVariants.{Sabm, Ua, Dm, Disc, Uih}
-use Rattle.rfcomm_frames.specs.declared.connection.Role.{Role}
-use Rattle.rfcomm_frames.specs.declared.connection.Role.TheVariants.{Initiator, Responder}
-use Rattle.rfcomm_frames.specs.declared.connection.Dlc.{Dlc}
-use Rattle.rfcomm_frames.specs.declared.connection.Dlc.TheVariants.{Idle, Asked, Open, Ended}
-use Rattle.rfcomm_frames.specs.Frames.{PlainFrame}
-use Rattle.rfcomm_frames.specs.FrameReading.{messages, is_empty}
-use Rattle.rfcomm_frames.specs.Connections.{other_role, turned, is_left, is_ended}
-use Rattle.rfcomm_model.specs.declared.state.MuxReason.{MuxReason}
-use Rattle.rfcomm_model.specs.declared.state.MuxReason.TheVariants as reasons
-use Rattle.rfcomm_model.specs.declared.state.Command.TheVariants.{OpenControl, Agree, OpenUser, Signal, LeaveUser, LeaveControl}
-use Rattle.rfcomm_model.specs.declared.state.Asks.{Asks}
-use Rattle.rfcomm_model.specs.declared.state.Asks.TheVariants.{Nothing, Due, Awaited}
-use Rattle.rfcomm_model.specs.Machine.{Mux, may_pass, is_ready, closes}
-use Rattle.rfcomm_model.specs.Hearing.{has_room, answering, says_dm, signals_next, opens_control, opens_user, hears_sabm, ends, hears_disc, hears_uih, hears_kind, hears_settled, hears_frame}
-use Rattle.rfcomm_model.specs.Saying.{Said, says, says_data, says_grant, first_of, says_command, says_answer}
-use Rattle.rfcomm_model.specs.Written.{response_frame, grant_frame, data_frame}
+use Rattle.push_model.specs.rfcomm_frames.specs.declared.frame.MuxKind.{MuxKind}
+use Rattle.push_model.specs.rfcomm_frames.specs.declared.frame.MuxKind.TheVariants.{Sabm, Ua, Dm, Disc, Uih}
+use Rattle.push_model.specs.rfcomm_frames.specs.declared.connection.Role.{Role}
+use Rattle.push_model.specs.rfcomm_frames.specs.declared.connection.Role.TheVariants.{Initiator, Responder}
+use Rattle.push_model.specs.rfcomm_frames.specs.declared.connection.Dlc.{Dlc}
+use Rattle.push_model.specs.rfcomm_frames.specs.declared.connection.Dlc.TheVariants.{Idle, Asked, Open, Ended}
+use Rattle.push_model.specs.rfcomm_frames.specs.Frames.{PlainFrame}
+use Rattle.push_model.specs.rfcomm_frames.specs.FrameReading.{messages, is_empty}
+use Rattle.push_model.specs.rfcomm_frames.specs.Connections.{other_role, turned, is_left, is_ended}
+use Rattle.push_model.specs.rfcomm_model.specs.declared.state.MuxReason.{MuxReason}
+use Rattle.push_model.specs.rfcomm_model.specs.declared.state.MuxReason.TheVariants as reasons
+use Rattle.push_model.specs.rfcomm_model.specs.declared.state.Command.TheVariants.{OpenControl, Agree, OpenUser, Signal, LeaveUser, LeaveControl}
+use Rattle.push_model.specs.rfcomm_model.specs.declared.state.Asks.{Asks}
+use Rattle.push_model.specs.rfcomm_model.specs.declared.state.Asks.TheVariants.{Nothing, Due, Awaited}
+use Rattle.push_model.specs.rfcomm_model.specs.Machine.{Mux, may_pass, is_ready, closes}
+use Rattle.push_model.specs.rfcomm_model.specs.Hearing.{has_room, answering, says_dm, signals_next, opens_control, opens_user, hears_sabm, ends, hears_disc, hears_uih, hears_kind, hears_settled, hears_frame}
+use Rattle.push_model.specs.rfcomm_model.specs.Saying.{Said, says, says_data, says_grant, first_of, says_command, says_answer}
+use Rattle.push_model.specs.rfcomm_model.specs.Written.{response_frame, grant_frame, data_frame}
 use Rattle.push_laws.proofs.Ordering.{AllPlain, Back, Each, Forth, IsSignal, OfResponder, Side, Signals, answer_of, answers_in, answers_side, closes_side, command_of, more_room, msc_plain, side_if, signalling_only, uih_side}
 
 -- ---- the responder hears

@@ -2,15 +2,15 @@
 use Rattle.std.proofs.Common.{Bool, true, false, cond, ◌≡◌, ◌&&◌, ℕ, List, [], ◌∷◌, ◌++◌, length, take, drop, Option, Some, None, Ok, refl, sym, ap, subst, ◌∙◌, append-nil, append_assoc}
 use Rattle.std.specs.Prelude.{not}
 use Rattle.std.proofs.lemmas.List.{take-append-drop}
-use Rattle.rfcomm_frames.specs.Answers.{Answer}
-use Rattle.rfcomm_frames.specs.FrameReading.{frame_answer}
-use Rattle.rfcomm_frames.specs.Frames.{PlainFrame}
-use Rattle.rfcomm_frames.specs.declared.connection.Role.TheVariants.{Initiator, Responder}
-use Rattle.rfcomm_model.specs.ClosedSides.{IsOrderly}
-use Rattle.rfcomm_model.specs.Hearing.{hears, hears_answer, up, news, read_data}
-use Rattle.rfcomm_model.specs.Machine.{Mux, is_both, may_pass, is_ready, taken_count, sends, leaves}
-use Rattle.rfcomm_model.specs.Saying.{Said, next}
-use Rattle.rfcomm_model.specs.Sides.{AnswerFindsRoom, handed}
+use Rattle.push_model.specs.rfcomm_frames.specs.Answers.{Answer}
+use Rattle.push_model.specs.rfcomm_frames.specs.FrameReading.{frame_answer}
+use Rattle.push_model.specs.rfcomm_frames.specs.Frames.{PlainFrame}
+use Rattle.push_model.specs.rfcomm_frames.specs.declared.connection.Role.TheVariants.{Initiator, Responder}
+use Rattle.push_model.specs.rfcomm_model.specs.ClosedSides.{IsOrderly}
+use Rattle.push_model.specs.rfcomm_model.specs.Hearing.{hears, hears_answer, up, news, read_data}
+use Rattle.push_model.specs.rfcomm_model.specs.Machine.{Mux, is_both, may_pass, is_ready, taken_count, sends, leaves}
+use Rattle.push_model.specs.rfcomm_model.specs.Saying.{Said, next}
+use Rattle.push_model.specs.rfcomm_model.specs.Sides.{AnswerFindsRoom, handed}
 use Rattle.rfcomm_laws.specs.Happenings.{Moves, Closes, closing}
 use Rattle.rfcomm_laws.specs.Links.{AreFrames}
 use Rattle.rfcomm_laws.specs.Pairs.{End, Speak, Give, Deliver, spoken, taking, without_first, handed_by, hearing, Pair, ByInitiator, ByResponder, IsFront}

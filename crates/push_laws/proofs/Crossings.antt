@@ -2,8 +2,8 @@
 use Rattle.std.proofs.Common.{Bool, true, false, cond, ◌≡◌, ℕ, ◌&&◌, ◌||◌, List, [], Option, Some, None, refl, sym, ap, subst, ◌∙◌}
 use Rattle.std.specs.Prelude.{not}
 use Rattle.std.proofs.lemmas.Bool.{cond_both, cond-false}
-use Rattle.bt_base.specs.declared.settings.Settings.{Settings}
-use Rattle.rfcomm_frames.specs.FrameReading.{is_empty}
+use Rattle.link_talk.specs.bt_base.specs.declared.settings.Settings.{Settings}
+use Rattle.push_model.specs.rfcomm_frames.specs.FrameReading.{is_empty}
 use Rattle.push_model.specs.declared.outlet.Outlet.{Outlet}
 use Rattle.push_model.specs.declared.outlet.Outlet.TheVariants.{Records, Direct, Muxed}
 use Rattle.push_model.specs.Payloads.{IsSaid, Octets}

@@ -1,16 +1,16 @@
 -- What is under way on a link, as each deed of the client leaves it.
 use Rattle.std.proofs.Common.{Bool, true, false, ◌≡◌, ◌==◌, ℕ, ◌<◌, ◌≤◌, ◌^◌, ◌&&◌, inl, List, [], ◌∷◌, ◌++◌, Option, Some, None, refl, sym, ap, subst, ◌∙◌, arith, append-nil, append_assoc, if◌then◌else◌}
 use Rattle.std.proofs.lemmas.Bool.{cond-true, eqb-true, eq-eqb, and_parts}
-use Rattle.bt_base.specs.declared.settings.Transport.{Transport}
-use Rattle.bt_base.specs.declared.settings.Transport.TheVariants.{L2cap}
-use Rattle.push_terms.specs.declared.outcome.Outcome.{Outcome}
-use Rattle.push_terms.specs.declared.outcome.Outcome.TheVariants as outcomes
-use Rattle.obex_session.specs.declared.asking.Request.TheVariants as requests
-use Rattle.obex_session.specs.Asking.{Asking}
-use Rattle.obex_session.specs.NextPut.{is_waiting, after_put}
-use Rattle.obex_session.specs.Past.{Serving}
-use Rattle.obex_session.specs.Views.{asks_connect, asks_abort, asks_disconnect}
-use Rattle.obex_session.proofs.ObjectLaws.{puts_in_order}
+use Rattle.link_talk.specs.bt_base.specs.declared.settings.Transport.{Transport}
+use Rattle.link_talk.specs.bt_base.specs.declared.settings.Transport.TheVariants.{L2cap}
+use Rattle.link_talk.specs.push_terms.specs.declared.outcome.Outcome.{Outcome}
+use Rattle.link_talk.specs.push_terms.specs.declared.outcome.Outcome.TheVariants as outcomes
+use Rattle.push_model.specs.obex_session.specs.declared.asking.Request.TheVariants as requests
+use Rattle.push_model.specs.obex_session.specs.Asking.{Asking}
+use Rattle.push_model.specs.obex_session.specs.NextPut.{is_waiting, after_put}
+use Rattle.push_model.specs.obex_session.specs.Past.{Serving}
+use Rattle.push_model.specs.obex_session.specs.Views.{asks_connect, asks_abort, asks_disconnect}
+use Rattle.push_model.specs.obex_session.proofs.ObjectLaws.{puts_in_order}
 use Rattle.push_model.specs.declared.course.Contact.{Contact}
 use Rattle.push_model.specs.declared.course.Contact.TheVariants.{Unmet, Met, Left}
 use Rattle.push_model.specs.declared.course.Stage.{Stage}

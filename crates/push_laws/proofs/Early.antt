@@ -1,17 +1,17 @@
 -- A client that is not on the channel of its object sends no frame, and is there only where that channel has opened: its multiplexer is new then.
 use Rattle.std.proofs.Common.{Bool, true, false, ◌≡◌, ◌==◌, ◌*◌, ◌-◌, ℕ, ◌&&◌, ◌||◌, not, List, [], Option, Some, None, refl, sym, ap, ◌∙◌, if◌then◌else◌}
 use Rattle.std.specs.Prelude.{is_some}
-use Rattle.bt_base.specs.declared.settings.Transport.{Transport}
-use Rattle.bt_base.specs.declared.settings.Transport.TheVariants.{L2cap, Rfcomm}
-use Rattle.push_terms.specs.declared.outcome.Outcome.{Outcome}
-use Rattle.push_terms.specs.declared.outcome.Outcome.TheVariants as outcomes
-use Rattle.rfcomm_model.specs.Machine.{Mux, new_mux}
-use Rattle.sdp_client.specs.Asking.{is_due, after_resend, request_octets, after_request}
-use Rattle.sdp_client.specs.Hearing.{found_at, after_reply}
-use Rattle.sdp_client.specs.declared.reason.Found.{Found}
-use Rattle.sdp_client.specs.declared.reason.Found.TheVariants.{More, Service, NoService, Refused}
-use Rattle.sdp_elements.specs.declared.target.Target.{Target}
-use Rattle.sdp_elements.specs.Targets.{is_service_psm, is_server_channel}
+use Rattle.link_talk.specs.bt_base.specs.declared.settings.Transport.{Transport}
+use Rattle.link_talk.specs.bt_base.specs.declared.settings.Transport.TheVariants.{L2cap, Rfcomm}
+use Rattle.link_talk.specs.push_terms.specs.declared.outcome.Outcome.{Outcome}
+use Rattle.link_talk.specs.push_terms.specs.declared.outcome.Outcome.TheVariants as outcomes
+use Rattle.push_model.specs.rfcomm_model.specs.Machine.{Mux, new_mux}
+use Rattle.push_model.specs.sdp_client.specs.Asking.{is_due, after_resend, request_octets, after_request}
+use Rattle.push_model.specs.sdp_client.specs.Hearing.{found_at, after_reply}
+use Rattle.push_model.specs.sdp_client.specs.declared.reason.Found.{Found}
+use Rattle.push_model.specs.sdp_client.specs.declared.reason.Found.TheVariants.{More, Service, NoService, Refused}
+use Rattle.push_model.specs.sdp_elements.specs.declared.target.Target.{Target}
+use Rattle.push_model.specs.sdp_elements.specs.Targets.{is_service_psm, is_server_channel}
 use Rattle.push_model.specs.declared.closing.CloseCause.{CloseCause}
 use Rattle.push_model.specs.declared.course.Point.TheVariants.{Due, Asked}
 use Rattle.push_model.specs.declared.course.Stage.{Stage}

@@ -3,27 +3,27 @@ use Rattle.std.proofs.Common.{false, true, ◌<◌, ◌≤◌, ◌≡◌, ℕ, z
 use Rattle.std.proofs.lemmas.Bool.{false≢true, ltb-true}
 use Rattle.std.specs.List.{AllByRecursion}
 use Rattle.std.specs.Prelude.{nat_lt}
-use Rattle.check_words.specs.Division.{added, reduced, divided}
-use Rattle.check_words.specs.CheckWords.{low_bits, RfcommCheckHolds}
-use Rattle.bt_base.specs.Octets.{IsOctets}
-use Rattle.bt_base.specs.PlainSettings.{IsPlain}
-use Rattle.bt_base.specs.declared.settings.Settings.{Settings}
-use Rattle.bt_base.specs.declared.settings.Transport.{Transport}
-use Rattle.bt_base.specs.declared.settings.Transport.TheVariants.{L2cap, Rfcomm}
-use Rattle.bt_base.specs.Objects.{Object}
-use Rattle.obex_headers.specs.declared.packet.Phase.TheVariants.{Request}
-use Rattle.obex_headers.specs.Reading.{packet_in}
-use Rattle.obex_session.specs.InboxCalls.{Answer}
-use Rattle.rfcomm_frames.specs.FrameReading.{frame_answer, message_answer, messages_within, messages}
-use Rattle.rfcomm_frames.specs.Frames.{PlainFrame, IsFrame, address_of, control_octet, body_of, covered, size_of}
-use Rattle.rfcomm_frames.specs.Lengths.{one_octet}
-use Rattle.rfcomm_frames.specs.ObexPackets.{packets_within, obex_packets}
-use Rattle.rfcomm_frames.specs.declared.frame.MuxKind.TheVariants.{Ua, Uih}
-use Rattle.rfcomm_model.specs.ClosedSides.{IsOrderly}
+use Rattle.push_model.specs.check_words.specs.Division.{added, reduced, divided}
+use Rattle.push_model.specs.check_words.specs.CheckWords.{low_bits, RfcommCheckHolds}
+use Rattle.link_talk.specs.bt_base.specs.Octets.{IsOctets}
+use Rattle.link_talk.specs.bt_base.specs.PlainSettings.{IsPlain}
+use Rattle.link_talk.specs.bt_base.specs.declared.settings.Settings.{Settings}
+use Rattle.link_talk.specs.bt_base.specs.declared.settings.Transport.{Transport}
+use Rattle.link_talk.specs.bt_base.specs.declared.settings.Transport.TheVariants.{L2cap, Rfcomm}
+use Rattle.link_talk.specs.bt_base.specs.Objects.{Object}
+use Rattle.push_model.specs.obex_headers.specs.declared.packet.Phase.TheVariants.{Request}
+use Rattle.push_model.specs.obex_headers.specs.Reading.{packet_in}
+use Rattle.push_model.specs.obex_session.specs.InboxCalls.{Answer}
+use Rattle.push_model.specs.rfcomm_frames.specs.FrameReading.{frame_answer, message_answer, messages_within, messages}
+use Rattle.push_model.specs.rfcomm_frames.specs.Frames.{PlainFrame, IsFrame, address_of, control_octet, body_of, covered, size_of}
+use Rattle.push_model.specs.rfcomm_frames.specs.Lengths.{one_octet}
+use Rattle.push_model.specs.rfcomm_frames.specs.ObexPackets.{packets_within, obex_packets}
+use Rattle.push_model.specs.rfcomm_frames.specs.declared.frame.MuxKind.TheVariants.{Ua, Uih}
+use Rattle.push_model.specs.rfcomm_model.specs.ClosedSides.{IsOrderly}
 use Rattle.push_model.specs.Client.{own_maximum}
 use Rattle.push_model.specs.Listening.{has_bad_length}
 use Rattle.push_model.specs.Payloads.{Framed, IsShortest}
-use Rattle.obex_headers.specs.Reading.{sized_at, text_at, octets_at, one_at, four_at, value_at, header_at, headers_at, headers_in, fields_in, behind_length, front_at}
+use Rattle.push_model.specs.obex_headers.specs.Reading.{sized_at, text_at, octets_at, one_at, four_at, value_at, header_at, headers_at, headers_in, fields_in, behind_length, front_at}
 use Rattle.push_model.specs.Listening.{hears_stream}
 use Rattle.push_model.specs.Streams.{front_of}
 use Rattle.push_laws.specs.Gains.{objects}
@@ -31,8 +31,8 @@ use Rattle.push_laws.specs.Faults as with_faults
 use Rattle.push_laws.specs.Faults.{Marked, marked_from, refusals}
 use Rattle.push_laws.specs.Premises.{AllGranted, AllMayCome, IsHeard, NoneShort, IsTaken, AllMayFail}
 use Rattle.std.specs.Prelude.{Ok, Err}
-use Rattle.bt_base.specs.declared.ports.PortFault.{PortFault}
-use Rattle.bt_base.specs.declared.ports.PortFault.TheVariants.{Failed, NoMemory}
+use Rattle.link_talk.specs.bt_base.specs.declared.ports.PortFault.{PortFault}
+use Rattle.link_talk.specs.bt_base.specs.declared.ports.PortFault.TheVariants.{Failed, NoMemory}
 use Rattle.push_model.specs.Service.{Service}
 use Rattle.push_model.specs.Server.{Lent, Server, Reacted, rfcomm_psm}
 use Rattle.push_laws.specs.Occurrences.{Occurrence, Came, Went, Closed, LinkDown, Asked, Answering, IsLent, done}

@@ -1,7 +1,7 @@
 -- One request of a client over RFCOMM, and its response, as octets that were to be sent and that came.
 use Rattle.std.proofs.Common.{inl, inr, ◌⊎◌, Bool, true, false, ◌≡◌, ℕ, List, [], ◌∷◌, ◌++◌, length, refl, sym, ap, subst, ◌∙◌, arith, append-nil, append_assoc}
 use Rattle.std.proofs.lemmas.Grind.{flat_map-append}
-use Rattle.rfcomm_frames.specs.ObexPackets.{IsPacket}
+use Rattle.push_model.specs.rfcomm_frames.specs.ObexPackets.{IsPacket}
 use Rattle.rfcomm_laws.specs.Pairs.{IsFront}
 use Rattle.push_laws.proofs.Couples.{Sums}
 use Rattle.push_laws.proofs.Driving.{joined}

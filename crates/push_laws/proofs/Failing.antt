@@ -3,14 +3,14 @@ use Rattle.std.proofs.Common.{inl, inr, ◌⊎◌, Bool, true, false, eqb, ◌�
 use Rattle.std.specs.List.{AllByRecursion}
 use Rattle.std.proofs.lemmas.Bool.{cases_Bool, cond-false, eqb-true}
 use Rattle.std.proofs.lemmas.List.Sums.{sum_by-cons}
-use Rattle.bt_base.specs.declared.settings.Settings.{Settings}
-use Rattle.bt_base.specs.declared.settings.Transport.TheVariants.{L2cap, Rfcomm}
-use Rattle.bt_base.specs.declared.ports.PortFault.TheVariants.{NoMemory}
-use Rattle.bt_base.specs.Objects.{Object}
-use Rattle.push_terms.specs.declared.outcome.Outcome.{Outcome}
-use Rattle.obex_session.specs.InboxCalls.{Answer, come_of}
-use Rattle.obex_session.specs.Past.{Heard}
-use Rattle.obex_session.specs.Serving.{ruling_on}
+use Rattle.link_talk.specs.bt_base.specs.declared.settings.Settings.{Settings}
+use Rattle.link_talk.specs.bt_base.specs.declared.settings.Transport.TheVariants.{L2cap, Rfcomm}
+use Rattle.link_talk.specs.bt_base.specs.declared.ports.PortFault.TheVariants.{NoMemory}
+use Rattle.link_talk.specs.bt_base.specs.Objects.{Object}
+use Rattle.link_talk.specs.push_terms.specs.declared.outcome.Outcome.{Outcome}
+use Rattle.push_model.specs.obex_session.specs.InboxCalls.{Answer, come_of}
+use Rattle.push_model.specs.obex_session.specs.Past.{Heard}
+use Rattle.push_model.specs.obex_session.specs.Serving.{ruling_on}
 use Rattle.push_model.specs.Client.{Client, own_maximum}
 use Rattle.push_model.specs.Laws as deeds
 use Rattle.push_model.specs.Laws.{Deed}

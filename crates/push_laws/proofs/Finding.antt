@@ -2,10 +2,10 @@
 use Rattle.std.proofs.Common.{inl, inr, ◌⊎◌, Bool, true, false, ◌≡◌, ◌==◌, ◌≤◌, ℕ, List, [], ◌∷◌, ◌++◌, length, refl, sym, ap, subst, ◌∙◌, arith, append-nil, append_assoc}
 use Rattle.std.specs.List.{All, AllByRecursion, Contains, filter_map, flat_map}
 use Rattle.std.proofs.lemmas.List.Elements.{All-nil, All-append, All-weaker, All-contains, All-from_recursion, Contains-append_left, Contains-push, All-contains_itself}
-use Rattle.bt_base.specs.declared.settings.Serves.{Serves}
-use Rattle.bt_base.specs.declared.settings.Settings.{Settings}
-use Rattle.sdp_client.specs.Laws.{served_target}
-use Rattle.sdp_elements.specs.declared.target.Target.{Target}
+use Rattle.link_talk.specs.bt_base.specs.declared.settings.Serves.{Serves}
+use Rattle.link_talk.specs.bt_base.specs.declared.settings.Settings.{Settings}
+use Rattle.push_model.specs.sdp_client.specs.Laws.{served_target}
+use Rattle.push_model.specs.sdp_elements.specs.declared.target.Target.{Target}
 use Rattle.push_model.specs.Client.{Client}
 use Rattle.push_model.specs.Events as events
 use Rattle.push_model.specs.Events.{search_psm}

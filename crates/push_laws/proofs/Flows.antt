@@ -2,25 +2,25 @@
 use Rattle.std.proofs.Common.{Bool, true, false, ◌≡◌, ℕ, ◌+◌, ◌-◌, ◌<◌, ◌≤◌, ◌^◌, ◌⊎◌, inl, inr, List, [], ◌∷◌, ◌++◌, length, Option, Some, None, is_none, refl, sym, ap, subst, ◌∙◌, arith, append-nil, drop, min, nat_le}
 use Rattle.std.specs.Prelude.{IfSome}
 use Rattle.std.proofs.Math.Seq.{take-append_seam}
-use Rattle.bt_base.specs.Objects.{Object, HasAt, octets_of}
-use Rattle.obex_headers.specs.declared.packet.Phase.TheVariants as phase
-use Rattle.obex_headers.specs.Packets.{PlainHeader, PlainPacket, IsPacket, header_octets, headers_octets, packet_octets, text_octets}
-use Rattle.obex_headers.specs.Runs.{joined}
-use Rattle.obex_headers.proofs.PacketLaws.{length-packet}
-use Rattle.obex_session.specs.declared.asking.Request.{Request}
-use Rattle.obex_session.specs.declared.asking.Request.TheVariants as requests
-use Rattle.obex_session.specs.declared.client.Answered.TheVariants.{Go}
-use Rattle.obex_session.specs.declared.course.Course.TheVariants.{Runs}
-use Rattle.obex_session.specs.declared.course.Progress.TheVariants.{Filled}
-use Rattle.obex_session.specs.Asking.{Asking}
-use Rattle.obex_session.specs.NextPut.{is_waiting, put_request, after_put, left_of, room_for}
-use Rattle.obex_session.specs.ObjectPuts.{HasPut, place_behind}
-use Rattle.obex_session.specs.Past.{Serving}
-use Rattle.obex_session.specs.PutPackets.{units_in, head_with, head_of, body_header, put_packet, ahead_of, place_of}
-use Rattle.obex_session.specs.Views.{asks_connect, is_silent, answer_at, after_at}
-use Rattle.obex_session.proofs.ModeLaws.{heard, response_to, InMode, Begins, not_in_mode, limit_after, is_first_put, off_after, connects_well, begins_well, streams_well}
-use Rattle.obex_session.proofs.ObjectLaws.{put_of}
-use Rattle.obex_session.proofs.PutPacketLaws.{head_at}
+use Rattle.link_talk.specs.bt_base.specs.Objects.{Object, HasAt, octets_of}
+use Rattle.push_model.specs.obex_headers.specs.declared.packet.Phase.TheVariants as phase
+use Rattle.push_model.specs.obex_headers.specs.Packets.{PlainHeader, PlainPacket, IsPacket, header_octets, headers_octets, packet_octets, text_octets}
+use Rattle.push_model.specs.obex_headers.specs.Runs.{joined}
+use Rattle.push_model.specs.obex_headers.proofs.PacketLaws.{length-packet}
+use Rattle.push_model.specs.obex_session.specs.declared.asking.Request.{Request}
+use Rattle.push_model.specs.obex_session.specs.declared.asking.Request.TheVariants as requests
+use Rattle.push_model.specs.obex_session.specs.declared.client.Answered.TheVariants.{Go}
+use Rattle.push_model.specs.obex_session.specs.declared.course.Course.TheVariants.{Runs}
+use Rattle.push_model.specs.obex_session.specs.declared.course.Progress.TheVariants.{Filled}
+use Rattle.push_model.specs.obex_session.specs.Asking.{Asking}
+use Rattle.push_model.specs.obex_session.specs.NextPut.{is_waiting, put_request, after_put, left_of, room_for}
+use Rattle.push_model.specs.obex_session.specs.ObjectPuts.{HasPut, place_behind}
+use Rattle.push_model.specs.obex_session.specs.Past.{Serving}
+use Rattle.push_model.specs.obex_session.specs.PutPackets.{units_in, head_with, head_of, body_header, put_packet, ahead_of, place_of}
+use Rattle.push_model.specs.obex_session.specs.Views.{asks_connect, is_silent, answer_at, after_at}
+use Rattle.push_model.specs.obex_session.proofs.ModeLaws.{heard, response_to, InMode, Begins, not_in_mode, limit_after, is_first_put, off_after, connects_well, begins_well, streams_well}
+use Rattle.push_model.specs.obex_session.proofs.ObjectLaws.{put_of}
+use Rattle.push_model.specs.obex_session.proofs.PutPacketLaws.{head_at}
 use Rattle.push_model.specs.declared.course.Contact.{Contact}
 use Rattle.push_model.specs.declared.course.Contact.TheVariants.{Unmet, Met}
 use Rattle.push_model.specs.Steps.{connect_octets}

@@ -6,35 +6,35 @@ use Rattle.std.proofs.lemmas.Bool.{cases_Bool, cond-true, and_parts}
 use Rattle.std.proofs.Math.IntN.{pos-+ℤ-pos, +ℤ-neg_ℤ_cancel}
 use Rattle.std.proofs.lemmas.List.Sums.{sum_by-append, sum_by-cons}
 use Rattle.std.proofs.lemmas.List.Elements.{filter_map-append}
-use Rattle.bt_base.specs.Octets.{IsOctets}
-use Rattle.rfcomm_frames.specs.declared.connection.Dlc.{Dlc}
-use Rattle.rfcomm_frames.specs.declared.closing.Closing.{Closing}
-use Rattle.rfcomm_frames.specs.declared.connection.Role.{Role}
-use Rattle.rfcomm_frames.specs.declared.connection.Role.TheVariants.{Initiator, Responder}
-use Rattle.rfcomm_frames.specs.declared.frame.MuxKind.{MuxKind}
-use Rattle.rfcomm_frames.specs.declared.frame.MuxKind.TheVariants.{Sabm, Ua, Dm, Disc, Uih}
-use Rattle.rfcomm_frames.specs.Answers.{Answer}
-use Rattle.rfcomm_frames.specs.Frames.{PlainFrame, Spells, carries}
-use Rattle.rfcomm_frames.specs.FrameReading.{frame_answer, is_empty}
-use Rattle.rfcomm_frames.specs.Connections.{other_role, turned}
-use Rattle.rfcomm_frames.specs.Multiplexing.{Passed, Framed, Connections, framed, frames, no_connections, connections_after, carries_on, information, carried, granted_by, granted, spent_by, spent}
-use Rattle.rfcomm_frames.specs.Ending.{Course, no_course, closing_said, course_after, is_last, has_last, to_closing}
-use Rattle.rfcomm_frames.specs.LookingBack.{connections}
-use Rattle.rfcomm_frames.specs.UserChannel.{user_octets, credits_held}
-use Rattle.rfcomm_frames.proofs.Ending.{counting, to_closing-more}
-use Rattle.rfcomm_frames.proofs.LookingBack.{looks-back}
-use Rattle.rfcomm_frames.proofs.FrameReading.{spelled_answered}
-use Rattle.rfcomm_model.specs.declared.state.Asks.TheVariants.{Due}
-use Rattle.rfcomm_model.specs.declared.state.Command.TheVariants.{LeaveUser}
-use Rattle.rfcomm_model.specs.Machine.{Mux, Kept, may_pass, is_ready, is_leaving, taken_count, sends, leaves}
-use Rattle.rfcomm_model.specs.Hearing.{hears, up}
-use Rattle.rfcomm_model.specs.Saying.{Said, next, after_said}
-use Rattle.rfcomm_model.specs.Sides.{connections_of, Deed, Hears, Says, Sends, Leaves, Side, handed, heard_frame, said_by, given, done, all_done, new_side, DeedFindsRoom, AnswerFindsRoom, AlwaysRoom}
-use Rattle.rfcomm_model.specs.ClosedSides.{IsOrderly, ReadsToClosing}
-use Rattle.rfcomm_model.proofs.Ended.{closed-sides_read, to_all}
-use Rattle.rfcomm_model.proofs.Keeping.{answer_keeps, next_keeps}
-use Rattle.rfcomm_model.proofs.Reading.{own_grants, granted_more, spent_more, said_keeps}
-use Rattle.rfcomm_model.proofs.Stepping.{cond_same}
+use Rattle.link_talk.specs.bt_base.specs.Octets.{IsOctets}
+use Rattle.push_model.specs.rfcomm_frames.specs.declared.connection.Dlc.{Dlc}
+use Rattle.push_model.specs.rfcomm_frames.specs.declared.closing.Closing.{Closing}
+use Rattle.push_model.specs.rfcomm_frames.specs.declared.connection.Role.{Role}
+use Rattle.push_model.specs.rfcomm_frames.specs.declared.connection.Role.TheVariants.{Initiator, Responder}
+use Rattle.push_model.specs.rfcomm_frames.specs.declared.frame.MuxKind.{MuxKind}
+use Rattle.push_model.specs.rfcomm_frames.specs.declared.frame.MuxKind.TheVariants.{Sabm, Ua, Dm, Disc, Uih}
+use Rattle.push_model.specs.rfcomm_frames.specs.Answers.{Answer}
+use Rattle.push_model.specs.rfcomm_frames.specs.Frames.{PlainFrame, Spells, carries}
+use Rattle.push_model.specs.rfcomm_frames.specs.FrameReading.{frame_answer, is_empty}
+use Rattle.push_model.specs.rfcomm_frames.specs.Connections.{other_role, turned}
+use Rattle.push_model.specs.rfcomm_frames.specs.Multiplexing.{Passed, Framed, Connections, framed, frames, no_connections, connections_after, carries_on, information, carried, granted_by, granted, spent_by, spent}
+use Rattle.push_model.specs.rfcomm_frames.specs.Ending.{Course, no_course, closing_said, course_after, is_last, has_last, to_closing}
+use Rattle.push_model.specs.rfcomm_frames.specs.LookingBack.{connections}
+use Rattle.push_model.specs.rfcomm_frames.specs.UserChannel.{user_octets, credits_held}
+use Rattle.push_model.specs.rfcomm_frames.proofs.Ending.{counting, to_closing-more}
+use Rattle.push_model.specs.rfcomm_frames.proofs.LookingBack.{looks-back}
+use Rattle.push_model.specs.rfcomm_frames.proofs.FrameReading.{spelled_answered}
+use Rattle.push_model.specs.rfcomm_model.specs.declared.state.Asks.TheVariants.{Due}
+use Rattle.push_model.specs.rfcomm_model.specs.declared.state.Command.TheVariants.{LeaveUser}
+use Rattle.push_model.specs.rfcomm_model.specs.Machine.{Mux, Kept, may_pass, is_ready, is_leaving, taken_count, sends, leaves}
+use Rattle.push_model.specs.rfcomm_model.specs.Hearing.{hears, up}
+use Rattle.push_model.specs.rfcomm_model.specs.Saying.{Said, next, after_said}
+use Rattle.push_model.specs.rfcomm_model.specs.Sides.{connections_of, Deed, Hears, Says, Sends, Leaves, Side, handed, heard_frame, said_by, given, done, all_done, new_side, DeedFindsRoom, AnswerFindsRoom, AlwaysRoom}
+use Rattle.push_model.specs.rfcomm_model.specs.ClosedSides.{IsOrderly, ReadsToClosing}
+use Rattle.push_model.specs.rfcomm_model.proofs.Ended.{closed-sides_read, to_all}
+use Rattle.push_model.specs.rfcomm_model.proofs.Keeping.{answer_keeps, next_keeps}
+use Rattle.push_model.specs.rfcomm_model.proofs.Reading.{own_grants, granted_more, spent_more, said_keeps}
+use Rattle.push_model.specs.rfcomm_model.proofs.Stepping.{cond_same}
 use Rattle.push_laws.specs.Premises.{is_answer, leaves_or_controls, is_apart, may_overtake}
 use Rattle.push_laws.proofs.Overtaking.{his, swapped, under}
 

@@ -1,18 +1,18 @@
 -- What comes to a server over RFCOMM finds room, and its multiplexer refuses nothing.
 use Rattle.std.proofs.Common.{arith, inl, inr, Bool, true, false, cond, ◌≡◌, ◌⊎◌, ◌==◌, ◌-◌, ℕ, ◌||◌, List, [], ◌∷◌, ◌++◌, refl, sym, ap, subst, ◌∙◌, append-nil, append_assoc, if◌then◌else◌}
 use Rattle.std.proofs.lemmas.Bool.{cond-false, eqb-true}
-use Rattle.bt_base.specs.declared.settings.Settings.{Settings}
-use Rattle.bt_base.specs.declared.settings.Transport.TheVariants.{L2cap, Rfcomm}
-use Rattle.rfcomm_frames.specs.declared.connection.Role.TheVariants.{Responder}
-use Rattle.rfcomm_frames.specs.FrameReading.{frame_answer}
+use Rattle.link_talk.specs.bt_base.specs.declared.settings.Settings.{Settings}
+use Rattle.link_talk.specs.bt_base.specs.declared.settings.Transport.TheVariants.{L2cap, Rfcomm}
+use Rattle.push_model.specs.rfcomm_frames.specs.declared.connection.Role.TheVariants.{Responder}
+use Rattle.push_model.specs.rfcomm_frames.specs.FrameReading.{frame_answer}
 use Rattle.rfcomm_laws.specs.Pairs.{Terms}
 use Rattle.rfcomm_laws.proofs.Crossings.{offering}
 use Rattle.rfcomm_laws.proofs.Rooms.{tidy_first}
-use Rattle.rfcomm_model.specs.ClosedSides.{IsOrderly}
-use Rattle.rfcomm_model.specs.Hearing.{up}
-use Rattle.rfcomm_frames.specs.declared.connection.Role.TheVariants.{Initiator}
-use Rattle.rfcomm_model.specs.Machine.{Mux, new_mux}
-use Rattle.rfcomm_model.specs.Sides.{AnswerFindsRoom, handed}
+use Rattle.push_model.specs.rfcomm_model.specs.ClosedSides.{IsOrderly}
+use Rattle.push_model.specs.rfcomm_model.specs.Hearing.{up}
+use Rattle.push_model.specs.rfcomm_frames.specs.declared.connection.Role.TheVariants.{Initiator}
+use Rattle.push_model.specs.rfcomm_model.specs.Machine.{Mux, new_mux}
+use Rattle.push_model.specs.rfcomm_model.specs.Sides.{AnswerFindsRoom, handed}
 use Rattle.push_model.specs.declared.course.Stage.{Stage}
 use Rattle.push_model.specs.declared.course.Stage.TheVariants.{Object}
 use Rattle.push_model.specs.Client.{Client}

@@ -4,24 +4,24 @@ use Rattle.std.specs.List.{AllByRecursion, cons_option}
 use Rattle.std.proofs.lemmas.Bool.{cond-false, ltb-false}
 use Rattle.std.proofs.lemmas.List.{map-append}
 use Rattle.std.proofs.lemmas.List.Sums.{sum_by-cons}
-use Rattle.bt_base.specs.declared.settings.Settings.{Settings}
-use Rattle.bt_base.specs.declared.settings.Transport.{Transport}
-use Rattle.bt_base.specs.declared.settings.Transport.TheVariants.{L2cap, Rfcomm}
-use Rattle.bt_base.specs.declared.ports.PortFault.TheVariants.{NoMemory}
-use Rattle.bt_base.specs.Objects.{Object}
-use Rattle.capture.proofs.HistoryLaws.{given_by-more}
-use Rattle.obex_headers.specs.Packets.{PlainHeader}
-use Rattle.obex_headers.specs.Runs.{names, bodies}
-use Rattle.obex_session.specs.InboxCalls.{Answer}
-use Rattle.obex_session.specs.Laws.{without_fault}
-use Rattle.obex_session.specs.Past.{Heard, stored_by, open_headers, progress_from, progress_of}
-use Rattle.obex_session.specs.Rules as rules
-use Rattle.obex_session.proofs.GrantedLaws.{idle_progress}
-use Rattle.rfcomm_frames.specs.declared.connection.Role.TheVariants.{Responder}
-use Rattle.rfcomm_frames.specs.Frames.{PlainFrame}
-use Rattle.rfcomm_frames.specs.ObexPackets.{obex_packets}
-use Rattle.rfcomm_frames.specs.UserChannel.{credits_held}
-use Rattle.rfcomm_model.specs.ClosedSides.{IsOrderly}
+use Rattle.link_talk.specs.bt_base.specs.declared.settings.Settings.{Settings}
+use Rattle.link_talk.specs.bt_base.specs.declared.settings.Transport.{Transport}
+use Rattle.link_talk.specs.bt_base.specs.declared.settings.Transport.TheVariants.{L2cap, Rfcomm}
+use Rattle.link_talk.specs.bt_base.specs.declared.ports.PortFault.TheVariants.{NoMemory}
+use Rattle.link_talk.specs.bt_base.specs.Objects.{Object}
+use Rattle.link_talk.specs.capture.proofs.HistoryLaws.{given_by-more}
+use Rattle.push_model.specs.obex_headers.specs.Packets.{PlainHeader}
+use Rattle.push_model.specs.obex_headers.specs.Runs.{names, bodies}
+use Rattle.push_model.specs.obex_session.specs.InboxCalls.{Answer}
+use Rattle.push_model.specs.obex_session.specs.Laws.{without_fault}
+use Rattle.push_model.specs.obex_session.specs.Past.{Heard, stored_by, open_headers, progress_from, progress_of}
+use Rattle.push_model.specs.obex_session.specs.Rules as rules
+use Rattle.push_model.specs.obex_session.proofs.GrantedLaws.{idle_progress}
+use Rattle.push_model.specs.rfcomm_frames.specs.declared.connection.Role.TheVariants.{Responder}
+use Rattle.push_model.specs.rfcomm_frames.specs.Frames.{PlainFrame}
+use Rattle.push_model.specs.rfcomm_frames.specs.ObexPackets.{obex_packets}
+use Rattle.push_model.specs.rfcomm_frames.specs.UserChannel.{credits_held}
+use Rattle.push_model.specs.rfcomm_model.specs.ClosedSides.{IsOrderly}
 use Rattle.link_talk.specs.Gains.{beyond, gained}
 use Rattle.push_model.specs.Client.{own_maximum}
 use Rattle.push_model.specs.Sessions.{session_of, other_of, has_object}
@@ -33,10 +33,10 @@ use Rattle.push_laws.specs.Gains as clear
 use Rattle.push_laws.specs.Gains.{objects_over}
 use Rattle.push_laws.specs.Faults.{Marked, unmarked, heard_as, heard_behind, heard_from, heard_over, stored_over, objects_with, objects, counted, refusals, faults_of, refuses_with, mark_of, marked_from, faults_before, spent_from, ignored_of, ignored_with, ignored_from}
 use Rattle.push_laws.specs.Faults as faulty
-use Rattle.obex_session.specs.Serving as serving
-use Rattle.obex_session.specs.Marks as marks
-use Rattle.obex_headers.specs.Reading as reading
-use Rattle.obex_headers.specs.declared.packet.Phase.TheVariants as phase
+use Rattle.push_model.specs.obex_session.specs.Serving as serving
+use Rattle.push_model.specs.obex_session.specs.Marks as marks
+use Rattle.push_model.specs.obex_headers.specs.Reading as reading
+use Rattle.push_model.specs.obex_headers.specs.declared.packet.Phase.TheVariants as phase
 use Rattle.push_laws.specs.Premises.{is_under_way, IsHeard, IsTaken, IsAlone, AllGranted, NoneShort, AnswersAre, MayCome, AllMayCome, new_packets, AllMayFail, AllMayMiss}
 use Rattle.push_laws.specs.Laws.{stored_in, new_over, paid_for, GainsWhatIsHeard, CreditsAreRead}
 use Rattle.push_laws.proofs.Sessions as opened

@@ -1,15 +1,15 @@
 -- What a client sends with one step over L2CAP, and what it awaits then.
 use Rattle.std.proofs.Common.{◌≡◌, ℕ, ◌==◌, Bool, true, false, List, [], ◌∷◌, Option, Some, None, Result, Ok, Err, refl, sym, ap, subst, ◌∙◌, arith, if◌then◌else◌}
 use Rattle.std.proofs.lemmas.Bool.{eqb-true}
-use Rattle.bt_base.specs.Objects.{Object}
-use Rattle.bt_base.specs.declared.ports.PortFault.{PortFault}
-use Rattle.bt_base.specs.declared.ports.PortFault.TheVariants as fault
-use Rattle.bt_base.specs.declared.settings.Transport.{Transport}
-use Rattle.bt_base.specs.declared.settings.Transport.TheVariants.{L2cap}
-use Rattle.push_terms.specs.declared.outcome.Outcome.{Outcome}
-use Rattle.push_terms.specs.declared.outcome.Outcome.TheVariants as outcomes
-use Rattle.obex_session.specs.NextPut.{after_put, is_waiting}
-use Rattle.obex_session.specs.Views.{asks_connect, asks_abort, asks_disconnect}
+use Rattle.link_talk.specs.bt_base.specs.Objects.{Object}
+use Rattle.link_talk.specs.bt_base.specs.declared.ports.PortFault.{PortFault}
+use Rattle.link_talk.specs.bt_base.specs.declared.ports.PortFault.TheVariants as fault
+use Rattle.link_talk.specs.bt_base.specs.declared.settings.Transport.{Transport}
+use Rattle.link_talk.specs.bt_base.specs.declared.settings.Transport.TheVariants.{L2cap}
+use Rattle.link_talk.specs.push_terms.specs.declared.outcome.Outcome.{Outcome}
+use Rattle.link_talk.specs.push_terms.specs.declared.outcome.Outcome.TheVariants as outcomes
+use Rattle.push_model.specs.obex_session.specs.NextPut.{after_put, is_waiting}
+use Rattle.push_model.specs.obex_session.specs.Views.{asks_connect, asks_abort, asks_disconnect}
 use Rattle.push_model.specs.declared.course.Contact.TheVariants.{Unmet, Met, Left}
 use Rattle.push_model.specs.declared.course.Stage.{Stage}
 use Rattle.push_model.specs.Client.{Client, ends, ends_by}

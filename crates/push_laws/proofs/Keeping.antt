@@ -4,14 +4,14 @@ use Rattle.std.specs.List.{cons_option}
 use Rattle.std.proofs.Math.Seq.{drop-nil}
 use Rattle.std.proofs.lemmas.Bool.{cond-true, cond-false}
 use Rattle.std.proofs.lemmas.List.{map-append}
-use Rattle.bt_base.specs.declared.settings.Settings.{Settings}
-use Rattle.bt_base.specs.declared.settings.Transport.TheVariants.{L2cap, Rfcomm}
-use Rattle.bt_base.specs.Objects.{Object}
-use Rattle.capture.proofs.HistoryLaws.{given_by-more}
-use Rattle.obex_session.specs.Laws.{without_fault}
-use Rattle.obex_session.specs.Past.{Heard, stored_by}
-use Rattle.obex_session.proofs.SuccessLaws.{more_stored}
-use Rattle.rfcomm_frames.specs.ObexPackets.{obex_packets}
+use Rattle.link_talk.specs.bt_base.specs.declared.settings.Settings.{Settings}
+use Rattle.link_talk.specs.bt_base.specs.declared.settings.Transport.TheVariants.{L2cap, Rfcomm}
+use Rattle.link_talk.specs.bt_base.specs.Objects.{Object}
+use Rattle.link_talk.specs.capture.proofs.HistoryLaws.{given_by-more}
+use Rattle.push_model.specs.obex_session.specs.Laws.{without_fault}
+use Rattle.push_model.specs.obex_session.specs.Past.{Heard, stored_by}
+use Rattle.push_model.specs.obex_session.proofs.SuccessLaws.{more_stored}
+use Rattle.push_model.specs.rfcomm_frames.specs.ObexPackets.{obex_packets}
 use Rattle.link_talk.specs.Gains.{beyond, gained}
 use Rattle.link_talk.specs.ObjectsHeard.{spelled_within}
 use Rattle.push_model.specs.Client.{own_maximum}

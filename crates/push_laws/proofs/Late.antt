@@ -1,23 +1,23 @@
 -- From the channel of its object on a client opens nothing more, and stays with that channel.
 use Rattle.std.proofs.Common.{◌≡◌, ℕ, zero, suc, ◌++◌, ◌==◌, ◌&&◌, ◌||◌, not, length, drop, Bool, true, false, List, [], ◌∷◌, Option, Some, None, Result, Ok, Err, is_none, nat_lt, take, refl, sym, ap, ◌∙◌, if◌then◌else◌}
 use Rattle.std.proofs.lemmas.Bool.{cond_both}
-use Rattle.bt_base.specs.declared.ports.PortFault.{PortFault}
-use Rattle.bt_base.specs.declared.ports.PortFault.TheVariants as fault
-use Rattle.bt_base.specs.declared.settings.Transport.{Transport}
-use Rattle.bt_base.specs.declared.settings.Transport.TheVariants.{L2cap, Rfcomm}
-use Rattle.push_terms.specs.declared.outcome.Outcome.{Outcome}
-use Rattle.push_terms.specs.declared.outcome.Outcome.TheVariants as outcomes
-use Rattle.rfcomm_frames.specs.FrameReading.{is_empty}
-use Rattle.rfcomm_model.specs.Hearing.{Up, nothing, opened, bytes, closed, up, hears}
-use Rattle.rfcomm_model.specs.declared.state.Asks.TheVariants as mux
-use Rattle.rfcomm_model.specs.declared.state.Command.TheVariants.{LeaveUser}
-use Rattle.rfcomm_model.specs.Machine.{Mux, leaves, is_leaving, is_ready, sends, taken_count}
-use Rattle.rfcomm_model.specs.Saying.{Said, next, after_said}
-use Rattle.rfcomm_model.proofs.Keeping.{hears_keeps, next_keeps}
-use Rattle.sdp_client.specs.Asking.{is_due, after_resend}
-use Rattle.obex_session.specs.declared.client.Answered.{Answered}
-use Rattle.obex_session.specs.declared.client.Answered.TheVariants as answer
-use Rattle.obex_session.specs.Views.{answer_at, after_at}
+use Rattle.link_talk.specs.bt_base.specs.declared.ports.PortFault.{PortFault}
+use Rattle.link_talk.specs.bt_base.specs.declared.ports.PortFault.TheVariants as fault
+use Rattle.link_talk.specs.bt_base.specs.declared.settings.Transport.{Transport}
+use Rattle.link_talk.specs.bt_base.specs.declared.settings.Transport.TheVariants.{L2cap, Rfcomm}
+use Rattle.link_talk.specs.push_terms.specs.declared.outcome.Outcome.{Outcome}
+use Rattle.link_talk.specs.push_terms.specs.declared.outcome.Outcome.TheVariants as outcomes
+use Rattle.push_model.specs.rfcomm_frames.specs.FrameReading.{is_empty}
+use Rattle.push_model.specs.rfcomm_model.specs.Hearing.{Up, nothing, opened, bytes, closed, up, hears}
+use Rattle.push_model.specs.rfcomm_model.specs.declared.state.Asks.TheVariants as mux
+use Rattle.push_model.specs.rfcomm_model.specs.declared.state.Command.TheVariants.{LeaveUser}
+use Rattle.push_model.specs.rfcomm_model.specs.Machine.{Mux, leaves, is_leaving, is_ready, sends, taken_count}
+use Rattle.push_model.specs.rfcomm_model.specs.Saying.{Said, next, after_said}
+use Rattle.push_model.specs.rfcomm_model.proofs.Keeping.{hears_keeps, next_keeps}
+use Rattle.push_model.specs.sdp_client.specs.Asking.{is_due, after_resend}
+use Rattle.push_model.specs.obex_session.specs.declared.client.Answered.{Answered}
+use Rattle.push_model.specs.obex_session.specs.declared.client.Answered.TheVariants as answer
+use Rattle.push_model.specs.obex_session.specs.Views.{answer_at, after_at}
 use Rattle.push_model.specs.declared.closing.CloseCause.{CloseCause}
 use Rattle.push_model.specs.declared.course.Contact.TheVariants.{Closing}
 use Rattle.push_model.specs.declared.course.Point.{Point}

@@ -5,20 +5,20 @@ use Rattle.std.proofs.lemmas.Bool.{cond-false, or_from}
 use Rattle.std.proofs.lemmas.List.{map-append}
 use Rattle.std.proofs.lemmas.List.Sums.{sum_by-cons}
 use Rattle.std.proofs.lemmas.Grind.{flat_map-append}
-use Rattle.bt_base.specs.declared.settings.Transport.{Transport}
-use Rattle.bt_base.specs.declared.settings.Transport.TheVariants.{L2cap, Rfcomm}
-use Rattle.bt_base.specs.Objects.{Object}
-use Rattle.rfcomm_frames.specs.ObexPackets.{stated_size, IsPacket, HasNoPacket, AreObexPackets, obex_packets}
-use Rattle.rfcomm_frames.proofs.ObexSplits.{obex_packets-right}
+use Rattle.link_talk.specs.bt_base.specs.declared.settings.Transport.{Transport}
+use Rattle.link_talk.specs.bt_base.specs.declared.settings.Transport.TheVariants.{L2cap, Rfcomm}
+use Rattle.link_talk.specs.bt_base.specs.Objects.{Object}
+use Rattle.push_model.specs.rfcomm_frames.specs.ObexPackets.{stated_size, IsPacket, HasNoPacket, AreObexPackets, obex_packets}
+use Rattle.push_model.specs.rfcomm_frames.proofs.ObexSplits.{obex_packets-right}
 use Rattle.rfcomm_laws.proofs.Splitting.{same_length}
-use Rattle.obex_headers.specs.declared.fault.ObexRefusal.{ObexRefusal}
-use Rattle.obex_headers.specs.declared.fault.ObexRefusal.TheVariants.{Short, BadLength, BadHeaderLength, BadText, AboveMaximum, BadVersion}
-use Rattle.obex_headers.specs.declared.packet.Phase.TheVariants.{Request}
-use Rattle.obex_headers.specs.Assembling.{IsFramed, IsPartial, BeginsNone}
-use Rattle.obex_headers.specs.Reading.{packet_in}
-use Rattle.obex_session.specs.Past.{Heard, stored_by, open_headers, pending_of}
-use Rattle.obex_session.specs.Rules as rules
-use Rattle.obex_session.proofs.GrantedLaws.{idle_pending}
+use Rattle.push_model.specs.obex_headers.specs.declared.fault.ObexRefusal.{ObexRefusal}
+use Rattle.push_model.specs.obex_headers.specs.declared.fault.ObexRefusal.TheVariants.{Short, BadLength, BadHeaderLength, BadText, AboveMaximum, BadVersion}
+use Rattle.push_model.specs.obex_headers.specs.declared.packet.Phase.TheVariants.{Request}
+use Rattle.push_model.specs.obex_headers.specs.Assembling.{IsFramed, IsPartial, BeginsNone}
+use Rattle.push_model.specs.obex_headers.specs.Reading.{packet_in}
+use Rattle.push_model.specs.obex_session.specs.Past.{Heard, stored_by, open_headers, pending_of}
+use Rattle.push_model.specs.obex_session.specs.Rules as rules
+use Rattle.push_model.specs.obex_session.proofs.GrantedLaws.{idle_pending}
 use Rattle.link_talk.specs.Gains.{beyond}
 use Rattle.push_model.specs.Sessions.{Gift, session_of, other_of, has_object, is_naming}
 use Rattle.push_model.specs.Service.{Service, without_answer, is_ignored, hears_packet}

@@ -1,19 +1,19 @@
 -- What a server sends on the channel to the service records, where one request alone comes there: its one reply, or nothing.
 use Rattle.std.proofs.Common.{inl, inr, ◌⊎◌, Bool, true, false, cond, ◌&&◌, ◌≡◌, ◌==◌, ℕ, List, [], Option, Some, None, refl, sym, ap, subst, ◌∙◌}
 use Rattle.std.proofs.lemmas.Bool.{cond_both, cond-false}
-use Rattle.bt_base.specs.Objects.{Contents}
-use Rattle.bt_base.specs.declared.settings.Serves.{Serves}
-use Rattle.bt_base.specs.declared.settings.Settings.{Settings}
-use Rattle.bt_base.specs.declared.settings.Transport.TheVariants.{L2cap, Rfcomm}
-use Rattle.rfcomm_frames.specs.FrameReading.{is_empty}
-use Rattle.rfcomm_frames.specs.Frames.{PlainFrame}
-use Rattle.rfcomm_model.specs.Hearing as hearing
-use Rattle.rfcomm_model.specs.Hearing.{Up, nothing, opened, bytes, closed, up}
-use Rattle.rfcomm_model.specs.Machine.{leaves, sends, taken_count}
-use Rattle.rfcomm_model.specs.Saying.{Said, next}
-use Rattle.sdp_client.specs.Asking.{begun, after_request, request_octets}
-use Rattle.sdp_client.specs.Laws.{first_reply}
-use Rattle.sdp_server.specs.Replies.{reply_to}
+use Rattle.link_talk.specs.bt_base.specs.Objects.{Contents}
+use Rattle.link_talk.specs.bt_base.specs.declared.settings.Serves.{Serves}
+use Rattle.link_talk.specs.bt_base.specs.declared.settings.Settings.{Settings}
+use Rattle.link_talk.specs.bt_base.specs.declared.settings.Transport.TheVariants.{L2cap, Rfcomm}
+use Rattle.push_model.specs.rfcomm_frames.specs.FrameReading.{is_empty}
+use Rattle.push_model.specs.rfcomm_frames.specs.Frames.{PlainFrame}
+use Rattle.push_model.specs.rfcomm_model.specs.Hearing as hearing
+use Rattle.push_model.specs.rfcomm_model.specs.Hearing.{Up, nothing, opened, bytes, closed, up}
+use Rattle.push_model.specs.rfcomm_model.specs.Machine.{leaves, sends, taken_count}
+use Rattle.push_model.specs.rfcomm_model.specs.Saying.{Said, next}
+use Rattle.push_model.specs.sdp_client.specs.Asking.{begun, after_request, request_octets}
+use Rattle.push_model.specs.sdp_client.specs.Laws.{first_reply}
+use Rattle.push_model.specs.sdp_server.specs.Replies.{reply_to}
 use Rattle.push_model.specs.declared.outlet.Outlet.{Outlet}
 use Rattle.push_model.specs.declared.outlet.Outlet.TheVariants.{Records, Direct, Muxed}
 use Rattle.push_model.specs.Payloads.{Octets, IsSaid}

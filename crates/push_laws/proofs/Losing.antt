@@ -2,18 +2,18 @@
 use Rattle.std.proofs.Common.{inl, inr, ◌⊎◌, Bool, true, false, ◌≡◌, ◌==◌, ℕ, ◌+◌, ◌-◌, ◌≤◌, ◌||◌, arith, List, [], ◌∷◌, ◌++◌, length, map, Some, None, refl, sym, ap, subst, ◌∙◌, append-nil, append_assoc}
 use Rattle.std.specs.List.{AllByRecursion, flat_map}
 use Rattle.std.proofs.lemmas.Bool.{cases_Bool, cases_lt, eqb-true, cond_both}
-use Rattle.bt_base.specs.declared.settings.Settings.{Settings}
-use Rattle.bt_base.specs.declared.settings.Transport.TheVariants.{L2cap, Rfcomm}
-use Rattle.bt_base.specs.Objects.{Object}
-use Rattle.obex_headers.specs.Runs.{objects_from}
-use Rattle.obex_session.specs.Past.{Heard, stored_by}
+use Rattle.link_talk.specs.bt_base.specs.declared.settings.Settings.{Settings}
+use Rattle.link_talk.specs.bt_base.specs.declared.settings.Transport.TheVariants.{L2cap, Rfcomm}
+use Rattle.link_talk.specs.bt_base.specs.Objects.{Object}
+use Rattle.push_model.specs.obex_headers.specs.Runs.{objects_from}
+use Rattle.push_model.specs.obex_session.specs.Past.{Heard, stored_by}
 use Rattle.link_talk.specs.ObjectsHeard.{spelled_within}
 use Rattle.push_model.specs.declared.course.Contact.TheVariants.{Unmet, Met}
 use Rattle.push_model.specs.Client.{Client, own_maximum}
 use Rattle.push_model.specs.Laws as deeds
 use Rattle.push_model.specs.Server.{Reacted, lets_go_on, remuxed, unreplied, unanswered, object_psm}
-use Rattle.push_terms.specs.declared.outcome.Outcome.{Outcome}
-use Rattle.obex_session.specs.Calls.{session_behind}
+use Rattle.link_talk.specs.push_terms.specs.declared.outcome.Outcome.{Outcome}
+use Rattle.push_model.specs.obex_session.specs.Calls.{session_behind}
 use Rattle.push_laws.specs.Calls.{new_session}
 use Rattle.push_laws.specs.Faults as faulty
 use Rattle.push_laws.specs.Faults.{Marked, unmarked, heard_as, heard_over, spends, spent_from}

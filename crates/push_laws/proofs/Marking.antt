@@ -4,21 +4,21 @@ use Rattle.std.specs.Prelude.{slice_index}
 use Rattle.std.specs.List.{AllByRecursion, cons_option}
 use Rattle.std.proofs.Math.Seq.{drop-nil}
 use Rattle.std.proofs.lemmas.Bool.{cond-true, cond-false}
-use Rattle.bt_base.specs.declared.settings.Settings.{Settings}
-use Rattle.bt_base.specs.declared.settings.Transport.{Transport}
-use Rattle.bt_base.specs.declared.settings.Transport.TheVariants.{L2cap, Rfcomm}
-use Rattle.bt_base.specs.declared.ports.PortFault.TheVariants.{Failed, NoMemory}
-use Rattle.bt_base.specs.Objects.{Object}
-use Rattle.obex_headers.specs.declared.packet.Phase.TheVariants.{Request}
-use Rattle.obex_headers.specs.Reading.{packet_in}
-use Rattle.obex_session.specs.InboxCalls.{Answer, come_of}
-use Rattle.obex_session.specs.Past.{Heard, Serving, stored_by, open_headers, progress_of}
-use Rattle.obex_session.specs.Rules.{progress_in}
-use Rattle.obex_session.specs.Serving.{kind_heard, ruling_on, verdict_or, heard_with}
-use Rattle.obex_session.specs.Turns.{said_after}
-use Rattle.obex_session.specs.Views.{octets_said}
-use Rattle.obex_session.proofs.GrantedLaws.{stores_read}
-use Rattle.obex_session.proofs.SuccessLaws.{success_is_stored}
+use Rattle.link_talk.specs.bt_base.specs.declared.settings.Settings.{Settings}
+use Rattle.link_talk.specs.bt_base.specs.declared.settings.Transport.{Transport}
+use Rattle.link_talk.specs.bt_base.specs.declared.settings.Transport.TheVariants.{L2cap, Rfcomm}
+use Rattle.link_talk.specs.bt_base.specs.declared.ports.PortFault.TheVariants.{Failed, NoMemory}
+use Rattle.link_talk.specs.bt_base.specs.Objects.{Object}
+use Rattle.push_model.specs.obex_headers.specs.declared.packet.Phase.TheVariants.{Request}
+use Rattle.push_model.specs.obex_headers.specs.Reading.{packet_in}
+use Rattle.push_model.specs.obex_session.specs.InboxCalls.{Answer, come_of}
+use Rattle.push_model.specs.obex_session.specs.Past.{Heard, Serving, stored_by, open_headers, progress_of}
+use Rattle.push_model.specs.obex_session.specs.Rules.{progress_in}
+use Rattle.push_model.specs.obex_session.specs.Serving.{kind_heard, ruling_on, verdict_or, heard_with}
+use Rattle.push_model.specs.obex_session.specs.Turns.{said_after}
+use Rattle.push_model.specs.obex_session.specs.Views.{octets_said}
+use Rattle.push_model.specs.obex_session.proofs.GrantedLaws.{stores_read}
+use Rattle.push_model.specs.obex_session.proofs.SuccessLaws.{success_is_stored}
 use Rattle.link_talk.specs.Gains.{beyond}
 use Rattle.link_talk.specs.ObjectsHeard.{put_within}
 use Rattle.push_model.specs.Client.{own_maximum}
@@ -26,11 +26,11 @@ use Rattle.push_model.specs.Listening.{has_bad_length}
 use Rattle.push_model.specs.Server.{Reacted, object_psm, rfcomm_psm}
 use Rattle.push_model.specs.Service.{Service, is_ignored}
 use Rattle.push_model.specs.Sessions.{session_of}
-use Rattle.rfcomm_frames.specs.ObexPackets.{obex_packets}
-use Rattle.rfcomm_frames.proofs.ObexSplits.{obex_packets-right}
-use Rattle.rfcomm_model.specs.ClosedSides.{IsOrderly}
-use Rattle.rfcomm_model.specs.Hearing.{up}
-use Rattle.rfcomm_model.specs.Sides.{handed}
+use Rattle.push_model.specs.rfcomm_frames.specs.ObexPackets.{obex_packets}
+use Rattle.push_model.specs.rfcomm_frames.proofs.ObexSplits.{obex_packets-right}
+use Rattle.push_model.specs.rfcomm_model.specs.ClosedSides.{IsOrderly}
+use Rattle.push_model.specs.rfcomm_model.specs.Hearing.{up}
+use Rattle.push_model.specs.rfcomm_model.specs.Sides.{handed}
 use Rattle.push_laws.specs.Carriage.{come_by}
 use Rattle.push_laws.specs.Parties.{sdu_if}
 use Rattle.push_laws.specs.Occurrences.{Occurrence, Came, Went, Closed, LinkDown, Asked, Answering, done, IsOwn}

@@ -2,15 +2,15 @@
 use Rattle.std.proofs.Common.{Bool, true, false, cond, ◌≡◌, ℕ, ◌≤◌, ◌||◌, List, [], ◌∷◌, ◌++◌, length, Option, Some, None, refl, sym, ap, subst, ◌∙◌, arith}
 use Rattle.std.specs.List.{AllByRecursion}
 use Rattle.std.proofs.lemmas.Bool.{cond_both, cond-false}
-use Rattle.bt_base.specs.declared.settings.Settings.{Settings}
-use Rattle.bt_base.specs.declared.settings.Transport.{Transport}
-use Rattle.bt_base.specs.declared.settings.Transport.TheVariants.{L2cap, Rfcomm}
-use Rattle.bt_base.specs.Objects.{Object}
-use Rattle.obex_headers.specs.declared.packet.Phase.TheVariants as phase
-use Rattle.obex_headers.specs.Reading.{packet_in}
-use Rattle.rfcomm_frames.specs.FrameReading.{is_empty}
-use Rattle.obex_session.specs.Past.{Serving}
-use Rattle.obex_session.specs.Views.{rested}
+use Rattle.link_talk.specs.bt_base.specs.declared.settings.Settings.{Settings}
+use Rattle.link_talk.specs.bt_base.specs.declared.settings.Transport.{Transport}
+use Rattle.link_talk.specs.bt_base.specs.declared.settings.Transport.TheVariants.{L2cap, Rfcomm}
+use Rattle.link_talk.specs.bt_base.specs.Objects.{Object}
+use Rattle.push_model.specs.obex_headers.specs.declared.packet.Phase.TheVariants as phase
+use Rattle.push_model.specs.obex_headers.specs.Reading.{packet_in}
+use Rattle.push_model.specs.rfcomm_frames.specs.FrameReading.{is_empty}
+use Rattle.push_model.specs.obex_session.specs.Past.{Serving}
+use Rattle.push_model.specs.obex_session.specs.Views.{rested}
 use Rattle.push_model.specs.declared.outlet.Outlet.{Outlet}
 use Rattle.push_model.specs.declared.outlet.Outlet.TheVariants as outlets
 use Rattle.push_model.specs.Client.{own_maximum}

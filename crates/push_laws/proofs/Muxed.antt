@@ -1,16 +1,16 @@
 -- Push after push over RFCOMM: where requests come one at a time, all holds that the laws of a server ask of what may come.
 use Rattle.std.proofs.Common.{◌≡◌, ◌<◌, ◌≤◌, ◌^◌, true, false, ℕ, List, [], ◌∷◌, ◌++◌, refl, sym, ap, subst, ◌∙◌, append-nil, append_assoc}
 use Rattle.std.specs.List.{AllByRecursion, flat_map}
-use Rattle.bt_base.specs.declared.settings.Settings.{Settings}
-use Rattle.bt_base.specs.Objects.{Object as Stored}
-use Rattle.rfcomm_frames.specs.declared.connection.Role.TheVariants.{Initiator}
-use Rattle.rfcomm_model.specs.Machine.{Mux}
+use Rattle.link_talk.specs.bt_base.specs.declared.settings.Settings.{Settings}
+use Rattle.link_talk.specs.bt_base.specs.Objects.{Object as Stored}
+use Rattle.push_model.specs.rfcomm_frames.specs.declared.connection.Role.TheVariants.{Initiator}
+use Rattle.push_model.specs.rfcomm_model.specs.Machine.{Mux}
 use Rattle.push_model.specs.Client.{Client}
 use Rattle.push_model.specs.Laws as deeds
 use Rattle.push_model.specs.Server.{Reacted}
 use Rattle.push_model.specs.Service.{Service}
-use Rattle.obex_session.specs.InboxCalls.{Answer}
-use Rattle.bt_base.specs.declared.settings.Transport.{Transport}
+use Rattle.push_model.specs.obex_session.specs.InboxCalls.{Answer}
+use Rattle.link_talk.specs.bt_base.specs.declared.settings.Transport.{Transport}
 use Rattle.push_laws.specs.Carriage.{Carriage, no_carriage, carriage_after, StayCarried, ServesMuxed, FrameFits, StaysThere, IsPushedMuxed, ComesMuxed, AllComeMuxed, PushesMayCome, PushesMayFail}
 use Rattle.push_laws.specs.Faults.{Marked, unmarked}
 use Rattle.push_laws.specs.Laws.{new_over}

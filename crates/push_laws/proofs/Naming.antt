@@ -1,9 +1,9 @@
 -- Over RFCOMM a client whose answer names no other channel than the server's is there, wherever it is on the channel of its object.
 use Rattle.std.proofs.Common.{◌≡◌, ℕ, List, [], ◌∷◌, ◌++◌, Some, refl, sym, ap, subst, ◌∙◌}
 use Rattle.std.specs.List.{AllByRecursion}
-use Rattle.bt_base.specs.declared.settings.Transport.{Transport}
-use Rattle.bt_base.specs.declared.settings.Transport.TheVariants.{Rfcomm}
-use Rattle.sdp_elements.specs.declared.target.Target.{Target}
+use Rattle.link_talk.specs.bt_base.specs.declared.settings.Transport.{Transport}
+use Rattle.link_talk.specs.bt_base.specs.declared.settings.Transport.TheVariants.{Rfcomm}
+use Rattle.push_model.specs.sdp_elements.specs.declared.target.Target.{Target}
 use Rattle.push_model.specs.Client.{Client, with_object}
 use Rattle.push_model.specs.Laws.{done}
 use Rattle.push_model.specs.Server.{server_channel}

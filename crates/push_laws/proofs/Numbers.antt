@@ -2,16 +2,16 @@
 use Rattle.std.proofs.Common.{Bool, true, false, cond, ◌≡◌, ℕ, ◌&&◌, List, length, take, Option, Some, None, refl, sym, subst, ◌∙◌}
 use Rattle.std.specs.Prelude.{not, nat_lt, is_none}
 use Rattle.std.proofs.lemmas.Bool.{cond_both, cond-false}
-use Rattle.bt_base.specs.declared.settings.Transport.TheVariants.{L2cap, Rfcomm}
-use Rattle.rfcomm_frames.specs.declared.connection.Role.TheVariants.{Responder}
-use Rattle.rfcomm_frames.specs.FrameReading.{frame_answer, is_empty}
-use Rattle.rfcomm_frames.specs.Frames.{PlainFrame}
-use Rattle.rfcomm_model.specs.declared.state.Asks.TheVariants as asks
-use Rattle.rfcomm_model.specs.declared.state.Command.TheVariants.{LeaveUser}
-use Rattle.rfcomm_model.specs.Hearing.{up, hears}
-use Rattle.rfcomm_model.specs.Machine.{Mux, is_ready, is_leaving, taken_count, sends, leaves, Kept}
-use Rattle.rfcomm_model.specs.Saying.{Said, next, after_said}
-use Rattle.rfcomm_model.proofs.Keeping.{answer_keeps, next_keeps}
+use Rattle.link_talk.specs.bt_base.specs.declared.settings.Transport.TheVariants.{L2cap, Rfcomm}
+use Rattle.push_model.specs.rfcomm_frames.specs.declared.connection.Role.TheVariants.{Responder}
+use Rattle.push_model.specs.rfcomm_frames.specs.FrameReading.{frame_answer, is_empty}
+use Rattle.push_model.specs.rfcomm_frames.specs.Frames.{PlainFrame}
+use Rattle.push_model.specs.rfcomm_model.specs.declared.state.Asks.TheVariants as asks
+use Rattle.push_model.specs.rfcomm_model.specs.declared.state.Command.TheVariants.{LeaveUser}
+use Rattle.push_model.specs.rfcomm_model.specs.Hearing.{up, hears}
+use Rattle.push_model.specs.rfcomm_model.specs.Machine.{Mux, is_ready, is_leaving, taken_count, sends, leaves, Kept}
+use Rattle.push_model.specs.rfcomm_model.specs.Saying.{Said, next, after_said}
+use Rattle.push_model.specs.rfcomm_model.proofs.Keeping.{answer_keeps, next_keeps}
 use Rattle.push_model.specs.declared.outlet.Outlet.{Outlet}
 use Rattle.push_model.specs.declared.outlet.Outlet.TheVariants.{Records, Direct, Muxed}
 use Rattle.push_model.specs.Service.{answer_cut}

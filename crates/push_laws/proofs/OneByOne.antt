@@ -3,19 +3,19 @@
 use Rattle.std.proofs.Common.{Bool, true, false, eqb, ◌≡◌, ◌==◌, ℕ, ◌&&◌, List, [], ◌∷◌, ◌++◌, Option, Some, None, is_none, Result, Ok, Err, refl, sym, ap, subst, ◌∙◌, append-nil, if◌then◌else◌}
 use Rattle.std.specs.Prelude.{not}
 use Rattle.std.proofs.lemmas.Bool.{cond-true, eqb-true, eq-eqb, and_parts}
-use Rattle.bt_base.specs.declared.settings.Transport.TheVariants.{L2cap}
-use Rattle.bt_base.specs.Objects.{Object}
-use Rattle.push_terms.specs.declared.outcome.Outcome.{Outcome}
-use Rattle.push_terms.specs.declared.outcome.Outcome.TheVariants as outcomes
-use Rattle.obex_headers.specs.declared.fault.ObexRefusal.{ObexRefusal}
-use Rattle.obex_headers.specs.Packets.{PlainHeader, PlainPacket}
-use Rattle.obex_headers.specs.Reading.{packet_in}
-use Rattle.obex_session.specs.declared.asking.Request.{Request}
-use Rattle.obex_session.specs.declared.asking.Request.TheVariants as requests
-use Rattle.obex_session.specs.Asking.{Asking, phase_of, awaited_code, limit_by, single_by, after_read}
-use Rattle.obex_session.specs.Marks.{marks_of}
-use Rattle.obex_session.specs.NextPut.{is_waiting, put_request}
-use Rattle.obex_session.specs.Views.{after_at}
+use Rattle.link_talk.specs.bt_base.specs.declared.settings.Transport.TheVariants.{L2cap}
+use Rattle.link_talk.specs.bt_base.specs.Objects.{Object}
+use Rattle.link_talk.specs.push_terms.specs.declared.outcome.Outcome.{Outcome}
+use Rattle.link_talk.specs.push_terms.specs.declared.outcome.Outcome.TheVariants as outcomes
+use Rattle.push_model.specs.obex_headers.specs.declared.fault.ObexRefusal.{ObexRefusal}
+use Rattle.push_model.specs.obex_headers.specs.Packets.{PlainHeader, PlainPacket}
+use Rattle.push_model.specs.obex_headers.specs.Reading.{packet_in}
+use Rattle.push_model.specs.obex_session.specs.declared.asking.Request.{Request}
+use Rattle.push_model.specs.obex_session.specs.declared.asking.Request.TheVariants as requests
+use Rattle.push_model.specs.obex_session.specs.Asking.{Asking, phase_of, awaited_code, limit_by, single_by, after_read}
+use Rattle.push_model.specs.obex_session.specs.Marks.{marks_of}
+use Rattle.push_model.specs.obex_session.specs.NextPut.{is_waiting, put_request}
+use Rattle.push_model.specs.obex_session.specs.Views.{after_at}
 use Rattle.push_model.specs.Client.{Client, ends, ends_by, may_cancel}
 use Rattle.push_model.specs.Events as events
 use Rattle.push_model.specs.Laws as deeds

@@ -4,10 +4,10 @@ use Rattle.std.specs.List.{AllByRecursion}
 use Rattle.std.proofs.lemmas.List.{map-append}
 use Rattle.std.proofs.lemmas.List.Elements.{filter_map-append}
 use Rattle.std.proofs.lemmas.Grind.{flat_map-append}
-use Rattle.bt_base.specs.Objects.{Object}
-use Rattle.obex_headers.specs.Packets.{PlainHeader, PlainPacket, units_of}
-use Rattle.obex_headers.specs.Runs.{is_final, name_text, names, bodies, run_headers, breaks, lacks, object_of, objects_from}
-use Rattle.obex_session.specs.Past.{Heard, puts_heard}
+use Rattle.link_talk.specs.bt_base.specs.Objects.{Object}
+use Rattle.push_model.specs.obex_headers.specs.Packets.{PlainHeader, PlainPacket, units_of}
+use Rattle.push_model.specs.obex_headers.specs.Runs.{is_final, name_text, names, bodies, run_headers, breaks, lacks, object_of, objects_from}
+use Rattle.push_model.specs.obex_session.specs.Past.{Heard, puts_heard}
 use Rattle.link_talk.specs.ObjectsHeard.{put_within}
 use Rattle.push_laws.specs.OneName.{Unnamed, NoNames, HasOneName}
 use Rattle.push_laws.proofs.Listening.{octets_of}

@@ -6,17 +6,17 @@ use Rattle.std.proofs.lemmas.Bool.{ltb-false}
 use Rattle.std.proofs.lemmas.List.{append-nil, length-append, map-append}
 use Rattle.std.proofs.lemmas.List.Elements.{filter_map-append}
 use Rattle.std.proofs.lemmas.Grind.{flat_map-append}
-use Rattle.bt_base.specs.Objects.{Object}
-use Rattle.push_terms.specs.declared.outcome.Outcome.{Outcome}
-use Rattle.obex_headers.specs.declared.fault.ObexRefusal.{ObexRefusal}
-use Rattle.obex_headers.specs.declared.packet.Phase.TheVariants.{Request}
-use Rattle.obex_headers.specs.Packets.{PlainHeader, PlainPacket, IsPacket, packet_octets}
-use Rattle.obex_headers.specs.Reading.{◌>>=◌, headers_in, front_at, packet_in}
-use Rattle.obex_headers.specs.Runs.{put_of, body_of, is_final, is_long, names, bodies, ahead_of_name, joined, run_headers, breaks, lacks, object_of, objects_from}
-use Rattle.obex_headers.proofs.HeaderLaws.{bind_ok}
-use Rattle.obex_headers.proofs.PacketLaws.{front_takes, packet_again}
-use Rattle.obex_session.specs.ObjectPuts.{front_packets}
-use Rattle.obex_session.specs.PutPackets.{units_in, head_of, body_header, put_packet, packets_from}
+use Rattle.link_talk.specs.bt_base.specs.Objects.{Object}
+use Rattle.link_talk.specs.push_terms.specs.declared.outcome.Outcome.{Outcome}
+use Rattle.push_model.specs.obex_headers.specs.declared.fault.ObexRefusal.{ObexRefusal}
+use Rattle.push_model.specs.obex_headers.specs.declared.packet.Phase.TheVariants.{Request}
+use Rattle.push_model.specs.obex_headers.specs.Packets.{PlainHeader, PlainPacket, IsPacket, packet_octets}
+use Rattle.push_model.specs.obex_headers.specs.Reading.{◌>>=◌, headers_in, front_at, packet_in}
+use Rattle.push_model.specs.obex_headers.specs.Runs.{put_of, body_of, is_final, is_long, names, bodies, ahead_of_name, joined, run_headers, breaks, lacks, object_of, objects_from}
+use Rattle.push_model.specs.obex_headers.proofs.HeaderLaws.{bind_ok}
+use Rattle.push_model.specs.obex_headers.proofs.PacketLaws.{front_takes, packet_again}
+use Rattle.push_model.specs.obex_session.specs.ObjectPuts.{front_packets}
+use Rattle.push_model.specs.obex_session.specs.PutPackets.{units_in, head_of, body_header, put_packet, packets_from}
 use Rattle.link_talk.specs.ObjectsHeard.{put_within, spelled_within}
 use Rattle.push_laws.specs.OneName.{Unnamed, NoNames, HasOneName}
 use Rattle.push_laws.specs.Sending.{end_of, ArePuts, IsSent}

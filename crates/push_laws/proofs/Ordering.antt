@@ -1,23 +1,23 @@
 -- One side of a multiplexer: what it answers to messages on the control channel, and what it asks for next.
 use Rattle.std.proofs.Common.{arith, Bool, true, false, cond, ◌&&◌, ◌==◌, ◌≡◌, ◌≤◌, ◌<◌, ◌+◌, ◌/◌, ◌%◌, ◌-◌, ℕ, List, [], ◌∷◌, ◌++◌, Option, Some, None, Ok, Err, refl, sym, ap, subst, ◌∙◌}
 use Rattle.std.specs.Prelude.{not, nat_lt}
-use Rattle.rfcomm_frames.specs.declared.frame.MuxKind.{MuxKind}
-use Rattle.rfcomm_frames.specs.declared.frame.MuxKind.TheVariants.{Sabm, Ua, Dm, Disc, Uih}
-use Rattle.rfcomm_frames.specs.declared.connection.Role.{Role}
-use Rattle.rfcomm_frames.specs.declared.connection.Dlc.{Dlc}
-use Rattle.rfcomm_frames.specs.declared.connection.Dlc.TheVariants.{Idle, Asked, Open, Ended}
-use Rattle.rfcomm_frames.specs.Frames.{PlainFrame}
-use Rattle.rfcomm_frames.specs.Controls.{PlainControl, pn, msc, test, rpn, rls, nsc, other, written}
-use Rattle.rfcomm_frames.specs.FrameReading.{MessageAnswer, messages, messages_within, message_answer}
-use Rattle.rfcomm_frames.specs.Connections.{is_open}
-use Rattle.rfcomm_model.specs.declared.state.MuxReason.{MuxReason}
-use Rattle.rfcomm_model.specs.declared.state.MuxReason.TheVariants as reasons
-use Rattle.rfcomm_model.specs.declared.state.Command.TheVariants.{OpenControl, Agree, OpenUser, Signal, LeaveUser, LeaveControl}
-use Rattle.rfcomm_model.specs.declared.state.Asks.{Asks}
-use Rattle.rfcomm_model.specs.declared.state.Asks.TheVariants.{Nothing, Due, Awaited}
-use Rattle.rfcomm_model.specs.Machine.{Mux, may_pass, closes}
-use Rattle.rfcomm_model.specs.Hearing.{has_room, answering, credited, charged, if_stands, with_credits, hears_data, counts, pn_credited, lesser, own_credits, hears_offer, terms_agreed, hears_acceptance, hears_other_offer, peer_answered, signals_answered, hears_message, hears_messages, hears_uih}
-use Rattle.rfcomm_model.specs.Written.{control_frame}
+use Rattle.push_model.specs.rfcomm_frames.specs.declared.frame.MuxKind.{MuxKind}
+use Rattle.push_model.specs.rfcomm_frames.specs.declared.frame.MuxKind.TheVariants.{Sabm, Ua, Dm, Disc, Uih}
+use Rattle.push_model.specs.rfcomm_frames.specs.declared.connection.Role.{Role}
+use Rattle.push_model.specs.rfcomm_frames.specs.declared.connection.Dlc.{Dlc}
+use Rattle.push_model.specs.rfcomm_frames.specs.declared.connection.Dlc.TheVariants.{Idle, Asked, Open, Ended}
+use Rattle.push_model.specs.rfcomm_frames.specs.Frames.{PlainFrame}
+use Rattle.push_model.specs.rfcomm_frames.specs.Controls.{PlainControl, pn, msc, test, rpn, rls, nsc, other, written}
+use Rattle.push_model.specs.rfcomm_frames.specs.FrameReading.{MessageAnswer, messages, messages_within, message_answer}
+use Rattle.push_model.specs.rfcomm_frames.specs.Connections.{is_open}
+use Rattle.push_model.specs.rfcomm_model.specs.declared.state.MuxReason.{MuxReason}
+use Rattle.push_model.specs.rfcomm_model.specs.declared.state.MuxReason.TheVariants as reasons
+use Rattle.push_model.specs.rfcomm_model.specs.declared.state.Command.TheVariants.{OpenControl, Agree, OpenUser, Signal, LeaveUser, LeaveControl}
+use Rattle.push_model.specs.rfcomm_model.specs.declared.state.Asks.{Asks}
+use Rattle.push_model.specs.rfcomm_model.specs.declared.state.Asks.TheVariants.{Nothing, Due, Awaited}
+use Rattle.push_model.specs.rfcomm_model.specs.Machine.{Mux, may_pass, closes}
+use Rattle.push_model.specs.rfcomm_model.specs.Hearing.{has_room, answering, credited, charged, if_stands, with_credits, hears_data, counts, pn_credited, lesser, own_credits, hears_offer, terms_agreed, hears_acceptance, hears_other_offer, peer_answered, signals_answered, hears_message, hears_messages, hears_uih}
+use Rattle.push_model.specs.rfcomm_model.specs.Written.{control_frame}
 use Rattle.push_laws.specs.Premises.{leaves_or_controls}
 
 -- ---- what is counted

@@ -1,20 +1,20 @@
 -- While UA or DM of a responder that does not leave is to come, its initiator has said nothing but DISC and messages on the control channel.
 use Rattle.std.proofs.Common.{arith, Bool, true, false, cond, ◌&&◌, ◌||◌, ◌≡◌, ◌+◌, ℕ, List, [], ◌∷◌, ◌++◌, length, take, Option, Some, None, Ok, refl, ap, subst, ◌∙◌}
 use Rattle.std.specs.Prelude.{not, nat_lt, is_none}
-use Rattle.rfcomm_frames.specs.declared.frame.MuxKind.{MuxKind}
-use Rattle.rfcomm_frames.specs.declared.frame.MuxKind.TheVariants.{Sabm, Ua, Dm, Disc, Uih}
-use Rattle.rfcomm_frames.specs.declared.connection.Role.{Role}
-use Rattle.rfcomm_frames.specs.declared.connection.Role.TheVariants.{Initiator, Responder}
-use Rattle.rfcomm_frames.specs.declared.connection.Dlc.{Dlc}
-use Rattle.rfcomm_frames.specs.Frames.{PlainFrame, carries}
-use Rattle.rfcomm_frames.specs.FrameReading.{is_empty}
-use Rattle.rfcomm_model.specs.declared.state.MuxReason.{MuxReason}
-use Rattle.rfcomm_model.specs.declared.state.Command.TheVariants.{LeaveUser}
-use Rattle.rfcomm_model.specs.declared.state.Asks.{Asks}
-use Rattle.rfcomm_model.specs.declared.state.Asks.TheVariants.{Due}
-use Rattle.rfcomm_model.specs.Machine.{Mux, new_mux, is_leaving, leaves, taken_count, sends}
-use Rattle.rfcomm_model.specs.Hearing.{hears_answer}
-use Rattle.rfcomm_model.specs.Saying.{Said, next}
+use Rattle.push_model.specs.rfcomm_frames.specs.declared.frame.MuxKind.{MuxKind}
+use Rattle.push_model.specs.rfcomm_frames.specs.declared.frame.MuxKind.TheVariants.{Sabm, Ua, Dm, Disc, Uih}
+use Rattle.push_model.specs.rfcomm_frames.specs.declared.connection.Role.{Role}
+use Rattle.push_model.specs.rfcomm_frames.specs.declared.connection.Role.TheVariants.{Initiator, Responder}
+use Rattle.push_model.specs.rfcomm_frames.specs.declared.connection.Dlc.{Dlc}
+use Rattle.push_model.specs.rfcomm_frames.specs.Frames.{PlainFrame, carries}
+use Rattle.push_model.specs.rfcomm_frames.specs.FrameReading.{is_empty}
+use Rattle.push_model.specs.rfcomm_model.specs.declared.state.MuxReason.{MuxReason}
+use Rattle.push_model.specs.rfcomm_model.specs.declared.state.Command.TheVariants.{LeaveUser}
+use Rattle.push_model.specs.rfcomm_model.specs.declared.state.Asks.{Asks}
+use Rattle.push_model.specs.rfcomm_model.specs.declared.state.Asks.TheVariants.{Due}
+use Rattle.push_model.specs.rfcomm_model.specs.Machine.{Mux, new_mux, is_leaving, leaves, taken_count, sends}
+use Rattle.push_model.specs.rfcomm_model.specs.Hearing.{hears_answer}
+use Rattle.push_model.specs.rfcomm_model.specs.Saying.{Said, next}
 use Rattle.push_laws.specs.Premises.{is_answer, leaves_or_controls}
 use Rattle.push_laws.proofs.Ordering.{Back, Each, Forth, OfInitiator, OfResponder, Ordered, Side, Signals, Wishes, answer_of, answers_in, answers_more, command_of, commands, commands_more, each_more, ordered_later, ordered_more}
 use Rattle.push_laws.proofs.Conceding.{R, SaidBack, SaysBack, back_answers, r_frame}

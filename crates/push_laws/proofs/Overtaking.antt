@@ -3,18 +3,18 @@ use Rattle.std.proofs.Common.{Bool, true, false, cond, ◌||◌, ◌&&◌, ◌==
 use Rattle.std.specs.Prelude.{not, sum_by}
 use Rattle.std.proofs.lemmas.Bool.{eqb-true}
 use Rattle.std.proofs.lemmas.List.Sums.{sum_by-cons}
-use Rattle.rfcomm_frames.specs.declared.closing.Closing.{Closing}
-use Rattle.rfcomm_frames.specs.declared.connection.Dlc.{Dlc}
-use Rattle.rfcomm_frames.specs.declared.connection.Dlc.TheVariants.{Idle, Asked, Open, Ended}
-use Rattle.rfcomm_frames.specs.declared.connection.Role.TheVariants.{Initiator, Responder}
-use Rattle.rfcomm_frames.specs.declared.frame.MuxKind.{MuxKind}
-use Rattle.rfcomm_frames.specs.declared.frame.MuxKind.TheVariants.{Sabm, Ua, Dm, Disc, Uih}
-use Rattle.rfcomm_frames.specs.Frames.{PlainFrame, carries}
-use Rattle.rfcomm_frames.specs.FrameReading.{is_empty, messages}
-use Rattle.rfcomm_frames.specs.Connections.{turned, is_left, is_ended}
-use Rattle.rfcomm_frames.specs.Multiplexing.{Framed, Connections, passing, connections_after, carries_on, is_over, information, carried, stated_by, credit_octet, granted_by, granted, spent_by, spent}
-use Rattle.rfcomm_frames.specs.Ending.{Course, closing_said, closing_heard, is_closed_by, course_after, is_last, has_last, to_closing}
-use Rattle.rfcomm_model.proofs.Reading.{own_grants}
+use Rattle.push_model.specs.rfcomm_frames.specs.declared.closing.Closing.{Closing}
+use Rattle.push_model.specs.rfcomm_frames.specs.declared.connection.Dlc.{Dlc}
+use Rattle.push_model.specs.rfcomm_frames.specs.declared.connection.Dlc.TheVariants.{Idle, Asked, Open, Ended}
+use Rattle.push_model.specs.rfcomm_frames.specs.declared.connection.Role.TheVariants.{Initiator, Responder}
+use Rattle.push_model.specs.rfcomm_frames.specs.declared.frame.MuxKind.{MuxKind}
+use Rattle.push_model.specs.rfcomm_frames.specs.declared.frame.MuxKind.TheVariants.{Sabm, Ua, Dm, Disc, Uih}
+use Rattle.push_model.specs.rfcomm_frames.specs.Frames.{PlainFrame, carries}
+use Rattle.push_model.specs.rfcomm_frames.specs.FrameReading.{is_empty, messages}
+use Rattle.push_model.specs.rfcomm_frames.specs.Connections.{turned, is_left, is_ended}
+use Rattle.push_model.specs.rfcomm_frames.specs.Multiplexing.{Framed, Connections, passing, connections_after, carries_on, is_over, information, carried, stated_by, credit_octet, granted_by, granted, spent_by, spent}
+use Rattle.push_model.specs.rfcomm_frames.specs.Ending.{Course, closing_said, closing_heard, is_closed_by, course_after, is_last, has_last, to_closing}
+use Rattle.push_model.specs.rfcomm_model.proofs.Reading.{own_grants}
 use Rattle.push_laws.specs.Premises.{is_answer, leaves, leaves_or_controls}
 
 abbrev own : PlainFrame → Framed

@@ -1,16 +1,16 @@
 -- A packet that comes in pieces: a front of it is less than a packet, or begins none, and it is then whole.
 use Rattle.std.proofs.Common.{inl, inr, ◌⊎◌, zero, suc, false, ◌<◌, ◌≤◌, ◌≡◌, ℕ, List, [], ◌∷◌, ◌++◌, length, Option, Some, None, refl, sym, ap, ◌∙◌, arith, append-nil, length-append}
 use Rattle.std.proofs.lemmas.Bool.{cases_lt, cond_both}
-use Rattle.push_terms.specs.declared.outcome.Outcome.{Outcome}
-use Rattle.rfcomm_frames.specs.ObexPackets.{IsPacket}
+use Rattle.link_talk.specs.push_terms.specs.declared.outcome.Outcome.{Outcome}
+use Rattle.push_model.specs.rfcomm_frames.specs.ObexPackets.{IsPacket}
 use Rattle.rfcomm_laws.proofs.Splitting.{same_length}
-use Rattle.obex_headers.specs.declared.fault.ObexRefusal.{ObexRefusal}
-use Rattle.obex_headers.specs.declared.fault.ObexRefusal.TheVariants.{AboveMaximum}
-use Rattle.obex_headers.specs.Assembling.{stated_len, IsFramed}
-use Rattle.obex_session.specs.declared.client.Answered.{Answered}
-use Rattle.obex_session.specs.declared.client.Answered.TheVariants as answer
-use Rattle.obex_session.specs.Views.{answer_at, after_at}
-use Rattle.push_terms.specs.declared.outcome.Outcome.TheVariants as outcomes
+use Rattle.push_model.specs.obex_headers.specs.declared.fault.ObexRefusal.{ObexRefusal}
+use Rattle.push_model.specs.obex_headers.specs.declared.fault.ObexRefusal.TheVariants.{AboveMaximum}
+use Rattle.push_model.specs.obex_headers.specs.Assembling.{stated_len, IsFramed}
+use Rattle.push_model.specs.obex_session.specs.declared.client.Answered.{Answered}
+use Rattle.push_model.specs.obex_session.specs.declared.client.Answered.TheVariants as answer
+use Rattle.push_model.specs.obex_session.specs.Views.{answer_at, after_at}
+use Rattle.link_talk.specs.push_terms.specs.declared.outcome.Outcome.TheVariants as outcomes
 use Rattle.push_model.specs.declared.course.Stage.{Stage}
 use Rattle.push_model.specs.declared.course.Stage.TheVariants.{Rest, Link, SearchChannel, Search, SearchEnd, Features, ObjectChannel, Object, ObjectEnd, LinkEnd, Over}
 use Rattle.push_model.specs.declared.course.Point.TheVariants.{Due, Asked}

@@ -2,14 +2,14 @@
 use Rattle.std.proofs.Common.{inl, inr, Bool, true, false, ◌≡◌, ◌==◌, ℕ, ◌≤◌, ◌||◌, List, [], ◌∷◌, ◌++◌, Option, Some, None, refl, sym, ap, subst, ◌∙◌, arith, append-nil, append_assoc, if◌then◌else◌}
 use Rattle.std.specs.List.{AllByRecursion, flat_map}
 use Rattle.std.proofs.lemmas.Bool.{cases_Bool, eqb-true}
-use Rattle.bt_base.specs.declared.settings.Settings.{Settings}
-use Rattle.bt_base.specs.declared.settings.Transport.TheVariants.{L2cap}
-use Rattle.bt_base.specs.Objects.{Object}
-use Rattle.push_terms.specs.declared.outcome.Outcome.{Outcome}
-use Rattle.push_terms.specs.declared.outcome.Outcome.TheVariants as outcomes
-use Rattle.obex_session.specs.Calls.{session_behind}
-use Rattle.obex_session.specs.Past.{Serving}
-use Rattle.obex_session.specs.Serving.{heard_with}
+use Rattle.link_talk.specs.bt_base.specs.declared.settings.Settings.{Settings}
+use Rattle.link_talk.specs.bt_base.specs.declared.settings.Transport.TheVariants.{L2cap}
+use Rattle.link_talk.specs.bt_base.specs.Objects.{Object}
+use Rattle.link_talk.specs.push_terms.specs.declared.outcome.Outcome.{Outcome}
+use Rattle.link_talk.specs.push_terms.specs.declared.outcome.Outcome.TheVariants as outcomes
+use Rattle.push_model.specs.obex_session.specs.Calls.{session_behind}
+use Rattle.push_model.specs.obex_session.specs.Past.{Serving}
+use Rattle.push_model.specs.obex_session.specs.Serving.{heard_with}
 use Rattle.push_model.specs.declared.course.Contact.TheVariants.{Unmet, Met}
 use Rattle.push_model.specs.declared.outlet.Outlet.TheVariants as outlets
 use Rattle.push_model.specs.Client.{Client, own_maximum, ends, ends_by, may_cancel, with_object}

@@ -1,10 +1,10 @@
 -- A client and its server on one link: each move leaves both as they are to be.
 use Rattle.std.proofs.Common.{Bool, true, false, ◌≡◌, ℕ, ◌&&◌, ◌||◌, List, [], ◌∷◌, ◌++◌, refl, sym, ap, subst, ◌∙◌, append-nil}
 use Rattle.std.specs.Prelude.{not}
-use Rattle.bt_base.specs.declared.settings.Settings.{Settings}
-use Rattle.bt_base.specs.Objects.{Object}
-use Rattle.obex_session.specs.Asking.{Asking}
-use Rattle.obex_session.specs.Past.{Serving}
+use Rattle.link_talk.specs.bt_base.specs.declared.settings.Settings.{Settings}
+use Rattle.link_talk.specs.bt_base.specs.Objects.{Object}
+use Rattle.push_model.specs.obex_session.specs.Asking.{Asking}
+use Rattle.push_model.specs.obex_session.specs.Past.{Serving}
 use Rattle.push_model.specs.declared.course.Contact.{Contact}
 use Rattle.push_model.specs.Server.{Server, Reacted, hears_on, object_psm}
 use Rattle.std.proofs.lemmas.Bool.{cond-false}

@@ -3,17 +3,17 @@ use Rattle.std.proofs.Common.{true, false, ◌≡◌, ◌≤◌, ◌<◌, ◌^�
 use Rattle.std.specs.List.{AllByRecursion, filter_map}
 use Rattle.std.proofs.lemmas.Bool.{cond-false}
 use Rattle.std.proofs.lemmas.Grind.{flat_map-append}
-use Rattle.bt_base.specs.declared.settings.Settings.{Settings}
-use Rattle.bt_base.specs.declared.settings.Transport.TheVariants.{Rfcomm}
-use Rattle.obex_session.specs.Asking.{Asking}
-use Rattle.obex_session.specs.NextPut.{is_waiting}
-use Rattle.rfcomm_frames.specs.declared.connection.Role.TheVariants.{Initiator, Responder}
-use Rattle.rfcomm_frames.specs.ObexPackets.{IsPacket, obex_packets}
-use Rattle.rfcomm_frames.specs.UserChannel.{user_octets}
-use Rattle.rfcomm_frames.proofs.ObexSplits.{obex_packets-right}
+use Rattle.link_talk.specs.bt_base.specs.declared.settings.Settings.{Settings}
+use Rattle.link_talk.specs.bt_base.specs.declared.settings.Transport.TheVariants.{Rfcomm}
+use Rattle.push_model.specs.obex_session.specs.Asking.{Asking}
+use Rattle.push_model.specs.obex_session.specs.NextPut.{is_waiting}
+use Rattle.push_model.specs.rfcomm_frames.specs.declared.connection.Role.TheVariants.{Initiator, Responder}
+use Rattle.push_model.specs.rfcomm_frames.specs.ObexPackets.{IsPacket, obex_packets}
+use Rattle.push_model.specs.rfcomm_frames.specs.UserChannel.{user_octets}
+use Rattle.push_model.specs.rfcomm_frames.proofs.ObexSplits.{obex_packets-right}
 use Rattle.rfcomm_laws.proofs.Splitting.{before}
-use Rattle.rfcomm_model.specs.Machine.{Mux}
-use Rattle.push_terms.specs.declared.outcome.Outcome.{Outcome}
+use Rattle.push_model.specs.rfcomm_model.specs.Machine.{Mux}
+use Rattle.link_talk.specs.push_terms.specs.declared.outcome.Outcome.{Outcome}
 use Rattle.push_model.specs.Client.{Client, own_maximum}
 use Rattle.push_model.specs.Laws as deeds
 use Rattle.push_model.specs.Laws.{Deed, Hears, Asks, Finishes, Cancels}

@@ -1,20 +1,20 @@
 -- Push after push over RFCOMM, of clients that find the server's channel in its own answers.
 use Rattle.std.proofs.Common.{inl, inr, ◌⊎◌, ◌&&◌, ◌≡◌, ◌≤◌, ◌<◌, ◌^◌, ℕ, List, [], ◌∷◌, Some, None, refl, sym, ap, subst, ◌∙◌, arith, ◌++◌}
 use Rattle.std.specs.List.{AllByRecursion}
-use Rattle.bt_base.specs.Objects.{Object as Stored}
-use Rattle.bt_base.specs.declared.settings.Serves.{Serves}
-use Rattle.bt_base.specs.declared.settings.Serves.TheVariants as serving
-use Rattle.bt_base.specs.declared.settings.Settings.{Settings}
-use Rattle.bt_base.specs.declared.settings.Transport.{Transport}
-use Rattle.bt_base.specs.declared.settings.Transport.TheVariants.{L2cap, Rfcomm}
-use Rattle.obex_session.specs.InboxCalls.{Answer}
-use Rattle.sdp_client.specs.Laws.{served_target}
-use Rattle.sdp_elements.specs.declared.target.Target.{Target}
+use Rattle.link_talk.specs.bt_base.specs.Objects.{Object as Stored}
+use Rattle.link_talk.specs.bt_base.specs.declared.settings.Serves.{Serves}
+use Rattle.link_talk.specs.bt_base.specs.declared.settings.Serves.TheVariants as serving
+use Rattle.link_talk.specs.bt_base.specs.declared.settings.Settings.{Settings}
+use Rattle.link_talk.specs.bt_base.specs.declared.settings.Transport.{Transport}
+use Rattle.link_talk.specs.bt_base.specs.declared.settings.Transport.TheVariants.{L2cap, Rfcomm}
+use Rattle.push_model.specs.obex_session.specs.InboxCalls.{Answer}
+use Rattle.push_model.specs.sdp_client.specs.Laws.{served_target}
+use Rattle.push_model.specs.sdp_elements.specs.declared.target.Target.{Target}
 use Rattle.push_model.specs.Client.{Client, new_client, own_maximum, is_direct, with_object}
 use Rattle.push_model.specs.Laws.{Deed, all_done}
 use Rattle.push_model.specs.Server.{Reacted, server_channel}
-use Rattle.push_terms.specs.declared.outcome.Outcome.{Outcome}
-use Rattle.push_terms.specs.declared.outcome.Outcome.TheVariants as outcomes
+use Rattle.link_talk.specs.push_terms.specs.declared.outcome.Outcome.{Outcome}
+use Rattle.link_talk.specs.push_terms.specs.declared.outcome.Outcome.TheVariants as outcomes
 use Rattle.push_laws.specs.Dialogs.{AllServeCarried}
 use Rattle.push_laws.specs.Laws.{new_over}
 use Rattle.push_laws.specs.Occurrences.{Occurrence, done}

@@ -1,18 +1,18 @@
 -- Where a client is in its push, by what it has sent, and what a response makes of that.
 use Rattle.std.proofs.Common.{◌≡◌, ℕ, ◌≤◌, ◌<◌, ◌^◌, ◌++◌, ◌⊎◌, inl, inr, ◌&&◌, Bool, true, false, List, [], ◌∷◌, length, Option, Some, None, is_some, refl, sym, ap, subst, ◌∙◌, append-nil, if◌then◌else◌}
-use Rattle.bt_base.specs.Objects.{Object}
-use Rattle.push_terms.specs.declared.outcome.Outcome.{Outcome}
-use Rattle.push_terms.specs.declared.outcome.Outcome.TheVariants as outcomes
-use Rattle.obex_headers.specs.Packets.{bare, packet_octets}
-use Rattle.obex_session.specs.declared.client.Answered.{Answered}
-use Rattle.obex_session.specs.declared.client.Answered.TheVariants.{Go, Done, Refused, Bad, Srmp}
-use Rattle.obex_session.specs.Asking.{Asking, fresh}
-use Rattle.obex_session.specs.NextPut.{put_request}
-use Rattle.obex_session.specs.ObjectPuts.{HasPut, IsWhole}
-use Rattle.obex_session.specs.PutPackets.{units_in}
-use Rattle.obex_session.specs.Responses.{connect_fields}
-use Rattle.obex_session.specs.Views.{asks_connect, answer_at, after_at}
-use Rattle.obex_session.proofs.ObjectLaws.{puts_in_order}
+use Rattle.link_talk.specs.bt_base.specs.Objects.{Object}
+use Rattle.link_talk.specs.push_terms.specs.declared.outcome.Outcome.{Outcome}
+use Rattle.link_talk.specs.push_terms.specs.declared.outcome.Outcome.TheVariants as outcomes
+use Rattle.push_model.specs.obex_headers.specs.Packets.{bare, packet_octets}
+use Rattle.push_model.specs.obex_session.specs.declared.client.Answered.{Answered}
+use Rattle.push_model.specs.obex_session.specs.declared.client.Answered.TheVariants.{Go, Done, Refused, Bad, Srmp}
+use Rattle.push_model.specs.obex_session.specs.Asking.{Asking, fresh}
+use Rattle.push_model.specs.obex_session.specs.NextPut.{put_request}
+use Rattle.push_model.specs.obex_session.specs.ObjectPuts.{HasPut, IsWhole}
+use Rattle.push_model.specs.obex_session.specs.PutPackets.{units_in}
+use Rattle.push_model.specs.obex_session.specs.Responses.{connect_fields}
+use Rattle.push_model.specs.obex_session.specs.Views.{asks_connect, answer_at, after_at}
+use Rattle.push_model.specs.obex_session.proofs.ObjectLaws.{puts_in_order}
 use Rattle.push_model.specs.declared.course.Contact.{Contact}
 use Rattle.push_model.specs.declared.course.Contact.TheVariants.{Unmet, Met, Left, Closing}
 use Rattle.push_model.specs.Causes.{cause_of_obex, unknown_parameters, unawaited_response}

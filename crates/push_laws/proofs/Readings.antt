@@ -4,11 +4,11 @@ use Rattle.std.specs.List.{filter_map, cons_option}
 use Rattle.std.proofs.lemmas.Bool.{cond-true, cond-false}
 use Rattle.std.proofs.lemmas.List.{map-append}
 use Rattle.std.proofs.lemmas.List.Elements.{filter_map-append}
-use Rattle.bt_base.specs.declared.settings.Transport.{Transport}
-use Rattle.obex_headers.specs.Runs.{objects_from}
-use Rattle.obex_session.specs.Laws.{without_fault}
-use Rattle.obex_session.specs.Past.{Heard, put_heard, puts_heard, open_from, stored_by}
-use Rattle.obex_session.proofs.SuccessLaws.{more_stored}
+use Rattle.link_talk.specs.bt_base.specs.declared.settings.Transport.{Transport}
+use Rattle.push_model.specs.obex_headers.specs.Runs.{objects_from}
+use Rattle.push_model.specs.obex_session.specs.Laws.{without_fault}
+use Rattle.push_model.specs.obex_session.specs.Past.{Heard, put_heard, puts_heard, open_from, stored_by}
+use Rattle.push_model.specs.obex_session.proofs.SuccessLaws.{more_stored}
 use Rattle.link_talk.specs.Gains.{beyond}
 use Rattle.link_talk.specs.ObjectsHeard.{put_within, spelled_within}
 use Rattle.push_laws.specs.Occurrences.{Occurrence}

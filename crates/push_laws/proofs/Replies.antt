@@ -1,10 +1,10 @@
 -- What a server answers over RFCOMM: a packet that states its maximum, where it is read as a response to CONNECT; or nothing.
 use Rattle.std.proofs.Common.{inl, inr, ◌||◌, ◌<◌, ◌^◌, ◌≡◌, ℕ, List, [], ◌∷◌, refl}
 use Rattle.std.proofs.lemmas.Bool.{cond_both}
-use Rattle.bt_base.specs.declared.settings.Transport.TheVariants.{L2cap, Rfcomm}
-use Rattle.obex_session.specs.Serving.{heard_with}
-use Rattle.obex_session.proofs.SaidLaws.{said_sized}
-use Rattle.obex_session.proofs.StatingLaws.{said_states}
+use Rattle.link_talk.specs.bt_base.specs.declared.settings.Transport.TheVariants.{L2cap, Rfcomm}
+use Rattle.push_model.specs.obex_session.specs.Serving.{heard_with}
+use Rattle.push_model.specs.obex_session.proofs.SaidLaws.{said_sized}
+use Rattle.push_model.specs.obex_session.proofs.StatingLaws.{said_states}
 use Rattle.push_model.specs.Service.{Service, Served, response_over, is_ignored, hears_packet}
 use Rattle.push_model.specs.Sessions as model
 use Rattle.push_model.specs.Sessions.{Sessions, Gift, lets_go, answers_to, is_naming, hears_after, hears}

@@ -2,18 +2,18 @@
 use Rattle.std.proofs.Common.{Bool, true, false, cond, ◌+◌, ◌*◌, ◌<◌, ◌≤◌, ◌^◌, ◌≡◌, ℕ, List, [], ◌∷◌, ◌++◌, length, Option, Some, None, refl, sym, ap, subst, ◌∙◌, arith, append-nil, length-append}
 use Rattle.std.specs.List.{flat_map, AllByRecursion}
 use Rattle.std.proofs.lemmas.Grind.{flat_map-append}
-use Rattle.bt_base.specs.Octets.{be16}
-use Rattle.rfcomm_frames.specs.ObexPackets as obex
-use Rattle.rfcomm_frames.specs.ObexPackets.{stated_size}
-use Rattle.obex_headers.specs.declared.packet.Phase.TheVariants.{Request}
-use Rattle.obex_headers.specs.Packets.{Four, PlainHeader, PlainPacket, IsHeader, IsPacket, HasFields, text_octets, header_octets, headers_octets, packet_len, packet_octets, bare}
-use Rattle.obex_headers.specs.Reading.{packet_in}
-use Rattle.obex_headers.proofs.PacketLaws.{packet_again, length-packet}
-use Rattle.obex_session.specs.Asking.{Asking}
-use Rattle.obex_session.specs.NextPut.{room_for}
-use Rattle.obex_session.specs.PutPackets.{units_in, head_of, body_header, put_packet, ahead_with, ahead_of}
-use Rattle.obex_session.specs.Responses.{connect_fields, single_header}
-use Rattle.obex_session.proofs.NameLaws.{is_text, length-octets}
+use Rattle.link_talk.specs.bt_base.specs.Octets.{be16}
+use Rattle.push_model.specs.rfcomm_frames.specs.ObexPackets as obex
+use Rattle.push_model.specs.rfcomm_frames.specs.ObexPackets.{stated_size}
+use Rattle.push_model.specs.obex_headers.specs.declared.packet.Phase.TheVariants.{Request}
+use Rattle.push_model.specs.obex_headers.specs.Packets.{Four, PlainHeader, PlainPacket, IsHeader, IsPacket, HasFields, text_octets, header_octets, headers_octets, packet_len, packet_octets, bare}
+use Rattle.push_model.specs.obex_headers.specs.Reading.{packet_in}
+use Rattle.push_model.specs.obex_headers.proofs.PacketLaws.{packet_again, length-packet}
+use Rattle.push_model.specs.obex_session.specs.Asking.{Asking}
+use Rattle.push_model.specs.obex_session.specs.NextPut.{room_for}
+use Rattle.push_model.specs.obex_session.specs.PutPackets.{units_in, head_of, body_header, put_packet, ahead_with, ahead_of}
+use Rattle.push_model.specs.obex_session.specs.Responses.{connect_fields, single_header}
+use Rattle.push_model.specs.obex_session.proofs.NameLaws.{is_text, length-octets}
 use Rattle.push_model.specs.Client.{Client}
 use Rattle.push_model.specs.Listening.{has_bad_length}
 use Rattle.push_model.specs.Steps.{put_count, is_last_put, put_octets, connect_octets, abort_octets, disconnect_octets}

@@ -4,24 +4,24 @@ use Rattle.std.specs.List.{filter_map, AllByRecursion}
 use Rattle.std.proofs.Math.Seq.{drop-nil}
 use Rattle.std.proofs.lemmas.Bool.{cond_both, cond-false}
 use Rattle.std.proofs.lemmas.List.Sums.{sum_by-cons}
-use Rattle.bt_base.specs.declared.settings.Settings.{Settings}
-use Rattle.bt_base.specs.declared.settings.Transport.{Transport}
-use Rattle.bt_base.specs.declared.settings.Transport.TheVariants.{L2cap, Rfcomm}
-use Rattle.bt_base.specs.Objects.{Object}
-use Rattle.bt_base.specs.Octets.{IsOctets}
-use Rattle.rfcomm_frames.specs.declared.connection.Role.{Role}
-use Rattle.rfcomm_frames.specs.declared.connection.Role.TheVariants.{Initiator, Responder}
-use Rattle.rfcomm_frames.specs.FrameReading.{is_empty}
-use Rattle.rfcomm_frames.specs.Frames.{PlainFrame}
-use Rattle.rfcomm_frames.specs.Multiplexing.{Passed}
-use Rattle.rfcomm_frames.specs.ObexPackets.{obex_packets}
-use Rattle.rfcomm_frames.specs.UserChannel.{user_octets}
-use Rattle.rfcomm_model.specs.Machine.{Mux, new_mux, reset}
-use Rattle.rfcomm_model.specs.Hearing.{Up, nothing, opened, bytes, closed, up, hears}
-use Rattle.rfcomm_model.specs.Sides.{handed}
-use Rattle.rfcomm_model.specs.ClosedSides.{IsOrderly}
+use Rattle.link_talk.specs.bt_base.specs.declared.settings.Settings.{Settings}
+use Rattle.link_talk.specs.bt_base.specs.declared.settings.Transport.{Transport}
+use Rattle.link_talk.specs.bt_base.specs.declared.settings.Transport.TheVariants.{L2cap, Rfcomm}
+use Rattle.link_talk.specs.bt_base.specs.Objects.{Object}
+use Rattle.link_talk.specs.bt_base.specs.Octets.{IsOctets}
+use Rattle.push_model.specs.rfcomm_frames.specs.declared.connection.Role.{Role}
+use Rattle.push_model.specs.rfcomm_frames.specs.declared.connection.Role.TheVariants.{Initiator, Responder}
+use Rattle.push_model.specs.rfcomm_frames.specs.FrameReading.{is_empty}
+use Rattle.push_model.specs.rfcomm_frames.specs.Frames.{PlainFrame}
+use Rattle.push_model.specs.rfcomm_frames.specs.Multiplexing.{Passed}
+use Rattle.push_model.specs.rfcomm_frames.specs.ObexPackets.{obex_packets}
+use Rattle.push_model.specs.rfcomm_frames.specs.UserChannel.{user_octets}
+use Rattle.push_model.specs.rfcomm_model.specs.Machine.{Mux, new_mux, reset}
+use Rattle.push_model.specs.rfcomm_model.specs.Hearing.{Up, nothing, opened, bytes, closed, up, hears}
+use Rattle.push_model.specs.rfcomm_model.specs.Sides.{handed}
+use Rattle.push_model.specs.rfcomm_model.specs.ClosedSides.{IsOrderly}
 use Rattle.link_talk.specs.Gains.{beyond}
-use Rattle.obex_session.specs.Past.{Heard, stored_by}
+use Rattle.push_model.specs.obex_session.specs.Past.{Heard, stored_by}
 use Rattle.push_model.specs.declared.outlet.Outlet.{Outlet}
 use Rattle.push_model.specs.declared.outlet.Outlet.TheVariants.{Records, Direct, Muxed}
 use Rattle.push_model.specs.Client.{own_maximum}

@@ -2,23 +2,23 @@
 -- names.
 use Rattle.std.proofs.Common.{inl, inr, ◌⊎◌, Bool, true, false, ◌≡◌, ◌==◌, ◌-◌, ◌&&◌, ◌||◌, ℕ, List, [], ◌∷◌, Option, Some, None, is_some, refl, sym, ap, subst, ◌∙◌, arith, if◌then◌else◌}
 use Rattle.std.specs.Prelude.{not, min, nat_lt}
-use Rattle.bt_base.specs.declared.settings.Serves.{Serves}
-use Rattle.bt_base.specs.declared.settings.Transport.{Transport}
-use Rattle.bt_base.specs.declared.settings.Transport.TheVariants.{L2cap, Rfcomm}
-use Rattle.push_terms.specs.declared.outcome.Outcome.{Outcome}
-use Rattle.push_terms.specs.declared.outcome.Outcome.TheVariants as outcomes
-use Rattle.sdp_client.specs.declared.query.Stage.{Stage as QueryStage}
-use Rattle.sdp_client.specs.declared.query.Stage.TheVariants as at
-use Rattle.sdp_client.specs.declared.reason.Found.{Found}
-use Rattle.sdp_client.specs.declared.reason.Found.TheVariants.{Service, Refused}
-use Rattle.sdp_client.specs.declared.reason.QueryReason.{QueryReason}
-use Rattle.sdp_client.specs.declared.reason.QueryReason.TheVariants.{BadReply, WrongTransaction}
-use Rattle.sdp_client.specs.Asking.{Asking, is_due, after_request, after_resend, again, written, request_octets}
-use Rattle.sdp_client.specs.Hearing.{found_at, after_reply}
-use Rattle.sdp_client.specs.Laws.{served_target}
-use Rattle.sdp_client.proofs.Served.{finds_the_server}
-use Rattle.sdp_elements.specs.declared.target.Target.{Target}
-use Rattle.sdp_elements.specs.Targets.{is_service_psm, is_server_channel}
+use Rattle.link_talk.specs.bt_base.specs.declared.settings.Serves.{Serves}
+use Rattle.link_talk.specs.bt_base.specs.declared.settings.Transport.{Transport}
+use Rattle.link_talk.specs.bt_base.specs.declared.settings.Transport.TheVariants.{L2cap, Rfcomm}
+use Rattle.link_talk.specs.push_terms.specs.declared.outcome.Outcome.{Outcome}
+use Rattle.link_talk.specs.push_terms.specs.declared.outcome.Outcome.TheVariants as outcomes
+use Rattle.push_model.specs.sdp_client.specs.declared.query.Stage.{Stage as QueryStage}
+use Rattle.push_model.specs.sdp_client.specs.declared.query.Stage.TheVariants as at
+use Rattle.push_model.specs.sdp_client.specs.declared.reason.Found.{Found}
+use Rattle.push_model.specs.sdp_client.specs.declared.reason.Found.TheVariants.{Service, Refused}
+use Rattle.push_model.specs.sdp_client.specs.declared.reason.QueryReason.{QueryReason}
+use Rattle.push_model.specs.sdp_client.specs.declared.reason.QueryReason.TheVariants.{BadReply, WrongTransaction}
+use Rattle.push_model.specs.sdp_client.specs.Asking.{Asking, is_due, after_request, after_resend, again, written, request_octets}
+use Rattle.push_model.specs.sdp_client.specs.Hearing.{found_at, after_reply}
+use Rattle.push_model.specs.sdp_client.specs.Laws.{served_target}
+use Rattle.push_model.specs.sdp_client.proofs.Served.{finds_the_server}
+use Rattle.push_model.specs.sdp_elements.specs.declared.target.Target.{Target}
+use Rattle.push_model.specs.sdp_elements.specs.Targets.{is_service_psm, is_server_channel}
 use Rattle.push_model.specs.declared.closing.CloseCause.{CloseCause}
 use Rattle.push_model.specs.declared.course.Point.TheVariants.{Due, Asked}
 use Rattle.push_model.specs.declared.course.Stage.{Stage}

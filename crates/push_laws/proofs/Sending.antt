@@ -1,20 +1,20 @@
 -- What a client sends in one push, whatever it hears.
 use Rattle.std.proofs.Common.{◌≡◌, ℕ, ◌-◌, ◌++◌, ◌⊎◌, inl, inr, ◌&&◌, ◌||◌, ◌==◌, not, Bool, true, false, List, [], ◌∷◌, length, drop, Option, Some, None, is_some, is_none, Result, Ok, Err, refl, sym, ap, subst, ◌∙◌, arith, append-nil, append_assoc, if◌then◌else◌}
 use Rattle.std.proofs.lemmas.Bool.{eqb-true, cond-true, cond-false}
-use Rattle.bt_base.specs.declared.ports.PortFault.{PortFault}
-use Rattle.bt_base.specs.declared.ports.PortFault.TheVariants as fault
-use Rattle.bt_base.specs.declared.settings.Transport.{Transport}
-use Rattle.bt_base.specs.declared.settings.Transport.TheVariants.{L2cap, Rfcomm}
-use Rattle.push_terms.specs.declared.outcome.Outcome.{Outcome}
-use Rattle.push_terms.specs.declared.outcome.Outcome.TheVariants as outcomes
-use Rattle.rfcomm_frames.specs.FrameReading.{is_empty}
-use Rattle.rfcomm_frames.specs.Frames.{PlainFrame}
-use Rattle.rfcomm_model.specs.Machine as mux
-use Rattle.rfcomm_model.specs.Machine.{is_ready, taken_count}
-use Rattle.rfcomm_model.specs.Saying.{Said, next}
-use Rattle.sdp_client.specs.Asking.{is_due, after_request, request_octets}
-use Rattle.obex_session.specs.NextPut.{is_waiting}
-use Rattle.obex_session.specs.Views.{is_final_put}
+use Rattle.link_talk.specs.bt_base.specs.declared.ports.PortFault.{PortFault}
+use Rattle.link_talk.specs.bt_base.specs.declared.ports.PortFault.TheVariants as fault
+use Rattle.link_talk.specs.bt_base.specs.declared.settings.Transport.{Transport}
+use Rattle.link_talk.specs.bt_base.specs.declared.settings.Transport.TheVariants.{L2cap, Rfcomm}
+use Rattle.link_talk.specs.push_terms.specs.declared.outcome.Outcome.{Outcome}
+use Rattle.link_talk.specs.push_terms.specs.declared.outcome.Outcome.TheVariants as outcomes
+use Rattle.push_model.specs.rfcomm_frames.specs.FrameReading.{is_empty}
+use Rattle.push_model.specs.rfcomm_frames.specs.Frames.{PlainFrame}
+use Rattle.push_model.specs.rfcomm_model.specs.Machine as mux
+use Rattle.push_model.specs.rfcomm_model.specs.Machine.{is_ready, taken_count}
+use Rattle.push_model.specs.rfcomm_model.specs.Saying.{Said, next}
+use Rattle.push_model.specs.sdp_client.specs.Asking.{is_due, after_request, request_octets}
+use Rattle.push_model.specs.obex_session.specs.NextPut.{is_waiting}
+use Rattle.push_model.specs.obex_session.specs.Views.{is_final_put}
 use Rattle.push_model.specs.declared.course.Contact.TheVariants.{Met, Closing}
 use Rattle.push_model.specs.declared.course.Point.TheVariants.{Due, Asked}
 use Rattle.push_model.specs.declared.course.Stage.{Stage}

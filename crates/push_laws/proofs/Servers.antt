@@ -2,16 +2,16 @@
 use Rattle.std.proofs.Common.{inl, inr, Bool, true, false, cond, eqb, ◌&&◌, ◌≡◌, ℕ, List, ◌++◌, length, Option, Some, None, refl, sym, subst}
 use Rattle.std.specs.Prelude.{not}
 use Rattle.std.proofs.lemmas.Bool.{cases_Bool, cond_both, eqb-true, and_parts}
-use Rattle.bt_base.specs.declared.settings.Transport.{Transport}
-use Rattle.bt_base.specs.Objects.{Object}
-use Rattle.rfcomm_frames.specs.FrameReading.{is_empty}
-use Rattle.rfcomm_frames.specs.Frames.{PlainFrame}
-use Rattle.rfcomm_frames.specs.Multiplexing.{Passed}
-use Rattle.rfcomm_model.specs.Machine.{is_ready, leaves}
-use Rattle.rfcomm_model.specs.Hearing.{Up, nothing, opened, bytes, closed}
-use Rattle.rfcomm_model.specs.Saying.{Said, next}
-use Rattle.obex_session.specs.InboxCalls.{Answer}
-use Rattle.obex_session.specs.Past.{Heard}
+use Rattle.link_talk.specs.bt_base.specs.declared.settings.Transport.{Transport}
+use Rattle.link_talk.specs.bt_base.specs.Objects.{Object}
+use Rattle.push_model.specs.rfcomm_frames.specs.FrameReading.{is_empty}
+use Rattle.push_model.specs.rfcomm_frames.specs.Frames.{PlainFrame}
+use Rattle.push_model.specs.rfcomm_frames.specs.Multiplexing.{Passed}
+use Rattle.push_model.specs.rfcomm_model.specs.Machine.{is_ready, leaves}
+use Rattle.push_model.specs.rfcomm_model.specs.Hearing.{Up, nothing, opened, bytes, closed}
+use Rattle.push_model.specs.rfcomm_model.specs.Saying.{Said, next}
+use Rattle.push_model.specs.obex_session.specs.InboxCalls.{Answer}
+use Rattle.push_model.specs.obex_session.specs.Past.{Heard}
 use Rattle.push_laws.specs.Premises.{NoneShort}
 use Rattle.push_model.specs.declared.outlet.Outlet.{Outlet}
 use Rattle.push_model.specs.Sessions.{Gift}

@@ -1,17 +1,17 @@
 -- A service behind one packet more, and behind octets that begin none.
 use Rattle.std.proofs.Common.{Bool, true, false, ◌||◌, ◌+◌, ◌≤◌, ◌≡◌, ℕ, List, [], ◌∷◌, ◌++◌, Option, None, Err, arith, refl, sym, ap, subst, ◌∙◌, append-nil}
 use Rattle.std.proofs.lemmas.Bool.{cond_both, cond-true, cond-false, or_from}
-use Rattle.bt_base.specs.declared.settings.Transport.{Transport}
-use Rattle.bt_base.specs.declared.settings.Transport.TheVariants.{L2cap, Rfcomm}
-use Rattle.bt_base.specs.Objects.{Object}
-use Rattle.obex_headers.specs.declared.fault.ObexRefusal.{ObexRefusal}
-use Rattle.obex_headers.specs.declared.packet.Phase.TheVariants.{Request}
-use Rattle.obex_headers.specs.Packets.{PlainPacket}
-use Rattle.obex_headers.specs.Reading.{packet_in}
-use Rattle.obex_headers.specs.Runs.{put_of, run_headers, objects_from}
-use Rattle.obex_session.specs.Marks.{kind_of}
-use Rattle.obex_session.specs.Past.{put_heard, open_from, pending_of}
-use Rattle.obex_session.specs.Serving.{has_name}
+use Rattle.link_talk.specs.bt_base.specs.declared.settings.Transport.{Transport}
+use Rattle.link_talk.specs.bt_base.specs.declared.settings.Transport.TheVariants.{L2cap, Rfcomm}
+use Rattle.link_talk.specs.bt_base.specs.Objects.{Object}
+use Rattle.push_model.specs.obex_headers.specs.declared.fault.ObexRefusal.{ObexRefusal}
+use Rattle.push_model.specs.obex_headers.specs.declared.packet.Phase.TheVariants.{Request}
+use Rattle.push_model.specs.obex_headers.specs.Packets.{PlainPacket}
+use Rattle.push_model.specs.obex_headers.specs.Reading.{packet_in}
+use Rattle.push_model.specs.obex_headers.specs.Runs.{put_of, run_headers, objects_from}
+use Rattle.push_model.specs.obex_session.specs.Marks.{kind_of}
+use Rattle.push_model.specs.obex_session.specs.Past.{put_heard, open_from, pending_of}
+use Rattle.push_model.specs.obex_session.specs.Serving.{has_name}
 use Rattle.push_laws.specs.Faults.{counted, faults_of, fails_at, is_refused}
 use Rattle.push_model.specs.Sessions.{Sessions, Gift, other_of, lets_go, is_naming, hears}
 use Rattle.push_model.specs.Service.{Service, Served, response_over, after_heard, is_ignored, hears_packet, parts}

@@ -3,27 +3,27 @@ use Rattle.std.proofs.Common.{inl, inr, ◌⊎◌, Bool, true, false, ◌+◌, �
 use Rattle.std.specs.Option.{option_map}
 use Rattle.std.proofs.lemmas.Bool.{cases_Bool, cond_both, cond-false}
 use Rattle.std.proofs.lemmas.List.{map-append}
-use Rattle.bt_base.specs.declared.settings.Transport.{Transport}
-use Rattle.bt_base.specs.declared.settings.Transport.TheVariants.{L2cap, Rfcomm}
-use Rattle.bt_base.specs.declared.ports.PortFault.{PortFault}
-use Rattle.bt_base.specs.declared.ports.PortFault.TheVariants.{Failed, NoMemory}
-use Rattle.bt_base.specs.Objects.{Object, Contents, aborted}
-use Rattle.obex_headers.specs.declared.packet.Phase.TheVariants.{Request}
-use Rattle.obex_headers.specs.Packets.{PlainHeader, PlainPacket}
-use Rattle.obex_headers.specs.Reading.{packet_in}
-use Rattle.obex_headers.specs.Runs.{run_headers, objects_from}
-use Rattle.obex_session.specs.declared.course.Progress.{Progress}
-use Rattle.obex_session.specs.InboxCalls.{InboxCall, Answer, come_of, left_by, all_done}
-use Rattle.obex_session.specs.Rules.{Ruling, aborts, is_under_way, at_packet, progress_in}
-use Rattle.obex_session.specs.Hearing.{progress_after}
-use Rattle.obex_session.specs.Past.{Heard, put_heard, puts_heard, open_from, open_headers, progress_of, pending_of, Serving}
-use Rattle.obex_session.specs.Serving.{kind_heard, ruling_on, verdict_or, outcome_on, heard_with}
-use Rattle.obex_session.specs.Turns.{said_after}
-use Rattle.obex_session.specs.Views.{rested, is_shortage}
-use Rattle.obex_session.proofs.PastLaws.{Leaves, packet_leaves, headers_keep, open-more}
-use Rattle.obex_session.proofs.RuleLaws.{held}
-use Rattle.obex_session.proofs.TurnLaws.{progress_behind}
-use Rattle.obex_session.proofs.GrantedLaws.{held_done, held_failed, ruling_last, abort_held, spoken, spoken_failed, no_aborts, quiet, let_go, idle_progress}
+use Rattle.link_talk.specs.bt_base.specs.declared.settings.Transport.{Transport}
+use Rattle.link_talk.specs.bt_base.specs.declared.settings.Transport.TheVariants.{L2cap, Rfcomm}
+use Rattle.link_talk.specs.bt_base.specs.declared.ports.PortFault.{PortFault}
+use Rattle.link_talk.specs.bt_base.specs.declared.ports.PortFault.TheVariants.{Failed, NoMemory}
+use Rattle.link_talk.specs.bt_base.specs.Objects.{Object, Contents, aborted}
+use Rattle.push_model.specs.obex_headers.specs.declared.packet.Phase.TheVariants.{Request}
+use Rattle.push_model.specs.obex_headers.specs.Packets.{PlainHeader, PlainPacket}
+use Rattle.push_model.specs.obex_headers.specs.Reading.{packet_in}
+use Rattle.push_model.specs.obex_headers.specs.Runs.{run_headers, objects_from}
+use Rattle.push_model.specs.obex_session.specs.declared.course.Progress.{Progress}
+use Rattle.push_model.specs.obex_session.specs.InboxCalls.{InboxCall, Answer, come_of, left_by, all_done}
+use Rattle.push_model.specs.obex_session.specs.Rules.{Ruling, aborts, is_under_way, at_packet, progress_in}
+use Rattle.push_model.specs.obex_session.specs.Hearing.{progress_after}
+use Rattle.push_model.specs.obex_session.specs.Past.{Heard, put_heard, puts_heard, open_from, open_headers, progress_of, pending_of, Serving}
+use Rattle.push_model.specs.obex_session.specs.Serving.{kind_heard, ruling_on, verdict_or, outcome_on, heard_with}
+use Rattle.push_model.specs.obex_session.specs.Turns.{said_after}
+use Rattle.push_model.specs.obex_session.specs.Views.{rested, is_shortage}
+use Rattle.push_model.specs.obex_session.proofs.PastLaws.{Leaves, packet_leaves, headers_keep, open-more}
+use Rattle.push_model.specs.obex_session.proofs.RuleLaws.{held}
+use Rattle.push_model.specs.obex_session.proofs.TurnLaws.{progress_behind}
+use Rattle.push_model.specs.obex_session.proofs.GrantedLaws.{held_done, held_failed, ruling_last, abort_held, spoken, spoken_failed, no_aborts, quiet, let_go, idle_progress}
 use Rattle.push_laws.specs.Faults.{counted, faults_of}
 use Rattle.push_laws.specs.Premises.{NoneShort}
 use Rattle.push_model.specs.Sessions as model

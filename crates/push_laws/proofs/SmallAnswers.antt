@@ -4,26 +4,26 @@ use Rattle.std.specs.Prelude.{not}
 use Rattle.std.specs.List.{flat_map}
 use Rattle.std.proofs.lemmas.Bool.{cond_both}
 use Rattle.std.proofs.lemmas.List.{length-take, length-drop}
-use Rattle.bt_base.specs.declared.settings.Serves.{Serves}
-use Rattle.bt_base.specs.declared.settings.Transport.{Transport}
-use Rattle.bt_base.specs.declared.settings.Transport.TheVariants.{L2cap, Rfcomm}
-use Rattle.bt_base.specs.Octets.{be16, be32}
-use Rattle.obex_session.proofs.GrantedLaws.{said_few}
-use Rattle.rfcomm_frames.specs.FrameReading.{is_empty}
-use Rattle.rfcomm_frames.specs.Frames.{PlainFrame, credit_octets, size_of}
-use Rattle.rfcomm_model.specs.Machine.{is_ready, leaves, taken_count}
-use Rattle.rfcomm_model.specs.Hearing as hearing
-use Rattle.rfcomm_model.specs.Hearing.{Up, nothing, opened, bytes, closed, up}
-use Rattle.rfcomm_model.specs.Saying.{Said, next}
-use Rattle.rfcomm_frames.specs.Lengths.{one_octet, two_octets, shortest}
-use Rattle.sdp_elements.specs.Answers.{Question, Handles, Attributes, Search, handles, answer}
-use Rattle.sdp_elements.specs.Pdus.{PlainPdu, pdu_in}
-use Rattle.sdp_elements.specs.Records.{record_handle, service_record, matches}
-use Rattle.sdp_elements.specs.Exchange.{pdu_octets, continuation_at, part_len, part_parameters, part_reply, offset_in}
-use Rattle.sdp_server.specs.declared.fault.ErrorCode.{ErrorCode}
-use Rattle.sdp_server.specs.declared.fault.ErrorCode.TheVariants.{InvalidHandle, InvalidSyntax, InvalidSize, InvalidContinuation}
-use Rattle.sdp_server.specs.Requests.{Request, request_in}
-use Rattle.sdp_server.specs.Replies.{code_number, part_from, handles_parameters, handles_reply, replied, answered, responded, transaction_of, with_error, reply_to}
+use Rattle.link_talk.specs.bt_base.specs.declared.settings.Serves.{Serves}
+use Rattle.link_talk.specs.bt_base.specs.declared.settings.Transport.{Transport}
+use Rattle.link_talk.specs.bt_base.specs.declared.settings.Transport.TheVariants.{L2cap, Rfcomm}
+use Rattle.link_talk.specs.bt_base.specs.Octets.{be16, be32}
+use Rattle.push_model.specs.obex_session.proofs.GrantedLaws.{said_few}
+use Rattle.push_model.specs.rfcomm_frames.specs.FrameReading.{is_empty}
+use Rattle.push_model.specs.rfcomm_frames.specs.Frames.{PlainFrame, credit_octets, size_of}
+use Rattle.push_model.specs.rfcomm_model.specs.Machine.{is_ready, leaves, taken_count}
+use Rattle.push_model.specs.rfcomm_model.specs.Hearing as hearing
+use Rattle.push_model.specs.rfcomm_model.specs.Hearing.{Up, nothing, opened, bytes, closed, up}
+use Rattle.push_model.specs.rfcomm_model.specs.Saying.{Said, next}
+use Rattle.push_model.specs.rfcomm_frames.specs.Lengths.{one_octet, two_octets, shortest}
+use Rattle.push_model.specs.sdp_elements.specs.Answers.{Question, Handles, Attributes, Search, handles, answer}
+use Rattle.push_model.specs.sdp_elements.specs.Pdus.{PlainPdu, pdu_in}
+use Rattle.push_model.specs.sdp_elements.specs.Records.{record_handle, service_record, matches}
+use Rattle.push_model.specs.sdp_elements.specs.Exchange.{pdu_octets, continuation_at, part_len, part_parameters, part_reply, offset_in}
+use Rattle.push_model.specs.sdp_server.specs.declared.fault.ErrorCode.{ErrorCode}
+use Rattle.push_model.specs.sdp_server.specs.declared.fault.ErrorCode.TheVariants.{InvalidHandle, InvalidSyntax, InvalidSize, InvalidContinuation}
+use Rattle.push_model.specs.sdp_server.specs.Requests.{Request, request_in}
+use Rattle.push_model.specs.sdp_server.specs.Replies.{code_number, part_from, handles_parameters, handles_reply, replied, answered, responded, transaction_of, with_error, reply_to}
 use Rattle.push_model.specs.declared.outlet.Outlet.{Outlet}
 use Rattle.push_model.specs.declared.outlet.Outlet.TheVariants.{Records, Direct, Muxed}
 use Rattle.push_model.specs.Payloads.{Octets, Framed, IsSaid}

@@ -4,25 +4,25 @@ use Rattle.std.specs.Prelude.{not, is_none}
 use Rattle.std.specs.List.{AllByRecursion}
 use Rattle.std.proofs.lemmas.Bool.{and_parts, leb-true}
 use Rattle.std.proofs.lemmas.List.{length-take}
-use Rattle.rfcomm_frames.specs.declared.connection.Dlc.TheVariants.{Ended}
-use Rattle.rfcomm_frames.specs.declared.connection.Role.{Role}
-use Rattle.rfcomm_frames.specs.declared.connection.Role.TheVariants.{Initiator, Responder}
-use Rattle.rfcomm_frames.specs.declared.frame.MuxKind.{MuxKind}
-use Rattle.rfcomm_frames.specs.declared.frame.MuxKind.TheVariants.{Sabm, Ua, Dm, Disc, Uih}
-use Rattle.rfcomm_frames.specs.Answers.{Answer}
-use Rattle.rfcomm_frames.specs.Controls.{PlainControl, pn, msc, test, rpn, rls, nsc, other, written}
-use Rattle.rfcomm_frames.specs.FrameReading.{is_empty, MessageAnswer, messages, frame_answer}
-use Rattle.rfcomm_frames.specs.Frames.{PlainFrame}
-use Rattle.rfcomm_frames.specs.Connections.{other_role, turned, is_left, is_ended}
-use Rattle.rfcomm_model.specs.declared.state.Asks.{Asks}
-use Rattle.rfcomm_model.specs.declared.state.Asks.TheVariants.{Nothing, Due, Awaited}
-use Rattle.rfcomm_model.specs.declared.state.Command.TheVariants.{OpenControl, Agree, OpenUser, Signal, LeaveUser, LeaveControl}
-use Rattle.rfcomm_model.specs.declared.state.MuxReason.{MuxReason}
-use Rattle.rfcomm_model.specs.declared.state.MuxReason.TheVariants as reasons
-use Rattle.rfcomm_model.specs.Written.{response_frame, control_frame}
-use Rattle.rfcomm_model.specs.Machine.{Mux, may_pass, closes, sends, leaves, taken_count, is_leaving}
-use Rattle.rfcomm_model.specs.Hearing.{has_room, answering, says_dm, tells, opens_control, opens_user, hears_sabm, control_answered, hears_ua, control_refused, user_refused, hears_dm, ends, hears_disc, credited, charged, if_stands, with_credits, hears_data, counts, pn_credited, lesser, own_credits, terms_agreed, peer_answered, hears_offer, hears_acceptance, hears_other_offer, hears_pn, signals_answered, hears_msc, settings_of, hears_control, hears_message, hears_messages, hears_uih, hears_kind, hears_settled, hears_frame, hears_answer, hears}
-use Rattle.rfcomm_model.specs.Saying.{Said, says_data, says_grant, first_of, says_command, says_answer, next}
+use Rattle.push_model.specs.rfcomm_frames.specs.declared.connection.Dlc.TheVariants.{Ended}
+use Rattle.push_model.specs.rfcomm_frames.specs.declared.connection.Role.{Role}
+use Rattle.push_model.specs.rfcomm_frames.specs.declared.connection.Role.TheVariants.{Initiator, Responder}
+use Rattle.push_model.specs.rfcomm_frames.specs.declared.frame.MuxKind.{MuxKind}
+use Rattle.push_model.specs.rfcomm_frames.specs.declared.frame.MuxKind.TheVariants.{Sabm, Ua, Dm, Disc, Uih}
+use Rattle.push_model.specs.rfcomm_frames.specs.Answers.{Answer}
+use Rattle.push_model.specs.rfcomm_frames.specs.Controls.{PlainControl, pn, msc, test, rpn, rls, nsc, other, written}
+use Rattle.push_model.specs.rfcomm_frames.specs.FrameReading.{is_empty, MessageAnswer, messages, frame_answer}
+use Rattle.push_model.specs.rfcomm_frames.specs.Frames.{PlainFrame}
+use Rattle.push_model.specs.rfcomm_frames.specs.Connections.{other_role, turned, is_left, is_ended}
+use Rattle.push_model.specs.rfcomm_model.specs.declared.state.Asks.{Asks}
+use Rattle.push_model.specs.rfcomm_model.specs.declared.state.Asks.TheVariants.{Nothing, Due, Awaited}
+use Rattle.push_model.specs.rfcomm_model.specs.declared.state.Command.TheVariants.{OpenControl, Agree, OpenUser, Signal, LeaveUser, LeaveControl}
+use Rattle.push_model.specs.rfcomm_model.specs.declared.state.MuxReason.{MuxReason}
+use Rattle.push_model.specs.rfcomm_model.specs.declared.state.MuxReason.TheVariants as reasons
+use Rattle.push_model.specs.rfcomm_model.specs.Written.{response_frame, control_frame}
+use Rattle.push_model.specs.rfcomm_model.specs.Machine.{Mux, may_pass, closes, sends, leaves, taken_count, is_leaving}
+use Rattle.push_model.specs.rfcomm_model.specs.Hearing.{has_room, answering, says_dm, tells, opens_control, opens_user, hears_sabm, control_answered, hears_ua, control_refused, user_refused, hears_dm, ends, hears_disc, credited, charged, if_stands, with_credits, hears_data, counts, pn_credited, lesser, own_credits, terms_agreed, peer_answered, hears_offer, hears_acceptance, hears_other_offer, hears_pn, signals_answered, hears_msc, settings_of, hears_control, hears_message, hears_messages, hears_uih, hears_kind, hears_settled, hears_frame, hears_answer, hears}
+use Rattle.push_model.specs.rfcomm_model.specs.Saying.{Said, says_data, says_grant, first_of, says_command, says_answer, next}
 
 abbrev pub IsSmall : PlainFrame → Type 0
 IsSmall frame = length frame.octets ≤ 40

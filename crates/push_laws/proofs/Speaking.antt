@@ -1,14 +1,14 @@
 -- A deed of a client over RFCOMM leaves one request under way at most.
 use Rattle.std.proofs.Common.{inl, inr, zero, suc, Bool, true, false, ◌≡◌, ◌==◌, ◌&&◌, ◌≤◌, ℕ, List, [], ◌∷◌, ◌++◌, length, Option, refl, sym, ap, subst, ◌∙◌, arith, append-nil, if◌then◌else◌}
 use Rattle.std.specs.List.{AllByRecursion}
-use Rattle.bt_base.specs.Objects.{Object as Stored}
-use Rattle.bt_base.specs.declared.settings.Transport.{Transport}
-use Rattle.bt_base.specs.declared.settings.Transport.TheVariants.{Rfcomm}
-use Rattle.rfcomm_frames.specs.ObexPackets.{IsPacket}
-use Rattle.rfcomm_model.specs.Hearing.{Up, nothing, opened, bytes, closed, up, hears}
-use Rattle.rfcomm_model.specs.Sides.{handed}
-use Rattle.obex_session.specs.Asking.{Asking}
-use Rattle.obex_session.specs.NextPut.{is_waiting}
+use Rattle.link_talk.specs.bt_base.specs.Objects.{Object as Stored}
+use Rattle.link_talk.specs.bt_base.specs.declared.settings.Transport.{Transport}
+use Rattle.link_talk.specs.bt_base.specs.declared.settings.Transport.TheVariants.{Rfcomm}
+use Rattle.push_model.specs.rfcomm_frames.specs.ObexPackets.{IsPacket}
+use Rattle.push_model.specs.rfcomm_model.specs.Hearing.{Up, nothing, opened, bytes, closed, up, hears}
+use Rattle.push_model.specs.rfcomm_model.specs.Sides.{handed}
+use Rattle.push_model.specs.obex_session.specs.Asking.{Asking}
+use Rattle.push_model.specs.obex_session.specs.NextPut.{is_waiting}
 use Rattle.push_model.specs.declared.course.Point.TheVariants.{Due}
 use Rattle.push_model.specs.declared.course.Stage.{Stage}
 use Rattle.push_model.specs.declared.course.Stage.TheVariants.{Object, ObjectEnd}

@@ -4,19 +4,19 @@ use Rattle.std.specs.Prelude.{slice_index}
 use Rattle.std.specs.List.{AllByRecursion}
 use Rattle.std.proofs.Math.Seq.{take-append_seam}
 use Rattle.std.proofs.lemmas.Bool.{cond-false}
-use Rattle.bt_base.specs.Objects.{Object, octets_of}
-use Rattle.push_terms.specs.declared.outcome.Outcome.{Outcome}
-use Rattle.obex_headers.specs.declared.fault.ObexRefusal.{ObexRefusal}
-use Rattle.obex_headers.specs.declared.packet.Phase.TheVariants.{Request}
-use Rattle.obex_headers.specs.Packets.{PlainPacket}
-use Rattle.obex_headers.specs.Reading.{◌>>=◌, headers_in, front_at, packet_in}
-use Rattle.obex_headers.specs.Runs.{put_of, spelled}
-use Rattle.obex_headers.proofs.HeaderLaws.{bind_ok, ok_is}
+use Rattle.link_talk.specs.bt_base.specs.Objects.{Object, octets_of}
+use Rattle.link_talk.specs.push_terms.specs.declared.outcome.Outcome.{Outcome}
+use Rattle.push_model.specs.obex_headers.specs.declared.fault.ObexRefusal.{ObexRefusal}
+use Rattle.push_model.specs.obex_headers.specs.declared.packet.Phase.TheVariants.{Request}
+use Rattle.push_model.specs.obex_headers.specs.Packets.{PlainPacket}
+use Rattle.push_model.specs.obex_headers.specs.Reading.{◌>>=◌, headers_in, front_at, packet_in}
+use Rattle.push_model.specs.obex_headers.specs.Runs.{put_of, spelled}
+use Rattle.push_model.specs.obex_headers.proofs.HeaderLaws.{bind_ok, ok_is}
 use Rattle.link_talk.specs.ObjectsHeard.{put_within}
-use Rattle.obex_session.specs.Asking.{fresh}
-use Rattle.obex_session.specs.Pushes.{IsNoPut, Fits}
-use Rattle.obex_session.proofs.ObjectLaws.{puts_in_order}
-use Rattle.obex_session.proofs.PushLaws.{fronts_are_pushed}
+use Rattle.push_model.specs.obex_session.specs.Asking.{fresh}
+use Rattle.push_model.specs.obex_session.specs.Pushes.{IsNoPut, Fits}
+use Rattle.push_model.specs.obex_session.proofs.ObjectLaws.{puts_in_order}
+use Rattle.push_model.specs.obex_session.proofs.PushLaws.{fronts_are_pushed}
 use Rattle.push_model.specs.Client.{with_object}
 use Rattle.push_model.specs.Laws.{all_done}
 use Rattle.push_model.specs.Steps.{connect_octets}

@@ -3,17 +3,17 @@ use Rattle.std.proofs.Common.{ℕ, ◌≡◌, ◌≤◌, ◌==◌, ◌+◌, ◌|
 use Rattle.std.proofs.lemmas.Bool.{cases_lt, le-ltb, ltb-false}
 use Rattle.std.proofs.Math.Seq.{take-append_seam}
 use Rattle.std.specs.Prelude.{◌⊎◌, nat_lt, slice_index}
-use Rattle.bt_base.specs.Objects.{Object}
-use Rattle.push_terms.specs.declared.outcome.Outcome.{Outcome}
-use Rattle.obex_headers.specs.declared.fault.ObexRefusal.{ObexRefusal}
-use Rattle.obex_headers.specs.declared.fault.ObexRefusal.TheVariants.{Short, AboveMaximum}
-use Rattle.obex_headers.specs.declared.packet.Phase.TheVariants.{Request}
-use Rattle.obex_headers.specs.Packets.{PlainPacket, PlainHeader, fields_len}
-use Rattle.obex_headers.specs.Reading.{◌>>=◌, headers_in, front_at, packet_in}
-use Rattle.obex_headers.specs.Runs.{put_of, objects_from, spelled}
+use Rattle.link_talk.specs.bt_base.specs.Objects.{Object}
+use Rattle.link_talk.specs.push_terms.specs.declared.outcome.Outcome.{Outcome}
+use Rattle.push_model.specs.obex_headers.specs.declared.fault.ObexRefusal.{ObexRefusal}
+use Rattle.push_model.specs.obex_headers.specs.declared.fault.ObexRefusal.TheVariants.{Short, AboveMaximum}
+use Rattle.push_model.specs.obex_headers.specs.declared.packet.Phase.TheVariants.{Request}
+use Rattle.push_model.specs.obex_headers.specs.Packets.{PlainPacket, PlainHeader, fields_len}
+use Rattle.push_model.specs.obex_headers.specs.Reading.{◌>>=◌, headers_in, front_at, packet_in}
+use Rattle.push_model.specs.obex_headers.specs.Runs.{put_of, objects_from, spelled}
 use Rattle.link_talk.specs.ObjectsHeard.{put_within, spelled_within}
-use Rattle.obex_session.specs.Past.{Heard, puts_heard}
-use Rattle.obex_session.specs.PutPackets.{units_in}
+use Rattle.push_model.specs.obex_session.specs.Past.{Heard, puts_heard}
+use Rattle.push_model.specs.obex_session.specs.PutPackets.{units_in}
 use Rattle.push_model.specs.Client.{Client}
 use Rattle.push_laws.specs.OneName.{HasOneName}
 use Rattle.push_laws.specs.Parties.{IsFrontOf}

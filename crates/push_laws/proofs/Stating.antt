@@ -1,7 +1,7 @@
 -- What a server answers over RFCOMM: packets that state its own maximum, wherever a client reads a response to CONNECT in them.
 use Rattle.std.proofs.Common.{◌⊎◌, ◌≡◌, ℕ, List, []}
-use Rattle.obex_session.proofs.StatingLaws.{States}
-use Rattle.rfcomm_frames.specs.ObexPackets.{IsPacket}
+use Rattle.push_model.specs.obex_session.proofs.StatingLaws.{States}
+use Rattle.push_model.specs.rfcomm_frames.specs.ObexPackets.{IsPacket}
 
 -- a response of a server that takes so many octets
 pub record IsResponse (most : ℕ) (octets : List ℕ) : Type 0 where

@@ -1,16 +1,16 @@
 -- Whatever a client over RFCOMM hears and does, its multiplexer keeps its side, its room and the credits that its peer is to have.
 use Rattle.std.proofs.Common.{Bool, true, false, ◌≡◌, ◌==◌, ◌&&◌, ℕ, List, [], ◌∷◌, length, take, drop, Option, Some, None, Result, Ok, Err, refl, sym, ap, subst, ◌∙◌, if◌then◌else◌}
 use Rattle.std.specs.Prelude.{not, nat_lt, is_none}
-use Rattle.bt_base.specs.declared.ports.PortFault.{PortFault}
-use Rattle.bt_base.specs.declared.settings.Transport.{Transport}
-use Rattle.bt_base.specs.declared.settings.Transport.TheVariants.{Rfcomm}
-use Rattle.rfcomm_frames.specs.FrameReading.{frame_answer, is_empty}
-use Rattle.rfcomm_model.specs.declared.state.Asks.TheVariants as asks
-use Rattle.rfcomm_model.specs.declared.state.Command.TheVariants.{LeaveUser}
-use Rattle.rfcomm_model.specs.Hearing.{up, hears}
-use Rattle.rfcomm_model.specs.Machine.{Mux, is_ready, is_leaving, taken_count, sends, leaves}
-use Rattle.rfcomm_model.specs.Saying.{Said, next, after_said}
-use Rattle.rfcomm_model.proofs.Keeping.{answer_keeps, next_keeps}
+use Rattle.link_talk.specs.bt_base.specs.declared.ports.PortFault.{PortFault}
+use Rattle.link_talk.specs.bt_base.specs.declared.settings.Transport.{Transport}
+use Rattle.link_talk.specs.bt_base.specs.declared.settings.Transport.TheVariants.{Rfcomm}
+use Rattle.push_model.specs.rfcomm_frames.specs.FrameReading.{frame_answer, is_empty}
+use Rattle.push_model.specs.rfcomm_model.specs.declared.state.Asks.TheVariants as asks
+use Rattle.push_model.specs.rfcomm_model.specs.declared.state.Command.TheVariants.{LeaveUser}
+use Rattle.push_model.specs.rfcomm_model.specs.Hearing.{up, hears}
+use Rattle.push_model.specs.rfcomm_model.specs.Machine.{Mux, is_ready, is_leaving, taken_count, sends, leaves}
+use Rattle.push_model.specs.rfcomm_model.specs.Saying.{Said, next, after_said}
+use Rattle.push_model.specs.rfcomm_model.proofs.Keeping.{answer_keeps, next_keeps}
 use Rattle.push_model.specs.declared.course.Contact.TheVariants.{Closing}
 use Rattle.push_model.specs.declared.course.Stage.{Stage}
 use Rattle.push_model.specs.declared.course.Stage.TheVariants.{Object}
@@ -21,8 +21,8 @@ use Rattle.push_model.specs.Laws.{Deed, Hears, Asks, Finishes, Cancels}
 use Rattle.push_model.specs.Responding.{is_object, hears_up}
 use Rattle.push_model.specs.Steps as steps
 use Rattle.push_model.specs.Steps.{Part, Stepped, Made, Ask, Connect, Put, Abort, Disconnect, Close, Nothing, requests, filled, said_by, says, sends_muxed, takes_some, asks_through, asks_muxed, goes_muxed, steps_muxed, steps_object, steps_at, rests, may_ask, next_ask}
-use Rattle.push_terms.specs.declared.outcome.Outcome.{Outcome}
-use Rattle.push_terms.specs.declared.outcome.Outcome.TheVariants as outcomes
+use Rattle.link_talk.specs.push_terms.specs.declared.outcome.Outcome.{Outcome}
+use Rattle.link_talk.specs.push_terms.specs.declared.outcome.Outcome.TheVariants as outcomes
 use Rattle.push_laws.specs.Dialogs.{SameNumbers, MultiplexersStay, ClientsStay}
 use Rattle.push_laws.specs.Parties.{begun_of, client_side}
 use Rattle.push_laws.specs.Sending.{MayPush}

@@ -3,15 +3,15 @@ use Rattle.std.proofs.Common.{inl, inr, ◌⊎◌, zero, suc, Bool, true, false,
 use Rattle.std.specs.Prelude.{not, slice_index}
 use Rattle.std.specs.List.{flat_map}
 use Rattle.std.proofs.lemmas.Bool.{cases_lt, lt-ltb, le-ltb, ltb-false, cond-true, cond-false, ne_eqb}
-use Rattle.rfcomm_frames.specs.ObexPackets.{stated_size, HasNoPacket, obex_packets}
-use Rattle.rfcomm_frames.proofs.ObexSplits.{obex_packets-right, obex_packets-one}
+use Rattle.push_model.specs.rfcomm_frames.specs.ObexPackets.{stated_size, HasNoPacket, obex_packets}
+use Rattle.push_model.specs.rfcomm_frames.proofs.ObexSplits.{obex_packets-right, obex_packets-one}
 use Rattle.rfcomm_laws.proofs.Splitting.{same_length, before}
-use Rattle.obex_headers.specs.declared.fault.ObexRefusal.{ObexRefusal}
-use Rattle.obex_headers.specs.declared.fault.ObexRefusal.TheVariants.{Short, BadLength, BadHeaderLength, BadText, AboveMaximum, BadVersion}
-use Rattle.obex_headers.specs.declared.packet.Phase.TheVariants.{Request}
-use Rattle.obex_headers.specs.Assembling.{stated_len, IsFramed, IsPartial, BeginsNone}
-use Rattle.obex_headers.specs.Packets.{PlainPacket, fields_len}
-use Rattle.obex_headers.specs.Reading.{◌>>=◌, behind_length, front_at, headers_in, packet_in}
+use Rattle.push_model.specs.obex_headers.specs.declared.fault.ObexRefusal.{ObexRefusal}
+use Rattle.push_model.specs.obex_headers.specs.declared.fault.ObexRefusal.TheVariants.{Short, BadLength, BadHeaderLength, BadText, AboveMaximum, BadVersion}
+use Rattle.push_model.specs.obex_headers.specs.declared.packet.Phase.TheVariants.{Request}
+use Rattle.push_model.specs.obex_headers.specs.Assembling.{stated_len, IsFramed, IsPartial, BeginsNone}
+use Rattle.push_model.specs.obex_headers.specs.Packets.{PlainPacket, fields_len}
+use Rattle.push_model.specs.obex_headers.specs.Reading.{◌>>=◌, behind_length, front_at, headers_in, packet_in}
 use Rattle.push_model.proofs.StreamLaws.{whole_front, partial_front, broken_front}
 use Rattle.push_model.specs.Sessions.{Gift}
 use Rattle.push_model.specs.Streams.{Front}

@@ -2,30 +2,30 @@
 use Rattle.std.proofs.Common.{zero, suc, Bool, true, false, ◌||◌, ◌&&◌, ◌≡◌, ◌==◌, ℕ, eqb, List, [], ◌∷◌, ◌++◌, length, Option, Some, None, is_none, Result, Ok, Err, refl, sym, ap, ◌∙◌, if◌then◌else◌}
 use Rattle.std.specs.Prelude.{not, nat_lt}
 use Rattle.std.proofs.lemmas.Bool.{cond-true, eqb-true, eq-eqb}
-use Rattle.bt_base.specs.declared.ports.PortFault.{PortFault}
-use Rattle.bt_base.specs.declared.ports.PortFault.TheVariants as fault
-use Rattle.bt_base.specs.declared.settings.Transport.{Transport}
-use Rattle.bt_base.specs.declared.settings.Transport.TheVariants.{L2cap, Rfcomm}
-use Rattle.push_terms.specs.declared.outcome.Outcome.{Outcome}
-use Rattle.push_terms.specs.declared.outcome.Outcome.TheVariants as outcomes
-use Rattle.rfcomm_model.specs.Hearing.{Up, nothing, opened, bytes, closed, up, hears}
-use Rattle.rfcomm_model.specs.Saying.{Said, next}
-use Rattle.sdp_client.specs.Asking.{is_due}
-use Rattle.sdp_client.specs.Hearing.{found_at}
-use Rattle.sdp_client.specs.declared.reason.Found.{Found}
-use Rattle.sdp_client.specs.declared.reason.Found.TheVariants as found
-use Rattle.obex_headers.specs.declared.fault.ObexRefusal.{ObexRefusal}
-use Rattle.obex_headers.specs.declared.packet.Phase.TheVariants.{Response}
-use Rattle.obex_headers.specs.Packets.{PlainPacket}
-use Rattle.obex_headers.specs.Reading.{packet_in}
-use Rattle.obex_session.specs.declared.asking.Request.{Request}
-use Rattle.obex_session.specs.declared.asking.Request.TheVariants.{Connect, FirstPut, FinalPut, Abort, Disconnect, Stream}
-use Rattle.obex_session.specs.declared.asking.Request.TheVariants as requests
-use Rattle.obex_session.specs.declared.client.Answered.{Answered}
-use Rattle.obex_session.specs.declared.client.Answered.TheVariants.{Go, Done, Refused, Bad, Srmp}
-use Rattle.obex_session.specs.Asking.{phase_of, awaited_code, success_of, answer_read, answer_to}
-use Rattle.obex_session.specs.Marks.{marks_of}
-use Rattle.obex_session.specs.Views.{answer_at, after_at, is_stream}
+use Rattle.link_talk.specs.bt_base.specs.declared.ports.PortFault.{PortFault}
+use Rattle.link_talk.specs.bt_base.specs.declared.ports.PortFault.TheVariants as fault
+use Rattle.link_talk.specs.bt_base.specs.declared.settings.Transport.{Transport}
+use Rattle.link_talk.specs.bt_base.specs.declared.settings.Transport.TheVariants.{L2cap, Rfcomm}
+use Rattle.link_talk.specs.push_terms.specs.declared.outcome.Outcome.{Outcome}
+use Rattle.link_talk.specs.push_terms.specs.declared.outcome.Outcome.TheVariants as outcomes
+use Rattle.push_model.specs.rfcomm_model.specs.Hearing.{Up, nothing, opened, bytes, closed, up, hears}
+use Rattle.push_model.specs.rfcomm_model.specs.Saying.{Said, next}
+use Rattle.push_model.specs.sdp_client.specs.Asking.{is_due}
+use Rattle.push_model.specs.sdp_client.specs.Hearing.{found_at}
+use Rattle.push_model.specs.sdp_client.specs.declared.reason.Found.{Found}
+use Rattle.push_model.specs.sdp_client.specs.declared.reason.Found.TheVariants as found
+use Rattle.push_model.specs.obex_headers.specs.declared.fault.ObexRefusal.{ObexRefusal}
+use Rattle.push_model.specs.obex_headers.specs.declared.packet.Phase.TheVariants.{Response}
+use Rattle.push_model.specs.obex_headers.specs.Packets.{PlainPacket}
+use Rattle.push_model.specs.obex_headers.specs.Reading.{packet_in}
+use Rattle.push_model.specs.obex_session.specs.declared.asking.Request.{Request}
+use Rattle.push_model.specs.obex_session.specs.declared.asking.Request.TheVariants.{Connect, FirstPut, FinalPut, Abort, Disconnect, Stream}
+use Rattle.push_model.specs.obex_session.specs.declared.asking.Request.TheVariants as requests
+use Rattle.push_model.specs.obex_session.specs.declared.client.Answered.{Answered}
+use Rattle.push_model.specs.obex_session.specs.declared.client.Answered.TheVariants.{Go, Done, Refused, Bad, Srmp}
+use Rattle.push_model.specs.obex_session.specs.Asking.{phase_of, awaited_code, success_of, answer_read, answer_to}
+use Rattle.push_model.specs.obex_session.specs.Marks.{marks_of}
+use Rattle.push_model.specs.obex_session.specs.Views.{answer_at, after_at, is_stream}
 use Rattle.push_model.specs.declared.closing.CloseCause.{CloseCause}
 use Rattle.push_model.specs.declared.course.Point.TheVariants.{Due, Asked}
 use Rattle.push_model.specs.declared.course.Stage.{Stage}

@@ -1,24 +1,24 @@
 -- What news do to the talk of a client: what stays through an end, a response and an opening, stays through all of them.
 use Rattle.std.proofs.Common.{◌≡◌, ℕ, zero, suc, ◌≤◌, ◌<◌, ◌^◌, ◌++◌, ◌==◌, length, Bool, true, false, not, ◌&&◌, ◌||◌, nat_lt, min, List, [], Option, Some, None, is_some, refl, sym, ap, subst, arith, if◌then◌else◌}
 use Rattle.std.proofs.lemmas.Bool.{ltb-false}
-use Rattle.bt_base.specs.declared.settings.Transport.{Transport}
-use Rattle.bt_base.specs.declared.settings.Transport.TheVariants.{L2cap, Rfcomm}
-use Rattle.push_terms.specs.declared.outcome.Outcome.{Outcome}
-use Rattle.push_terms.specs.declared.outcome.Outcome.TheVariants as outcomes
-use Rattle.rfcomm_model.specs.declared.state.MuxReason.{MuxReason}
-use Rattle.rfcomm_model.specs.Hearing.{Up, nothing, opened, bytes, closed, up, hears}
-use Rattle.sdp_elements.specs.declared.target.Target.{Target}
-use Rattle.sdp_elements.specs.Targets.{is_service_psm, is_server_channel}
-use Rattle.sdp_client.specs.declared.reason.Found.{Found}
-use Rattle.sdp_client.specs.declared.reason.Found.TheVariants.{More, Service, NoService, Refused}
-use Rattle.sdp_client.specs.declared.reason.QueryReason.{QueryReason}
-use Rattle.sdp_client.specs.declared.reason.QueryReason.TheVariants.{BadReply, ErrorCode, WrongTransaction, TooLong}
-use Rattle.sdp_client.specs.Asking.{is_due, after_resend}
-use Rattle.sdp_client.specs.Hearing.{found_at, after_reply}
-use Rattle.obex_session.specs.declared.client.Answered.{Answered}
-use Rattle.obex_session.specs.declared.client.Answered.TheVariants as answer
-use Rattle.obex_session.specs.Asking.{Asking}
-use Rattle.obex_session.specs.Views.{answer_at, after_at}
+use Rattle.link_talk.specs.bt_base.specs.declared.settings.Transport.{Transport}
+use Rattle.link_talk.specs.bt_base.specs.declared.settings.Transport.TheVariants.{L2cap, Rfcomm}
+use Rattle.link_talk.specs.push_terms.specs.declared.outcome.Outcome.{Outcome}
+use Rattle.link_talk.specs.push_terms.specs.declared.outcome.Outcome.TheVariants as outcomes
+use Rattle.push_model.specs.rfcomm_model.specs.declared.state.MuxReason.{MuxReason}
+use Rattle.push_model.specs.rfcomm_model.specs.Hearing.{Up, nothing, opened, bytes, closed, up, hears}
+use Rattle.push_model.specs.sdp_elements.specs.declared.target.Target.{Target}
+use Rattle.push_model.specs.sdp_elements.specs.Targets.{is_service_psm, is_server_channel}
+use Rattle.push_model.specs.sdp_client.specs.declared.reason.Found.{Found}
+use Rattle.push_model.specs.sdp_client.specs.declared.reason.Found.TheVariants.{More, Service, NoService, Refused}
+use Rattle.push_model.specs.sdp_client.specs.declared.reason.QueryReason.{QueryReason}
+use Rattle.push_model.specs.sdp_client.specs.declared.reason.QueryReason.TheVariants.{BadReply, ErrorCode, WrongTransaction, TooLong}
+use Rattle.push_model.specs.sdp_client.specs.Asking.{is_due, after_resend}
+use Rattle.push_model.specs.sdp_client.specs.Hearing.{found_at, after_reply}
+use Rattle.push_model.specs.obex_session.specs.declared.client.Answered.{Answered}
+use Rattle.push_model.specs.obex_session.specs.declared.client.Answered.TheVariants as answer
+use Rattle.push_model.specs.obex_session.specs.Asking.{Asking}
+use Rattle.push_model.specs.obex_session.specs.Views.{answer_at, after_at}
 use Rattle.push_model.specs.declared.closing.CloseCause.{CloseCause}
 use Rattle.push_model.specs.declared.closing.CloseCause.TheVariants as closing
 use Rattle.push_model.specs.declared.course.Contact.{Contact}

@@ -2,16 +2,16 @@
 use Rattle.std.proofs.Common.{arith, Bool, true, false, cond, ◌≡◌, ◌==◌, ◌≤◌, ◌<◌, ◌*◌, ◌-◌, ◌^◌, ℕ, List, [], ◌∷◌, ◌++◌, Option, Some, None, refl, sym, ap, subst, ◌∙◌, append-nil, append_assoc}
 use Rattle.std.specs.List.{AllByRecursion, flat_map}
 use Rattle.std.proofs.lemmas.Bool.{cond-false}
-use Rattle.bt_base.specs.declared.settings.Settings.{Settings}
-use Rattle.bt_base.specs.declared.settings.Transport.TheVariants.{L2cap, Rfcomm}
-use Rattle.rfcomm_frames.specs.declared.connection.Role.{Role}
-use Rattle.rfcomm_frames.specs.declared.connection.Role.TheVariants.{Initiator, Responder}
-use Rattle.rfcomm_frames.specs.Frames.{PlainFrame}
+use Rattle.link_talk.specs.bt_base.specs.declared.settings.Settings.{Settings}
+use Rattle.link_talk.specs.bt_base.specs.declared.settings.Transport.TheVariants.{L2cap, Rfcomm}
+use Rattle.push_model.specs.rfcomm_frames.specs.declared.connection.Role.{Role}
+use Rattle.push_model.specs.rfcomm_frames.specs.declared.connection.Role.TheVariants.{Initiator, Responder}
+use Rattle.push_model.specs.rfcomm_frames.specs.Frames.{PlainFrame}
 use Rattle.rfcomm_laws.specs.Links.{AreFrames}
 use Rattle.rfcomm_laws.specs.Pairs.{Terms}
 use Rattle.rfcomm_laws.proofs.Crossings.{offering}
 use Rattle.rfcomm_laws.proofs.Rooms.{tidy_first}
-use Rattle.rfcomm_model.specs.Machine.{Mux, new_mux}
+use Rattle.push_model.specs.rfcomm_model.specs.Machine.{Mux, new_mux}
 use Rattle.push_model.specs.declared.outlet.Outlet.{Outlet}
 use Rattle.push_model.specs.declared.outlet.Outlet.TheVariants.{Records, Direct, Muxed}
 use Rattle.push_model.specs.Client.{Client}

@@ -3,26 +3,26 @@ use Rattle.std.proofs.Common.{Bool, true, false, cond, ◌||◌, ◌&&◌, ◌�
 use Rattle.std.specs.Prelude.{not, nat_lt}
 use Rattle.std.specs.List.{AllByRecursion}
 use Rattle.std.proofs.lemmas.Bool.{cond_both, cond-false}
-use Rattle.bt_base.specs.declared.settings.Settings.{Settings}
-use Rattle.bt_base.specs.declared.settings.Transport.{Transport}
-use Rattle.bt_base.specs.declared.settings.Transport.TheVariants.{L2cap, Rfcomm}
-use Rattle.bt_base.specs.Objects.{Object}
-use Rattle.obex_headers.specs.declared.packet.Phase.TheVariants.{Request}
-use Rattle.obex_headers.specs.Reading.{packet_in}
-use Rattle.obex_headers.specs.Runs.{names}
-use Rattle.obex_session.specs.Calls.{session_behind}
-use Rattle.obex_session.specs.InboxCalls.{InboxCall, Answer, come_of}
-use Rattle.obex_session.specs.InboxCalls.{left_by as calls_left}
-use Rattle.obex_session.specs.Laws.{without_fault}
-use Rattle.obex_session.specs.Past.{Serving, open_headers}
-use Rattle.obex_session.specs.Rules.{aborts, progress_in}
-use Rattle.obex_session.specs.Serving.{kind_heard, verdict_or, ruling_on, heard_with}
-use Rattle.obex_session.specs.Turns.{course_after}
-use Rattle.obex_session.specs.Views.{rested, octets_said, is_silent}
-use Rattle.obex_session.proofs.GrantedLaws.{silence_is_none, said_alike, no_aborts}
-use Rattle.rfcomm_frames.specs.FrameReading.{is_empty}
-use Rattle.rfcomm_frames.specs.Frames.{PlainFrame}
-use Rattle.rfcomm_model.specs.Machine.{Mux}
+use Rattle.link_talk.specs.bt_base.specs.declared.settings.Settings.{Settings}
+use Rattle.link_talk.specs.bt_base.specs.declared.settings.Transport.{Transport}
+use Rattle.link_talk.specs.bt_base.specs.declared.settings.Transport.TheVariants.{L2cap, Rfcomm}
+use Rattle.link_talk.specs.bt_base.specs.Objects.{Object}
+use Rattle.push_model.specs.obex_headers.specs.declared.packet.Phase.TheVariants.{Request}
+use Rattle.push_model.specs.obex_headers.specs.Reading.{packet_in}
+use Rattle.push_model.specs.obex_headers.specs.Runs.{names}
+use Rattle.push_model.specs.obex_session.specs.Calls.{session_behind}
+use Rattle.push_model.specs.obex_session.specs.InboxCalls.{InboxCall, Answer, come_of}
+use Rattle.push_model.specs.obex_session.specs.InboxCalls.{left_by as calls_left}
+use Rattle.push_model.specs.obex_session.specs.Laws.{without_fault}
+use Rattle.push_model.specs.obex_session.specs.Past.{Serving, open_headers}
+use Rattle.push_model.specs.obex_session.specs.Rules.{aborts, progress_in}
+use Rattle.push_model.specs.obex_session.specs.Serving.{kind_heard, verdict_or, ruling_on, heard_with}
+use Rattle.push_model.specs.obex_session.specs.Turns.{course_after}
+use Rattle.push_model.specs.obex_session.specs.Views.{rested, octets_said, is_silent}
+use Rattle.push_model.specs.obex_session.proofs.GrantedLaws.{silence_is_none, said_alike, no_aborts}
+use Rattle.push_model.specs.rfcomm_frames.specs.FrameReading.{is_empty}
+use Rattle.push_model.specs.rfcomm_frames.specs.Frames.{PlainFrame}
+use Rattle.push_model.specs.rfcomm_model.specs.Machine.{Mux}
 use Rattle.push_model.specs.declared.outlet.Outlet.{Outlet}
 use Rattle.push_model.specs.declared.outlet.Outlet.TheVariants.{Records, Direct, Muxed}
 use Rattle.push_model.specs.Client.{own_maximum}

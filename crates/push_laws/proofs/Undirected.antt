@@ -1,14 +1,14 @@
 -- A server to which nothing comes over L2CAP: no response waits there, and no object is under way.
 use Rattle.std.proofs.Common.{Bool, true, false, cond, zero, suc, ◌||◌, ◌&&◌, ◌≡◌, ◌==◌, ℕ, List, [], ◌∷◌, ◌++◌, take, Option, Some, None, refl, sym, subst, ◌∙◌}
 use Rattle.std.proofs.lemmas.Bool.{cond_both, cond-false}
-use Rattle.bt_base.specs.declared.settings.Settings.{Settings}
-use Rattle.bt_base.specs.declared.settings.Transport.TheVariants.{L2cap, Rfcomm}
-use Rattle.rfcomm_frames.specs.FrameReading.{is_empty}
-use Rattle.rfcomm_frames.specs.Frames.{PlainFrame}
-use Rattle.rfcomm_model.specs.Hearing as hearing
-use Rattle.rfcomm_model.specs.Hearing.{Up, nothing, opened, bytes, closed, up}
-use Rattle.rfcomm_model.specs.Machine.{leaves, sends, taken_count}
-use Rattle.rfcomm_model.specs.Saying.{Said, next}
+use Rattle.link_talk.specs.bt_base.specs.declared.settings.Settings.{Settings}
+use Rattle.link_talk.specs.bt_base.specs.declared.settings.Transport.TheVariants.{L2cap, Rfcomm}
+use Rattle.push_model.specs.rfcomm_frames.specs.FrameReading.{is_empty}
+use Rattle.push_model.specs.rfcomm_frames.specs.Frames.{PlainFrame}
+use Rattle.push_model.specs.rfcomm_model.specs.Hearing as hearing
+use Rattle.push_model.specs.rfcomm_model.specs.Hearing.{Up, nothing, opened, bytes, closed, up}
+use Rattle.push_model.specs.rfcomm_model.specs.Machine.{leaves, sends, taken_count}
+use Rattle.push_model.specs.rfcomm_model.specs.Saying.{Said, next}
 use Rattle.push_model.specs.declared.outlet.Outlet.{Outlet}
 use Rattle.push_model.specs.declared.outlet.Outlet.TheVariants.{Records, Direct, Muxed}
 use Rattle.push_model.specs.Listening.{Listener, Heeded, Received, heeds_carried, stops, hears_on, hears_front, hears_stream}

@@ -1,18 +1,18 @@
 -- Ahead of the channel of its object a client made no request, and when that opens nothing is left of its search.
 use Rattle.std.proofs.Common.{inl, inr, ◌⊎◌, Bool, true, false, ◌≡◌, ◌==◌, ℕ, ◌-◌, ◌&&◌, ◌||◌, List, [], Option, Some, None, is_some, refl, sym, ap, ◌∙◌, if◌then◌else◌}
 use Rattle.std.specs.Prelude.{not, min, nat_lt}
-use Rattle.rfcomm_frames.specs.FrameReading.{is_empty}
-use Rattle.bt_base.specs.declared.settings.Transport.{Transport}
-use Rattle.bt_base.specs.declared.settings.Transport.TheVariants.{L2cap, Rfcomm}
-use Rattle.push_terms.specs.declared.outcome.Outcome.{Outcome}
-use Rattle.push_terms.specs.declared.outcome.Outcome.TheVariants as outcomes
-use Rattle.obex_session.specs.Asking.{Asking}
-use Rattle.sdp_client.specs.declared.reason.Found.{Found}
-use Rattle.sdp_client.specs.declared.reason.Found.TheVariants.{More, Service, NoService, Refused}
-use Rattle.sdp_client.specs.Asking.{is_due, request_octets, after_request, after_resend}
-use Rattle.sdp_client.specs.Hearing.{found_at, after_reply}
-use Rattle.sdp_elements.specs.declared.target.Target.{Target}
-use Rattle.sdp_elements.specs.Targets.{is_service_psm, is_server_channel}
+use Rattle.push_model.specs.rfcomm_frames.specs.FrameReading.{is_empty}
+use Rattle.link_talk.specs.bt_base.specs.declared.settings.Transport.{Transport}
+use Rattle.link_talk.specs.bt_base.specs.declared.settings.Transport.TheVariants.{L2cap, Rfcomm}
+use Rattle.link_talk.specs.push_terms.specs.declared.outcome.Outcome.{Outcome}
+use Rattle.link_talk.specs.push_terms.specs.declared.outcome.Outcome.TheVariants as outcomes
+use Rattle.push_model.specs.obex_session.specs.Asking.{Asking}
+use Rattle.push_model.specs.sdp_client.specs.declared.reason.Found.{Found}
+use Rattle.push_model.specs.sdp_client.specs.declared.reason.Found.TheVariants.{More, Service, NoService, Refused}
+use Rattle.push_model.specs.sdp_client.specs.Asking.{is_due, request_octets, after_request, after_resend}
+use Rattle.push_model.specs.sdp_client.specs.Hearing.{found_at, after_reply}
+use Rattle.push_model.specs.sdp_elements.specs.declared.target.Target.{Target}
+use Rattle.push_model.specs.sdp_elements.specs.Targets.{is_service_psm, is_server_channel}
 use Rattle.push_model.specs.declared.closing.CloseCause.{CloseCause}
 use Rattle.push_model.specs.declared.course.Contact.TheVariants.{Unmet}
 use Rattle.push_model.specs.declared.course.Point.TheVariants.{Due, Asked}

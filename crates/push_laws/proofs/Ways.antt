@@ -2,19 +2,19 @@
 use Rattle.std.proofs.Common.{Bool, true, false, cond, ◌≡◌, ℕ, ◌&&◌, ◌||◌, ◌⊎◌, inl, inr, List, [], ◌∷◌, ◌++◌, length, Option, Some, None, refl, sym, ap, subst, ◌∙◌, arith, append-nil, append_assoc}
 use Rattle.std.specs.Prelude.{not}
 use Rattle.std.proofs.lemmas.List.{length-append}
-use Rattle.push_terms.specs.declared.outcome.Outcome.{Outcome}
-use Rattle.obex_session.specs.declared.client.Answered.{Answered}
-use Rattle.obex_session.specs.declared.client.Answered.TheVariants.{Go, Done, Refused, Bad, Srmp}
-use Rattle.obex_session.specs.Asking.{Asking}
-use Rattle.obex_session.specs.NextPut.{is_waiting}
-use Rattle.obex_session.specs.Past.{Serving}
-use Rattle.obex_session.specs.Views.{is_silent, answer_at, after_at}
-use Rattle.obex_session.proofs.ModeLaws.{heard, response_to}
+use Rattle.link_talk.specs.push_terms.specs.declared.outcome.Outcome.{Outcome}
+use Rattle.push_model.specs.obex_session.specs.declared.client.Answered.{Answered}
+use Rattle.push_model.specs.obex_session.specs.declared.client.Answered.TheVariants.{Go, Done, Refused, Bad, Srmp}
+use Rattle.push_model.specs.obex_session.specs.Asking.{Asking}
+use Rattle.push_model.specs.obex_session.specs.NextPut.{is_waiting}
+use Rattle.push_model.specs.obex_session.specs.Past.{Serving}
+use Rattle.push_model.specs.obex_session.specs.Views.{is_silent, answer_at, after_at}
+use Rattle.push_model.specs.obex_session.proofs.ModeLaws.{heard, response_to}
 use Rattle.push_model.specs.declared.course.Contact.{Contact}
 use Rattle.push_model.specs.declared.course.Contact.TheVariants.{Unmet, Met, Left, Closing}
 use Rattle.push_model.specs.Client.{Client, ends, ends_by}
 use Rattle.push_model.specs.Responding.{met, takes, is_success, is_early, hears_answer, hears_response}
-use Rattle.rfcomm_frames.specs.FrameReading.{is_empty}
+use Rattle.push_model.specs.rfcomm_frames.specs.FrameReading.{is_empty}
 use Rattle.push_laws.specs.Parties.{Pipes}
 use Rattle.push_laws.proofs.Flows.{Settled, Readies, Flows}
 

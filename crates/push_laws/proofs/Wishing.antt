@@ -1,24 +1,24 @@
 -- An initiator: it says SABM, or a frame of the user channel, only where none of its commands and no answer to one is under way.
 use Rattle.std.proofs.Common.{arith, Bool, true, false, cond, ◌&&◌, ◌==◌, ◌≡◌, ◌≤◌, ◌<◌, ◌+◌, ◌*◌, ◌-◌, ℕ, List, [], ◌∷◌, Option, Some, None, refl, sym, ap, ap₂, subst, ◌∙◌}
 use Rattle.std.specs.Prelude.{not, nat_lt, is_none}
-use Rattle.rfcomm_frames.specs.declared.frame.MuxKind.{MuxKind}
-use Rattle.rfcomm_frames.specs.declared.frame.MuxKind.TheVariants.{Sabm, Ua, Dm, Disc, Uih}
-use Rattle.rfcomm_frames.specs.declared.connection.Role.{Role}
-use Rattle.rfcomm_frames.specs.declared.connection.Role.TheVariants.{Initiator}
-use Rattle.rfcomm_frames.specs.declared.connection.Dlc.{Dlc}
-use Rattle.rfcomm_frames.specs.declared.connection.Dlc.TheVariants.{Idle, Asked, Open, Ended}
-use Rattle.rfcomm_frames.specs.Frames.{PlainFrame}
-use Rattle.rfcomm_frames.specs.FrameReading.{messages, is_empty}
-use Rattle.rfcomm_frames.specs.Connections.{other_role, turned, asked, agreed, left, is_open, is_ended}
-use Rattle.rfcomm_model.specs.declared.state.MuxReason.{MuxReason}
-use Rattle.rfcomm_model.specs.declared.state.MuxReason.TheVariants as reasons
-use Rattle.rfcomm_model.specs.declared.state.Command.TheVariants.{OpenControl, Agree, OpenUser, Signal, LeaveUser, LeaveControl}
-use Rattle.rfcomm_model.specs.declared.state.Asks.{Asks}
-use Rattle.rfcomm_model.specs.declared.state.Asks.TheVariants.{Nothing, Due, Awaited}
-use Rattle.rfcomm_model.specs.Machine.{Mux, may_pass, is_ready, closes}
-use Rattle.rfcomm_model.specs.Hearing.{control_answered, user_answered, hears_ua, control_refused, user_refused, hears_dm, own_credits, hears_kind, hears_settled, hears_frame}
-use Rattle.rfcomm_model.specs.Saying.{Said, passed_on, says, says_data, says_grant, first_of, says_command, says_answer, next}
-use Rattle.rfcomm_model.specs.Written.{grant_frame, data_frame}
+use Rattle.push_model.specs.rfcomm_frames.specs.declared.frame.MuxKind.{MuxKind}
+use Rattle.push_model.specs.rfcomm_frames.specs.declared.frame.MuxKind.TheVariants.{Sabm, Ua, Dm, Disc, Uih}
+use Rattle.push_model.specs.rfcomm_frames.specs.declared.connection.Role.{Role}
+use Rattle.push_model.specs.rfcomm_frames.specs.declared.connection.Role.TheVariants.{Initiator}
+use Rattle.push_model.specs.rfcomm_frames.specs.declared.connection.Dlc.{Dlc}
+use Rattle.push_model.specs.rfcomm_frames.specs.declared.connection.Dlc.TheVariants.{Idle, Asked, Open, Ended}
+use Rattle.push_model.specs.rfcomm_frames.specs.Frames.{PlainFrame}
+use Rattle.push_model.specs.rfcomm_frames.specs.FrameReading.{messages, is_empty}
+use Rattle.push_model.specs.rfcomm_frames.specs.Connections.{other_role, turned, asked, agreed, left, is_open, is_ended}
+use Rattle.push_model.specs.rfcomm_model.specs.declared.state.MuxReason.{MuxReason}
+use Rattle.push_model.specs.rfcomm_model.specs.declared.state.MuxReason.TheVariants as reasons
+use Rattle.push_model.specs.rfcomm_model.specs.declared.state.Command.TheVariants.{OpenControl, Agree, OpenUser, Signal, LeaveUser, LeaveControl}
+use Rattle.push_model.specs.rfcomm_model.specs.declared.state.Asks.{Asks}
+use Rattle.push_model.specs.rfcomm_model.specs.declared.state.Asks.TheVariants.{Nothing, Due, Awaited}
+use Rattle.push_model.specs.rfcomm_model.specs.Machine.{Mux, may_pass, is_ready, closes}
+use Rattle.push_model.specs.rfcomm_model.specs.Hearing.{control_answered, user_answered, hears_ua, control_refused, user_refused, hears_dm, own_credits, hears_kind, hears_settled, hears_frame}
+use Rattle.push_model.specs.rfcomm_model.specs.Saying.{Said, passed_on, says, says_data, says_grant, first_of, says_command, says_answer, next}
+use Rattle.push_model.specs.rfcomm_model.specs.Written.{grant_frame, data_frame}
 use Rattle.push_laws.specs.Premises.{leaves_or_controls}
 use Rattle.push_laws.proofs.Ordering.{AllPlain, Back, Each, Forth, OfInitiator, Side, Wish, Wishes, answer_of, answers_in, closes_side, command_of, is_still, msc_plain, pn_plain, side_if, uih_side, wishing}
 

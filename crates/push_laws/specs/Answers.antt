@@ -2,14 +2,14 @@
 -- is passed over in silence).
 use Rattle.std.specs.Prelude.{ℕ, ◌≡◌, ◌==◌, ◌&&◌, ◌||◌, Bool, Result, Ok, Err, IfSome, List, [], ◌∷◌, ◌++◌, length, map, slice_index, Option, Some, None, is_some, if◌then◌else◌}
 use Rattle.std.specs.List.{filter_map, cons_option}
-use Rattle.bt_base.specs.declared.settings.Settings.{Settings}
-use Rattle.bt_base.specs.declared.settings.Transport.TheVariants.{L2cap}
-use Rattle.capture.specs.Histories.{EachAfter}
+use Rattle.link_talk.specs.bt_base.specs.declared.settings.Settings.{Settings}
+use Rattle.link_talk.specs.bt_base.specs.declared.settings.Transport.TheVariants.{L2cap}
+use Rattle.link_talk.specs.capture.specs.Histories.{EachAfter}
 use Rattle.link_talk.specs.Gains.{gained}
-use Rattle.obex_headers.specs.declared.packet.Phase.TheVariants.{Request}
-use Rattle.obex_headers.specs.declared.fault.ObexRefusal.{ObexRefusal}
-use Rattle.obex_headers.specs.Packets.{PlainPacket}
-use Rattle.obex_headers.specs.Reading.{packet_in}
+use Rattle.push_model.specs.obex_headers.specs.declared.packet.Phase.TheVariants.{Request}
+use Rattle.push_model.specs.obex_headers.specs.declared.fault.ObexRefusal.{ObexRefusal}
+use Rattle.push_model.specs.obex_headers.specs.Packets.{PlainPacket}
+use Rattle.push_model.specs.obex_headers.specs.Reading.{packet_in}
 use Rattle.link_talk.specs.ObjectsHeard.{put_within, spelled_within}
 use Rattle.push_model.specs.Client.{own_maximum}
 use Rattle.push_model.specs.Server.{Server, object_psm}

@@ -1,13 +1,13 @@
 -- The calls that a server's session makes of its inbox, over any list of packets (Object Push Profile 1.2, 4.3).
 use Rattle.std.specs.Prelude.{ℕ, ◌≡◌, Bool, List, ◌++◌, map}
 use Rattle.std.specs.List.{flat_map}
-use Rattle.bt_base.specs.Objects.{Object}
+use Rattle.link_talk.specs.bt_base.specs.Objects.{Object}
 use Rattle.link_talk.specs.ObjectsHeard.{put_within}
-use Rattle.obex_headers.specs.Runs.{run_headers, FallsInto}
-use Rattle.obex_session.specs.declared.course.Course.TheVariants.{Rests}
-use Rattle.obex_session.specs.Calls.{calls_of, abort_behind, stretch_calls, calls_made, session_behind}
-use Rattle.obex_session.specs.Past.{Serving}
-use Rattle.obex_session.specs.Rules.{aborts, progress_in}
+use Rattle.push_model.specs.obex_headers.specs.Runs.{run_headers, FallsInto}
+use Rattle.push_model.specs.obex_session.specs.declared.course.Course.TheVariants.{Rests}
+use Rattle.push_model.specs.obex_session.specs.Calls.{calls_of, abort_behind, stretch_calls, calls_made, session_behind}
+use Rattle.push_model.specs.obex_session.specs.Past.{Serving}
+use Rattle.push_model.specs.obex_session.specs.Rules.{aborts, progress_in}
 
 abbrev pub new_session : ℕ → Bool → Serving
 new_session maximum offered = record { maximum = maximum; offered = offered; course = Rests }

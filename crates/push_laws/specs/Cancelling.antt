@@ -1,7 +1,7 @@
 -- A push that is under way without a cause may be cancelled until all its PUTs were sent (Object Push Profile 1.2, 4.3).
 use Rattle.std.specs.Prelude.{ℕ, ◌≡◌, Bool, false, List, ◌∷◌, Option, None}
-use Rattle.bt_base.specs.Objects.{Object}
-use Rattle.obex_session.specs.ObjectPuts.{IsWhole}
+use Rattle.link_talk.specs.bt_base.specs.Objects.{Object}
+use Rattle.push_model.specs.obex_session.specs.ObjectPuts.{IsWhole}
 use Rattle.push_model.specs.Client.{Client, is_idle, may_cancel, with_object}
 use Rattle.push_model.specs.Laws.{Deed, all_done}
 use Rattle.push_model.specs.Steps.{connect_octets}

@@ -2,19 +2,19 @@
 -- comes to the other in its order or not at all (RFCOMM 1.2, 5; Object Push Profile 1.2, 4.3).
 use Rattle.std.specs.Prelude.{ℕ, ◌≡◌, ◌==◌, ◌≤◌, ◌<◌, ◌^◌, ◌-◌, ◌||◌, Bool, true, false, List, [], ◌∷◌, ◌++◌, None}
 use Rattle.std.specs.List.{AllByRecursion}
-use Rattle.bt_base.specs.Objects.{Object as Stored}
-use Rattle.bt_base.specs.declared.settings.Settings.{Settings}
-use Rattle.bt_base.specs.declared.settings.Transport.{Transport}
-use Rattle.bt_base.specs.declared.settings.Transport.TheVariants.{Rfcomm}
-use Rattle.obex_session.specs.InboxCalls.{Answer}
+use Rattle.link_talk.specs.bt_base.specs.Objects.{Object as Stored}
+use Rattle.link_talk.specs.bt_base.specs.declared.settings.Settings.{Settings}
+use Rattle.link_talk.specs.bt_base.specs.declared.settings.Transport.{Transport}
+use Rattle.link_talk.specs.bt_base.specs.declared.settings.Transport.TheVariants.{Rfcomm}
+use Rattle.push_model.specs.obex_session.specs.InboxCalls.{Answer}
 use Rattle.push_model.specs.Service.{Service}
-use Rattle.rfcomm_frames.specs.declared.connection.Role.TheVariants.{Initiator, Responder}
-use Rattle.rfcomm_frames.specs.FrameReading.{frame_answer}
-use Rattle.rfcomm_frames.specs.Frames.{PlainFrame}
+use Rattle.push_model.specs.rfcomm_frames.specs.declared.connection.Role.TheVariants.{Initiator, Responder}
+use Rattle.push_model.specs.rfcomm_frames.specs.FrameReading.{frame_answer}
+use Rattle.push_model.specs.rfcomm_frames.specs.Frames.{PlainFrame}
 use Rattle.rfcomm_laws.specs.Links.{AreFrames}
-use Rattle.rfcomm_model.specs.ClosedSides.{IsOrderly}
-use Rattle.rfcomm_model.specs.Machine.{new_mux}
-use Rattle.rfcomm_model.specs.Sides.{AnswerFindsRoom}
+use Rattle.push_model.specs.rfcomm_model.specs.ClosedSides.{IsOrderly}
+use Rattle.push_model.specs.rfcomm_model.specs.Machine.{new_mux}
+use Rattle.push_model.specs.rfcomm_model.specs.Sides.{AnswerFindsRoom}
 use Rattle.push_model.specs.declared.course.Stage.TheVariants.{Object}
 use Rattle.push_model.specs.Client.{Client}
 use Rattle.push_model.specs.Events.{News, LinkUp, LinkFailed, ChannelOpen, ChannelClosed, Sdu, FeaturesTold, FeaturesLost, Timer}

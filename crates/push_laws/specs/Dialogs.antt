@@ -2,13 +2,13 @@
 -- Profile 1.2, 4.3).
 use Rattle.std.specs.Prelude.{◌≡◌, ◌≤◌, ◌<◌, ◌^◌, Some, false, List, [], ◌∷◌}
 use Rattle.std.specs.List.{AllByRecursion}
-use Rattle.bt_base.specs.Objects.{Object as Stored}
-use Rattle.bt_base.specs.declared.settings.Settings.{Settings}
-use Rattle.bt_base.specs.declared.settings.Transport.TheVariants.{Rfcomm}
-use Rattle.obex_session.specs.InboxCalls.{Answer}
-use Rattle.rfcomm_frames.specs.declared.connection.Role.TheVariants.{Initiator}
-use Rattle.rfcomm_model.specs.Machine.{Mux}
-use Rattle.sdp_elements.specs.declared.target.Target.{Target}
+use Rattle.link_talk.specs.bt_base.specs.Objects.{Object as Stored}
+use Rattle.link_talk.specs.bt_base.specs.declared.settings.Settings.{Settings}
+use Rattle.link_talk.specs.bt_base.specs.declared.settings.Transport.TheVariants.{Rfcomm}
+use Rattle.push_model.specs.obex_session.specs.InboxCalls.{Answer}
+use Rattle.push_model.specs.rfcomm_frames.specs.declared.connection.Role.TheVariants.{Initiator}
+use Rattle.push_model.specs.rfcomm_model.specs.Machine.{Mux}
+use Rattle.push_model.specs.sdp_elements.specs.declared.target.Target.{Target}
 use Rattle.push_model.specs.Client.{Client, own_maximum}
 use Rattle.push_model.specs.Laws.{Deed, all_done}
 use Rattle.push_model.specs.Server.{Reacted, object_psm, server_channel}

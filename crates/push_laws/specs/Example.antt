@@ -1,10 +1,10 @@
 -- One push over RFCOMM as its SDUs come and go, from the first frame on (RFCOMM 1.2, 5 and 6.5; TS 07.10, 5.2.1 and 5.4.6.2;
 -- IrOBEX 1.5, 3.4.3): what the laws of a server ask for is met by a list with an object on the user channel.
 use Rattle.std.specs.Prelude.{ℕ, ◌≡◌, List, [], ◌∷◌, ◌++◌, Err}
-use Rattle.bt_base.specs.declared.ports.PortFault.TheVariants.{Failed}
-use Rattle.bt_base.specs.declared.settings.Settings.{Settings}
-use Rattle.bt_base.specs.Objects.{Object}
-use Rattle.bt_base.specs.PlainSettings.{IsPlain}
+use Rattle.link_talk.specs.bt_base.specs.declared.ports.PortFault.TheVariants.{Failed}
+use Rattle.link_talk.specs.bt_base.specs.declared.settings.Settings.{Settings}
+use Rattle.link_talk.specs.bt_base.specs.Objects.{Object}
+use Rattle.link_talk.specs.bt_base.specs.PlainSettings.{IsPlain}
 use Rattle.push_model.specs.Server.{rfcomm_psm}
 use Rattle.push_laws.specs.Occurrences.{Occurrence, Came, Went, Asked, Answering}
 use Rattle.push_laws.specs.Gains.{objects}

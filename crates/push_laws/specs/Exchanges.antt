@@ -2,7 +2,7 @@
 -- object (IrOBEX 1.5, 3.2; Generic Object Exchange Profile 2.1, 4.6, for the PUTs of single response mode, of which more
 -- follow before the response). Over RFCOMM it says only that an SDU came since.
 use Rattle.std.specs.Prelude.{ℕ, ◌≡◌, ◌==◌, ◌&&◌, Bool, true, false, List, [], ◌∷◌, if◌then◌else◌}
-use Rattle.obex_session.specs.NextPut.{is_waiting}
+use Rattle.push_model.specs.obex_session.specs.NextPut.{is_waiting}
 use Rattle.push_model.specs.Client.{Client, with_object}
 use Rattle.push_model.specs.Events.{News, LinkUp, LinkDown, LinkFailed, ChannelOpen, ChannelClosed, Sdu, FeaturesTold, FeaturesLost, Timer}
 use Rattle.push_model.specs.Laws.{Deed, Hears, Asks, Finishes, Cancels, done}

@@ -2,16 +2,16 @@
 -- failed, or that was ignored, counts as a refused PUT (this project's own).
 use Rattle.std.specs.Prelude.{ℕ, ◌+◌, ◌-◌, ◌||◌, Bool, false, List, [], ◌∷◌, ◌++◌, map, sum_by, is_err, if◌then◌else◌}
 use Rattle.std.specs.List.{list_any}
-use Rattle.bt_base.specs.declared.settings.Settings.{Settings}
-use Rattle.bt_base.specs.declared.settings.Transport.{Transport}
-use Rattle.bt_base.specs.declared.settings.Transport.TheVariants.{L2cap, Rfcomm}
-use Rattle.bt_base.specs.Objects.{Object}
-use Rattle.capture.specs.Histories.{given_by}
+use Rattle.link_talk.specs.bt_base.specs.declared.settings.Settings.{Settings}
+use Rattle.link_talk.specs.bt_base.specs.declared.settings.Transport.{Transport}
+use Rattle.link_talk.specs.bt_base.specs.declared.settings.Transport.TheVariants.{L2cap, Rfcomm}
+use Rattle.link_talk.specs.bt_base.specs.Objects.{Object}
+use Rattle.link_talk.specs.capture.specs.Histories.{given_by}
 use Rattle.link_talk.specs.Gains.{gained}
-pub use Rattle.obex_session.specs.Counting.{faults_of}
-use Rattle.obex_session.specs.InboxCalls.{Answer, come_of}
-use Rattle.obex_session.specs.Past.{Heard, stored_by}
-use Rattle.obex_session.specs.Serving.{ruling_on}
+pub use Rattle.push_model.specs.obex_session.specs.Counting.{faults_of}
+use Rattle.push_model.specs.obex_session.specs.InboxCalls.{Answer, come_of}
+use Rattle.push_model.specs.obex_session.specs.Past.{Heard, stored_by}
+use Rattle.push_model.specs.obex_session.specs.Serving.{ruling_on}
 use Rattle.push_model.specs.Client.{own_maximum}
 use Rattle.push_model.specs.Service.{Service, is_ignored}
 use Rattle.push_model.specs.Sessions.{session_of}

@@ -1,3 +1,6 @@
+pub use Rattle.link_talk
+pub use Rattle.push_model
+pub use Rattle.rfcomm_laws
 pub mod Occurrences
 pub mod Readings
 pub mod Gains

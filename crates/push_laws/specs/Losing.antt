@@ -2,8 +2,8 @@
 -- this project's own).
 use Rattle.std.specs.Prelude.{ℕ, ◌≡◌, ◌+◌, ◌⊎◌, List, [], ◌∷◌, ◌++◌, Some}
 use Rattle.std.specs.List.{AllByRecursion}
-use Rattle.bt_base.specs.declared.settings.Settings.{Settings}
-use Rattle.bt_base.specs.Objects.{Object}
+use Rattle.link_talk.specs.bt_base.specs.declared.settings.Settings.{Settings}
+use Rattle.link_talk.specs.bt_base.specs.Objects.{Object}
 use Rattle.push_laws.specs.Faults.{spent_from}
 use Rattle.push_laws.specs.Gains.{objects}
 use Rattle.push_laws.specs.Laws.{new_over, stored_in}

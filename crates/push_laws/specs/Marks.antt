@@ -1,8 +1,8 @@
 -- What is said to a packet at which a call of the inbox failed, and to one that stores an object, over either transport (IrOBEX 1.5, 3.2.1).
 use Rattle.std.specs.Prelude.{ℕ, ◌≡◌, true, false, List, [], ◌∷◌, ◌++◌, length, slice_index, if◌then◌else◌}
 use Rattle.std.specs.List.{AllByRecursion}
-use Rattle.bt_base.specs.declared.settings.Settings.{Settings}
-use Rattle.bt_base.specs.declared.settings.Transport.{Transport}
+use Rattle.link_talk.specs.bt_base.specs.declared.settings.Settings.{Settings}
+use Rattle.link_talk.specs.bt_base.specs.declared.settings.Transport.{Transport}
 use Rattle.link_talk.specs.Gains.{gained}
 use Rattle.push_model.specs.Client.{own_maximum}
 use Rattle.push_model.specs.Server.{Reacted}

@@ -1,10 +1,10 @@
 -- What happens to a server of Object Push, one thing after the other: what comes and goes on its channels, what is closed,
 -- and what its inbox answers (Object Push Profile 1.2, 4.3).
 use Rattle.std.specs.Prelude.{ℕ, ◌≡◌, List, [], ◌∷◌, Option, Some}
-use Rattle.bt_base.specs.declared.settings.Settings.{Settings}
-use Rattle.bt_base.specs.Objects.{Contents}
-use Rattle.bt_base.specs.Octets.{IsOctets}
-use Rattle.obex_session.specs.InboxCalls.{Answer}
+use Rattle.link_talk.specs.bt_base.specs.declared.settings.Settings.{Settings}
+use Rattle.link_talk.specs.bt_base.specs.Objects.{Contents}
+use Rattle.link_talk.specs.bt_base.specs.Octets.{IsOctets}
+use Rattle.push_model.specs.obex_session.specs.InboxCalls.{Answer}
 use Rattle.push_model.specs.Sessions.{Gift}
 use Rattle.push_model.specs.Payloads.{IsSaid}
 use Rattle.push_model.specs.Server.{Server, Reacted, Lent, new_server, on_sdu, channel_down, link_down, lends, lent_sdu, stepped}

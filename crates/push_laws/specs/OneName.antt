@@ -2,11 +2,11 @@
 -- pushed over RFCOMM (IrOBEX 1.5, 3.4.3; Object Push Profile 1.2, 4.3).
 use Rattle.std.specs.Prelude.{ℕ, ◌≡◌, ◌≤◌, ◌+◌, ◌⊎◌, List, [], ◌∷◌, ◌++◌, Option, Some, None}
 use Rattle.std.specs.List.{AllByRecursion}
-use Rattle.bt_base.specs.declared.settings.Settings.{Settings}
-use Rattle.bt_base.specs.declared.settings.Transport.{Transport}
-use Rattle.bt_base.specs.Objects.{Object}
-use Rattle.obex_headers.specs.Packets.{PlainPacket}
-use Rattle.obex_headers.specs.Runs.{names}
+use Rattle.link_talk.specs.bt_base.specs.declared.settings.Settings.{Settings}
+use Rattle.link_talk.specs.bt_base.specs.declared.settings.Transport.{Transport}
+use Rattle.link_talk.specs.bt_base.specs.Objects.{Object}
+use Rattle.push_model.specs.obex_headers.specs.Packets.{PlainPacket}
+use Rattle.push_model.specs.obex_headers.specs.Runs.{names}
 use Rattle.link_talk.specs.ObjectsHeard.{put_within}
 use Rattle.push_model.specs.Client.{own_maximum}
 use Rattle.push_model.specs.Sessions.{other_of}

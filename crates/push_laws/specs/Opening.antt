@@ -2,12 +2,12 @@
 -- 4.7; Generic Object Exchange Profile 2.1, 4.4: over L2CAP the peer is asked first what it supports).
 use Rattle.std.specs.Prelude.{ℕ, ◌≡◌, ◌≤◌, ◌*◌, ◌==◌, ◌&&◌, true, Option, Some, None, List, [], ◌∷◌, ◌++◌, length, if◌then◌else◌}
 use Rattle.std.specs.List.{filter_map, flat_map}
-use Rattle.bt_base.specs.declared.settings.Transport.{Transport}
-use Rattle.bt_base.specs.declared.settings.Transport.TheVariants.{L2cap, Rfcomm}
-use Rattle.sdp_elements.specs.declared.target.Target.{Target}
-use Rattle.sdp_client.specs.declared.reason.Found.{Found}
-use Rattle.sdp_client.specs.declared.reason.Found.TheVariants.{More, Service, NoService, Refused}
-use Rattle.sdp_client.specs.Hearing.{found_at}
+use Rattle.link_talk.specs.bt_base.specs.declared.settings.Transport.{Transport}
+use Rattle.link_talk.specs.bt_base.specs.declared.settings.Transport.TheVariants.{L2cap, Rfcomm}
+use Rattle.push_model.specs.sdp_elements.specs.declared.target.Target.{Target}
+use Rattle.push_model.specs.sdp_client.specs.declared.reason.Found.{Found}
+use Rattle.push_model.specs.sdp_client.specs.declared.reason.Found.TheVariants.{More, Service, NoService, Refused}
+use Rattle.push_model.specs.sdp_client.specs.Hearing.{found_at}
 use Rattle.push_model.specs.Client.{Client, with_object}
 use Rattle.push_model.specs.Events.{News, LinkUp, LinkDown, LinkFailed, ChannelOpen, ChannelClosed, Sdu, FeaturesTold, FeaturesLost, Timer, is_search, search_psm, rfcomm_psm}
 use Rattle.push_model.specs.Laws.{Deed, Hears, Asks, Finishes, Cancels, done, all_done}

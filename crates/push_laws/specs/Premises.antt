@@ -2,25 +2,25 @@
 -- project's own).
 use Rattle.std.specs.Prelude.{ℕ, ◌≡◌, ◌==◌, ◌≤◌, ◌&&◌, ◌||◌, nat_lt, Bool, true, false, List, [], ◌∷◌, ◌++◌, length, Option, Some, None, Ok, Err}
 use Rattle.std.specs.List.{AllByRecursion}
-use Rattle.bt_base.specs.declared.ports.PortFault.TheVariants.{NoMemory}
-use Rattle.bt_base.specs.declared.settings.Settings.{Settings}
-use Rattle.bt_base.specs.declared.settings.Transport.{Transport}
-use Rattle.bt_base.specs.declared.settings.Transport.TheVariants.{Rfcomm}
-use Rattle.obex_headers.specs.declared.packet.Phase.TheVariants.{Request}
-use Rattle.obex_headers.specs.Reading.{packet_in}
-use Rattle.obex_headers.specs.Runs.{names}
-use Rattle.rfcomm_frames.specs.declared.frame.MuxKind.{MuxKind}
-use Rattle.rfcomm_frames.specs.declared.frame.MuxKind.TheVariants.{Sabm, Ua, Dm, Disc, Uih}
-use Rattle.rfcomm_frames.specs.Answers.{Answer as Read}
-use Rattle.rfcomm_frames.specs.Frames.{PlainFrame, carries}
-use Rattle.rfcomm_frames.specs.FrameReading.{frame_answer}
-use Rattle.rfcomm_model.specs.Sides.{AnswerFindsRoom}
-use Rattle.rfcomm_model.specs.ClosedSides.{IsOrderly}
-use Rattle.obex_session.specs.InboxCalls.{Answer}
-use Rattle.obex_session.specs.Laws.{without_fault}
-use Rattle.obex_session.specs.Marks.{kind_of}
-use Rattle.obex_session.specs.Past.{open_headers}
-use Rattle.obex_session.specs.Serving.{has_name}
+use Rattle.link_talk.specs.bt_base.specs.declared.ports.PortFault.TheVariants.{NoMemory}
+use Rattle.link_talk.specs.bt_base.specs.declared.settings.Settings.{Settings}
+use Rattle.link_talk.specs.bt_base.specs.declared.settings.Transport.{Transport}
+use Rattle.link_talk.specs.bt_base.specs.declared.settings.Transport.TheVariants.{Rfcomm}
+use Rattle.push_model.specs.obex_headers.specs.declared.packet.Phase.TheVariants.{Request}
+use Rattle.push_model.specs.obex_headers.specs.Reading.{packet_in}
+use Rattle.push_model.specs.obex_headers.specs.Runs.{names}
+use Rattle.push_model.specs.rfcomm_frames.specs.declared.frame.MuxKind.{MuxKind}
+use Rattle.push_model.specs.rfcomm_frames.specs.declared.frame.MuxKind.TheVariants.{Sabm, Ua, Dm, Disc, Uih}
+use Rattle.push_model.specs.rfcomm_frames.specs.Answers.{Answer as Read}
+use Rattle.push_model.specs.rfcomm_frames.specs.Frames.{PlainFrame, carries}
+use Rattle.push_model.specs.rfcomm_frames.specs.FrameReading.{frame_answer}
+use Rattle.push_model.specs.rfcomm_model.specs.Sides.{AnswerFindsRoom}
+use Rattle.push_model.specs.rfcomm_model.specs.ClosedSides.{IsOrderly}
+use Rattle.push_model.specs.obex_session.specs.InboxCalls.{Answer}
+use Rattle.push_model.specs.obex_session.specs.Laws.{without_fault}
+use Rattle.push_model.specs.obex_session.specs.Marks.{kind_of}
+use Rattle.push_model.specs.obex_session.specs.Past.{open_headers}
+use Rattle.push_model.specs.obex_session.specs.Serving.{has_name}
 use Rattle.link_talk.specs.Gains.{gained}
 use Rattle.push_model.specs.Client.{own_maximum}
 use Rattle.push_model.specs.Sessions.{session_of, other_of, has_object, is_naming}

@@ -2,13 +2,13 @@
 -- RFCOMM 1.2, 5). They are read off what came and went alone.
 use Rattle.std.specs.Prelude.{ℕ, ◌==◌, Bool, true, false, List, [], ◌∷◌, ◌++◌, Option, Some, None, if◌then◌else◌}
 use Rattle.std.specs.List.{filter_map}
-use Rattle.bt_base.specs.declared.settings.Transport.{Transport}
-use Rattle.bt_base.specs.declared.settings.Transport.TheVariants.{L2cap, Rfcomm}
-use Rattle.rfcomm_frames.specs.declared.connection.Role.{Role}
-use Rattle.rfcomm_frames.specs.declared.connection.Role.TheVariants.{Initiator, Responder}
-use Rattle.rfcomm_frames.specs.Multiplexing.{Passed}
-use Rattle.rfcomm_frames.specs.UserChannel.{user_octets}
-use Rattle.rfcomm_frames.specs.ObexPackets.{obex_packets}
+use Rattle.link_talk.specs.bt_base.specs.declared.settings.Transport.{Transport}
+use Rattle.link_talk.specs.bt_base.specs.declared.settings.Transport.TheVariants.{L2cap, Rfcomm}
+use Rattle.push_model.specs.rfcomm_frames.specs.declared.connection.Role.{Role}
+use Rattle.push_model.specs.rfcomm_frames.specs.declared.connection.Role.TheVariants.{Initiator, Responder}
+use Rattle.push_model.specs.rfcomm_frames.specs.Multiplexing.{Passed}
+use Rattle.push_model.specs.rfcomm_frames.specs.UserChannel.{user_octets}
+use Rattle.push_model.specs.rfcomm_frames.specs.ObexPackets.{obex_packets}
 use Rattle.push_model.specs.Server.{object_psm, rfcomm_psm}
 use Rattle.push_laws.specs.Occurrences.{Occurrence, Came, Went, Closed, LinkDown, Asked, Answering}
 

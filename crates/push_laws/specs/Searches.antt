@@ -2,13 +2,13 @@
 -- record names, and the channel that it opens for its object is that one (Core 5.1, Volume 3 Part B, 4.7; Object Push Profile 1.2, 5).
 use Rattle.std.specs.Prelude.{ℕ, ◌≡◌, ◌==◌, ◌≤◌, ◌<◌, ◌^◌, ◌⊎◌, false, Option, List, [], ◌∷◌, ◌++◌, length, if◌then◌else◌}
 use Rattle.std.specs.List.{All, AllByRecursion, Contains}
-use Rattle.bt_base.specs.Objects.{Contents, Object as Stored}
-use Rattle.bt_base.specs.declared.settings.Settings.{Settings}
-use Rattle.bt_base.specs.declared.settings.Transport.TheVariants.{Rfcomm}
-use Rattle.obex_session.specs.InboxCalls.{Answer}
-use Rattle.obex_session.specs.PutPackets.{units_in}
-use Rattle.rfcomm_frames.specs.declared.connection.Role.TheVariants.{Initiator}
-use Rattle.sdp_client.specs.Laws.{served_target}
+use Rattle.link_talk.specs.bt_base.specs.Objects.{Contents, Object as Stored}
+use Rattle.link_talk.specs.bt_base.specs.declared.settings.Settings.{Settings}
+use Rattle.link_talk.specs.bt_base.specs.declared.settings.Transport.TheVariants.{Rfcomm}
+use Rattle.push_model.specs.obex_session.specs.InboxCalls.{Answer}
+use Rattle.push_model.specs.obex_session.specs.PutPackets.{units_in}
+use Rattle.push_model.specs.rfcomm_frames.specs.declared.connection.Role.TheVariants.{Initiator}
+use Rattle.push_model.specs.sdp_client.specs.Laws.{served_target}
 use Rattle.push_model.specs.Client.{Client, new_client, with_object}
 use Rattle.push_model.specs.Events.{News, LinkUp, LinkFailed, ChannelOpen, ChannelClosed, Sdu, FeaturesTold, FeaturesLost, Timer, search_psm}
 use Rattle.push_model.specs.Events as news

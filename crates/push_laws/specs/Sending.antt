@@ -1,19 +1,19 @@
 -- What a client of Object Push asks of its server in one push (IrOBEX 1.5, 3.4; Object Push Profile 1.2, 4.3): each request
 -- as a packet, in the order in which they go to the channel of the object.
 use Rattle.std.specs.Prelude.{ℕ, ◌≡◌, ◌<◌, ◌≤◌, ◌^◌, ◌⊎◌, ◌||◌, ◌&&◌, Bool, true, false, List, [], ◌∷◌, ◌++◌, length, take, Option, Some, None, Result, Ok, Err, IfSome, if◌then◌else◌}
-use Rattle.bt_base.specs.declared.ports.PortFault.{PortFault}
-use Rattle.bt_base.specs.declared.settings.Transport.{Transport}
-use Rattle.bt_base.specs.declared.settings.Transport.TheVariants.{L2cap, Rfcomm}
-use Rattle.bt_base.specs.Objects.{Object, octets_of, HasAt}
-use Rattle.push_terms.specs.declared.outcome.Outcome.{Outcome}
-use Rattle.push_terms.specs.declared.outcome.Outcome.TheVariants.{Done, Cancelled}
-use Rattle.rfcomm_model.specs.Saying.{Said, next}
-use Rattle.obex_headers.specs.Runs.{spelled}
-use Rattle.obex_session.specs.Asking.{Asking}
-use Rattle.obex_session.specs.NextPut.{put_request}
-use Rattle.obex_session.specs.ObjectPuts.{HasPut, IsWhole}
-use Rattle.obex_session.specs.PutPackets.{units_in, place_of}
-use Rattle.obex_session.specs.Pushes.{Fits}
+use Rattle.link_talk.specs.bt_base.specs.declared.ports.PortFault.{PortFault}
+use Rattle.link_talk.specs.bt_base.specs.declared.settings.Transport.{Transport}
+use Rattle.link_talk.specs.bt_base.specs.declared.settings.Transport.TheVariants.{L2cap, Rfcomm}
+use Rattle.link_talk.specs.bt_base.specs.Objects.{Object, octets_of, HasAt}
+use Rattle.link_talk.specs.push_terms.specs.declared.outcome.Outcome.{Outcome}
+use Rattle.link_talk.specs.push_terms.specs.declared.outcome.Outcome.TheVariants.{Done, Cancelled}
+use Rattle.push_model.specs.rfcomm_model.specs.Saying.{Said, next}
+use Rattle.push_model.specs.obex_headers.specs.Runs.{spelled}
+use Rattle.push_model.specs.obex_session.specs.Asking.{Asking}
+use Rattle.push_model.specs.obex_session.specs.NextPut.{put_request}
+use Rattle.push_model.specs.obex_session.specs.ObjectPuts.{HasPut, IsWhole}
+use Rattle.push_model.specs.obex_session.specs.PutPackets.{units_in, place_of}
+use Rattle.push_model.specs.obex_session.specs.Pushes.{Fits}
 use Rattle.push_model.specs.Client.{Client, may_cancel, with_object}
 use Rattle.push_model.specs.Laws.{Deed, Hears, Asks, Finishes, Cancels, done, all_done}
 use Rattle.push_model.specs.Payloads.{Payload, Octets, Framed}

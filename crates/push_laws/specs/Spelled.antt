@@ -2,9 +2,9 @@
 -- IrOBEX 1.5, 3.4).
 use Rattle.std.specs.Prelude.{ℕ, ◌≡◌, ◌<◌, ◌^◌, ◌⊎◌, List, [], ◌∷◌, ◌++◌, length, Option, Some, None}
 use Rattle.std.specs.List.{AllByRecursion, flat_map}
-use Rattle.bt_base.specs.declared.settings.Settings.{Settings}
-use Rattle.bt_base.specs.Objects.{Object, octets_of}
-use Rattle.obex_session.specs.PutPackets.{units_in}
+use Rattle.link_talk.specs.bt_base.specs.declared.settings.Settings.{Settings}
+use Rattle.link_talk.specs.bt_base.specs.Objects.{Object, octets_of}
+use Rattle.push_model.specs.obex_session.specs.PutPackets.{units_in}
 use Rattle.push_model.specs.Laws.{Deed}
 use Rattle.push_laws.specs.Gains.{objects}
 use Rattle.push_laws.specs.Laws.{new_over}

@@ -1,18 +1,18 @@
 -- A push is done exactly where the final PUT of its object is answered with success (IrOBEX 1.5, 3.2.1 and 3.3.3; Object Push
 -- Profile 1.2, 4.3).
 use Rattle.std.specs.Prelude.{ℕ, ◌≡◌, true, false, List, ◌∷◌, ◌++◌, Some, None, Ok}
-use Rattle.bt_base.specs.declared.settings.Transport.{Transport}
-use Rattle.bt_base.specs.declared.settings.Transport.TheVariants.{L2cap, Rfcomm}
-use Rattle.push_terms.specs.declared.outcome.Outcome.TheVariants.{Done}
-use Rattle.obex_headers.specs.declared.packet.Phase.TheVariants.{Response}
-use Rattle.obex_headers.specs.Packets.{PlainPacket}
-use Rattle.obex_headers.specs.Reading.{packet_in}
-use Rattle.obex_session.specs.declared.client.Answered.TheVariants.{Go}
-use Rattle.obex_session.specs.Asking.{Asking}
-use Rattle.obex_session.specs.Marks.{marks_of}
-use Rattle.obex_session.specs.NextPut.{put_request}
-use Rattle.obex_session.specs.Views.{answer_at}
-use Rattle.rfcomm_model.specs.Hearing.{bytes, up}
+use Rattle.link_talk.specs.bt_base.specs.declared.settings.Transport.{Transport}
+use Rattle.link_talk.specs.bt_base.specs.declared.settings.Transport.TheVariants.{L2cap, Rfcomm}
+use Rattle.link_talk.specs.push_terms.specs.declared.outcome.Outcome.TheVariants.{Done}
+use Rattle.push_model.specs.obex_headers.specs.declared.packet.Phase.TheVariants.{Response}
+use Rattle.push_model.specs.obex_headers.specs.Packets.{PlainPacket}
+use Rattle.push_model.specs.obex_headers.specs.Reading.{packet_in}
+use Rattle.push_model.specs.obex_session.specs.declared.client.Answered.TheVariants.{Go}
+use Rattle.push_model.specs.obex_session.specs.Asking.{Asking}
+use Rattle.push_model.specs.obex_session.specs.Marks.{marks_of}
+use Rattle.push_model.specs.obex_session.specs.NextPut.{put_request}
+use Rattle.push_model.specs.obex_session.specs.Views.{answer_at}
+use Rattle.push_model.specs.rfcomm_model.specs.Hearing.{bytes, up}
 use Rattle.push_model.specs.declared.course.Stage.TheVariants.{Object}
 use Rattle.push_model.specs.Client.{Client}
 use Rattle.push_model.specs.Events.{News, LinkUp, LinkDown, LinkFailed, ChannelOpen, ChannelClosed, Sdu, FeaturesTold, FeaturesLost, Timer}

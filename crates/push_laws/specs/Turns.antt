@@ -1,12 +1,12 @@
 -- Requests that come one at a time over L2CAP, read off what came and went (IrOBEX 1.5, 3.2: a client sends its next request
 -- behind the response to the one before; Generic Object Exchange Profile 2.1, 4.6, for what is passed over in silence).
 use Rattle.std.specs.Prelude.{ℕ, ◌≡◌, ◌==◌, ◌&&◌, ◌||◌, not, Bool, false, List, [], ◌∷◌, ◌++◌, if◌then◌else◌}
-use Rattle.bt_base.specs.declared.settings.Settings.{Settings}
-use Rattle.bt_base.specs.declared.settings.Transport.TheVariants.{L2cap}
-use Rattle.bt_base.specs.Objects.{Object}
-use Rattle.obex_session.specs.Calls.{session_behind}
-use Rattle.obex_session.specs.Past.{Serving}
-use Rattle.obex_session.specs.Views.{is_silent}
+use Rattle.link_talk.specs.bt_base.specs.declared.settings.Settings.{Settings}
+use Rattle.link_talk.specs.bt_base.specs.declared.settings.Transport.TheVariants.{L2cap}
+use Rattle.link_talk.specs.bt_base.specs.Objects.{Object}
+use Rattle.push_model.specs.obex_session.specs.Calls.{session_behind}
+use Rattle.push_model.specs.obex_session.specs.Past.{Serving}
+use Rattle.push_model.specs.obex_session.specs.Views.{is_silent}
 use Rattle.push_model.specs.Client.{own_maximum}
 use Rattle.push_model.specs.Server.{Reacted, object_psm, rfcomm_psm}
 use Rattle.push_laws.specs.Calls.{new_session}

@@ -1,3 +1,12 @@
+pub use Rattle.rfcomm_frames.specs.check_words
+pub use Rattle.obex_headers
+pub use Rattle.obex_session
+pub use Rattle.rfcomm_model.specs.rfcomm_credits
+pub use Rattle.rfcomm_frames
+pub use Rattle.rfcomm_model
+pub use Rattle.sdp_client
+pub use Rattle.sdp_elements
+pub use Rattle.sdp_server
 pub mod Causes
 pub mod Streams
 pub mod Sessions

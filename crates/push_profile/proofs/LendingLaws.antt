@@ -1,9 +1,9 @@
 -- What a server lends leaves its sessions as they are.
 use Rattle.std.proofs.Common.{◌≡◌, Bool, true, false, ◌&&◌, not, length, Option, Some, None, refl, ◌∙◌, if◌then◌else◌}
-use Rattle.rfcomm_frames.specs.Frames.{PlainFrame}
-use Rattle.rfcomm_frames.specs.FrameReading.{is_empty}
-use Rattle.rfcomm_model.specs.Machine.{is_ready, sends, taken_count}
-use Rattle.rfcomm_model.specs.Saying.{Said, next}
+use Rattle.push_model.specs.rfcomm_frames.specs.Frames.{PlainFrame}
+use Rattle.push_model.specs.rfcomm_frames.specs.FrameReading.{is_empty}
+use Rattle.push_model.specs.rfcomm_model.specs.Machine.{is_ready, sends, taken_count}
+use Rattle.push_model.specs.rfcomm_model.specs.Saying.{Said, next}
 use Rattle.push_model.specs.declared.outlet.Outlet.{Outlet}
 use Rattle.push_model.specs.declared.outlet.Outlet.TheVariants.{Records, Direct, Muxed}
 use Rattle.push_model.specs.Sessions.{Sessions}

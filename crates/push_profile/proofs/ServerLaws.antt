@@ -2,9 +2,9 @@
 use Rattle.std.proofs.Common.{arith, ◌≡◌, ◌≢◌, ℕ, ◌==◌, List, Bool, true, false, not, ◌&&◌, Option, Some, None, is_some, refl, sym, ap, subst, ◌∙◌, if◌then◌else◌}
 use Rattle.bt_base.specs.Objects.{Contents}
 use Rattle.bt_base.specs.declared.settings.Transport.TheVariants.{L2cap, Rfcomm}
-use Rattle.rfcomm_frames.specs.Frames.{PlainFrame}
-use Rattle.rfcomm_model.specs.Hearing.{up, hears}
-use Rattle.rfcomm_model.specs.Saying.{Said, next, after_said}
+use Rattle.push_model.specs.rfcomm_frames.specs.Frames.{PlainFrame}
+use Rattle.push_model.specs.rfcomm_model.specs.Hearing.{up, hears}
+use Rattle.push_model.specs.rfcomm_model.specs.Saying.{Said, next, after_said}
 use Rattle.obex_session.specs.Counting.{Counts}
 use Rattle.push_model.specs.Listening.{heeds}
 use Rattle.push_model.specs.Sessions.{Gift}

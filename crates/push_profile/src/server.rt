@@ -2,7 +2,7 @@
 
 ghost use Rattle.std.specs.Prelude.{◌≡◌, ◌≤◌, [], None, true, false, length, is_err, IfOk, OnOk};
 ghost use Rattle.obex_session.specs.Counting.{counts_of};
-ghost use Rattle.rfcomm_model.specs.Hearing.{up, hears};
+ghost use Rattle.push_model.specs.rfcomm_model.specs.Hearing.{up, hears};
 ghost use Rattle.push_model.specs.Sessions.{is_pending};
 ghost use Rattle.push_model.specs.Server.{new_server, hears_search, hears_octets, hears_up, hears_on, on_sdu, remuxed, unanswered, unreplied, unlent, lets_go_on, closed_on, channel_down, link_down, stepped};
 ghost use Rattle.push_profile.specs.Reactions.{Comes};

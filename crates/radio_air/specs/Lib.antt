@@ -1,3 +1,4 @@
+pub use Rattle.acl_credits
 pub mod Rings
 pub mod Fates
 pub mod Words

@@ -9,12 +9,12 @@ use Rattle.push_terms.specs.declared.word.Word.{Word}
 use Rattle.capture.specs.Entries.{Begun, Ended, entry_octets, capture_octets}
 use Rattle.radio_air.specs.Controllers.{Controller, is_empty}
 use Rattle.radio_air.specs.Radio.{is_idle}
-use Rattle.world_model.specs.Machines.{Upper, Opening}
-use Rattle.world_model.specs.Stations.{Station, told}
-use Rattle.world_model.specs.Worlds.{Happening, Opens, Closes, entries_of, words_in, all_entries, all_words}
+use Rattle.room_laws.specs.world_model.specs.Machines.{Upper, Opening}
+use Rattle.room_laws.specs.world_model.specs.Stations.{Station, told}
+use Rattle.room_laws.specs.world_model.specs.Worlds.{Happening, Opens, Closes, entries_of, words_in, all_entries, all_words}
 use Rattle.radio_world.specs.Hosts.{Asking, answering, JoinAnswers}
 use Rattle.radio_world.specs.Leaving.{in_radio}
-use Rattle.world_model.specs.Pushes.{Pushes}
+use Rattle.room_laws.specs.world_model.specs.Pushes.{Pushes}
 use Rattle.radio_world.specs.Halves.{happenings_of}
 use Rattle.radio_world.specs.Scenes.{Scene, Moment, world_at, Plays, Stage, stage, moment_of, Advances, Begins, Ends}
 use Rattle.radio_world.specs.Counting.{one_if, GoesBy, AdvancesBy}

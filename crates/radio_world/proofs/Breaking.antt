@@ -8,8 +8,8 @@ use Rattle.push_terms.specs.declared.word.Side.{Side}
 use Rattle.capture.specs.declared.flow.Flow.TheVariants.{Into}
 use Rattle.capture.specs.Entries.{Entry, Moved, entry_octets, capture_octets, IsEntry}
 use Rattle.radio_air.specs.Radio.{after_answer}
-use Rattle.world_model.specs.Machines.{Upper}
-use Rattle.world_model.specs.Stations.{Order}
+use Rattle.room_laws.specs.world_model.specs.Machines.{Upper}
+use Rattle.room_laws.specs.world_model.specs.Stations.{Order}
 use Rattle.radio_world.specs.Hosts.{Asking, answering, Coming, coming_packet, hears_coming, JoinAnswers, acl_limit, AreSent}
 use Rattle.radio_world.specs.Leaving.{Medium, in_radio, after_all, after_leaving, leaving_entry, leaving_entries, BreaksOff}
 use Rattle.radio_world.specs.Halves.{Half, Leaving, Entering, ComesFirst, half_of, Goes}

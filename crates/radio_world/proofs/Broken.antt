@@ -8,10 +8,10 @@ use Rattle.push_terms.specs.declared.word.Side.TheVariants.{A, B}
 use Rattle.push_terms.specs.declared.word.Word.{Word}
 use Rattle.capture.specs.Entries.{Entry, Acted, Begun, Ended, entry_octets, capture_octets}
 use Rattle.radio_air.specs.Radio.{found, is_idle, after_deed}
-use Rattle.world_model.specs.Machines.{Upper, Opening}
-use Rattle.world_model.specs.Pushes.{one_begun, one_ended}
-use Rattle.world_model.specs.Stations.{told}
-use Rattle.world_model.specs.Worlds.{World, Turns, Opens, Closes, IsAtRest, all_words}
+use Rattle.room_laws.specs.world_model.specs.Machines.{Upper, Opening}
+use Rattle.room_laws.specs.world_model.specs.Pushes.{one_begun, one_ended}
+use Rattle.room_laws.specs.world_model.specs.Stations.{told}
+use Rattle.room_laws.specs.world_model.specs.Worlds.{World, Turns, Opens, Closes, IsAtRest, all_words}
 use Rattle.radio_world.specs.Hosts.{Asking, answering, JoinAnswers}
 use Rattle.radio_world.specs.Leaving.{in_radio}
 use Rattle.radio_world.specs.Halves.{happenings_of, half_of}

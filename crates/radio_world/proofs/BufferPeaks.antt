@@ -5,9 +5,9 @@ use Rattle.std.proofs.lemmas.Bool.{eq-eqb, leb-true}
 use Rattle.std.proofs.lemmas.List.{append-nil}
 use Rattle.std.proofs.lemmas.Grind.{flat_map-append}
 use Rattle.h4_framing.specs.Packets.{Packet, Command, Acl, Sync, Event}
-use Rattle.hci_packets.specs.Events.{event_refusal}
-use Rattle.hci_packets.specs.Events.{entries_of as returned_in}
-use Rattle.acl_credits.specs.Histories.{BufferEvent, Completed, outstanding_after}
+use Rattle.room_laws.specs.hci_packets.specs.Events.{event_refusal}
+use Rattle.room_laws.specs.hci_packets.specs.Events.{entries_of as returned_in}
+use Rattle.room_laws.specs.acl_credits.specs.Histories.{BufferEvent, Completed, outstanding_after}
 use Rattle.push_terms.specs.declared.word.Side.{Side}
 use Rattle.push_terms.specs.declared.word.Side.TheVariants.{A, B}
 use Rattle.capture.specs.declared.flow.Flow.TheVariants.{Out, Into}
@@ -22,14 +22,14 @@ use Rattle.capture.proofs.FurtherLaws.{entry_links-more, peak-more}
 use Rattle.radio_air.specs.Controllers.{Controller}
 use Rattle.radio_air.specs.Owed.{back, outstanding_at}
 use Rattle.radio_air.specs.Radio.{Radio, controller}
-use Rattle.world_model.specs.Machines.{Upper}
-use Rattle.world_model.specs.Stations.{Order, order_packet}
-use Rattle.world_model.specs.Worlds.{World, Happening, Tries, Departure, GivingBack, Piecemeal, Answering, Turns, Misses, Opens, Closes, Runs, all_entries, entries_of, first_world}
-use Rattle.turn_laws.specs.WorldLaws.{Fits}
-use Rattle.air_laws.proofs.Accounting.{Account, account_within}
-use Rattle.air_laws.proofs.Balancing.{booked_all}
-use Rattle.air_laws.proofs.Following.{runs_then}
-use Rattle.air_laws.proofs.Owing.{keeps_of}
+use Rattle.room_laws.specs.world_model.specs.Machines.{Upper}
+use Rattle.room_laws.specs.world_model.specs.Stations.{Order, order_packet}
+use Rattle.room_laws.specs.world_model.specs.Worlds.{World, Happening, Tries, Departure, GivingBack, Piecemeal, Answering, Turns, Misses, Opens, Closes, Runs, all_entries, entries_of, first_world}
+use Rattle.room_laws.specs.turn_laws.specs.WorldLaws.{Fits}
+use Rattle.room_laws.specs.air_laws.proofs.Accounting.{Account, account_within}
+use Rattle.room_laws.specs.air_laws.proofs.Balancing.{booked_all}
+use Rattle.room_laws.specs.air_laws.proofs.Following.{runs_then}
+use Rattle.room_laws.specs.air_laws.proofs.Owing.{keeps_of}
 use Rattle.radio_world.specs.BufferPeaks.{BufferPeaksAreSeen}
 use Rattle.radio_world.specs.Leaving.{Medium, in_radio, noted, outstanding_now}
 use Rattle.radio_world.specs.Scenes.{Moment, world_at, Happens, Plays, noted_of}

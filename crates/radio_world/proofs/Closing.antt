@@ -8,7 +8,7 @@ use Rattle.bt_base.proofs.PortLaws.{gained-nil}
 use Rattle.push_terms.specs.declared.outcome.Outcome.{Outcome}
 use Rattle.push_terms.specs.declared.outcome.Outcome.TheVariants.{ScriptEnded}
 use Rattle.capture.specs.Entries.{Ended, IsEntry, entry_octets, capture_octets}
-use Rattle.world_model.specs.Pushes.{Pushes, one_ended}
+use Rattle.room_laws.specs.world_model.specs.Pushes.{Pushes, one_ended}
 use Rattle.radio_world.specs.Scenes.{Scene}
 use Rattle.radio_world.specs.Standing.{last_ended, last_entries}
 

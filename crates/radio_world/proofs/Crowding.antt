@@ -11,10 +11,10 @@ use Rattle.capture.specs.Entries.{capture_octets, IsEntry}
 use Rattle.radio_air.specs.Owed.{owes_many}
 use Rattle.radio_air.specs.Queues.{is_crowded}
 use Rattle.radio_air.specs.Radio.{Radio}
-use Rattle.world_model.specs.Machines.{Upper}
-use Rattle.world_model.specs.Stations.{Order, Station}
-use Rattle.world_model.specs.Worlds.{Happening, after_order}
-use Rattle.rest_laws.specs.Premises.{AreOrderly}
+use Rattle.room_laws.specs.world_model.specs.Machines.{Upper}
+use Rattle.room_laws.specs.world_model.specs.Stations.{Order, Station}
+use Rattle.room_laws.specs.world_model.specs.Worlds.{Happening, after_order}
+use Rattle.room_laws.specs.rest_laws.specs.Premises.{AreOrderly}
 use Rattle.room_laws.specs.Rooms.{OwesNoneBack, PutsOut, HasRoom}
 use Rattle.room_laws.proofs.Rooming.{few_are_owed, room_is_left}
 use Rattle.radio_world.specs.Hosts.{Asking, answering, JoinAnswers}

@@ -10,7 +10,7 @@ use Rattle.h4_framing.specs.declared.unit.Unit.{Unit}
 use Rattle.h4_framing.specs.Leading.{IsLeading}
 use Rattle.h4_framing.specs.Laws.{IsWholeOf}
 use Rattle.h4_framing.proofs.ReadingLemmas.{written_is_read}
-use Rattle.acl_fragments.specs.Pieces.{Piece}
+use Rattle.room_laws.specs.acl_fragments.specs.Pieces.{Piece}
 use Rattle.push_terms.specs.declared.word.Side.{Side}
 use Rattle.push_terms.specs.declared.word.Side.TheVariants.{A, B}
 use Rattle.capture.specs.declared.flow.Flow.TheVariants.{Into}
@@ -18,9 +18,9 @@ use Rattle.capture.specs.Entries.{Moved, entry_octets, capture_octets}
 use Rattle.radio_air.specs.Controllers.{Controller, Answer, Returned, Stated, Called, LinkMade, LinkGone, GivenBack, first_packet, after_first_of, after_telling, after_handing}
 use Rattle.radio_air.specs.Queues.{IsHandedOver, IsWritten, IsShort, longest_packet}
 use Rattle.radio_air.specs.Radio.{Radio, controller, with_controller, next_packet, after_answer}
-use Rattle.world_model.specs.Machines.{Upper}
-use Rattle.world_model.specs.Stations.{Station, Effort}
-use Rattle.world_model.specs.Worlds.{all_entries}
+use Rattle.room_laws.specs.world_model.specs.Machines.{Upper}
+use Rattle.room_laws.specs.world_model.specs.Stations.{Station, Effort}
+use Rattle.room_laws.specs.world_model.specs.Worlds.{all_entries}
 use Rattle.radio_world.specs.Hosts.{Asking, answering, acl_limit, Coming, Part, Told, coming_packet, hears_coming, MakesEfforts, Reacts}
 use Rattle.radio_world.specs.Leaving.{Medium, in_radio}
 use Rattle.radio_world.specs.Halves.{Motion, Trying, Entering, happenings_of, MakesAll, Goes, ComesFirst, IsStillIn, comes_count}

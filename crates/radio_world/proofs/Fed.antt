@@ -3,8 +3,8 @@ use Rattle.std.proofs.Common.{◌≡◌, ◌≢◌, ℕ, List, [], ◌++◌, ref
 use Rattle.std.proofs.lemmas.List.{append-nil}
 use Rattle.h4_framing.specs.Packets.{Packet, Command, Acl, Sync, Event, spelling, IsPacket}
 use Rattle.push_terms.specs.declared.word.Side.{Side}
-use Rattle.world_model.specs.Machines.{Upper}
-use Rattle.world_model.specs.Stations.{Station}
+use Rattle.room_laws.specs.world_model.specs.Machines.{Upper}
+use Rattle.room_laws.specs.world_model.specs.Stations.{Station}
 use Rattle.radio_world.specs.Hosts.{Asking, answering, acl_limit, Coming, coming_packet, hears_coming, MayBeHeard, MakesEfforts, Reacts, Hears, JoinAnswers}
 
 no_spelling : (packet : Packet) → spelling packet ≡ [] → ⊥

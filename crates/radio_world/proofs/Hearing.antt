@@ -4,10 +4,10 @@ use Rattle.bt_base.specs.Numbers.{IsHandle}
 use Rattle.push_terms.specs.declared.word.Side.{Side}
 use Rattle.push_terms.specs.declared.word.Side.TheVariants.{A, B}
 use Rattle.radio_air.specs.Radio.{Radio, controller}
-use Rattle.world_model.specs.Machines.{Upper}
-use Rattle.world_model.specs.Stations.{Station}
-use Rattle.station_laws.specs.WorldLaws.{NextMayCome, AllMayCome}
-use Rattle.station_laws.proofs.Running.{worlds_answer}
+use Rattle.room_laws.specs.world_model.specs.Machines.{Upper}
+use Rattle.room_laws.specs.world_model.specs.Stations.{Station}
+use Rattle.run_laws.specs.station_laws.specs.WorldLaws.{NextMayCome, AllMayCome}
+use Rattle.run_laws.specs.station_laws.proofs.Running.{worlds_answer}
 use Rattle.radio_world.specs.Hosts.{Asking, answering, Coming, Part, Told, MayBeHeard}
 use Rattle.radio_world.specs.Leaving.{Medium}
 use Rattle.radio_world.specs.Halves.{happenings_of, half_of, Goes, ComesFirst, MayAllBeHeard}

@@ -18,9 +18,9 @@ use Rattle.capture.specs.declared.flow.Flow.TheVariants.{Out}
 use Rattle.capture.specs.Entries.{Entry, Moved, IsEntry, entry_octets, capture_octets}
 use Rattle.capture.proofs.MoreLaws.{octets-in_parts}
 use Rattle.radio_air.specs.Radio.{Radio, after_packet}
-use Rattle.world_model.specs.Stations.{Order, order_packet}
-use Rattle.world_model.specs.Worlds.{after_order}
-use Rattle.turn_laws.proofs.Spelling.{orders_are_spelled}
+use Rattle.room_laws.specs.world_model.specs.Stations.{Order, order_packet}
+use Rattle.room_laws.specs.world_model.specs.Worlds.{after_order}
+use Rattle.room_laws.specs.turn_laws.proofs.Spelling.{orders_are_spelled}
 use Rattle.radio_world.specs.Hosts.{IsSent, AreSent, order_octets, acl_limit}
 use Rattle.radio_world.specs.Leaving.{Medium, in_radio, noted, after_all, after_leaving, leaving_entry, leaving_entries, BreaksOff}
 use Rattle.radio_world.specs.Shortages.{WantsRoom, Overflows}

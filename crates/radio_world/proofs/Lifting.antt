@@ -2,10 +2,10 @@
 use Rattle.std.proofs.Common.{◌≡◌, ℕ, List, [], ◌∷◌, ◌++◌, Option, refl, sym, ap, ◌∙◌}
 use Rattle.push_terms.specs.declared.word.Side.{Side}
 use Rattle.push_terms.specs.declared.word.Side.TheVariants.{A, B}
-use Rattle.world_model.specs.Machines.{Upper}
-use Rattle.world_model.specs.Pushes.{Pushes}
-use Rattle.world_model.specs.Stations.{Station}
-use Rattle.world_model.specs.Worlds.{words_in, all_words}
+use Rattle.room_laws.specs.world_model.specs.Machines.{Upper}
+use Rattle.room_laws.specs.world_model.specs.Pushes.{Pushes}
+use Rattle.room_laws.specs.world_model.specs.Stations.{Station}
+use Rattle.room_laws.specs.world_model.specs.Worlds.{words_in, all_words}
 use Rattle.radio_world.specs.Hosts.{Asking, answering, Part, Told}
 use Rattle.radio_world.specs.Leaving.{Medium, in_radio}
 use Rattle.radio_world.specs.Halves.{Half, Motion, Trying, Leaving, Returning, Entering, happening_of, happenings_of, Makes, MakesAll, half_of, Goes}

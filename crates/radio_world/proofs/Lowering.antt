@@ -2,9 +2,9 @@
 use Rattle.std.proofs.Common.{◌≡◌, ℕ, ◌+◌, ◌<◌, ◌≤◌, List, [], ◌++◌, length, arith}
 use Rattle.push_terms.specs.declared.word.Side.TheVariants.{A, B}
 use Rattle.radio_air.specs.Controllers.{Controller}
-use Rattle.world_model.specs.Machines.{Upper}
-use Rattle.world_model.specs.Worlds.{all_entries}
-use Rattle.rest_laws.specs.Premises.{AreOrderly}
+use Rattle.room_laws.specs.world_model.specs.Machines.{Upper}
+use Rattle.room_laws.specs.world_model.specs.Worlds.{all_entries}
+use Rattle.room_laws.specs.rest_laws.specs.Premises.{AreOrderly}
 use Rattle.settling_laws.specs.Weights.{SaysAtMost, side_weight, weight}
 use Rattle.settling_laws.proofs.Bounding.{settling_is_bounded}
 use Rattle.radio_world.specs.Hosts.{Asking, answering}

@@ -8,9 +8,9 @@ use Rattle.push_terms.specs.declared.word.Side.{Side}
 use Rattle.capture.specs.Entries.{Entry, capture_octets}
 use Rattle.capture.proofs.MoreLaws.{octets-in_parts}
 use Rattle.radio_air.specs.Radio.{after_offer}
-use Rattle.world_model.specs.Machines.{Upper}
-use Rattle.world_model.specs.Stations.{Order, Station}
-use Rattle.world_model.specs.Worlds.{all_entries, entries_of}
+use Rattle.room_laws.specs.world_model.specs.Machines.{Upper}
+use Rattle.room_laws.specs.world_model.specs.Stations.{Order, Station}
+use Rattle.room_laws.specs.world_model.specs.Worlds.{all_entries, entries_of}
 use Rattle.radio_world.specs.Hosts.{Asking, answering, Reacts, JoinAnswers, AreSent}
 use Rattle.radio_world.specs.Leaving.{Medium, after_all, after_leaving, in_radio, leaving_entry, leaving_entries}
 use Rattle.radio_world.specs.Halves.{Half, Motion, Leaving, Returning, happening_of, happenings_of, MakesAll, half_of, Goes}

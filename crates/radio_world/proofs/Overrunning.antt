@@ -3,11 +3,11 @@ use Rattle.std.proofs.Common.{◌≡◌, ℕ, List, [], ◌++◌, Option, Some, 
 use Rattle.bt_base.specs.Streams.{gained}
 use Rattle.capture.specs.Entries.{Entry, capture_octets}
 use Rattle.push_terms.specs.declared.word.Side.TheVariants.{A}
-use Rattle.world_model.specs.Machines.{Upper}
-use Rattle.world_model.specs.Stations.{Station, first_station}
-use Rattle.world_model.specs.Worlds.{World, Runs, all_entries, first_world}
-use Rattle.turn_laws.specs.WorldLaws.{Fits}
-use Rattle.air_laws.proofs.Crowding.{crowds_are_told}
+use Rattle.room_laws.specs.world_model.specs.Machines.{Upper}
+use Rattle.room_laws.specs.world_model.specs.Stations.{Station, first_station}
+use Rattle.room_laws.specs.world_model.specs.Worlds.{World, Runs, all_entries, first_world}
+use Rattle.room_laws.specs.turn_laws.specs.WorldLaws.{Fits}
+use Rattle.room_laws.specs.air_laws.proofs.Crowding.{crowds_are_told}
 use Rattle.radio_world.specs.Hosts.{answering}
 use Rattle.radio_world.specs.Scenes.{Scene, first_scene, moment, world_at, moment_of, Stage}
 use Rattle.radio_world.specs.Standing.{starting}

@@ -1,9 +1,9 @@
 -- Reactions to what may be no change at all.
 use Rattle.std.proofs.Common.{◌≡◌, ◌++◌, Bool, true, false, List, [], refl, sym, ap, subst, if◌then◌else◌}
 use Rattle.push_terms.specs.declared.word.Side.{Side}
-use Rattle.world_model.specs.Machines.{Upper, TimerFired, Cancelled}
-use Rattle.world_model.specs.Stations.{Station, told}
-use Rattle.world_model.specs.Worlds.{fired}
+use Rattle.room_laws.specs.world_model.specs.Machines.{Upper, TimerFired, Cancelled}
+use Rattle.room_laws.specs.world_model.specs.Stations.{Station, told}
+use Rattle.room_laws.specs.world_model.specs.Worlds.{fired}
 use Rattle.radio_world.specs.Hosts.{Asking, answering, MakesEfforts, Reacts, JoinAnswers}
 use Rattle.radio_world.specs.Turning.{doing}
 

@@ -6,8 +6,8 @@ use Rattle.push_terms.specs.declared.word.Word.{Word}
 use Rattle.radio_air.specs.declared.deed.Deed.{Deed}
 use Rattle.radio_air.specs.declared.deed.Deed.TheVariants.{Nothing, Meets, Fires, FiresBoth, Breaks, Cancels}
 use Rattle.radio_air.specs.Radio.{found}
-use Rattle.world_model.specs.Machines.{Upper}
-use Rattle.world_model.specs.Worlds.{World, Happening, Tries, Departure, GivingBack, Piecemeal, Answering, Turns, Misses, Opens, Closes, words_in, all_words, Acts, Does}
+use Rattle.room_laws.specs.world_model.specs.Machines.{Upper}
+use Rattle.room_laws.specs.world_model.specs.Worlds.{World, Happening, Tries, Departure, GivingBack, Piecemeal, Answering, Turns, Misses, Opens, Closes, words_in, all_words, Acts, Does}
 use Rattle.radio_world.specs.Hosts.{JoinAnswers}
 use Rattle.radio_world.specs.Scenes.{Moment, world_at, Plays, Stage, moment_of, Advances}
 use Rattle.radio_world.specs.Shortages.{Wants, ShelfLacked, InboxLacked, AirCrowded, WordsFull}

@@ -9,9 +9,9 @@ use Rattle.radio_air.specs.declared.deed.Deed.TheVariants.{Nothing, Meets, Fires
 use Rattle.radio_air.specs.declared.fate.Fate.{Fate}
 use Rattle.radio_air.specs.Controllers.{Answer, LinkGone, other_side}
 use Rattle.radio_air.specs.Radio.{Radio, controller, after_offer, after_answer, after_meeting, frames, after_deed}
-use Rattle.world_model.specs.Machines.{Upper}
-use Rattle.world_model.specs.Stations.{Order, Data}
-use Rattle.world_model.specs.Worlds.{after_order}
+use Rattle.room_laws.specs.world_model.specs.Machines.{Upper}
+use Rattle.room_laws.specs.world_model.specs.Stations.{Order, Data}
+use Rattle.room_laws.specs.world_model.specs.Worlds.{after_order}
 use Rattle.room_laws.specs.Rooms.{strays, OwesNoneBack}
 use Rattle.room_laws.proofs.Straying.{order_plainly}
 use Rattle.radio_world.specs.Leaving.{Medium, in_radio}

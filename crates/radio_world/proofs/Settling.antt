@@ -3,10 +3,10 @@ use Rattle.std.proofs.Common.{◌≡◌, ◌&&◌, Bool, true, false, List, [], 
 use Rattle.push_terms.specs.declared.word.Side.TheVariants.{A, B}
 use Rattle.radio_air.specs.Controllers.{Controller, is_empty}
 use Rattle.radio_air.specs.Radio.{is_apart, is_idle, is_quiet}
-use Rattle.world_model.specs.Machines.{Upper}
-use Rattle.world_model.specs.Pushes.{next_name}
-use Rattle.world_model.specs.Stations.{IsStopped}
-use Rattle.world_model.specs.Worlds.{IsSettled}
+use Rattle.room_laws.specs.world_model.specs.Machines.{Upper}
+use Rattle.room_laws.specs.world_model.specs.Pushes.{next_name}
+use Rattle.room_laws.specs.world_model.specs.Stations.{IsStopped}
+use Rattle.room_laws.specs.world_model.specs.Worlds.{IsSettled}
 use Rattle.radio_world.specs.Hosts.{Asking, answering}
 use Rattle.radio_world.specs.Halves.{IsStillIn, StaysPut}
 use Rattle.radio_world.specs.Scenes.{Scene, moment, world_at, may_end}

@@ -6,7 +6,7 @@ use Rattle.push_terms.specs.declared.word.Side.{Side}
 use Rattle.capture.specs.declared.flow.Flow.{Flow}
 use Rattle.capture.specs.declared.flow.Flow.TheVariants.{Out}
 use Rattle.capture.specs.Entries.{Entry, Moved, IsEntry}
-use Rattle.world_model.specs.Stations.{Order, order_packet}
+use Rattle.room_laws.specs.world_model.specs.Stations.{Order, order_packet}
 use Rattle.radio_world.specs.Hosts.{acl_limit, AreSent}
 use Rattle.radio_world.specs.Leaving.{leaving_entries}
 

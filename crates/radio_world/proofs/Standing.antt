@@ -7,13 +7,13 @@ use Rattle.push_terms.specs.declared.word.Word.{Word}
 use Rattle.capture.specs.Entries.{capture_octets}
 use Rattle.radio_air.specs.Queues.{IsSize}
 use Rattle.radio_air.specs.Radio.{found, is_idle, is_quiet}
-use Rattle.world_model.specs.Machines.{Upper}
-use Rattle.world_model.specs.Stations.{Station, first_station}
-use Rattle.world_model.specs.Turns.{FindsNothing}
-use Rattle.world_model.specs.Worlds.{Happening, Misses, Runs, IsSettled, IsAtRest, all_entries, all_words}
-use Rattle.station_laws.specs.WorldLaws.{AreSizes}
-use Rattle.rest_laws.specs.Premises.{AreOrderly}
-use Rattle.rest_laws.proofs.Resting.{settled_rests}
+use Rattle.room_laws.specs.world_model.specs.Machines.{Upper}
+use Rattle.room_laws.specs.world_model.specs.Stations.{Station, first_station}
+use Rattle.room_laws.specs.world_model.specs.Turns.{FindsNothing}
+use Rattle.room_laws.specs.world_model.specs.Worlds.{Happening, Misses, Runs, IsSettled, IsAtRest, all_entries, all_words}
+use Rattle.run_laws.specs.station_laws.specs.WorldLaws.{AreSizes}
+use Rattle.room_laws.specs.rest_laws.specs.Premises.{AreOrderly}
+use Rattle.room_laws.specs.rest_laws.proofs.Resting.{settled_rests}
 use Rattle.radio_world.specs.Hosts.{Asking, answering, JoinAnswers}
 use Rattle.radio_world.specs.Scenes.{Scene, first_scene, Moment, moment, world_at, Plays, Stage, stage, moment_of, Advances}
 use Rattle.radio_world.specs.Standing.{IsCount, starting, first_moment, IsReached, Stands}

@@ -2,11 +2,11 @@
 use Rattle.std.proofs.Common.{◌≡◌, ℕ, true, List, Option, Some, None, refl, sym, subst}
 use Rattle.push_terms.specs.declared.word.Side.{Side}
 use Rattle.push_terms.specs.declared.word.Side.TheVariants.{A, B}
-use Rattle.world_model.specs.Machines.{Upper}
-use Rattle.world_model.specs.Stations.{Station, IsStopped}
-use Rattle.world_model.specs.Worlds.{World, Happening, Runs, IsSettled, IsAtRest}
-use Rattle.turn_laws.specs.Premises.{Idles}
-use Rattle.rest_laws.specs.Premises.{AsksOnce, AreOrderly}
+use Rattle.room_laws.specs.world_model.specs.Machines.{Upper}
+use Rattle.room_laws.specs.world_model.specs.Stations.{Station, IsStopped}
+use Rattle.room_laws.specs.world_model.specs.Worlds.{World, Happening, Runs, IsSettled, IsAtRest}
+use Rattle.room_laws.specs.turn_laws.specs.Premises.{Idles}
+use Rattle.room_laws.specs.rest_laws.specs.Premises.{AsksOnce, AreOrderly}
 use Rattle.run_laws.specs.Embedding.{said_as, Embeds}
 use Rattle.run_laws.proofs.Embedding.{effort_back, runs_are_of_less, rest_is_of_less}
 use Rattle.radio_world.specs.Standing.{starting}

@@ -9,9 +9,9 @@ use Rattle.h4_framing.specs.Packets.{Packet, IsPacket}
 use Rattle.push_terms.specs.declared.word.Side.{Side}
 use Rattle.push_terms.specs.declared.word.Word.{Word}
 use Rattle.radio_air.specs.Radio.{after_answer}
-use Rattle.world_model.specs.Machines.{Upper}
-use Rattle.world_model.specs.Stations.{Order, Effort}
-use Rattle.world_model.specs.Worlds.{Happening, entries_of, all_entries}
+use Rattle.room_laws.specs.world_model.specs.Machines.{Upper}
+use Rattle.room_laws.specs.world_model.specs.Stations.{Order, Effort}
+use Rattle.room_laws.specs.world_model.specs.Worlds.{Happening, entries_of, all_entries}
 use Rattle.radio_world.specs.Hosts.{Asking, Coming, coming_packet, hears_coming, Reacts, JoinAnswers, AreSent, acl_limit}
 use Rattle.radio_world.specs.Leaving.{Medium, in_radio, after_all, leaving_entries}
 use Rattle.radio_world.specs.Halves.{Motion, happening_of, happenings_of, ComesFirst, Goes}

@@ -3,7 +3,7 @@ use Rattle.std.proofs.Common.{◌≡◌, ℕ, ◌+◌, ◌≤◌, ◌<◌, ◌^�
 use Rattle.std.proofs.lemmas.List.{append-nil}
 use Rattle.std.proofs.lemmas.Grind.{flat_map-append}
 use Rattle.bt_base.specs.Streams.{gained}
-use Rattle.acl_fragments.specs.Pieces.{channel_of}
+use Rattle.room_laws.specs.acl_fragments.specs.Pieces.{channel_of}
 use Rattle.push_script.specs.Runs.{IsWord}
 use Rattle.push_terms.specs.declared.word.Side.TheVariants.{A, B}
 use Rattle.push_terms.specs.declared.word.Way.{Way}
@@ -22,11 +22,11 @@ use Rattle.radio_air.specs.Rings.{first_or_nothing}
 use Rattle.radio_air.specs.Queues.{HasPlaces}
 use Rattle.radio_air.specs.Owed.{IsMet}
 use Rattle.radio_air.specs.Radio.{Radio, is_together, found, first_channel, hands, after_deed, after_meeting}
-use Rattle.world_model.specs.Machines.{Upper}
-use Rattle.world_model.specs.Pushes.{Pushes}
-use Rattle.world_model.specs.Stations.{Station, Effort}
-use Rattle.world_model.specs.Turns.{FindsNothing}
-use Rattle.world_model.specs.Worlds.{World, Turns, Acts, IsAtRest, checks, one_turned, entries_of, words_in, all_entries, all_words}
+use Rattle.room_laws.specs.world_model.specs.Machines.{Upper}
+use Rattle.room_laws.specs.world_model.specs.Pushes.{Pushes}
+use Rattle.room_laws.specs.world_model.specs.Stations.{Station, Effort}
+use Rattle.room_laws.specs.world_model.specs.Turns.{FindsNothing}
+use Rattle.room_laws.specs.world_model.specs.Worlds.{World, Turns, Acts, IsAtRest, checks, one_turned, entries_of, words_in, all_entries, all_words}
 use Rattle.radio_world.specs.Hosts.{Asking, answering, Reacts}
 use Rattle.radio_world.specs.Leaving.{in_radio}
 use Rattle.radio_world.specs.Halves.{Motion, happenings_of}

@@ -7,9 +7,9 @@ use Rattle.push_terms.specs.declared.word.Word.{Word}
 use Rattle.push_terms.specs.declared.outcome.Outcome.{Outcome}
 use Rattle.capture.specs.Entries.{Begun, Ended, IsEntry, entry_octets, capture_octets}
 use Rattle.radio_air.specs.Radio.{is_apart, is_quiet}
-use Rattle.world_model.specs.Machines.{Upper}
-use Rattle.world_model.specs.Pushes.{next_name}
-use Rattle.world_model.specs.Worlds.{Happening, all_entries, all_words}
+use Rattle.room_laws.specs.world_model.specs.Machines.{Upper}
+use Rattle.room_laws.specs.world_model.specs.Pushes.{next_name}
+use Rattle.room_laws.specs.world_model.specs.Worlds.{Happening, all_entries, all_words}
 use Rattle.radio_world.specs.Hosts.{Asking}
 use Rattle.radio_world.specs.Leaving.{Medium}
 use Rattle.radio_world.specs.Halves.{Half, Motion, happenings_of, MakesAll, half_of, Goes}

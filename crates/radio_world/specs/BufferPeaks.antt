@@ -2,9 +2,9 @@
 use Rattle.std.specs.Prelude.{ℕ, ◌≡◌, ◌≤◌, true, List}
 use Rattle.push_terms.specs.declared.word.Side.TheVariants.{A, B}
 use Rattle.capture.specs.Peaks.{buffers_peak}
-use Rattle.world_model.specs.Machines.{Upper}
-use Rattle.world_model.specs.Worlds.{Happening, all_entries}
-use Rattle.rest_laws.specs.Premises.{AreOrderly}
+use Rattle.room_laws.specs.world_model.specs.Machines.{Upper}
+use Rattle.room_laws.specs.world_model.specs.Worlds.{Happening, all_entries}
+use Rattle.room_laws.specs.rest_laws.specs.Premises.{AreOrderly}
 use Rattle.radio_world.specs.Scenes.{Moment, Plays}
 use Rattle.radio_world.specs.Standing.{IsCount, starting, first_moment}
 

@@ -2,8 +2,8 @@
 use Rattle.std.specs.Prelude.{ℕ, ◌≤◌, Bool, true, false, List, length, Option}
 use Rattle.push_terms.specs.declared.word.Side.{Side}
 use Rattle.push_terms.specs.declared.word.Word.{Word}
-use Rattle.world_model.specs.Machines.{Upper}
-use Rattle.world_model.specs.Worlds.{all_entries}
+use Rattle.room_laws.specs.world_model.specs.Machines.{Upper}
+use Rattle.room_laws.specs.world_model.specs.Worlds.{all_entries}
 use Rattle.radio_world.specs.Hosts.{Asking}
 use Rattle.radio_world.specs.Leaving.{Medium}
 use Rattle.radio_world.specs.Halves.{happenings_of, Goes}

@@ -9,12 +9,12 @@ use Rattle.capture.specs.Air.{words_of}
 use Rattle.capture.specs.Entries.{Entry, capture_octets}
 use Rattle.radio_air.specs.Air.{Hosts}
 use Rattle.radio_air.specs.Queues.{IsSize}
-use Rattle.world_model.specs.Machines.{Upper}
-use Rattle.world_model.specs.Stations.{first_station}
-use Rattle.world_model.specs.Worlds.{Happening, first_world, all_entries}
-use Rattle.air_laws.specs.AirLaws.{TellsHosts}
-use Rattle.air_laws.specs.Crowded.{IsCrowded}
-use Rattle.rest_laws.specs.Premises.{AreOrderly}
+use Rattle.room_laws.specs.world_model.specs.Machines.{Upper}
+use Rattle.room_laws.specs.world_model.specs.Stations.{first_station}
+use Rattle.room_laws.specs.world_model.specs.Worlds.{Happening, first_world, all_entries}
+use Rattle.room_laws.specs.air_laws.specs.AirLaws.{TellsHosts}
+use Rattle.room_laws.specs.air_laws.specs.Crowded.{IsCrowded}
+use Rattle.room_laws.specs.rest_laws.specs.Premises.{AreOrderly}
 use Rattle.radio_world.specs.Hosts.{answering}
 use Rattle.radio_world.specs.Scenes.{first_scene, Stage}
 use Rattle.radio_world.specs.Standing.{starting}

@@ -2,15 +2,15 @@
 use Rattle.std.specs.Prelude.{ℕ, ◌≡◌, ◌+◌, ◌⊎◌, List, [], ◌∷◌, ◌++◌, length, map, Option}
 use Rattle.std.specs.List.{AllByRecursion}
 use Rattle.bt_base.specs.Streams.{gained}
-use Rattle.acl_fragments.specs.Pieces.{Piece}
+use Rattle.room_laws.specs.acl_fragments.specs.Pieces.{Piece}
 use Rattle.push_terms.specs.declared.word.Side.{Side}
 use Rattle.capture.specs.declared.flow.Flow.TheVariants.{Into}
 use Rattle.capture.specs.Entries.{Moved, IsEntry, entry_octets, capture_octets}
 use Rattle.radio_air.specs.Controllers.{Answer, other_side}
 use Rattle.radio_air.specs.Radio.{Radio, controller, after_offer, after_answer}
-use Rattle.world_model.specs.Machines.{Upper}
-use Rattle.world_model.specs.Stations.{Order, Station, Effort, MakesEffort}
-use Rattle.world_model.specs.Worlds.{Happening, Tries, Departure, GivingBack, Piecemeal, Answering, all_entries}
+use Rattle.room_laws.specs.world_model.specs.Machines.{Upper}
+use Rattle.room_laws.specs.world_model.specs.Stations.{Order, Station, Effort, MakesEffort}
+use Rattle.room_laws.specs.world_model.specs.Worlds.{Happening, Tries, Departure, GivingBack, Piecemeal, Answering, all_entries}
 use Rattle.radio_world.specs.Leaving.{Medium, in_radio, after_leaving}
 use Rattle.radio_world.specs.Hosts.{Asking, answering, Coming, Part, Told, coming_packet, hears_coming, MayBeHeard}
 

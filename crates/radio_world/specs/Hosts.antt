@@ -4,13 +4,13 @@ use Rattle.std.specs.Prelude.{ℕ, ◌≡◌, ◌≢◌, ◌≤◌, List, [], �
 use Rattle.std.specs.List.{AllByRecursion}
 use Rattle.h4_framing.specs.Packets.{Packet, spelling, spellings, IsPacket}
 use Rattle.bt_base.specs.Numbers.{IsHandle}
-use Rattle.acl_fragments.specs.Pieces.{Piece}
+use Rattle.room_laws.specs.acl_fragments.specs.Pieces.{Piece}
 use Rattle.push_terms.specs.declared.word.Side.{Side}
 use Rattle.radio_air.specs.Controllers.{Answer, answer_packet, piece_packet}
-use Rattle.world_model.specs.Machines.{Upper}
-use Rattle.turn_laws.specs.WorldLaws.{handle_of}
-use Rattle.station_laws.specs.Coming.{MayCome}
-use Rattle.world_model.specs.Stations.{Order, order_packet, Station, Effort, MakesEffort, hears_piece, hears_answer}
+use Rattle.room_laws.specs.world_model.specs.Machines.{Upper}
+use Rattle.room_laws.specs.turn_laws.specs.WorldLaws.{handle_of}
+use Rattle.run_laws.specs.station_laws.specs.Coming.{MayCome}
+use Rattle.room_laws.specs.world_model.specs.Stations.{Order, order_packet, Station, Effort, MakesEffort, hears_piece, hears_answer}
 
 -- ---- what its ports have still to answer
 

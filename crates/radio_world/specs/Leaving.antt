@@ -8,8 +8,8 @@ use Rattle.capture.specs.declared.flow.Flow.TheVariants.{Out}
 use Rattle.capture.specs.Entries.{Entry, Moved, IsEntry, entry_octets, capture_octets}
 use Rattle.radio_air.specs.Owed.{outstanding_at}
 use Rattle.radio_air.specs.Radio.{Radio, new_radio, controller}
-use Rattle.world_model.specs.Stations.{Order, order_packet}
-use Rattle.world_model.specs.Worlds.{after_order}
+use Rattle.room_laws.specs.world_model.specs.Stations.{Order, order_packet}
+use Rattle.room_laws.specs.world_model.specs.Worlds.{after_order}
 
 -- the radio, and how many packets of each host were outstanding at most
 pub record Medium : Type 0 where

@@ -1,6 +1,6 @@
 -- The most that a host held of something so far (this project's own).
 use Rattle.std.specs.Prelude.{ℕ, ◌≡◌, List, Some, max}
-use Rattle.world_model.specs.Machines.{News, Upper}
+use Rattle.room_laws.specs.world_model.specs.Machines.{News, Upper}
 use Rattle.radio_world.specs.Hosts.{Asking}
 
 -- `most` is the greatest of what the machine held so far: it is noted at each hearing and at each saying

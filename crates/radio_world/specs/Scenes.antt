@@ -7,10 +7,10 @@ use Rattle.push_terms.specs.declared.word.Word.{Word}
 use Rattle.push_terms.specs.declared.outcome.Outcome.{Outcome}
 use Rattle.capture.specs.Entries.{Begun, Ended, IsEntry, entry_octets, capture_octets}
 use Rattle.radio_air.specs.Radio.{is_apart, is_quiet}
-use Rattle.world_model.specs.Machines.{Upper, Opening}
-use Rattle.world_model.specs.Pushes.{Pushes, no_pushes, next_name, one_begun, one_ended}
-use Rattle.world_model.specs.Stations.{Station, told}
-use Rattle.world_model.specs.Worlds.{World, Happening, Departure, Does, all_entries, all_words}
+use Rattle.room_laws.specs.world_model.specs.Machines.{Upper, Opening}
+use Rattle.room_laws.specs.world_model.specs.Pushes.{Pushes, no_pushes, next_name, one_begun, one_ended}
+use Rattle.room_laws.specs.world_model.specs.Stations.{Station, told}
+use Rattle.room_laws.specs.world_model.specs.Worlds.{World, Happening, Departure, Does, all_entries, all_words}
 use Rattle.radio_world.specs.Hosts.{Asking, answering, Reacts}
 use Rattle.radio_world.specs.Leaving.{Medium, first_medium, in_radio, noted}
 

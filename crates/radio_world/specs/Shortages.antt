@@ -9,8 +9,8 @@ use Rattle.capture.specs.Entries.{IsEntry, capture_octets}
 use Rattle.radio_air.specs.Queues.{is_crowded}
 use Rattle.radio_air.specs.Owed.{owes_many, wants_memory}
 use Rattle.radio_air.specs.Radio.{Radio}
-use Rattle.world_model.specs.Machines.{Upper}
-use Rattle.world_model.specs.Stations.{Order}
+use Rattle.room_laws.specs.world_model.specs.Machines.{Upper}
+use Rattle.room_laws.specs.world_model.specs.Stations.{Order}
 use Rattle.radio_world.specs.declared.fault.WorldFault.{WorldFault}
 use Rattle.radio_world.specs.declared.fault.WorldFault.TheVariants.{NoMemory}
 use Rattle.radio_world.specs.Leaving.{Medium, after_all, leaving_entries}

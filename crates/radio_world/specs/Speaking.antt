@@ -1,6 +1,6 @@
 -- What bounds how much a host says (this project's own).
 use Rattle.std.specs.Prelude.{ℕ, ◌≡◌, List, []}
-use Rattle.world_model.specs.Machines.{Upper}
+use Rattle.room_laws.specs.world_model.specs.Machines.{Upper}
 use Rattle.settling_laws.specs.Weights.{SaysAtMost}
 use Rattle.radio_world.specs.Hosts.{Asking}
 

@@ -5,10 +5,10 @@ use Rattle.push_terms.specs.declared.outcome.Outcome.{Outcome}
 use Rattle.push_terms.specs.declared.outcome.Outcome.TheVariants.{ScriptEnded}
 use Rattle.capture.specs.Entries.{Entry, Ended}
 use Rattle.radio_air.specs.Queues.{IsSize}
-use Rattle.world_model.specs.Machines.{Upper}
-use Rattle.world_model.specs.Pushes.{Pushes, one_ended}
-use Rattle.world_model.specs.Stations.{first_station}
-use Rattle.world_model.specs.Worlds.{Happening, IsSettled}
+use Rattle.room_laws.specs.world_model.specs.Machines.{Upper}
+use Rattle.room_laws.specs.world_model.specs.Pushes.{Pushes, one_ended}
+use Rattle.room_laws.specs.world_model.specs.Stations.{first_station}
+use Rattle.room_laws.specs.world_model.specs.Worlds.{Happening, IsSettled}
 use Rattle.radio_world.specs.Hosts.{Asking, answering}
 use Rattle.radio_world.specs.Scenes.{Scene, first_scene, Moment, moment, world_at, Plays}
 

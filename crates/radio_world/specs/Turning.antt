@@ -6,11 +6,11 @@ use Rattle.push_terms.specs.declared.word.Way.TheVariants.{Ab, Ba}
 use Rattle.radio_air.specs.declared.deed.Deed.{Deed}
 use Rattle.radio_air.specs.declared.deed.Deed.TheVariants.{Nothing, Meets, Fires, FiresBoth, Breaks, Cancels}
 use Rattle.radio_air.specs.Radio.{Radio, channel}
-use Rattle.world_model.specs.Machines.{Upper, Cancelled}
-use Rattle.world_model.specs.Stations.{Station, told}
-use Rattle.world_model.specs.Pushes.{Pushes}
-use Rattle.world_model.specs.Turns.{may_be_cancelled}
-use Rattle.world_model.specs.Worlds.{fired}
+use Rattle.room_laws.specs.world_model.specs.Machines.{Upper, Cancelled}
+use Rattle.room_laws.specs.world_model.specs.Stations.{Station, told}
+use Rattle.room_laws.specs.world_model.specs.Pushes.{Pushes}
+use Rattle.room_laws.specs.world_model.specs.Turns.{may_be_cancelled}
+use Rattle.room_laws.specs.world_model.specs.Worlds.{fired}
 
 -- whether what a word finds can be done
 abbrev pub can_be_done : {S T G H : Type 0} → Upper S G → Upper T H → Deed → Pushes → S → T → Bool

@@ -3,8 +3,8 @@
 ghost use Rattle.std.specs.Prelude.{◌≡◌, ◌≤◌, [], ℕ, true, List, length, OnOk, OnErr};
 ghost use Rattle.push_script.specs.Names.{utf16_length};
 ghost use Rattle.push_terms.specs.declared.word.Side.{Side};
-ghost use Rattle.world_model.specs.Machines.{Upper, TimerFired, Cancelled, Opening};
-ghost use Rattle.world_model.specs.Stations.{IsStopped, told};
+ghost use Rattle.room_laws.specs.world_model.specs.Machines.{Upper, TimerFired, Cancelled, Opening};
+ghost use Rattle.room_laws.specs.world_model.specs.Stations.{IsStopped, told};
 ghost use Rattle.radio_world.specs.Measures.{IsMostOf};
 ghost use Rattle.radio_world.specs.Speaking.{SpeaksWithin};
 ghost use Rattle.radio_world.specs.Hosts.{Asking, answering, order_octets, AreSent, Reacts, Hears, JoinAnswers};

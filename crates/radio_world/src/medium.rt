@@ -9,7 +9,7 @@ ghost use Rattle.radio_air.specs.Queues.{IsSize};
 ghost use Rattle.radio_air.specs.Radio.{after_packet};
 ghost use Rattle.radio_world.specs.Hosts.{acl_limit, order_octets, AreSent};
 ghost use Rattle.radio_world.specs.Leaving.{first_medium, in_radio, noted, after_all, leaving_entries, BreaksOff};
-ghost use Rattle.world_model.specs.Stations.{Order};
+ghost use Rattle.room_laws.specs.world_model.specs.Stations.{Order};
 ghost use Rattle.radio_world.specs.Causes.{Blames};
 ghost use Rattle.radio_world.specs.Shortages.{Lacks, Overflows, WantsRoom};
 

@@ -4,7 +4,7 @@ ghost use Rattle.std.specs.Prelude.{◌≡◌, ◌≤◌, ◌<◌, ◌+◌, ◌+
 ghost use Rattle.std.specs.Option.{option_map};
 ghost use Rattle.push_script.specs.Names.{IsName, utf16_length};
 ghost use Rattle.push_terms.specs.declared.outcome.Outcome.TheVariants.{ScriptEnded};
-ghost use Rattle.world_model.specs.Pushes.{no_pushes, next_name, one_begun, one_ended};
+ghost use Rattle.room_laws.specs.world_model.specs.Pushes.{no_pushes, next_name, one_begun, one_ended};
 
 use bt_base::NoMemory;
 use push_script::{Names, Outcome};
@@ -58,7 +58,7 @@ pub(crate) struct Pushes {
 
 impl Model for Pushes {
     ghost use Rattle.std.specs.Prelude.{◌≡◌, ◌≤◌, ◌+◌, length, cond, vec_capacity};
-    ghost use Rattle.world_model.specs.Pushes.{Pushes as Seen};
+    ghost use Rattle.room_laws.specs.world_model.specs.Pushes.{Pushes as Seen};
 
     ghost Value = { Seen };
 

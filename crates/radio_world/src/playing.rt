@@ -7,7 +7,7 @@ ghost use Rattle.push_script.specs.Runs.{IsWord};
 ghost use Rattle.push_terms.specs.declared.word.Side.TheVariants as sides;
 ghost use Rattle.capture.specs.Entries.{IsEntry, capture_octets};
 ghost use Rattle.capture.specs.Air.{words_of};
-ghost use Rattle.rest_laws.specs.Premises.{AreOrderly};
+ghost use Rattle.room_laws.specs.rest_laws.specs.Premises.{AreOrderly};
 ghost use Rattle.radio_world.specs.Hosts.{answering};
 ghost use Rattle.radio_world.specs.Scenes.{stage, moment, Advances};
 ghost use Rattle.radio_air.specs.Radio.{found};

@@ -7,7 +7,7 @@ ghost use Rattle.capture.specs.Entries.{Acted, entry_octets};
 ghost use Rattle.radio_air.specs.Owed.{IsMet};
 ghost use Rattle.radio_air.specs.Radio.{found, after_deed, is_quiet};
 ghost use Rattle.push_terms.specs.declared.word.Side.TheVariants as sides;
-ghost use Rattle.world_model.specs.Worlds.{fired, IsAtRest};
+ghost use Rattle.room_laws.specs.world_model.specs.Worlds.{fired, IsAtRest};
 ghost use Rattle.radio_world.specs.Hosts.{answering, Reacts};
 ghost use Rattle.radio_world.specs.Leaving.{in_radio};
 ghost use Rattle.radio_world.specs.Scenes.{stage, moment, world_at, Advances};

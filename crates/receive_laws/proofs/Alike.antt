@@ -1,28 +1,28 @@
 -- A server in code, which notes what it holds and has all answers of its inbox from its first moment on, goes as the server that is given them with
 -- each thing that it hears.
 use Rattle.std.proofs.Common.{◌≡◌, ◌⊎◌, ◌&&◌, ℕ, zero, suc, nat_lt, Bool, true, false, List, [], ◌∷◌, map, Option, Some, None, Ok, is_some, inl, inr, refl, sym, ap, subst, ◌∙◌, true≢false, arith, tests}
-use Rattle.bt_base.specs.declared.settings.Settings.{Settings}
-use Rattle.bt_base.specs.Objects.{Contents}
-use Rattle.obex_session.specs.InboxCalls.{Answer}
-use Rattle.channel_model.specs.Giving.{Given, next_given}
-use Rattle.channel_model.specs.Value.{Channels, no_channels}
-use Rattle.world_model.specs.Machines.{News}
-use Rattle.run_laws.specs.Embedding.{said_as}
-use Rattle.push_laws.specs.Premises.{AllGranted}
-use Rattle.host_model.specs.Circumstances.{Circumstance, Stored, answers_in}
-use Rattle.host_model.specs.Hosts.{Host, first_host, hear, next, says, has_more}
-use Rattle.host_model.specs.Profiles.{Profile}
-use Rattle.host_model.specs.Servers.{ServerProfile, server_profile}
-use Rattle.host_model.specs.Settings.{SetHost, set_to, said_with}
-use Rattle.host_model.proofs.Setting.{said_by}
-use Rattle.scenario_laws.proofs.SetHosts.{hear_same, says_same}
-use Rattle.inbox_laws.specs.Owned.{own_profile}
-use Rattle.inbox_laws.proofs.Granting.{all_left, answers_kept}
-use Rattle.inbox_laws.proofs.Keeping.{KeepsSo, hear_kept, next_kept}
-use Rattle.inbox_laws.proofs.Owning.{own_hears, own_next}
-use Rattle.bt_host.specs.Noting.{Noted}
-use Rattle.bt_host.specs.NotedHosts.{credits_of_server, noted_server}
-use Rattle.bt_host.specs.Serving.{profile_of}
+use Rattle.receiving.specs.bt_base.specs.declared.settings.Settings.{Settings}
+use Rattle.receiving.specs.bt_base.specs.Objects.{Contents}
+use Rattle.noting_laws.specs.obex_session.specs.InboxCalls.{Answer}
+use Rattle.receiving.specs.channel_model.specs.Giving.{Given, next_given}
+use Rattle.receiving.specs.channel_model.specs.Value.{Channels, no_channels}
+use Rattle.noting_laws.specs.world_model.specs.Machines.{News}
+use Rattle.receiving.specs.run_laws.specs.Embedding.{said_as}
+use Rattle.noting_laws.specs.push_laws.specs.Premises.{AllGranted}
+use Rattle.receiving.specs.host_model.specs.Circumstances.{Circumstance, Stored, answers_in}
+use Rattle.receiving.specs.host_model.specs.Hosts.{Host, first_host, hear, next, says, has_more}
+use Rattle.receiving.specs.host_model.specs.Profiles.{Profile}
+use Rattle.receiving.specs.host_model.specs.Servers.{ServerProfile, server_profile}
+use Rattle.receiving.specs.host_model.specs.Settings.{SetHost, set_to, said_with}
+use Rattle.receiving.specs.host_model.proofs.Setting.{said_by}
+use Rattle.noting_laws.specs.scenario_laws.proofs.SetHosts.{hear_same, says_same}
+use Rattle.noting_laws.specs.inbox_laws.specs.Owned.{own_profile}
+use Rattle.noting_laws.specs.inbox_laws.proofs.Granting.{all_left, answers_kept}
+use Rattle.noting_laws.specs.inbox_laws.proofs.Keeping.{KeepsSo, hear_kept, next_kept}
+use Rattle.noting_laws.specs.inbox_laws.proofs.Owning.{own_hears, own_next}
+use Rattle.receiving.specs.bt_host.specs.Noting.{Noted}
+use Rattle.receiving.specs.bt_host.specs.NotedHosts.{credits_of_server, noted_server}
+use Rattle.receiving.specs.bt_host.specs.Serving.{profile_of}
 use Rattle.noting_laws.specs.Noting.{plain_host, plain_set}
 use Rattle.noting_laws.proofs.Forgetting.{notes_are_more}
 

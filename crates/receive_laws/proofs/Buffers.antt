@@ -1,14 +1,14 @@
 -- A host that has done all that it can has said all, where a buffer of its controller is free: so what it hears comes in turn.
 use Rattle.std.proofs.Common.{◌≡◌, ◌&&◌, ◌==◌, not, nat_lt, Bool, true, false, ℕ, List, [], ◌∷◌, length, Option, Some, None, is_some, refl, sym, ap, subst, ◌∙◌, true≢false, arith}
 use Rattle.std.proofs.lemmas.Bool.{eqb-true}
-use Rattle.acl_fragments.specs.Pieces.{Piece}
-use Rattle.h4_framing.specs.Packets.{Packet}
-use Rattle.host_link.specs.Hearing.{PlainNews, Nothing, LinkUp, LinkFailed, LinkDown, Pdu, news_of}
-use Rattle.host_link.specs.PuttingOut.{has_room, has_buffer, is_waiting}
-use Rattle.host_model.specs.Circumstances.{Circumstance}
-use Rattle.host_model.specs.Profiles.{Profile}
-use Rattle.bt_host.specs.Stacks.{Standing, Rests, can_put_piece}
-use Rattle.bt_host.proofs.Resting.{none_goes}
+use Rattle.receiving.specs.acl_fragments.specs.Pieces.{Piece}
+use Rattle.receiving.specs.h4_framing.specs.Packets.{Packet}
+use Rattle.receiving.specs.host_link.specs.Hearing.{PlainNews, Nothing, LinkUp, LinkFailed, LinkDown, Pdu, news_of}
+use Rattle.receiving.specs.host_link.specs.PuttingOut.{has_room, has_buffer, is_waiting}
+use Rattle.receiving.specs.host_model.specs.Circumstances.{Circumstance}
+use Rattle.receiving.specs.host_model.specs.Profiles.{Profile}
+use Rattle.receiving.specs.bt_host.specs.Stacks.{Standing, Rests, can_put_piece}
+use Rattle.receiving.specs.bt_host.proofs.Resting.{none_goes}
 use Rattle.receiving.specs.Turns.{Stand, Posture, Turn, HasRest, HearsIn, HasTurns, emptied, is_full}
 use Rattle.receiving.proofs.Still.{rests_emptied}
 use Rattle.receive_laws.specs.InTurn.{SaidAll, IsToldAtRest, TakesInTurn, AreInTurn, IsFree, IsToldFree, TakesFree, AreFree, FreeBuffersSuffice}

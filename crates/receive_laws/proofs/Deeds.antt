@@ -1,25 +1,25 @@
 -- All that a server in code does by itself, and what it makes of a packet, is a run of the server that it is, over units.
 use Rattle.std.proofs.Common.{◌≡◌, true, false, List, [], ◌∷◌, ◌++◌, Option, Some, None, inl, refl, sym, subst}
-use Rattle.bt_base.specs.declared.settings.Settings.{Settings}
-use Rattle.bt_base.specs.Objects.{Contents}
-use Rattle.h4_framing.specs.Packets.{Packet, IsPacket}
-use Rattle.host_link.specs.Hearing.{PlainNews, Nothing, LinkUp, LinkFailed, LinkDown, Pdu, fault_of, news_of}
-use Rattle.host_link.specs.Lines.{Line}
-use Rattle.world_model.specs.Machines.{Linked, Up, Down, Failed, Heard, Upper}
-use Rattle.host_model.specs.Circumstances.{Circumstance}
-use Rattle.host_model.specs.Hosts.{Host}
-use Rattle.host_model.specs.Machines.{upper}
-use Rattle.host_model.specs.Servers.{ServerProfile, server_profile}
-use Rattle.host_model.proofs.Orderly.{says_octets}
-use Rattle.bt_host.specs.Noting.{Noted}
-use Rattle.bt_host.specs.NotedHosts.{noted_server}
-use Rattle.bt_host.specs.Refusals.{acl_limit}
-use Rattle.bt_host.specs.Stacks.{Standing, Deed, Putting, Saying, Ending, Paging, Commanding, DoesDeed, DoesAll, after_packet}
-use Rattle.bt_host.specs.Uppers.{told_of, hears_told}
+use Rattle.receiving.specs.bt_base.specs.declared.settings.Settings.{Settings}
+use Rattle.receiving.specs.bt_base.specs.Objects.{Contents}
+use Rattle.receiving.specs.h4_framing.specs.Packets.{Packet, IsPacket}
+use Rattle.receiving.specs.host_link.specs.Hearing.{PlainNews, Nothing, LinkUp, LinkFailed, LinkDown, Pdu, fault_of, news_of}
+use Rattle.receiving.specs.host_link.specs.Lines.{Line}
+use Rattle.noting_laws.specs.world_model.specs.Machines.{Linked, Up, Down, Failed, Heard, Upper}
+use Rattle.receiving.specs.host_model.specs.Circumstances.{Circumstance}
+use Rattle.receiving.specs.host_model.specs.Hosts.{Host}
+use Rattle.receiving.specs.host_model.specs.Machines.{upper}
+use Rattle.receiving.specs.host_model.specs.Servers.{ServerProfile, server_profile}
+use Rattle.receiving.specs.host_model.proofs.Orderly.{says_octets}
+use Rattle.receiving.specs.bt_host.specs.Noting.{Noted}
+use Rattle.receiving.specs.bt_host.specs.NotedHosts.{noted_server}
+use Rattle.receiving.specs.bt_host.specs.Refusals.{acl_limit}
+use Rattle.receiving.specs.bt_host.specs.Stacks.{Standing, Deed, Putting, Saying, Ending, Paging, Commanding, DoesDeed, DoesAll, after_packet}
+use Rattle.receiving.specs.bt_host.specs.Uppers.{told_of, hears_told}
 use Rattle.noting_laws.specs.Noting.{plain_host}
-use Rattle.unit_laws.specs.Calls.{IsWritable, GoesBy, SaysInOctets, CallsGo}
-use Rattle.unit_laws.specs.Units.{Lined, hears_line, IsToldInTurn}
-use Rattle.unit_laws.proofs.Doing.{goes_none, calls_are_runs}
+use Rattle.orderly_laws.specs.unit_laws.specs.Calls.{IsWritable, GoesBy, SaysInOctets, CallsGo}
+use Rattle.orderly_laws.specs.unit_laws.specs.Units.{Lined, hears_line, IsToldInTurn}
+use Rattle.orderly_laws.specs.unit_laws.proofs.Doing.{goes_none, calls_are_runs}
 use Rattle.receiving.specs.Turns.{Stand, HearsOne}
 use Rattle.receive_laws.specs.InTurn.{IsToldAtRest, TakesInTurn}
 use Rattle.receive_laws.proofs.Alike.{IsAlike, left, hears_alike, says_alike, silent_alike, IsGranting, hears_granting, says_granting}

@@ -4,25 +4,25 @@ use Rattle.std.specs.Prelude.{option_to_list}
 use Rattle.std.specs.List.{AllByRecursion}
 use Rattle.std.proofs.lemmas.List.{append-nil}
 use Rattle.std.proofs.lemmas.List.Concat.{flat_map-append}
-use Rattle.bt_base.specs.declared.settings.Settings.{Settings}
-use Rattle.bt_base.specs.Objects.{Contents}
-use Rattle.h4_framing.specs.Packets.{Packet, spellings, IsPacket}
-use Rattle.capture.specs.Moves.{Move}
-use Rattle.host_link.specs.Lines.{Line}
-use Rattle.world_model.specs.Machines.{Upper}
-use Rattle.push_laws.specs.Premises.{AllGranted}
-use Rattle.host_model.specs.Circumstances.{Circumstance, answers_in}
-use Rattle.host_model.specs.Hosts.{Host}
-use Rattle.host_model.specs.Machines.{upper}
-use Rattle.host_model.specs.Servers.{ServerProfile, server_profile}
-use Rattle.bt_host.specs.Noting.{Noted}
-use Rattle.bt_host.specs.NotedHosts.{noted_server}
-use Rattle.bt_host.specs.Refusals.{acl_limit}
-use Rattle.bt_host.specs.Stacks.{Standing}
-use Rattle.unit_laws.specs.Calls.{gifts_of, gifts_in, IsWritable}
-use Rattle.unit_laws.specs.Laws.{FiresNone}
-use Rattle.unit_laws.specs.Units.{Occasion, Waits, units_of, units, Runs, ComesInTurn}
-use Rattle.unit_laws.proofs.Doing.{runs_then}
+use Rattle.receiving.specs.bt_base.specs.declared.settings.Settings.{Settings}
+use Rattle.receiving.specs.bt_base.specs.Objects.{Contents}
+use Rattle.receiving.specs.h4_framing.specs.Packets.{Packet, spellings, IsPacket}
+use Rattle.receiving.specs.capture.specs.Moves.{Move}
+use Rattle.receiving.specs.host_link.specs.Lines.{Line}
+use Rattle.noting_laws.specs.world_model.specs.Machines.{Upper}
+use Rattle.noting_laws.specs.push_laws.specs.Premises.{AllGranted}
+use Rattle.receiving.specs.host_model.specs.Circumstances.{Circumstance, answers_in}
+use Rattle.receiving.specs.host_model.specs.Hosts.{Host}
+use Rattle.receiving.specs.host_model.specs.Machines.{upper}
+use Rattle.receiving.specs.host_model.specs.Servers.{ServerProfile, server_profile}
+use Rattle.receiving.specs.bt_host.specs.Noting.{Noted}
+use Rattle.receiving.specs.bt_host.specs.NotedHosts.{noted_server}
+use Rattle.receiving.specs.bt_host.specs.Refusals.{acl_limit}
+use Rattle.receiving.specs.bt_host.specs.Stacks.{Standing}
+use Rattle.orderly_laws.specs.unit_laws.specs.Calls.{gifts_of, gifts_in, IsWritable}
+use Rattle.orderly_laws.specs.unit_laws.specs.Laws.{FiresNone}
+use Rattle.orderly_laws.specs.unit_laws.specs.Units.{Occasion, Waits, units_of, units, Runs, ComesInTurn}
+use Rattle.orderly_laws.specs.unit_laws.proofs.Doing.{runs_then}
 use Rattle.receiving.specs.Turns.{Stand, Posture, Turn, HearsIn, HasTurn, HasTurns, emptied, packets_in}
 use Rattle.receiving.proofs.Turning.{all_append}
 use Rattle.receive_laws.specs.Answers.{used_by, used_in}

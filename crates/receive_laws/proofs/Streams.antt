@@ -2,25 +2,25 @@
 use Rattle.std.proofs.Common.{◌≡◌, ◌≢◌, ℕ, List, [], ◌∷◌, ◌++◌, Option, inr, refl, sym, ap, subst, ◌∙◌}
 use Rattle.std.specs.Prelude.{Result, Ok, Err}
 use Rattle.std.proofs.lemmas.List.{append-nil}
-use Rattle.bt_base.specs.declared.settings.Settings.{Settings}
-use Rattle.bt_base.specs.declared.settings.Transport.TheVariants.{L2cap}
-use Rattle.bt_base.specs.Objects.{Object, Contents}
-use Rattle.btpush_forms.specs.declared.status.Status.{Status}
-use Rattle.btpush_forms.specs.declared.status.Status.TheVariants as status
-use Rattle.host_link.specs.declared.role.Role.TheVariants.{Server}
-use Rattle.host_link.specs.Lines.{fresh}
-use Rattle.push_laws.specs.Laws.{stored_in}
-use Rattle.push_laws.specs.Premises.{AllGranted}
-use Rattle.host_model.specs.Circumstances.{Circumstance, answers_in}
-use Rattle.host_model.specs.Hosts.{Host, first_host}
-use Rattle.host_model.specs.Machines.{upper}
-use Rattle.host_model.specs.Servers.{ServerProfile}
-use Rattle.scenario_laws.specs.Gains.{holding, serving}
-use Rattle.bt_host.specs.Noting.{Noted}
-use Rattle.bt_host.specs.NotedHosts.{noted_server}
-use Rattle.bt_host.specs.Stacks.{Standing}
-use Rattle.unit_laws.proofs.Doing.{calls_are_runs}
-use Rattle.unit_laws.specs.Units.{units}
+use Rattle.receiving.specs.bt_base.specs.declared.settings.Settings.{Settings}
+use Rattle.receiving.specs.bt_base.specs.declared.settings.Transport.TheVariants.{L2cap}
+use Rattle.receiving.specs.bt_base.specs.Objects.{Object, Contents}
+use Rattle.receiving.specs.btpush_forms.specs.declared.status.Status.{Status}
+use Rattle.receiving.specs.btpush_forms.specs.declared.status.Status.TheVariants as status
+use Rattle.receiving.specs.host_link.specs.declared.role.Role.TheVariants.{Server}
+use Rattle.receiving.specs.host_link.specs.Lines.{fresh}
+use Rattle.noting_laws.specs.push_laws.specs.Laws.{stored_in}
+use Rattle.noting_laws.specs.push_laws.specs.Premises.{AllGranted}
+use Rattle.receiving.specs.host_model.specs.Circumstances.{Circumstance, answers_in}
+use Rattle.receiving.specs.host_model.specs.Hosts.{Host, first_host}
+use Rattle.receiving.specs.host_model.specs.Machines.{upper}
+use Rattle.receiving.specs.host_model.specs.Servers.{ServerProfile}
+use Rattle.noting_laws.specs.scenario_laws.specs.Gains.{holding, serving}
+use Rattle.receiving.specs.bt_host.specs.Noting.{Noted}
+use Rattle.receiving.specs.bt_host.specs.NotedHosts.{noted_server}
+use Rattle.receiving.specs.bt_host.specs.Stacks.{Standing}
+use Rattle.orderly_laws.specs.unit_laws.proofs.Doing.{calls_are_runs}
+use Rattle.orderly_laws.specs.unit_laws.specs.Units.{units}
 use Rattle.orderly_laws.proofs.Gaining.{servers_gain_asked}
 use Rattle.receiving.specs.declared.fault.ListenFault.{ListenFault}
 use Rattle.receiving.specs.declared.fault.ListenFault.TheVariants.{Refused, ReadFault, WriteFault, NoMemory}

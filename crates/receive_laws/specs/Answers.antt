@@ -1,9 +1,9 @@
 -- What the port of a host answered while it was fed a stream (this project's own).
 use Rattle.std.specs.Prelude.{Bool, List, [], ◌∷◌, ◌++◌, Option, Some, None}
-use Rattle.h4_framing.specs.Packets.{Packet}
-use Rattle.push_laws.specs.Premises.{AllGranted}
-use Rattle.host_model.specs.Circumstances.{Circumstance, answers_in}
-use Rattle.host_model.specs.Profiles.{Profile}
+use Rattle.receiving.specs.h4_framing.specs.Packets.{Packet}
+use Rattle.noting_laws.specs.push_laws.specs.Premises.{AllGranted}
+use Rattle.receiving.specs.host_model.specs.Circumstances.{Circumstance, answers_in}
+use Rattle.receiving.specs.host_model.specs.Profiles.{Profile}
 use Rattle.receiving.specs.Turns.{Stand, Posture, Turn, HearsIn, HasTurns}
 
 -- in one turn

@@ -1,13 +1,13 @@
 -- Where nothing that a host has to say waits when it is told of a PDU: no answer is missing then (Core 5.1, Volume 2 Part E, 4.1.1, for the buffers for
 -- which one may wait).
 use Rattle.std.specs.Prelude.{◌≡◌, false, true, is_some, List, [], ◌∷◌, Option, Some, None}
-use Rattle.h4_framing.specs.Packets.{Packet}
-use Rattle.host_link.specs.Hearing.{PlainNews, Nothing, LinkUp, LinkFailed, LinkDown, Pdu, news_of}
-use Rattle.host_link.specs.PuttingOut.{has_buffer}
-use Rattle.host_model.specs.Circumstances.{Circumstance}
-use Rattle.host_model.specs.Hosts.{has_more}
-use Rattle.host_model.specs.Profiles.{Profile}
-use Rattle.bt_host.specs.Stacks.{Standing}
+use Rattle.receiving.specs.h4_framing.specs.Packets.{Packet}
+use Rattle.receiving.specs.host_link.specs.Hearing.{PlainNews, Nothing, LinkUp, LinkFailed, LinkDown, Pdu, news_of}
+use Rattle.receiving.specs.host_link.specs.PuttingOut.{has_buffer}
+use Rattle.receiving.specs.host_model.specs.Circumstances.{Circumstance}
+use Rattle.receiving.specs.host_model.specs.Hosts.{has_more}
+use Rattle.receiving.specs.host_model.specs.Profiles.{Profile}
+use Rattle.receiving.specs.bt_host.specs.Stacks.{Standing}
 use Rattle.receiving.specs.Turns.{Stand, Posture, Turn, HasRest, HasTurns}
 
 -- no piece of a PDU waits, and the host has no PDU to say

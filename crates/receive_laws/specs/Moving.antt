@@ -2,9 +2,9 @@
 -- Volume 4 Part A, 2).
 use Rattle.std.specs.Prelude.{ℕ, ◌≡◌, List, [], ◌∷◌, ◌++◌, map, None, option_to_list}
 use Rattle.std.specs.List.{AllByRecursion}
-use Rattle.h4_framing.specs.Packets.{Packet, spellings, IsPacket}
-use Rattle.capture.specs.Moves.{Move}
-use Rattle.host_link.specs.Stands.{into, out_of}
+use Rattle.receiving.specs.h4_framing.specs.Packets.{Packet, spellings, IsPacket}
+use Rattle.receiving.specs.capture.specs.Moves.{Move}
+use Rattle.receiving.specs.host_link.specs.Stands.{into, out_of}
 use Rattle.receiving.specs.Turns.{Turn}
 
 -- these packets have those octets, and none has more than 1,021 octets of data

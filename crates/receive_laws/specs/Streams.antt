@@ -1,29 +1,29 @@
 -- What `receive` stores is what the packets of its stream spell (Object Push Profile 1.2, 4.3; IrOBEX 1.5, 3.4.3).
 use Rattle.std.specs.Prelude.{ℕ, ◌≡◌, ◌≢◌, List, ◌++◌, Option, Some}
 use Rattle.std.specs.List.{AllByRecursion}
-use Rattle.bt_base.specs.declared.settings.Settings.{Settings}
-use Rattle.bt_base.specs.Objects.{Object, Contents}
-use Rattle.btpush_forms.specs.declared.status.Status.{Status}
-use Rattle.btpush_forms.specs.declared.status.Status.TheVariants as status
-use Rattle.h4_framing.specs.Packets.{IsPacket}
-use Rattle.capture.specs.Moves.{Move}
-use Rattle.push_terms.specs.declared.word.Side.TheVariants as sides
-use Rattle.link_talk.specs.Captures.{objects_heard}
-use Rattle.host_link.specs.declared.role.Role.TheVariants.{Server}
-use Rattle.push_laws.specs.Laws.{stored_in}
-use Rattle.push_laws.specs.Premises.{AllGranted}
-use Rattle.host_model.specs.Circumstances.{Circumstance, answers_in}
-use Rattle.host_model.specs.Hosts.{Host}
-use Rattle.host_model.specs.Servers.{ServerProfile}
-use Rattle.scenario_laws.specs.Gains.{holding, serving}
-use Rattle.scenario_laws.specs.Parties.{party_of}
-use Rattle.bt_host.specs.Noting.{Noted}
-use Rattle.bt_host.specs.NotedHosts.{noted_server}
-use Rattle.bt_host.specs.Refusals.{acl_limit}
-use Rattle.unit_laws.specs.Units.{Lined, Occasion, units, lone_capture}
-use Rattle.unit_laws.specs.Calls.{gifts_in}
-use Rattle.unit_laws.specs.Living.{Did}
-use Rattle.unit_laws.specs.Laws.{FiresNone}
+use Rattle.receiving.specs.bt_base.specs.declared.settings.Settings.{Settings}
+use Rattle.receiving.specs.bt_base.specs.Objects.{Object, Contents}
+use Rattle.receiving.specs.btpush_forms.specs.declared.status.Status.{Status}
+use Rattle.receiving.specs.btpush_forms.specs.declared.status.Status.TheVariants as status
+use Rattle.receiving.specs.h4_framing.specs.Packets.{IsPacket}
+use Rattle.receiving.specs.capture.specs.Moves.{Move}
+use Rattle.receiving.specs.push_terms.specs.declared.word.Side.TheVariants as sides
+use Rattle.noting_laws.specs.link_talk.specs.Captures.{objects_heard}
+use Rattle.receiving.specs.host_link.specs.declared.role.Role.TheVariants.{Server}
+use Rattle.noting_laws.specs.push_laws.specs.Laws.{stored_in}
+use Rattle.noting_laws.specs.push_laws.specs.Premises.{AllGranted}
+use Rattle.receiving.specs.host_model.specs.Circumstances.{Circumstance, answers_in}
+use Rattle.receiving.specs.host_model.specs.Hosts.{Host}
+use Rattle.receiving.specs.host_model.specs.Servers.{ServerProfile}
+use Rattle.noting_laws.specs.scenario_laws.specs.Gains.{holding, serving}
+use Rattle.noting_laws.specs.scenario_laws.specs.Parties.{party_of}
+use Rattle.receiving.specs.bt_host.specs.Noting.{Noted}
+use Rattle.receiving.specs.bt_host.specs.NotedHosts.{noted_server}
+use Rattle.receiving.specs.bt_host.specs.Refusals.{acl_limit}
+use Rattle.orderly_laws.specs.unit_laws.specs.Units.{Lined, Occasion, units, lone_capture}
+use Rattle.orderly_laws.specs.unit_laws.specs.Calls.{gifts_in}
+use Rattle.orderly_laws.specs.unit_laws.specs.Living.{Did}
+use Rattle.orderly_laws.specs.unit_laws.specs.Laws.{FiresNone}
 use Rattle.orderly_laws.specs.Orderly.{IsOrderlyInput}
 use Rattle.receiving.specs.Turns.{Begun, begun, Posture, Turn, HasTurns, packets_in}
 use Rattle.receiving.specs.Receiving.{new_server_host, stored_by, Receives}

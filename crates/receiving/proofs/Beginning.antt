@@ -9,12 +9,12 @@ use Rattle.bt_base.proofs.PortLaws.{front_none}
 use Rattle.btpush_forms.specs.declared.status.Status.TheVariants as status
 use Rattle.h4_framing.specs.Framing.{Framing}
 use Rattle.h4_framing.proofs.TakingLemmas.{nothing_unfinished}
-use Rattle.host_link.specs.declared.role.Role.TheVariants.{Server}
-use Rattle.host_link.specs.PuttingOut.{started}
-use Rattle.host_model.specs.Circumstances.{Circumstance}
-use Rattle.host_model.specs.Profiles.{Profile}
-use Rattle.host_model.specs.Hosts.{Host}
-use Rattle.host_model.specs.Settings.{plain_settings}
+use Rattle.bt_host.specs.host_link.specs.declared.role.Role.TheVariants.{Server}
+use Rattle.bt_host.specs.host_link.specs.PuttingOut.{started}
+use Rattle.bt_host.specs.host_model.specs.Circumstances.{Circumstance}
+use Rattle.bt_host.specs.host_model.specs.Profiles.{Profile}
+use Rattle.bt_host.specs.host_model.specs.Hosts.{Host}
+use Rattle.bt_host.specs.host_model.specs.Settings.{plain_settings}
 use Rattle.bt_host.specs.NotedHosts.{noted_server}
 use Rattle.bt_host.specs.Refusals.{acl_limit, fresh_framing}
 use Rattle.bt_host.specs.Stacks.{Rests}

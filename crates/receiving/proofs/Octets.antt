@@ -10,14 +10,14 @@ use Rattle.h4_framing.specs.declared.refusal.H4Refusal.TheVariants as h4
 use Rattle.h4_framing.specs.Packets.{Packet, Command, Acl, Sync, Event, spelling, spellings, IsPacket}
 use Rattle.h4_framing.specs.Framing.{Framing}
 use Rattle.h4_framing.proofs.ReadingLemmas.{no_wrong_nothing}
-use Rattle.hci_packets.specs.Events.{PlainEvent, CommandComplete, CommandStatus}
-use Rattle.host_link.specs.declared.news.ControllerFault.{ControllerFault}
-use Rattle.host_link.specs.declared.news.ControllerFault.TheVariants as controller
-use Rattle.host_link.specs.EventReading.{event_in}
-use Rattle.host_link.specs.Hearing.{fault_of, event_fault}
-use Rattle.host_link.specs.Lines.{Line}
-use Rattle.host_model.specs.Circumstances.{Circumstance}
-use Rattle.host_model.specs.Profiles.{Profile}
+use Rattle.bt_host.specs.hci_packets.specs.Events.{PlainEvent, CommandComplete, CommandStatus}
+use Rattle.bt_host.specs.host_link.specs.declared.news.ControllerFault.{ControllerFault}
+use Rattle.bt_host.specs.host_link.specs.declared.news.ControllerFault.TheVariants as controller
+use Rattle.bt_host.specs.host_link.specs.EventReading.{event_in}
+use Rattle.bt_host.specs.host_link.specs.Hearing.{fault_of, event_fault}
+use Rattle.bt_host.specs.host_link.specs.Lines.{Line}
+use Rattle.bt_host.specs.host_model.specs.Circumstances.{Circumstance}
+use Rattle.bt_host.specs.host_model.specs.Profiles.{Profile}
 use Rattle.bt_host.specs.declared.feed_refusal.FeedRefusal.{FeedRefusal}
 use Rattle.bt_host.specs.declared.feed_refusal.FeedRefusal.TheVariants as fed
 use Rattle.bt_host.specs.Refusals.{acl_limit, refusal_by, BeginsRefused, IsRefused}

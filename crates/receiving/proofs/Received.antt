@@ -4,7 +4,7 @@ use Rattle.std.specs.Prelude.{Option, None, Result, Err}
 use Rattle.bt_base.specs.Objects.{Contents}
 use Rattle.bt_base.specs.PlainSettings.{IsPlain}
 use Rattle.bt_base.specs.declared.settings.Settings.{Settings}
-use Rattle.host_model.specs.Circumstances.{Circumstance}
+use Rattle.bt_host.specs.host_model.specs.Circumstances.{Circumstance}
 use Rattle.bt_host.specs.Newness.{new_stack}
 use Rattle.bt_host.specs.Noting.{Noted}
 use Rattle.bt_host.specs.NotedHosts.{noted_server, server_noting}
@@ -14,7 +14,7 @@ use Rattle.bt_host.specs.Shells.{Shelled, settings_of}
 use Rattle.bt_host.specs.Stacks.{standing, usual_peer}
 use Rattle.receiving.specs.declared.fault.ListenFault.{ListenFault}
 use Rattle.receiving.specs.declared.fault.ListenFault.TheVariants.{NoMemory}
-use Rattle.host_model.specs.Settings.{plain_settings}
+use Rattle.bt_host.specs.host_model.specs.Settings.{plain_settings}
 use Rattle.receiving.specs.Turns.{HasRest, begun}
 use Rattle.receiving.specs.Coming.{Comes}
 use Rattle.receiving.specs.Receiving.{Listened, Receives, Tells, new_server_host, stored_by}

@@ -8,10 +8,10 @@ use Rattle.bt_base.specs.Counts.{HasRisen}
 use Rattle.bt_base.specs.Objects.{Contents}
 use Rattle.h4_framing.specs.Packets.{Packet}
 use Rattle.h4_framing.specs.Framing.{Framing}
-use Rattle.obex_session.specs.InboxCalls.{Answer}
-use Rattle.host_model.specs.Circumstances.{Circumstance, answer_of, answers_in}
-use Rattle.host_model.specs.Profiles.{Profile}
-use Rattle.host_model.specs.Servers.{ServerProfile}
+use Rattle.bt_host.specs.obex_session.specs.InboxCalls.{Answer}
+use Rattle.bt_host.specs.host_model.specs.Circumstances.{Circumstance, answer_of, answers_in}
+use Rattle.bt_host.specs.host_model.specs.Profiles.{Profile}
+use Rattle.bt_host.specs.host_model.specs.Servers.{ServerProfile}
 use Rattle.bt_host.specs.declared.feed_refusal.FeedRefusal.{FeedRefusal}
 use Rattle.bt_host.specs.declared.feed_refusal.FeedRefusal.TheVariants.{Transport, CommandFailed, BadBuffers, NoMemory}
 use Rattle.bt_host.specs.Noting.{Noted, with_end}

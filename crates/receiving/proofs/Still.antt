@@ -2,15 +2,15 @@
 use Rattle.std.proofs.Common.{◌≡◌, ◌∙◌, ◌&&◌, not, nat_lt, ℕ, zero, suc, Bool, true, false, is_some, List, [], ◌∷◌, ◌++◌, length, inl, inr, refl, sym, ap, subst, true≢false, length-append, arith, tests, if◌then◌else◌}
 use Rattle.std.specs.Prelude.{Option, Some, None}
 use Rattle.std.proofs.lemmas.Bool.{cases_lt}
-use Rattle.host_link.specs.declared.host_command.HostCommand.{HostCommand}
-use Rattle.host_link.specs.declared.host_command.HostCommand.TheVariants.{CreateConnection}
-use Rattle.host_link.specs.CommandFlows.{Flow, next_command}
-use Rattle.host_link.specs.Lines.{Line}
-use Rattle.host_link.specs.PuttingOut.{has_room, has_buffer, is_waiting, put_pieces, with_next, put_command}
-use Rattle.channel_model.specs.Giving.{Given, next_given}
-use Rattle.host_model.specs.Circumstances.{Circumstance}
-use Rattle.host_model.specs.Profiles.{Profile}
-use Rattle.host_model.specs.Hosts.{Host, next, says}
+use Rattle.bt_host.specs.host_link.specs.declared.host_command.HostCommand.{HostCommand}
+use Rattle.bt_host.specs.host_link.specs.declared.host_command.HostCommand.TheVariants.{CreateConnection}
+use Rattle.bt_host.specs.host_link.specs.CommandFlows.{Flow, next_command}
+use Rattle.bt_host.specs.host_link.specs.Lines.{Line}
+use Rattle.bt_host.specs.host_link.specs.PuttingOut.{has_room, has_buffer, is_waiting, put_pieces, with_next, put_command}
+use Rattle.bt_host.specs.channel_model.specs.Giving.{Given, next_given}
+use Rattle.bt_host.specs.host_model.specs.Circumstances.{Circumstance}
+use Rattle.bt_host.specs.host_model.specs.Profiles.{Profile}
+use Rattle.bt_host.specs.host_model.specs.Hosts.{Host, next, says}
 use Rattle.bt_host.specs.Stacks.{Standing, Deed, Putting, Saying, Ending, Paging, Commanding, DoesDeed, DoesAll, Rests, can_put_piece}
 use Rattle.bt_host.proofs.Resting.{none_goes, stays_put}
 use Rattle.receiving.specs.Turns.{Stand, Moves, HasRest, emptied}

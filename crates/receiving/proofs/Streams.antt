@@ -6,9 +6,9 @@ use Rattle.bt_base.specs.Streams.{gained}
 use Rattle.bt_base.proofs.PortLaws.{front_whole}
 use Rattle.h4_framing.specs.Packets.{spellings}
 use Rattle.h4_framing.specs.Framing.{Framing}
-use Rattle.h4_view.specs.View.{Took}
-use Rattle.h4_view.proofs.Stands.{took_then}
-use Rattle.host_model.specs.Profiles.{Profile}
+use Rattle.btpush_forms.specs.h4_view.specs.View.{Took}
+use Rattle.btpush_forms.specs.h4_view.proofs.Stands.{took_then}
+use Rattle.bt_host.specs.host_model.specs.Profiles.{Profile}
 use Rattle.receiving.specs.declared.fault.StreamRefusal.TheVariants as refusals
 use Rattle.receiving.specs.declared.fault.ListenFault.{ListenFault}
 use Rattle.receiving.specs.declared.fault.ListenFault.TheVariants.{Refused, ReadFault, WriteFault, NoMemory}

@@ -7,8 +7,8 @@ use Rattle.std.proofs.lemmas.List.Concat.{flat_map-append}
 use Rattle.h4_framing.specs.Packets.{Packet, spelling, spellings, IsPacket}
 use Rattle.h4_framing.specs.Stream.{IsUnfinished}
 use Rattle.h4_framing.specs.Framing.{Framing, counted}
-use Rattle.h4_view.proofs.Showing.{spellings-append}
-use Rattle.host_model.specs.Profiles.{Profile}
+use Rattle.btpush_forms.specs.h4_view.proofs.Showing.{spellings-append}
+use Rattle.bt_host.specs.host_model.specs.Profiles.{Profile}
 use Rattle.bt_host.specs.Refusals.{acl_limit}
 use Rattle.bt_host.specs.Pieces.{IsTaken}
 use Rattle.receiving.specs.Turns.{Posture, Turn, HasTurn, HasTurns, packets_in, said_in}

@@ -5,12 +5,12 @@ use Rattle.bt_base.specs.Streams.{gained, GainedFront}
 use Rattle.h4_framing.specs.declared.refusal.H4Refusal.TheVariants as h4
 use Rattle.h4_framing.specs.Packets.{Packet, spelling, spellings, IsPacket}
 use Rattle.h4_framing.specs.Stream.{IsUnfinished, IsLeastLength, GoesWrong}
-use Rattle.h4_view.specs.View.{Took}
-use Rattle.host_link.specs.Lines.{Line}
-use Rattle.host_link.specs.Hearing.{fault_of}
-use Rattle.host_link.specs.declared.news.ControllerFault.{ControllerFault}
-use Rattle.host_link.specs.declared.news.ControllerFault.TheVariants as controller
-use Rattle.host_model.specs.Profiles.{Profile}
+use Rattle.btpush_forms.specs.h4_view.specs.View.{Took}
+use Rattle.bt_host.specs.host_link.specs.Lines.{Line}
+use Rattle.bt_host.specs.host_link.specs.Hearing.{fault_of}
+use Rattle.bt_host.specs.host_link.specs.declared.news.ControllerFault.{ControllerFault}
+use Rattle.bt_host.specs.host_link.specs.declared.news.ControllerFault.TheVariants as controller
+use Rattle.bt_host.specs.host_model.specs.Profiles.{Profile}
 use Rattle.bt_host.specs.Refusals.{acl_limit}
 use Rattle.receiving.specs.declared.fault.StreamRefusal.{StreamRefusal}
 use Rattle.receiving.specs.declared.fault.StreamRefusal.TheVariants.{BadIndicator, AclTooLong, Truncated, CommandFailed, BadBuffers, TooLong}

@@ -5,9 +5,9 @@ use Rattle.bt_base.specs.Streams.{gained}
 use Rattle.h4_framing.specs.Packets.{spellings, IsPacket}
 use Rattle.h4_framing.specs.Stream.{IsUnfinished, IsLeastLength}
 use Rattle.h4_framing.specs.Framing.{Framing}
-use Rattle.h4_view.specs.View.{Took}
-use Rattle.host_model.specs.Circumstances.{Circumstance}
-use Rattle.host_model.specs.Profiles.{Profile}
+use Rattle.btpush_forms.specs.h4_view.specs.View.{Took}
+use Rattle.bt_host.specs.host_model.specs.Circumstances.{Circumstance}
+use Rattle.bt_host.specs.host_model.specs.Profiles.{Profile}
 use Rattle.bt_host.specs.declared.feed_refusal.FeedRefusal.{FeedRefusal}
 use Rattle.bt_host.specs.declared.feed_refusal.FeedRefusal.TheVariants as fed
 use Rattle.bt_host.specs.Refusals.{acl_limit}

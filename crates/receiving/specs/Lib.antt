@@ -1,3 +1,14 @@
+pub use Rattle.bt_host.specs.acl_fragments
+pub use Rattle.bt_base
+pub use Rattle.bt_host
+pub use Rattle.btpush_forms
+pub use Rattle.bt_host.specs.capture
+pub use Rattle.bt_host.specs.channel_model
+pub use Rattle.h4_framing
+pub use Rattle.bt_host.specs.host_link
+pub use Rattle.bt_host.specs.host_model
+pub use Rattle.bt_host.specs.push_terms
+pub use Rattle.bt_host.specs.run_laws
 pub mod Turns
 pub mod Feeding
 pub mod Coming

@@ -8,7 +8,7 @@ use Rattle.btpush_forms.specs.declared.status.Status.{Status}
 use Rattle.btpush_forms.specs.declared.status.Status.TheVariants as status
 use Rattle.btpush_forms.specs.Carrying.{place_line}
 use Rattle.btpush_forms.specs.Refusing.{Refuses}
-use Rattle.host_model.specs.Servers.{ServerProfile}
+use Rattle.bt_host.specs.host_model.specs.Servers.{ServerProfile}
 use Rattle.bt_host.specs.Newness.{new_stack}
 use Rattle.bt_host.specs.Noting.{Noted}
 use Rattle.bt_host.specs.NotedHosts.{noted_server, server_noting}

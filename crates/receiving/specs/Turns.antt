@@ -2,9 +2,9 @@
 use Rattle.std.specs.Prelude.{ℕ, ◌≡◌, Bool, true, false, not, nat_lt, List, [], ◌∷◌, ◌++◌, length, Option, Some, None, option_to_list}
 use Rattle.std.specs.List.{flat_map}
 use Rattle.h4_framing.specs.Packets.{Packet}
-use Rattle.host_link.specs.Hearing.{fault_of}
-use Rattle.host_model.specs.Circumstances.{Circumstance}
-use Rattle.host_model.specs.Profiles.{Profile}
+use Rattle.bt_host.specs.host_link.specs.Hearing.{fault_of}
+use Rattle.bt_host.specs.host_model.specs.Circumstances.{Circumstance}
+use Rattle.bt_host.specs.host_model.specs.Profiles.{Profile}
 use Rattle.bt_host.specs.Stacks.{Standing, Deed, DoesAll, Rests, after_packet}
 
 -- a host, for all that its port may answer from now on

@@ -3,8 +3,8 @@
 ghost use Rattle.std.specs.Prelude.{◌≡◌, ◌≤◌, ℕ, List, length, IsErrOf, OnOk};
 ghost use Rattle.bt_base.specs.Counts.{HasRisen};
 ghost use Rattle.h4_framing.specs.Framing.{Framing};
-ghost use Rattle.host_model.specs.Circumstances.{Circumstance};
-ghost use Rattle.host_model.specs.Profiles.{Profile};
+ghost use Rattle.bt_host.specs.host_model.specs.Circumstances.{Circumstance};
+ghost use Rattle.bt_host.specs.host_model.specs.Profiles.{Profile};
 ghost use Rattle.bt_host.specs.Stacks.{Standing};
 ghost use Rattle.receiving.specs.Turns.{emptied, HasRest};
 ghost use Rattle.receiving.specs.Feeding.{IsFed};

@@ -2,7 +2,7 @@
 
 ghost use Rattle.std.specs.Prelude.{◌≡◌, ◌≤◌, ◌<◌, ◌+◌, ◌∷◌, ◌++◌, ℕ, List, [], Option, length, true, false, IfErr, IsErrOf, OnOk};
 ghost use Rattle.bt_base.specs.Streams.{gained, GainedFront};
-ghost use Rattle.host_model.specs.Circumstances.{Circumstance};
+ghost use Rattle.bt_host.specs.host_model.specs.Circumstances.{Circumstance};
 ghost use Rattle.bt_host.specs.declared.feed_refusal.FeedRefusal.TheVariants as fed;
 ghost use Rattle.receiving.specs.Turns.{Begun, emptied};
 ghost use Rattle.receiving.specs.Coming.{input_limit};

@@ -1,7 +1,7 @@
 //! A host is fed a source to its end.
 
 ghost use Rattle.std.specs.Prelude.{◌≡◌, ◌≤◌, ◌<◌, [], Ok, None, true, false, ℕ, List, Option, nat_lt, length, IfSome, IsErrOf, OnOk};
-ghost use Rattle.host_model.specs.Circumstances.{Circumstance};
+ghost use Rattle.bt_host.specs.host_model.specs.Circumstances.{Circumstance};
 ghost use Rattle.bt_host.specs.Refusals.{acl_limit, fresh_framing};
 ghost use Rattle.receiving.specs.Turns.{Begun, begun, HasRest};
 ghost use Rattle.receiving.specs.Coming.{input_limit, Comes};

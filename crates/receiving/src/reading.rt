@@ -2,7 +2,7 @@
 
 ghost use Rattle.std.specs.Prelude.{◌≡◌, ◌≤◌, ◌<◌, [], Ok, length, take, IfOk, IfErr, IfSome, OnErr, OnOk};
 ghost use Rattle.bt_base.specs.Streams.{gained, GainedFront};
-ghost use Rattle.h4_view.specs.View.{Took};
+ghost use Rattle.btpush_forms.specs.h4_view.specs.View.{Took};
 ghost use Rattle.receiving.specs.Faring.{IsOfSink, IsOfSource};
 ghost use Rattle.receiving.specs.Counts.{Counts, Lacked};
 

@@ -2,7 +2,7 @@
 
 ghost use Rattle.std.specs.Prelude.{◌≡◌, ◌≢◌, ◌≤◌, ◌⊎◌, false, [], IfSome, OnOk, IsErrOf};
 ghost use Rattle.bt_base.specs.Counts.{HasRisen};
-ghost use Rattle.h4_view.specs.View.{IsAnswered};
+ghost use Rattle.btpush_forms.specs.h4_view.specs.View.{IsAnswered};
 ghost use Rattle.btpush_forms.specs.Run.{HasCauses};
 ghost use Rattle.receiving.specs.Counts.{Counts, Lacked};
 ghost use Rattle.receiving.specs.Ports.{ports_of, LacksMemory};

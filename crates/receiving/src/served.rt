@@ -6,7 +6,7 @@ use bt_host::{FeedRefusal, ServerHost};
 
 impl<B: Inbox> FedHost<B> for ServerHost {
     ghost use Rattle.std.specs.Prelude.{◌≡◌, None};
-    ghost use Rattle.host_model.specs.Servers.{ServerProfile};
+    ghost use Rattle.bt_host.specs.host_model.specs.Servers.{ServerProfile};
     ghost use Rattle.bt_host.specs.Noting.{Noted};
     ghost use Rattle.bt_host.specs.NotedHosts.{noted_server, server_noting};
     ghost use Rattle.bt_host.specs.Serving.{Works};

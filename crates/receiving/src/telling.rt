@@ -2,7 +2,7 @@
 
 ghost use Rattle.std.specs.Prelude.{◌≡◌, ◌≢◌, ◌≤◌, ◌+◌, ◌⊎◌, ◌++◌, length, take, Ok, IsErrOf};
 ghost use Rattle.bt_base.specs.Counts.{HasRisen};
-ghost use Rattle.h4_view.specs.View.{IsAnswered};
+ghost use Rattle.btpush_forms.specs.h4_view.specs.View.{IsAnswered};
 ghost use Rattle.btpush_forms.specs.Carrying.{place_line};
 ghost use Rattle.btpush_forms.specs.Refusing.{Refuses};
 ghost use Rattle.receiving.specs.Receiving.{refusal_name, Tells};

@@ -1,25 +1,25 @@
 -- What becomes of one channel of a host when a PDU comes in for it, an SDU is sent on it, and it gives what it has.
 use Rattle.std.proofs.Common.{◌≡◌, ℕ, ◌≤◌, List, length, Bool, true, false, cond, ◌&&◌, Option, Some, None, refl, sym, ap, subst, ◌∙◌, arith}
 use Rattle.std.specs.Prelude.{find, option_map, is_some}
-use Rattle.l2cap_config.specs.declared.wish.Agreed.{Agreed}
-use Rattle.l2cap_config.specs.declared.wish.Wish.{Wish}
-use Rattle.ertm_frames.specs.Frames.{PlainFrame}
-use Rattle.ertm_model.specs.declared.reason.ErtmReason.{ErtmReason}
-use Rattle.ertm_model.specs.Value.{Ertm}
-use Rattle.ertm_model.specs.Submitting.{submitted}
-use Rattle.ertm_model.specs.Giving.{next_frame, after_frame}
-use Rattle.channel_model.specs.Value.{Carrier, Plain, Retransmitting, Setup, Stage, Requested, Connected, Leaving, Closing, Crossed, Held, Channels}
-use Rattle.channel_model.specs.Policies.{Policy}
-use Rattle.channel_model.specs.Changing.{has_own, held_at, is_granted, is_open, setup_of, with_setup, to_setup, has_fcs_by}
-use Rattle.channel_model.specs.Asking.{new_request}
-use Rattle.channel_model.specs.Closing.{closes_at}
-use Rattle.channel_model.specs.Configuring.{granted_setup}
-use Rattle.channel_model.specs.Carrying.{reason_of, settles_machine, read_by, machine_heard, is_taken_with, takes_on, takes_held, takes}
-use Rattle.channel_model.specs.Giving.{carrier_given, carrier_spent}
-use Rattle.channel_model.specs.Calls.{carrier_with, sends_on, sends_held, sends}
-use Rattle.channel_model.proofs.Lookups.{own_of, found-has, found-placed}
-use Rattle.channel_model.proofs.Going.{staged}
-use Rattle.channel_model.proofs.Walking.{found-own, with-setup, with-found}
+use Rattle.channel_laws.specs.l2cap_config.specs.declared.wish.Agreed.{Agreed}
+use Rattle.channel_laws.specs.l2cap_config.specs.declared.wish.Wish.{Wish}
+use Rattle.channel_laws.specs.ertm_frames.specs.Frames.{PlainFrame}
+use Rattle.channel_laws.specs.ertm_model.specs.declared.reason.ErtmReason.{ErtmReason}
+use Rattle.channel_laws.specs.ertm_model.specs.Value.{Ertm}
+use Rattle.channel_laws.specs.ertm_model.specs.Submitting.{submitted}
+use Rattle.channel_laws.specs.ertm_model.specs.Giving.{next_frame, after_frame}
+use Rattle.channel_laws.specs.channel_model.specs.Value.{Carrier, Plain, Retransmitting, Setup, Stage, Requested, Connected, Leaving, Closing, Crossed, Held, Channels}
+use Rattle.channel_laws.specs.channel_model.specs.Policies.{Policy}
+use Rattle.channel_laws.specs.channel_model.specs.Changing.{has_own, held_at, is_granted, is_open, setup_of, with_setup, to_setup, has_fcs_by}
+use Rattle.channel_laws.specs.channel_model.specs.Asking.{new_request}
+use Rattle.channel_laws.specs.channel_model.specs.Closing.{closes_at}
+use Rattle.channel_laws.specs.channel_model.specs.Configuring.{granted_setup}
+use Rattle.channel_laws.specs.channel_model.specs.Carrying.{reason_of, settles_machine, read_by, machine_heard, is_taken_with, takes_on, takes_held, takes}
+use Rattle.channel_laws.specs.channel_model.specs.Giving.{carrier_given, carrier_spent}
+use Rattle.channel_laws.specs.channel_model.specs.Calls.{carrier_with, sends_on, sends_held, sends}
+use Rattle.channel_laws.specs.channel_model.proofs.Lookups.{own_of, found-has, found-placed}
+use Rattle.channel_laws.specs.channel_model.proofs.Going.{staged}
+use Rattle.channel_laws.specs.channel_model.proofs.Walking.{found-own, with-setup, with-found}
 use Rattle.channel_laws.proofs.Both.{and-right}
 use Rattle.channel_laws.proofs.HandedUp.{heard-agreed}
 use Rattle.channel_laws.proofs.Joining.{IsBelow}

@@ -1,13 +1,13 @@
 -- The machines of a channel that two hosts have in common follow the turns of the hosts as two ends.
 use Rattle.std.proofs.Common.{◌≡◌, List, [], ◌∷◌, ◌++◌, refl, sym, ap, subst, ◌∙◌, inl, inr, append_assoc, append-nil}
 use Rattle.std.proofs.lemmas.List.Sums.{fold-append}
-use Rattle.capture.specs.Histories.{EachAfter}
-use Rattle.l2cap_config.specs.declared.wish.Mode.TheVariants.{Enhanced}
-use Rattle.ertm_model.specs.Pair.{Give, Fire, Submit, Pass, Lose, Repeat, Pair as Machines, Turn as Deed, ByA, ByB, turned as machines_turned, all_turned, MayTurn, AllMay, new_pair as new_ends}
-use Rattle.link_talk.specs.declared.channel.Channel.{Channel}
-use Rattle.channel_model.specs.Value.{Retransmitting}
-use Rattle.channel_model.specs.Policies.{Policy}
-use Rattle.channel_model.specs.Changing.{is_open}
+use Rattle.channel_laws.specs.capture.specs.Histories.{EachAfter}
+use Rattle.channel_laws.specs.l2cap_config.specs.declared.wish.Mode.TheVariants.{Enhanced}
+use Rattle.channel_laws.specs.ertm_model.specs.Pair.{Give, Fire, Submit, Pass, Lose, Repeat, Pair as Machines, Turn as Deed, ByA, ByB, turned as machines_turned, all_turned, MayTurn, AllMay, new_pair as new_ends}
+use Rattle.channel_laws.specs.link_talk.specs.declared.channel.Channel.{Channel}
+use Rattle.channel_laws.specs.channel_model.specs.Value.{Retransmitting}
+use Rattle.channel_laws.specs.channel_model.specs.Policies.{Policy}
+use Rattle.channel_laws.specs.channel_model.specs.Changing.{is_open}
 use Rattle.channel_laws.specs.Common.{mirrored}
 use Rattle.channel_laws.specs.Ends.{DoesSo, end_at}
 use Rattle.channel_laws.specs.Frames.{IsUttered}

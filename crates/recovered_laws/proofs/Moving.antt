@@ -1,21 +1,21 @@
 -- Two ends of a channel with the PDUs that are under way between their hosts, and what each turn of them leaves of these.
 use Rattle.std.proofs.Common.{◌≡◌, ℕ, ◌+◌, ◌≤◌, List, [], ◌∷◌, ◌++◌, length, Bool, true, false, cond, Option, Some, None, Ok, refl, sym, ap, subst, ◌∙◌, inl, inr}
-use Rattle.l2cap_config.specs.declared.wish.Agreed.{Agreed}
-use Rattle.ertm_frames.specs.Frames.{PlainFrame}
-use Rattle.ertm_frames.specs.Answers.{IsWithin}
-use Rattle.ertm_frames.specs.Reading.{answer_in}
-use Rattle.ertm_model.specs.declared.reason.ErtmReason.{ErtmReason}
-use Rattle.ertm_model.specs.Value.{Ertm}
-use Rattle.ertm_model.specs.Submitting.{is_busy}
-use Rattle.ertm_model.specs.Giving.{Giving, giving, given_frame, frame_by, next_frame, after_by, timed}
-use Rattle.ertm_model.specs.Hearing.{fault}
-use Rattle.ertm_model.specs.Pair.{Sent, End, Give, Fire, Submit, Pass, Lose, Repeat, gave, took, behind_front, hearing_by, hearing_front, near, acknowledged_by, accepted_by, new_end, Pair, ByA, ByB, turned}
-use Rattle.ertm_model.specs.Order.{Stands}
-use Rattle.ertm_model.proofs.Ordering.{front-flies}
-use Rattle.ertm_model.proofs.Saying.{gives-stands}
-use Rattle.ertm_model.proofs.Standing.{turns-stand, swapped}
-use Rattle.channel_model.specs.Carrying.{machine_heard}
-use Rattle.channel_model.specs.Value.{Carrier, Plain, Retransmitting}
+use Rattle.channel_laws.specs.l2cap_config.specs.declared.wish.Agreed.{Agreed}
+use Rattle.channel_laws.specs.ertm_frames.specs.Frames.{PlainFrame}
+use Rattle.channel_laws.specs.ertm_frames.specs.Answers.{IsWithin}
+use Rattle.channel_laws.specs.ertm_frames.specs.Reading.{answer_in}
+use Rattle.channel_laws.specs.ertm_model.specs.declared.reason.ErtmReason.{ErtmReason}
+use Rattle.channel_laws.specs.ertm_model.specs.Value.{Ertm}
+use Rattle.channel_laws.specs.ertm_model.specs.Submitting.{is_busy}
+use Rattle.channel_laws.specs.ertm_model.specs.Giving.{Giving, giving, given_frame, frame_by, next_frame, after_by, timed}
+use Rattle.channel_laws.specs.ertm_model.specs.Hearing.{fault}
+use Rattle.channel_laws.specs.ertm_model.specs.Pair.{Sent, End, Give, Fire, Submit, Pass, Lose, Repeat, gave, took, behind_front, hearing_by, hearing_front, near, acknowledged_by, accepted_by, new_end, Pair, ByA, ByB, turned}
+use Rattle.channel_laws.specs.ertm_model.specs.Order.{Stands}
+use Rattle.channel_laws.specs.ertm_model.proofs.Ordering.{front-flies}
+use Rattle.channel_laws.specs.ertm_model.proofs.Saying.{gives-stands}
+use Rattle.channel_laws.specs.ertm_model.proofs.Standing.{turns-stand, swapped}
+use Rattle.channel_laws.specs.channel_model.specs.Carrying.{machine_heard}
+use Rattle.channel_laws.specs.channel_model.specs.Value.{Carrier, Plain, Retransmitting}
 use Rattle.channel_laws.specs.Pipes.{Suits}
 use Rattle.channel_laws.proofs.Attending.{submits-aside, gives-aside, fires-aside}
 use Rattle.channel_laws.proofs.HandedUp.{heard-agreed}

@@ -3,24 +3,24 @@ use Rattle.std.proofs.Common.{◌≡◌, ℕ, ◌≤◌, List, [], ◌∷◌, �
 use Rattle.std.specs.Prelude.{find, nat_le}
 use Rattle.std.specs.List.{list_any}
 use Rattle.std.proofs.lemmas.List.Sums.{fold-append}
-use Rattle.l2cap_config.specs.declared.wish.Agreed.{Agreed}
-use Rattle.l2cap_config.specs.declared.wish.Mode.TheVariants.{Basic}
-use Rattle.l2cap_config.specs.declared.wish.Wish.{Wish}
-use Rattle.ertm_model.specs.declared.reason.ErtmReason.{ErtmReason}
-use Rattle.ertm_model.specs.declared.reason.ErtmReason.TheVariants.{RetryLimit}
-use Rattle.ertm_model.specs.Value.{Kept, Poll, NoPoll, Due, Waits, Ertm, new_ertm}
-use Rattle.ertm_model.specs.Submitting.{is_busy, submitted, taking}
-use Rattle.ertm_model.specs.Giving.{giving, closing, polling, first_poll, poll_timed, open_timed, timed}
-use Rattle.ertm_model.proofs.Inverting.{IsSilent}
-use Rattle.ertm_model.proofs.Resting.{silent}
-use Rattle.channel_model.specs.Value.{Carrier, Plain, Retransmitting, Setup, Stage, Requested, Connected, Leaving, Closing, Crossed, Held, Channels}
-use Rattle.channel_model.specs.Policies.{Policy}
-use Rattle.channel_model.specs.Changing.{has_own, held_at, setup_of}
-use Rattle.channel_model.specs.Calls.{carrier_with}
-use Rattle.channel_model.specs.Giving.{gives, carrier_given, stage_gives}
-use Rattle.channel_model.proofs.Lookups.{own_of, Distinct, any-finds, found-distinct}
-use Rattle.channel_model.proofs.Going.{IsAccepted, CarrierGoes}
-use Rattle.channel_model.proofs.Calling.{connected-goes, asks-features-goes, disconnected-goes, sends-goes, timed-goes}
+use Rattle.channel_laws.specs.l2cap_config.specs.declared.wish.Agreed.{Agreed}
+use Rattle.channel_laws.specs.l2cap_config.specs.declared.wish.Mode.TheVariants.{Basic}
+use Rattle.channel_laws.specs.l2cap_config.specs.declared.wish.Wish.{Wish}
+use Rattle.channel_laws.specs.ertm_model.specs.declared.reason.ErtmReason.{ErtmReason}
+use Rattle.channel_laws.specs.ertm_model.specs.declared.reason.ErtmReason.TheVariants.{RetryLimit}
+use Rattle.channel_laws.specs.ertm_model.specs.Value.{Kept, Poll, NoPoll, Due, Waits, Ertm, new_ertm}
+use Rattle.channel_laws.specs.ertm_model.specs.Submitting.{is_busy, submitted, taking}
+use Rattle.channel_laws.specs.ertm_model.specs.Giving.{giving, closing, polling, first_poll, poll_timed, open_timed, timed}
+use Rattle.channel_laws.specs.ertm_model.proofs.Inverting.{IsSilent}
+use Rattle.channel_laws.specs.ertm_model.proofs.Resting.{silent}
+use Rattle.channel_laws.specs.channel_model.specs.Value.{Carrier, Plain, Retransmitting, Setup, Stage, Requested, Connected, Leaving, Closing, Crossed, Held, Channels}
+use Rattle.channel_laws.specs.channel_model.specs.Policies.{Policy}
+use Rattle.channel_laws.specs.channel_model.specs.Changing.{has_own, held_at, setup_of}
+use Rattle.channel_laws.specs.channel_model.specs.Calls.{carrier_with}
+use Rattle.channel_laws.specs.channel_model.specs.Giving.{gives, carrier_given, stage_gives}
+use Rattle.channel_laws.specs.channel_model.proofs.Lookups.{own_of, Distinct, any-finds, found-distinct}
+use Rattle.channel_laws.specs.channel_model.proofs.Going.{IsAccepted, CarrierGoes}
+use Rattle.channel_laws.specs.channel_model.proofs.Calling.{connected-goes, asks-features-goes, disconnected-goes, sends-goes, timed-goes}
 use Rattle.channel_laws.specs.Pairs.{is_alone}
 use Rattle.channel_laws.specs.Runs.{Occurrence, Comes, Connects, AsksFeatures, Disconnects, Sends, Gives, Fires, Tells, Run, new_link, value_after, run_on, run_of}
 use Rattle.channel_laws.proofs.Attending.{IsNew, new-carrier, submits-aside, gives-aside}

@@ -4,23 +4,23 @@ use Rattle.std.specs.Prelude.{find, option_map, is_some}
 use Rattle.std.specs.List.{list_any}
 use Rattle.std.proofs.lemmas.Bool.{eqb-true, or_parts}
 use Rattle.std.proofs.lemmas.List.Sums.{fold-append}
-use Rattle.capture.specs.Histories.{EachAfter}
-use Rattle.l2cap_config.specs.declared.wish.Agreed.{Agreed}
-use Rattle.ertm_frames.specs.Frames.{PlainFrame}
-use Rattle.ertm_model.specs.Value.{Reply, NoReply, Acknowledges, Rejects, Ertm}
-use Rattle.ertm_model.specs.Giving.{Giving, giving, frame_by, next_frame}
-use Rattle.ertm_model.specs.Pair.{Sent, End as MachineEnd, Give, Fire, Submit, Pass, Lose, Repeat, new_pair as new_ends, Pair as Machines, Turn as MachineTurn, ByA, ByB, turned as machines_turned}
-use Rattle.ertm_model.specs.Recovery.{adverse_turn}
-use Rattle.ertm_model.proofs.Accounts.{at_most-more}
-use Rattle.ertm_model.proofs.Affording.{Account, Accounts, turned_accounts}
-use Rattle.ertm_model.proofs.Inverting.{IsQuiet}
-use Rattle.ertm_model.proofs.Paying.{pays-more}
-use Rattle.ertm_model.proofs.Standing.{new-stands}
-use Rattle.link_talk.specs.declared.channel.Channel.{Channel}
-use Rattle.channel_model.specs.Value.{Carrier, Plain, Retransmitting, Setup, Stage, Requested, Connected, Leaving, Closing, Crossed, Held, Channels}
-use Rattle.channel_model.specs.Policies.{Policy}
-use Rattle.channel_model.specs.Changing.{has_own, held_at, is_answer, setup_of}
-use Rattle.channel_model.specs.Giving.{Framed, some_carrier_gives, stage_gives, gives}
+use Rattle.channel_laws.specs.capture.specs.Histories.{EachAfter}
+use Rattle.channel_laws.specs.l2cap_config.specs.declared.wish.Agreed.{Agreed}
+use Rattle.channel_laws.specs.ertm_frames.specs.Frames.{PlainFrame}
+use Rattle.channel_laws.specs.ertm_model.specs.Value.{Reply, NoReply, Acknowledges, Rejects, Ertm}
+use Rattle.channel_laws.specs.ertm_model.specs.Giving.{Giving, giving, frame_by, next_frame}
+use Rattle.channel_laws.specs.ertm_model.specs.Pair.{Sent, End as MachineEnd, Give, Fire, Submit, Pass, Lose, Repeat, new_pair as new_ends, Pair as Machines, Turn as MachineTurn, ByA, ByB, turned as machines_turned}
+use Rattle.channel_laws.specs.ertm_model.specs.Recovery.{adverse_turn}
+use Rattle.channel_laws.specs.ertm_model.proofs.Accounts.{at_most-more}
+use Rattle.channel_laws.specs.ertm_model.proofs.Affording.{Account, Accounts, turned_accounts}
+use Rattle.channel_laws.specs.ertm_model.proofs.Inverting.{IsQuiet}
+use Rattle.channel_laws.specs.ertm_model.proofs.Paying.{pays-more}
+use Rattle.channel_laws.specs.ertm_model.proofs.Standing.{new-stands}
+use Rattle.channel_laws.specs.link_talk.specs.declared.channel.Channel.{Channel}
+use Rattle.channel_laws.specs.channel_model.specs.Value.{Carrier, Plain, Retransmitting, Setup, Stage, Requested, Connected, Leaving, Closing, Crossed, Held, Channels}
+use Rattle.channel_laws.specs.channel_model.specs.Policies.{Policy}
+use Rattle.channel_laws.specs.channel_model.specs.Changing.{has_own, held_at, is_answer, setup_of}
+use Rattle.channel_laws.specs.channel_model.specs.Giving.{Framed, some_carrier_gives, stage_gives, gives}
 use Rattle.channel_laws.specs.Adverse.{is_quiet, seen_from}
 use Rattle.channel_laws.specs.Common.{mirrored}
 use Rattle.channel_laws.specs.Ends.{DoesSo, end_at}

@@ -1,18 +1,18 @@
 -- What two hosts have done about the options of a channel that they have in common, whenever one of them has it.
 use Rattle.std.proofs.Common.{◌≡◌, ℕ, List, [], ◌++◌, Bool, true, false, ◌&&◌, Option, Some, None, refl, sym, ap, subst, ◌∙◌}
 use Rattle.std.specs.Prelude.{is_some, option_map}
-use Rattle.l2cap_config.specs.declared.wish.Agreed.{Agreed}
-use Rattle.l2cap_config.specs.declared.wish.Mode.{Mode}
-use Rattle.ertm_model.specs.Value.{Ertm}
-use Rattle.link_talk.specs.declared.channel.Channel.{Channel}
-use Rattle.link_talk.specs.Channels.{Entry, reading}
-use Rattle.link_talk.specs.Sayings.{Saying}
-use Rattle.channel_model.specs.Value.{Carrier, Retransmitting, Setup, Stage, Requested, Connected, Leaving, Closing, Crossed, Held, Channels}
-use Rattle.channel_model.specs.Policies.{Policy}
-use Rattle.channel_model.specs.Changing.{held_at, is_granted, is_open, setup_of}
-use Rattle.channel_model.specs.Calls.{setup_on, open_carrier, carrier_if, carrier_at}
-use Rattle.channel_model.specs.Telling.{is_told_closed}
-use Rattle.channel_model.proofs.Going.{IsStated}
+use Rattle.channel_laws.specs.l2cap_config.specs.declared.wish.Agreed.{Agreed}
+use Rattle.channel_laws.specs.l2cap_config.specs.declared.wish.Mode.{Mode}
+use Rattle.channel_laws.specs.ertm_model.specs.Value.{Ertm}
+use Rattle.channel_laws.specs.link_talk.specs.declared.channel.Channel.{Channel}
+use Rattle.channel_laws.specs.link_talk.specs.Channels.{Entry, reading}
+use Rattle.channel_laws.specs.link_talk.specs.Sayings.{Saying}
+use Rattle.channel_laws.specs.channel_model.specs.Value.{Carrier, Retransmitting, Setup, Stage, Requested, Connected, Leaving, Closing, Crossed, Held, Channels}
+use Rattle.channel_laws.specs.channel_model.specs.Policies.{Policy}
+use Rattle.channel_laws.specs.channel_model.specs.Changing.{held_at, is_granted, is_open, setup_of}
+use Rattle.channel_laws.specs.channel_model.specs.Calls.{setup_on, open_carrier, carrier_if, carrier_at}
+use Rattle.channel_laws.specs.channel_model.specs.Telling.{is_told_closed}
+use Rattle.channel_laws.specs.channel_model.proofs.Going.{IsStated}
 use Rattle.channel_laws.specs.Belonging.{AreRead, said_at}
 use Rattle.channel_laws.specs.Common.{mirrored}
 use Rattle.channel_laws.specs.Consent.{HasAccepted}

@@ -4,27 +4,27 @@ use Rattle.std.specs.Prelude.{nat_le}
 use Rattle.std.specs.List.{list_any, AllByRecursion}
 use Rattle.std.proofs.lemmas.Bool.Decides.{leb_tells}
 use Rattle.std.proofs.lemmas.List.Sums.{fold-append}
-use Rattle.capture.specs.Histories.{EachAfter}
-use Rattle.l2cap_config.specs.declared.wish.Agreed.{Agreed}
-use Rattle.l2cap_config.specs.declared.wish.Mode.TheVariants.{Enhanced}
-use Rattle.ertm_frames.specs.Reading.{answer_in}
-use Rattle.ertm_model.specs.declared.reason.ErtmReason.{ErtmReason}
-use Rattle.ertm_model.specs.declared.reason.ErtmReason.TheVariants.{RetryLimit}
-use Rattle.ertm_model.specs.Value.{Kept, Poll, NoPoll, Due, Waits, Ertm}
-use Rattle.ertm_model.specs.Giving.{closing, polling, first_poll, poll_timed, open_timed, timed}
-use Rattle.ertm_model.specs.Order.{StandsBoth, OnlyRetries}
-use Rattle.ertm_model.specs.Pair.{Pass, Pair as Machines, ByB, turned as machines_turned}
-use Rattle.ertm_model.proofs.Affording.{turned_accounts}
-use Rattle.ertm_model.proofs.Resting.{new_account}
-use Rattle.ertm_model.proofs.Standing.{turns-stand}
-use Rattle.link_talk.specs.declared.channel.Channel.{Channel}
-use Rattle.link_talk.specs.Channels.{reading}
-use Rattle.channel_model.specs.Value.{Carrier, Retransmitting, Setup, Held, Channels}
-use Rattle.channel_model.specs.Policies.{Policy}
-use Rattle.channel_model.specs.Changing.{held_at, is_answer, is_open, setup_of}
-use Rattle.channel_model.specs.Carrying.{read_by, machine_heard}
-use Rattle.channel_model.specs.Giving.{gives}
-use Rattle.channel_model.specs.Calls.{setup_on, open_carrier, carrier_if, carrier_at}
+use Rattle.channel_laws.specs.capture.specs.Histories.{EachAfter}
+use Rattle.channel_laws.specs.l2cap_config.specs.declared.wish.Agreed.{Agreed}
+use Rattle.channel_laws.specs.l2cap_config.specs.declared.wish.Mode.TheVariants.{Enhanced}
+use Rattle.channel_laws.specs.ertm_frames.specs.Reading.{answer_in}
+use Rattle.channel_laws.specs.ertm_model.specs.declared.reason.ErtmReason.{ErtmReason}
+use Rattle.channel_laws.specs.ertm_model.specs.declared.reason.ErtmReason.TheVariants.{RetryLimit}
+use Rattle.channel_laws.specs.ertm_model.specs.Value.{Kept, Poll, NoPoll, Due, Waits, Ertm}
+use Rattle.channel_laws.specs.ertm_model.specs.Giving.{closing, polling, first_poll, poll_timed, open_timed, timed}
+use Rattle.channel_laws.specs.ertm_model.specs.Order.{StandsBoth, OnlyRetries}
+use Rattle.channel_laws.specs.ertm_model.specs.Pair.{Pass, Pair as Machines, ByB, turned as machines_turned}
+use Rattle.channel_laws.specs.ertm_model.proofs.Affording.{turned_accounts}
+use Rattle.channel_laws.specs.ertm_model.proofs.Resting.{new_account}
+use Rattle.channel_laws.specs.ertm_model.proofs.Standing.{turns-stand}
+use Rattle.channel_laws.specs.link_talk.specs.declared.channel.Channel.{Channel}
+use Rattle.channel_laws.specs.link_talk.specs.Channels.{reading}
+use Rattle.channel_laws.specs.channel_model.specs.Value.{Carrier, Retransmitting, Setup, Held, Channels}
+use Rattle.channel_laws.specs.channel_model.specs.Policies.{Policy}
+use Rattle.channel_laws.specs.channel_model.specs.Changing.{held_at, is_answer, is_open, setup_of}
+use Rattle.channel_laws.specs.channel_model.specs.Carrying.{read_by, machine_heard}
+use Rattle.channel_laws.specs.channel_model.specs.Giving.{gives}
+use Rattle.channel_laws.specs.channel_model.specs.Calls.{setup_on, open_carrier, carrier_if, carrier_at}
 use Rattle.channel_laws.specs.Adverse.{is_quiet, seen_from, disturbs, disturbances}
 use Rattle.channel_laws.specs.Common.{mirrored}
 use Rattle.channel_laws.specs.Endpoints.{IsOf}

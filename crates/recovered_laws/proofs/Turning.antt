@@ -2,38 +2,38 @@
 use Rattle.std.proofs.Common.{◌≡◌, ℕ, ◌≤◌, List, [], ◌∷◌, ◌++◌, drop, length, Bool, true, false, cond, eqb, Option, Some, None, Ok, Err, refl, sym, ap, subst, ◌∙◌, ◌⊎◌, inl, inr, arith}
 use Rattle.std.specs.Prelude.{find, option_map, is_some, nat_le}
 use Rattle.std.proofs.lemmas.Bool.{eqb-true}
-use Rattle.bt_base.proofs.OctetLemmas.{le16-number}
-use Rattle.acl_fragments.specs.Pieces.{channel_of}
-use Rattle.l2cap_signal.specs.Commands.{Command, spelling}
-use Rattle.l2cap_signal.specs.Reading.{answers}
-use Rattle.l2cap_config.specs.declared.wish.Agreed.{Agreed}
-use Rattle.ertm_frames.specs.declared.refusal.FrameRefusal.{FrameRefusal}
-use Rattle.ertm_frames.specs.declared.refusal.FrameRefusal.TheVariants.{Short, BadFcs}
-use Rattle.ertm_frames.specs.Frames.{PlainFrame}
-use Rattle.ertm_frames.specs.Reading.{answer_in}
-use Rattle.ertm_frames.proofs.Spelled.{written-read}
-use Rattle.ertm_frames.proofs.WorkedOut.{answer-is_worked_out}
-use Rattle.ertm_model.specs.declared.reason.ErtmReason.{ErtmReason}
-use Rattle.ertm_model.specs.declared.reason.ErtmReason.TheVariants.{RetryLimit}
-use Rattle.ertm_model.specs.Value.{Kept, Poll, NoPoll, Due, Waits, Ertm}
-use Rattle.ertm_model.specs.Submitting.{submitted}
-use Rattle.ertm_model.specs.Giving.{Giving, giving, next_frame, after_by, after_frame, closing, polling, first_poll, poll_timed, open_timed, timed}
-use Rattle.ertm_model.specs.Hearing.{refusal_fault, closed_by}
-use Rattle.ertm_model.specs.Pair.{End as MachineEnd, Give, Fire, Submit, Pass, Lose, Repeat, gave, behind_front, Pair as Machines, Turn as MachineTurn, ByA, ByB, turned as machines_turned, MayTurn}
-use Rattle.ertm_model.specs.Order.{StandsBoth}
-use Rattle.link_talk.specs.declared.channel.Channel.{Channel}
-use Rattle.channel_model.specs.Value.{Queued, Answer, Ask, Own, Unasked, Asking, Granted, Carrier, Plain, Retransmitting, Setup, Stage, Requested, Connected, Leaving, Closing, Crossed, Held, Channels}
-use Rattle.channel_model.specs.Policies.{Policy}
-use Rattle.channel_model.specs.Changing.{has_own, held_at, is_open, is_stated, setup_of}
-use Rattle.channel_model.specs.Carrying.{read_by, machine_heard, is_frame, shows, is_taken_with, takes}
-use Rattle.channel_model.specs.Giving.{Given, Signal, Whole, Framed, some_carrier_gives, stage_gives, gives, carrier_spent, held_gives, held_given, queue_gives, queue_given, next_given, command_of, counted}
-use Rattle.channel_model.specs.Hearing.{hears_commands, hears}
-use Rattle.channel_model.specs.Calls.{open_carrier, carrier_if, carrier_mtu, setup_on, peer_mtu, has_fcs, connected, asks_features, disconnected, sends, after_event}
-use Rattle.channel_model.specs.Timing.{timed_out}
-use Rattle.channel_model.proofs.Lookups.{own_of, eqb-same, found-distinct, find-placed}
-use Rattle.channel_model.proofs.Going.{IsStated, Walks}
-use Rattle.channel_model.proofs.Walking.{commands-go}
-use Rattle.channel_model.proofs.Calling.{connected-goes, asks-features-goes, disconnected-goes, timed-goes}
+use Rattle.channel_laws.specs.bt_base.proofs.OctetLemmas.{le16-number}
+use Rattle.channel_laws.specs.acl_fragments.specs.Pieces.{channel_of}
+use Rattle.channel_laws.specs.l2cap_signal.specs.Commands.{Command, spelling}
+use Rattle.channel_laws.specs.l2cap_signal.specs.Reading.{answers}
+use Rattle.channel_laws.specs.l2cap_config.specs.declared.wish.Agreed.{Agreed}
+use Rattle.channel_laws.specs.ertm_frames.specs.declared.refusal.FrameRefusal.{FrameRefusal}
+use Rattle.channel_laws.specs.ertm_frames.specs.declared.refusal.FrameRefusal.TheVariants.{Short, BadFcs}
+use Rattle.channel_laws.specs.ertm_frames.specs.Frames.{PlainFrame}
+use Rattle.channel_laws.specs.ertm_frames.specs.Reading.{answer_in}
+use Rattle.channel_laws.specs.ertm_frames.proofs.Spelled.{written-read}
+use Rattle.channel_laws.specs.ertm_frames.proofs.WorkedOut.{answer-is_worked_out}
+use Rattle.channel_laws.specs.ertm_model.specs.declared.reason.ErtmReason.{ErtmReason}
+use Rattle.channel_laws.specs.ertm_model.specs.declared.reason.ErtmReason.TheVariants.{RetryLimit}
+use Rattle.channel_laws.specs.ertm_model.specs.Value.{Kept, Poll, NoPoll, Due, Waits, Ertm}
+use Rattle.channel_laws.specs.ertm_model.specs.Submitting.{submitted}
+use Rattle.channel_laws.specs.ertm_model.specs.Giving.{Giving, giving, next_frame, after_by, after_frame, closing, polling, first_poll, poll_timed, open_timed, timed}
+use Rattle.channel_laws.specs.ertm_model.specs.Hearing.{refusal_fault, closed_by}
+use Rattle.channel_laws.specs.ertm_model.specs.Pair.{End as MachineEnd, Give, Fire, Submit, Pass, Lose, Repeat, gave, behind_front, Pair as Machines, Turn as MachineTurn, ByA, ByB, turned as machines_turned, MayTurn}
+use Rattle.channel_laws.specs.ertm_model.specs.Order.{StandsBoth}
+use Rattle.channel_laws.specs.link_talk.specs.declared.channel.Channel.{Channel}
+use Rattle.channel_laws.specs.channel_model.specs.Value.{Queued, Answer, Ask, Own, Unasked, Asking, Granted, Carrier, Plain, Retransmitting, Setup, Stage, Requested, Connected, Leaving, Closing, Crossed, Held, Channels}
+use Rattle.channel_laws.specs.channel_model.specs.Policies.{Policy}
+use Rattle.channel_laws.specs.channel_model.specs.Changing.{has_own, held_at, is_open, is_stated, setup_of}
+use Rattle.channel_laws.specs.channel_model.specs.Carrying.{read_by, machine_heard, is_frame, shows, is_taken_with, takes}
+use Rattle.channel_laws.specs.channel_model.specs.Giving.{Given, Signal, Whole, Framed, some_carrier_gives, stage_gives, gives, carrier_spent, held_gives, held_given, queue_gives, queue_given, next_given, command_of, counted}
+use Rattle.channel_laws.specs.channel_model.specs.Hearing.{hears_commands, hears}
+use Rattle.channel_laws.specs.channel_model.specs.Calls.{open_carrier, carrier_if, carrier_mtu, setup_on, peer_mtu, has_fcs, connected, asks_features, disconnected, sends, after_event}
+use Rattle.channel_laws.specs.channel_model.specs.Timing.{timed_out}
+use Rattle.channel_laws.specs.channel_model.proofs.Lookups.{own_of, eqb-same, found-distinct, find-placed}
+use Rattle.channel_laws.specs.channel_model.proofs.Going.{IsStated, Walks}
+use Rattle.channel_laws.specs.channel_model.proofs.Walking.{commands-go}
+use Rattle.channel_laws.specs.channel_model.proofs.Calling.{connected-goes, asks-features-goes, disconnected-goes, timed-goes}
 use Rattle.channel_laws.specs.Runs.{Occurrence, Comes, Connects, AsksFeatures, Disconnects, Sends, Gives, Fires, Tells}
 use Rattle.channel_laws.specs.Views.{peer_of}
 use Rattle.channel_laws.specs.Tries.{is_firing}

@@ -1,16 +1,16 @@
 -- Where two hosts have a channel, their machines are two ends; and such are those of each channel on either of whose endpoints nothing is held.
 use Rattle.std.proofs.Common.{◌≡◌, ℕ, ◌≤◌, List, [], Bool, true, false, Option, Some, None, refl, sym, ap, subst, ◌∙◌, ◌⊎◌, inl, inr, arith}
-use Rattle.l2cap_config.specs.declared.wish.Agreed.{Agreed}
-use Rattle.l2cap_config.specs.declared.wish.Mode.TheVariants.{Basic}
-use Rattle.l2cap_config.specs.declared.wish.Wish.{Wish}
-use Rattle.ertm_model.specs.Value.{Ertm}
-use Rattle.ertm_model.specs.Giving.{timed}
-use Rattle.ertm_model.specs.Pair.{End, Fire, new_end, Pair, ByA, turned}
-use Rattle.ertm_model.specs.Order.{StandsBoth}
-use Rattle.channel_model.specs.Value.{Carrier, Plain, Retransmitting, Stage, Requested, Connected, Leaving, Closing, Crossed, Held, Channels}
-use Rattle.channel_model.specs.Policies.{Policy}
-use Rattle.channel_model.specs.Changing.{held_at}
-use Rattle.channel_model.proofs.Going.{IsAccepted, CarrierGoes}
+use Rattle.channel_laws.specs.l2cap_config.specs.declared.wish.Agreed.{Agreed}
+use Rattle.channel_laws.specs.l2cap_config.specs.declared.wish.Mode.TheVariants.{Basic}
+use Rattle.channel_laws.specs.l2cap_config.specs.declared.wish.Wish.{Wish}
+use Rattle.channel_laws.specs.ertm_model.specs.Value.{Ertm}
+use Rattle.channel_laws.specs.ertm_model.specs.Giving.{timed}
+use Rattle.channel_laws.specs.ertm_model.specs.Pair.{End, Fire, new_end, Pair, ByA, turned}
+use Rattle.channel_laws.specs.ertm_model.specs.Order.{StandsBoth}
+use Rattle.channel_laws.specs.channel_model.specs.Value.{Carrier, Plain, Retransmitting, Stage, Requested, Connected, Leaving, Closing, Crossed, Held, Channels}
+use Rattle.channel_laws.specs.channel_model.specs.Policies.{Policy}
+use Rattle.channel_laws.specs.channel_model.specs.Changing.{held_at}
+use Rattle.channel_laws.specs.channel_model.proofs.Going.{IsAccepted, CarrierGoes}
 use Rattle.channel_laws.proofs.Attending.{IsNew, new-carrier}
 use Rattle.channel_laws.proofs.Joining.{Terms, Holds, other_terms, IsBelow, held-also}
 use Rattle.channel_laws.proofs.Keeping.{OfCarrier, StageKeeps, HeldKeeps, AllKeep, KeepsOn, Keeps}

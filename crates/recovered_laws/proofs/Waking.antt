@@ -3,19 +3,19 @@
 use Rattle.std.proofs.Common.{ℕ, ◌≡◌, ◌+◌, ◌-◌, ◌≤◌, inl, inr, Bool, true, false, cond, List, [], ◌∷◌, length, Option, Some, None, refl, ap, sym, ◌∙◌, subst, arith}
 use Rattle.std.specs.Prelude.{nat_le}
 use Rattle.std.proofs.lemmas.Bool.Decides.{leb_tells}
-use Rattle.ertm_model.specs.declared.reason.ErtmReason.{ErtmReason}
-use Rattle.ertm_model.specs.declared.reason.ErtmReason.TheVariants.{RetryLimit}
-use Rattle.ertm_model.specs.Value.{Kept, Poll, NoPoll, Due, Waits, Reply, NoReply}
-use Rattle.ertm_model.specs.Giving.{giving, closing, polling, first_poll, poll_timed, open_timed, timed}
-use Rattle.ertm_model.specs.Pair.{Sent, End}
-use Rattle.ertm_model.specs.Order.{Stands}
-use Rattle.ertm_model.proofs.Lists.{get-none}
-use Rattle.ertm_model.proofs.Inverting.{IsQuiet, IsSpent}
-use Rattle.ertm_model.proofs.Sending.{put-length}
-use Rattle.ertm_model.proofs.Accounts.{rej_due, poll_due}
-use Rattle.ertm_model.proofs.Paying.{Moves, Pays}
-use Rattle.ertm_model.proofs.Affording.{PaysOf, Account, Accounts, account_open, same_account, shut_account}
-use Rattle.ertm_model.proofs.Resting.{at_rest, silent}
+use Rattle.channel_laws.specs.ertm_model.specs.declared.reason.ErtmReason.{ErtmReason}
+use Rattle.channel_laws.specs.ertm_model.specs.declared.reason.ErtmReason.TheVariants.{RetryLimit}
+use Rattle.channel_laws.specs.ertm_model.specs.Value.{Kept, Poll, NoPoll, Due, Waits, Reply, NoReply}
+use Rattle.channel_laws.specs.ertm_model.specs.Giving.{giving, closing, polling, first_poll, poll_timed, open_timed, timed}
+use Rattle.channel_laws.specs.ertm_model.specs.Pair.{Sent, End}
+use Rattle.channel_laws.specs.ertm_model.specs.Order.{Stands}
+use Rattle.channel_laws.specs.ertm_model.proofs.Lists.{get-none}
+use Rattle.channel_laws.specs.ertm_model.proofs.Inverting.{IsQuiet, IsSpent}
+use Rattle.channel_laws.specs.ertm_model.proofs.Sending.{put-length}
+use Rattle.channel_laws.specs.ertm_model.proofs.Accounts.{rej_due, poll_due}
+use Rattle.channel_laws.specs.ertm_model.proofs.Paying.{Moves, Pays}
+use Rattle.channel_laws.specs.ertm_model.proofs.Affording.{PaysOf, Account, Accounts, account_open, same_account, shut_account}
+use Rattle.channel_laws.specs.ertm_model.proofs.Resting.{at_rest, silent}
 
 -- x may fire
 pub record MayWake (x y : End) : Type 0 where

@@ -2,12 +2,12 @@
 -- Part A, 8.6.5).
 use Rattle.std.specs.Prelude.{ℕ, ◌≡◌, ◌≤◌, ◌+◌, ◌&&◌, ◌||◌, not, Bool, true, false, List, [], ◌∷◌, Option, Some, None}
 use Rattle.std.specs.List.{list_any}
-use Rattle.capture.specs.Histories.{EachAfter}
-use Rattle.ertm_model.specs.Value.{Reply, NoReply, Acknowledges, Rejects, Ertm}
-use Rattle.channel_model.specs.Value.{Carrier, Plain, Retransmitting, Setup, Held, Channels}
-use Rattle.channel_model.specs.Changing.{setup_of}
-use Rattle.channel_model.specs.Giving.{gives}
-use Rattle.channel_model.specs.Policies.{Policy}
+use Rattle.channel_laws.specs.capture.specs.Histories.{EachAfter}
+use Rattle.channel_laws.specs.ertm_model.specs.Value.{Reply, NoReply, Acknowledges, Rejects, Ertm}
+use Rattle.channel_laws.specs.channel_model.specs.Value.{Carrier, Plain, Retransmitting, Setup, Held, Channels}
+use Rattle.channel_laws.specs.channel_model.specs.Changing.{setup_of}
+use Rattle.channel_laws.specs.channel_model.specs.Giving.{gives}
+use Rattle.channel_laws.specs.channel_model.specs.Policies.{Policy}
 use Rattle.channel_laws.specs.Adverse.{is_quiet, seen_from, disturbances}
 use Rattle.channel_laws.specs.Pairs.{Pair, Happening, Acts, Puts, Takes, Repeats, Loses, Damages, Turn, new_pair, pair_after, pair_of}
 use Rattle.channel_laws.specs.Tries.{one_if, is_firing}

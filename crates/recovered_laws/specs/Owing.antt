@@ -1,8 +1,8 @@
 -- What a host owes its peer when its timer fires (Core 5.1, Volume 3 Part A, 8.6.5).
 use Rattle.std.specs.Prelude.{◌≡◌, true, false, List}
 use Rattle.std.specs.List.{list_any}
-use Rattle.channel_model.specs.Giving.{gives}
-use Rattle.channel_model.specs.Policies.{Policy}
+use Rattle.channel_laws.specs.channel_model.specs.Giving.{gives}
+use Rattle.channel_laws.specs.channel_model.specs.Policies.{Policy}
 use Rattle.channel_laws.specs.Pairs.{is_alone}
 use Rattle.channel_laws.specs.Runs.{Occurrence, value_after, run_of}
 use Rattle.recovered_laws.specs.Calm.{owes}

@@ -2,17 +2,17 @@
 -- this project's own).
 use Rattle.std.specs.Prelude.{ℕ, ◌≡◌, ◌+◌, ◌≤◌, ◌==◌, true, List, ◌∷◌, Some}
 use Rattle.std.specs.List.{AllByRecursion}
-use Rattle.acl_fragments.specs.Pieces.{channel_of}
-use Rattle.ertm_model.specs.declared.reason.ErtmReason.{ErtmReason}
-use Rattle.ertm_model.specs.declared.reason.ErtmReason.TheVariants.{RetryLimit}
-use Rattle.ertm_model.specs.Value.{Kept, Ertm}
-use Rattle.ertm_model.specs.Giving.{timed}
-use Rattle.link_talk.specs.declared.channel.Channel.{Channel}
-use Rattle.channel_model.specs.Value.{Retransmitting, Setup, Held, Channels}
-use Rattle.channel_model.specs.Policies.{Policy}
-use Rattle.channel_model.specs.Changing.{held_at, setup_of}
-use Rattle.channel_model.specs.Carrying.{machine_heard, read_by}
-use Rattle.channel_model.specs.Calls.{carrier_at}
+use Rattle.channel_laws.specs.acl_fragments.specs.Pieces.{channel_of}
+use Rattle.channel_laws.specs.ertm_model.specs.declared.reason.ErtmReason.{ErtmReason}
+use Rattle.channel_laws.specs.ertm_model.specs.declared.reason.ErtmReason.TheVariants.{RetryLimit}
+use Rattle.channel_laws.specs.ertm_model.specs.Value.{Kept, Ertm}
+use Rattle.channel_laws.specs.ertm_model.specs.Giving.{timed}
+use Rattle.channel_laws.specs.link_talk.specs.declared.channel.Channel.{Channel}
+use Rattle.channel_laws.specs.channel_model.specs.Value.{Retransmitting, Setup, Held, Channels}
+use Rattle.channel_laws.specs.channel_model.specs.Policies.{Policy}
+use Rattle.channel_laws.specs.channel_model.specs.Changing.{held_at, setup_of}
+use Rattle.channel_laws.specs.channel_model.specs.Carrying.{machine_heard, read_by}
+use Rattle.channel_laws.specs.channel_model.specs.Calls.{carrier_at}
 use Rattle.channel_laws.specs.Belonging.{AreRead}
 use Rattle.channel_laws.specs.Ends.{AreFair}
 use Rattle.channel_laws.specs.Pairs.{End, Turn, new_pair, pair_of}

@@ -1,13 +1,13 @@
 -- That the machines of a channel which two hosts have in common go through what two ends go through on a link of their own (Core 5.1, Volume 3
 -- Part A, 8.6).
 use Rattle.std.specs.Prelude.{ℕ, ◌≡◌, true, List, [], ◌∷◌, Some, ◌⊎◌}
-use Rattle.l2cap_config.specs.declared.wish.Agreed.{Agreed}
-use Rattle.ertm_model.specs.Value.{Ertm}
-use Rattle.ertm_model.specs.Pair.{Give, Fire, Submit, Pass, Lose, Repeat, Turn as Deed, ByA, ByB, all_turned, AllMay, new_pair as new_ends, Meets}
-use Rattle.link_talk.specs.declared.channel.Channel.{Channel}
-use Rattle.channel_model.specs.Calls.{carrier_at}
-use Rattle.channel_model.specs.Policies.{Policy}
-use Rattle.channel_model.specs.Value.{Retransmitting}
+use Rattle.channel_laws.specs.l2cap_config.specs.declared.wish.Agreed.{Agreed}
+use Rattle.channel_laws.specs.ertm_model.specs.Value.{Ertm}
+use Rattle.channel_laws.specs.ertm_model.specs.Pair.{Give, Fire, Submit, Pass, Lose, Repeat, Turn as Deed, ByA, ByB, all_turned, AllMay, new_pair as new_ends, Meets}
+use Rattle.channel_laws.specs.link_talk.specs.declared.channel.Channel.{Channel}
+use Rattle.channel_laws.specs.channel_model.specs.Calls.{carrier_at}
+use Rattle.channel_laws.specs.channel_model.specs.Policies.{Policy}
+use Rattle.channel_laws.specs.channel_model.specs.Value.{Retransmitting}
 use Rattle.channel_laws.specs.Belonging.{AreRead}
 use Rattle.channel_laws.specs.Ends.{AreFair}
 use Rattle.channel_laws.specs.Pairs.{Happening, Acts, Puts, Takes, Repeats, Loses, Damages, Side, Near, Far, Turn, pair_of}

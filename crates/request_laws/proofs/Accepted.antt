@@ -4,25 +4,25 @@ use Rattle.std.specs.Prelude.{option_map, option_to_list, unwrap_or}
 use Rattle.std.specs.Option.{option_or}
 use Rattle.std.specs.List.{AllByRecursion, list_any}
 use Rattle.std.proofs.lemmas.List.Sums.{fold-append}
-use Rattle.acl_fragments.specs.Pieces.{channel_of}
-use Rattle.l2cap_config.specs.declared.wish.Mode.TheVariants.{Basic}
-use Rattle.link_talk.specs.declared.channel.Channel.{Channel}
-use Rattle.link_talk.specs.Sayings.{Saying}
-use Rattle.link_talk.specs.Senses.{sense}
-use Rattle.link_talk.specs.Meanings.{Meaning, Part, meant}
-use Rattle.link_talk.specs.Setups.{Setup as Read, Term, Wished, Answered, is_set, mode_in, with_success, with_term, setup_after, term}
-use Rattle.link_talk.specs.Channels.{Entry, fresh, is_there, entry_after, is_owner, with_fresh, made_by, entries_after, Reading, nothing_read, read_on, reading}
-use Rattle.channel_model.specs.Calls.{setup_on, carrier_if, open_carrier, carrier_mtu, peer_mtu}
-use Rattle.channel_model.specs.Carrying.{Up as Handed, Nothing, Received, sdu_with, sdu_at, up_by, up_on, up_at}
-use Rattle.channel_model.specs.Changing.{held_at, setup_of, is_open}
-use Rattle.channel_model.specs.Policies.{Policy}
-use Rattle.channel_model.specs.Value.{Carrier, Setup, Stage, Requested, Connected, Leaving, Closing, Crossed, Held}
-use Rattle.channel_model.proofs.Lookups.{find-map}
-use Rattle.channel_model.proofs.Walking.{found-own}
-use Rattle.channel_laws.specs.Runs.{Occurrence, Comes, Connects, AsksFeatures, Disconnects, Sends, Gives, Fires, Tells, said_in, Run, new_link, run_on, run_of, up_with}
-use Rattle.channel_laws.specs.Views.{Standing, Agreeing, standing, IsSetUp, IsSetUpIf, IsRead, IsReadBy, channel_by, carrier_mode, peer_of, read_at}
-use Rattle.channel_laws.proofs.Entries.{own_read, read-own, read-append}
-use Rattle.channel_laws.proofs.Running.{channels-are_read}
+use Rattle.pair_laws.specs.acl_fragments.specs.Pieces.{channel_of}
+use Rattle.pair_laws.specs.l2cap_config.specs.declared.wish.Mode.TheVariants.{Basic}
+use Rattle.pair_laws.specs.link_talk.specs.declared.channel.Channel.{Channel}
+use Rattle.pair_laws.specs.link_talk.specs.Sayings.{Saying}
+use Rattle.pair_laws.specs.link_talk.specs.Senses.{sense}
+use Rattle.pair_laws.specs.link_talk.specs.Meanings.{Meaning, Part, meant}
+use Rattle.pair_laws.specs.link_talk.specs.Setups.{Setup as Read, Term, Wished, Answered, is_set, mode_in, with_success, with_term, setup_after, term}
+use Rattle.pair_laws.specs.link_talk.specs.Channels.{Entry, fresh, is_there, entry_after, is_owner, with_fresh, made_by, entries_after, Reading, nothing_read, read_on, reading}
+use Rattle.pair_laws.specs.channel_model.specs.Calls.{setup_on, carrier_if, open_carrier, carrier_mtu, peer_mtu}
+use Rattle.pair_laws.specs.channel_model.specs.Carrying.{Up as Handed, Nothing, Received, sdu_with, sdu_at, up_by, up_on, up_at}
+use Rattle.pair_laws.specs.channel_model.specs.Changing.{held_at, setup_of, is_open}
+use Rattle.pair_laws.specs.channel_model.specs.Policies.{Policy}
+use Rattle.pair_laws.specs.channel_model.specs.Value.{Carrier, Setup, Stage, Requested, Connected, Leaving, Closing, Crossed, Held}
+use Rattle.pair_laws.specs.channel_model.proofs.Lookups.{find-map}
+use Rattle.pair_laws.specs.channel_model.proofs.Walking.{found-own}
+use Rattle.pair_laws.specs.channel_laws.specs.Runs.{Occurrence, Comes, Connects, AsksFeatures, Disconnects, Sends, Gives, Fires, Tells, said_in, Run, new_link, run_on, run_of, up_with}
+use Rattle.pair_laws.specs.channel_laws.specs.Views.{Standing, Agreeing, standing, IsSetUp, IsSetUpIf, IsRead, IsReadBy, channel_by, carrier_mode, peer_of, read_at}
+use Rattle.pair_laws.specs.channel_laws.proofs.Entries.{own_read, read-own, read-append}
+use Rattle.pair_laws.specs.channel_laws.proofs.Running.{channels-are_read}
 use Rattle.request_laws.proofs.HandedUp.{ups_from, ups_of}
 
 -- ---- options that were accepted stay so

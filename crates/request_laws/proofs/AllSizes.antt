@@ -1,28 +1,28 @@
 -- The inbox gains what the capture spells, of objects of any size.
 use Rattle.std.proofs.Common.{◌≡◌, List, ◌++◌, Some, ap, ◌∙◌}
 use Rattle.std.specs.List.{AllByRecursion, flat_map}
-use Rattle.bt_base.specs.declared.settings.Transport.TheVariants.{L2cap}
-use Rattle.bt_base.specs.Objects.{Object}
-use Rattle.push_script.specs.declared.scenario.Scenario.{Scenario}
-use Rattle.push_terms.specs.declared.word.Side.TheVariants as sides
-use Rattle.capture.specs.Entries.{Entry}
-use Rattle.link_talk.specs.Captures.{objects_heard}
-use Rattle.obex_session.specs.InboxCalls.{Answer}
-use Rattle.push_model.specs.Server.{Reacted}
-use Rattle.push_laws.specs.Gains.{objects}
-use Rattle.push_laws.specs.Laws.{new_over, stored_in}
-use Rattle.push_laws.specs.Occurrences.{Occurrence, all_done}
-use Rattle.push_laws.specs.Premises.{AllGranted}
-use Rattle.shelf_model.specs.Held.{longest_octets}
-use Rattle.host_laws.specs.Answered.{BeginsAtMost}
-use Rattle.host_laws.specs.Gaining.{IsDirect}
-use Rattle.host_laws.specs.OverLinks.{talk_marks}
-use Rattle.host_laws.proofs.InOrder.{asks-nothing}
-use Rattle.host_laws.proofs.Serving.{servers_are_served}
-use Rattle.scenario_laws.specs.Captures.{Ran}
-use Rattle.scenario_laws.specs.Gains.{holding, asked_by, ReadServer}
-use Rattle.scenario_laws.specs.Parties.{party_of}
-use Rattle.scenario_laws.proofs.Gaining.{servers_are_read}
+use Rattle.pair_laws.specs.bt_base.specs.declared.settings.Transport.TheVariants.{L2cap}
+use Rattle.pair_laws.specs.bt_base.specs.Objects.{Object}
+use Rattle.pair_laws.specs.push_script.specs.declared.scenario.Scenario.{Scenario}
+use Rattle.pair_laws.specs.push_terms.specs.declared.word.Side.TheVariants as sides
+use Rattle.pair_laws.specs.capture.specs.Entries.{Entry}
+use Rattle.pair_laws.specs.link_talk.specs.Captures.{objects_heard}
+use Rattle.pair_laws.specs.obex_session.specs.InboxCalls.{Answer}
+use Rattle.pair_laws.specs.push_model.specs.Server.{Reacted}
+use Rattle.pair_laws.specs.push_laws.specs.Gains.{objects}
+use Rattle.pair_laws.specs.push_laws.specs.Laws.{new_over, stored_in}
+use Rattle.pair_laws.specs.push_laws.specs.Occurrences.{Occurrence, all_done}
+use Rattle.pair_laws.specs.push_laws.specs.Premises.{AllGranted}
+use Rattle.pair_laws.specs.shelf_model.specs.Held.{longest_octets}
+use Rattle.pair_laws.specs.host_laws.specs.Answered.{BeginsAtMost}
+use Rattle.pair_laws.specs.host_laws.specs.Gaining.{IsDirect}
+use Rattle.pair_laws.specs.host_laws.specs.OverLinks.{talk_marks}
+use Rattle.pair_laws.specs.host_laws.proofs.InOrder.{asks-nothing}
+use Rattle.pair_laws.specs.host_laws.proofs.Serving.{servers_are_served}
+use Rattle.pair_laws.specs.scenario_laws.specs.Captures.{Ran}
+use Rattle.pair_laws.specs.scenario_laws.specs.Gains.{holding, asked_by, ReadServer}
+use Rattle.pair_laws.specs.scenario_laws.specs.Parties.{party_of}
+use Rattle.pair_laws.specs.scenario_laws.proofs.Gaining.{servers_are_read}
 use Rattle.pair_laws.specs.InTurn.{PairsInTurn}
 use Rattle.pair_laws.proofs.Pairing.{hosts-take_turns}
 use Rattle.pair_laws.proofs.Taking.{clients_within, servers_within}

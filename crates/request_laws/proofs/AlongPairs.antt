@@ -2,34 +2,34 @@
 use Rattle.std.proofs.Common.{◌≡◌, ℕ, true, false, List, [], ◌++◌, Option, refl, sym, ap, subst, ◌∙◌, inl, inr}
 use Rattle.std.specs.List.{AllByRecursion, flat_map}
 use Rattle.std.proofs.lemmas.List.Concat.{flat_map-append}
-use Rattle.bt_base.specs.declared.settings.Settings.{Settings}
-use Rattle.bt_base.specs.Objects.{Contents}
-use Rattle.capture.specs.Histories.{EachAfter}
-use Rattle.push_terms.specs.declared.word.Side.TheVariants as sides
-use Rattle.link_talk.specs.declared.channel.Channel.{Channel}
-use Rattle.link_talk.specs.Sayings.{Saying}
-use Rattle.channel_model.specs.Policies.{Policy, policy}
-use Rattle.channel_model.specs.Value.{no_channels}
-use Rattle.channel_laws.specs.Belonging.{IsRead, AreRead}
-use Rattle.channel_laws.specs.Common.{mirrored}
-use Rattle.channel_laws.specs.Delivered.{IsRunBy}
-use Rattle.channel_laws.specs.Ends.{DoesSo, end_at}
-use Rattle.channel_laws.specs.Frames.{IsUttered, AreUttered}
-use Rattle.channel_laws.specs.Pairs.{Turn, new_pair, pair_of}
-use Rattle.channel_laws.specs.Pipes.{IsCarried, AreCarried, IsFront}
-use Rattle.channel_laws.specs.Runs.{Occurrence, run_of}
-use Rattle.channel_laws.specs.Taken.{taken_of}
-use Rattle.channel_laws.proofs.Delivered.{wished-is_delivered}
-use Rattle.push_model.specs.Server.{object_psm}
-use Rattle.push_laws.specs.Parties.{Pipes, no_pipes, IsFrontOf, ArePipes}
-use Rattle.host_model.specs.Clients.{ClientProfile}
-use Rattle.host_model.specs.Servers.{ServerProfile, server_profile}
-use Rattle.host_laws.specs.GainingOver.{IsNoPdu, CarriesOne}
-use Rattle.host_laws.specs.OneCarrier.{CarriesAlone}
-use Rattle.host_laws.specs.Woven.{Strand, woven_list}
-use Rattle.host_laws.proofs.Asking.{hosts_ask}
-use Rattle.scenario_laws.specs.Parties.{party_of}
-use Rattle.scenario_laws.proofs.Wishes.{states_frame}
+use Rattle.pair_laws.specs.bt_base.specs.declared.settings.Settings.{Settings}
+use Rattle.pair_laws.specs.bt_base.specs.Objects.{Contents}
+use Rattle.pair_laws.specs.capture.specs.Histories.{EachAfter}
+use Rattle.pair_laws.specs.push_terms.specs.declared.word.Side.TheVariants as sides
+use Rattle.pair_laws.specs.link_talk.specs.declared.channel.Channel.{Channel}
+use Rattle.pair_laws.specs.link_talk.specs.Sayings.{Saying}
+use Rattle.pair_laws.specs.channel_model.specs.Policies.{Policy, policy}
+use Rattle.pair_laws.specs.channel_model.specs.Value.{no_channels}
+use Rattle.pair_laws.specs.channel_laws.specs.Belonging.{IsRead, AreRead}
+use Rattle.pair_laws.specs.channel_laws.specs.Common.{mirrored}
+use Rattle.pair_laws.specs.channel_laws.specs.Delivered.{IsRunBy}
+use Rattle.pair_laws.specs.channel_laws.specs.Ends.{DoesSo, end_at}
+use Rattle.pair_laws.specs.channel_laws.specs.Frames.{IsUttered, AreUttered}
+use Rattle.pair_laws.specs.channel_laws.specs.Pairs.{Turn, new_pair, pair_of}
+use Rattle.pair_laws.specs.channel_laws.specs.Pipes.{IsCarried, AreCarried, IsFront}
+use Rattle.pair_laws.specs.channel_laws.specs.Runs.{Occurrence, run_of}
+use Rattle.pair_laws.specs.channel_laws.specs.Taken.{taken_of}
+use Rattle.pair_laws.specs.channel_laws.proofs.Delivered.{wished-is_delivered}
+use Rattle.pair_laws.specs.push_model.specs.Server.{object_psm}
+use Rattle.pair_laws.specs.push_laws.specs.Parties.{Pipes, no_pipes, IsFrontOf, ArePipes}
+use Rattle.pair_laws.specs.host_model.specs.Clients.{ClientProfile}
+use Rattle.pair_laws.specs.host_model.specs.Servers.{ServerProfile, server_profile}
+use Rattle.pair_laws.specs.host_laws.specs.GainingOver.{IsNoPdu, CarriesOne}
+use Rattle.pair_laws.specs.host_laws.specs.OneCarrier.{CarriesAlone}
+use Rattle.pair_laws.specs.host_laws.specs.Woven.{Strand, woven_list}
+use Rattle.pair_laws.specs.host_laws.proofs.Asking.{hosts_ask}
+use Rattle.pair_laws.specs.scenario_laws.specs.Parties.{party_of}
+use Rattle.pair_laws.specs.scenario_laws.proofs.Wishes.{states_frame}
 use Rattle.pair_laws.specs.Fronts.{IsFrontOfTurns}
 use Rattle.pair_laws.specs.Orders.{Joint, near_in, far_in, joints_from}
 use Rattle.pair_laws.specs.Pairs.{PairOnLink}

@@ -3,41 +3,41 @@ use Rattle.std.proofs.Common.{◌≡◌, ℕ, true, false, zero, suc, List, [], 
 use Rattle.std.specs.Prelude.{get_or}
 use Rattle.std.specs.List.{AllByRecursion, flat_map}
 use Rattle.std.proofs.lemmas.List.Concat.{flat_map-append}
-use Rattle.bt_base.specs.declared.settings.Settings.{Settings}
-use Rattle.bt_base.specs.declared.settings.Transport.TheVariants.{Rfcomm}
-use Rattle.bt_base.specs.Objects.{Contents, Object}
-use Rattle.push_terms.specs.declared.word.Side.TheVariants as sides
-use Rattle.push_script.specs.declared.scenario.Scenario.{Scenario}
-use Rattle.capture.specs.Entries.{Entry}
-use Rattle.capture.specs.Histories.{EachAfter}
-use Rattle.l2cap_config.specs.declared.wish.Mode.TheVariants.{Basic}
-use Rattle.link_talk.specs.Channels.{reading}
-use Rattle.channel_model.specs.Policies.{Policy, policy}
-use Rattle.channel_laws.specs.Belonging.{IsRead}
-use Rattle.channel_laws.specs.Common.{mirrored}
-use Rattle.channel_laws.specs.Delivered.{IsRunBy}
-use Rattle.channel_laws.specs.Endpoints.{IsOf}
-use Rattle.channel_laws.specs.Ends.{end_at}
-use Rattle.channel_laws.specs.Frames.{AreUttered}
-use Rattle.channel_laws.specs.Pairs.{Turn, new_pair, pair_of}
-use Rattle.channel_laws.specs.Pipes.{HaveChannel, IsFront}
-use Rattle.channel_laws.specs.Runs.{Occurrence, Run, run_of, sdus_up}
-use Rattle.channel_laws.specs.Taken.{taken_of}
-use Rattle.channel_laws.specs.Views.{read_at}
-use Rattle.push_model.specs.Server.{rfcomm_psm}
-use Rattle.push_laws.specs.Parties.{IsFrontOf}
-use Rattle.host_model.specs.Clients.{ClientProfile, client_profile}
-use Rattle.host_model.specs.Servers.{ServerProfile, server_profile}
-use Rattle.host_laws.specs.Lives.{on_links}
-use Rattle.host_laws.specs.OneCarrier.{CarriesAlone}
-use Rattle.host_laws.specs.OneOnLinks.{packets_psm, CarriesOneOn}
-use Rattle.host_laws.specs.OverLinks.{talk_marks}
-use Rattle.host_laws.specs.Woven.{strand_list}
-use Rattle.host_laws.proofs.Asking.{clients_ask, hosts_ask}
-use Rattle.host_laws.proofs.InOrder.{asks-nothing}
-use Rattle.scenario_laws.specs.Captures.{Ran}
-use Rattle.scenario_laws.specs.Gains.{holding, serving, asked_by}
-use Rattle.scenario_laws.proofs.Alone.{runs-carry_alone}
+use Rattle.pair_laws.specs.bt_base.specs.declared.settings.Settings.{Settings}
+use Rattle.pair_laws.specs.bt_base.specs.declared.settings.Transport.TheVariants.{Rfcomm}
+use Rattle.pair_laws.specs.bt_base.specs.Objects.{Contents, Object}
+use Rattle.pair_laws.specs.push_terms.specs.declared.word.Side.TheVariants as sides
+use Rattle.pair_laws.specs.push_script.specs.declared.scenario.Scenario.{Scenario}
+use Rattle.pair_laws.specs.capture.specs.Entries.{Entry}
+use Rattle.pair_laws.specs.capture.specs.Histories.{EachAfter}
+use Rattle.pair_laws.specs.l2cap_config.specs.declared.wish.Mode.TheVariants.{Basic}
+use Rattle.pair_laws.specs.link_talk.specs.Channels.{reading}
+use Rattle.pair_laws.specs.channel_model.specs.Policies.{Policy, policy}
+use Rattle.pair_laws.specs.channel_laws.specs.Belonging.{IsRead}
+use Rattle.pair_laws.specs.channel_laws.specs.Common.{mirrored}
+use Rattle.pair_laws.specs.channel_laws.specs.Delivered.{IsRunBy}
+use Rattle.pair_laws.specs.channel_laws.specs.Endpoints.{IsOf}
+use Rattle.pair_laws.specs.channel_laws.specs.Ends.{end_at}
+use Rattle.pair_laws.specs.channel_laws.specs.Frames.{AreUttered}
+use Rattle.pair_laws.specs.channel_laws.specs.Pairs.{Turn, new_pair, pair_of}
+use Rattle.pair_laws.specs.channel_laws.specs.Pipes.{HaveChannel, IsFront}
+use Rattle.pair_laws.specs.channel_laws.specs.Runs.{Occurrence, Run, run_of, sdus_up}
+use Rattle.pair_laws.specs.channel_laws.specs.Taken.{taken_of}
+use Rattle.pair_laws.specs.channel_laws.specs.Views.{read_at}
+use Rattle.pair_laws.specs.push_model.specs.Server.{rfcomm_psm}
+use Rattle.pair_laws.specs.push_laws.specs.Parties.{IsFrontOf}
+use Rattle.pair_laws.specs.host_model.specs.Clients.{ClientProfile, client_profile}
+use Rattle.pair_laws.specs.host_model.specs.Servers.{ServerProfile, server_profile}
+use Rattle.pair_laws.specs.host_laws.specs.Lives.{on_links}
+use Rattle.pair_laws.specs.host_laws.specs.OneCarrier.{CarriesAlone}
+use Rattle.pair_laws.specs.host_laws.specs.OneOnLinks.{packets_psm, CarriesOneOn}
+use Rattle.pair_laws.specs.host_laws.specs.OverLinks.{talk_marks}
+use Rattle.pair_laws.specs.host_laws.specs.Woven.{strand_list}
+use Rattle.pair_laws.specs.host_laws.proofs.Asking.{clients_ask, hosts_ask}
+use Rattle.pair_laws.specs.host_laws.proofs.InOrder.{asks-nothing}
+use Rattle.pair_laws.specs.scenario_laws.specs.Captures.{Ran}
+use Rattle.pair_laws.specs.scenario_laws.specs.Gains.{holding, serving, asked_by}
+use Rattle.pair_laws.specs.scenario_laws.proofs.Alone.{runs-carry_alone}
 use Rattle.pair_laws.specs.Keeping.{PairsKeepOrder}
 use Rattle.pair_laws.specs.Fronts.{IsFrontOfTurns}
 use Rattle.pair_laws.specs.OnLinks.{happened_on}

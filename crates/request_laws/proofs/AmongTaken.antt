@@ -1,27 +1,27 @@
 -- What an endpoint of a host took is among what the host asked to be sent to the PSM of its channel.
 use Rattle.std.proofs.Common.{◌≡◌, ℕ, List, [], ◌∷◌, ◌++◌, Bool, true, false, cond, eqb, ◌&&◌, Option, Some, None, refl, sym, subst, append_assoc}
 use Rattle.std.specs.List.{AllByRecursion, flat_map}
-use Rattle.bt_base.specs.declared.settings.Settings.{Settings}
-use Rattle.bt_base.specs.Objects.{Contents}
-use Rattle.channel_model.specs.Calls.{carrier_at}
-use Rattle.channel_model.specs.Policies.{Policy, policy}
-use Rattle.channel_model.specs.Value.{Channels, no_channels}
-use Rattle.channel_laws.specs.Belonging.{HasAsked}
-use Rattle.channel_laws.specs.Runs.{Occurrence, run_of}
-use Rattle.channel_laws.specs.Taken.{is_free, taken_of}
-use Rattle.push_model.specs.Server.{Lent, lends, lent_sdu}
-use Rattle.push_model.specs.Steps.{Step, Wait, MakeLink, AskFeatures, OpenChannel, SendSdu, CloseChannel, BreakLink, Ended, NoMemory, steps}
-use Rattle.push_laws.specs.Occurrences as served
-use Rattle.push_laws.specs.Parties.{sdu_if}
-use Rattle.host_model.specs.Clients.{ClientProfile, client_profile, fitted}
-use Rattle.host_model.specs.Endpoints.{endpoint_of, takes_sdu}
-use Rattle.host_model.specs.Pdus.{sdu_of}
-use Rattle.host_model.specs.Servers.{ServerProfile, server_profile}
-use Rattle.host_model.specs.Shelves.{unused}
-use Rattle.host_laws.specs.Calls.{from_call, values_after}
-use Rattle.host_laws.specs.Serving.{taken_by as sent_by, lent_by}
-use Rattle.host_laws.specs.Woven.{Strand, Hearing, Giving, Firing, Telling, Gifting, Learning, Checking, Stepping, strand_list, strand_profile, woven_list}
-use Rattle.host_laws.proofs.Asking.{send_if, sends_on, closes_on, asked, clients_ask, clients-call, hosts_ask, lent_call, servers-call}
+use Rattle.pair_laws.specs.bt_base.specs.declared.settings.Settings.{Settings}
+use Rattle.pair_laws.specs.bt_base.specs.Objects.{Contents}
+use Rattle.pair_laws.specs.channel_model.specs.Calls.{carrier_at}
+use Rattle.pair_laws.specs.channel_model.specs.Policies.{Policy, policy}
+use Rattle.pair_laws.specs.channel_model.specs.Value.{Channels, no_channels}
+use Rattle.pair_laws.specs.channel_laws.specs.Belonging.{HasAsked}
+use Rattle.pair_laws.specs.channel_laws.specs.Runs.{Occurrence, run_of}
+use Rattle.pair_laws.specs.channel_laws.specs.Taken.{is_free, taken_of}
+use Rattle.pair_laws.specs.push_model.specs.Server.{Lent, lends, lent_sdu}
+use Rattle.pair_laws.specs.push_model.specs.Steps.{Step, Wait, MakeLink, AskFeatures, OpenChannel, SendSdu, CloseChannel, BreakLink, Ended, NoMemory, steps}
+use Rattle.pair_laws.specs.push_laws.specs.Occurrences as served
+use Rattle.pair_laws.specs.push_laws.specs.Parties.{sdu_if}
+use Rattle.pair_laws.specs.host_model.specs.Clients.{ClientProfile, client_profile, fitted}
+use Rattle.pair_laws.specs.host_model.specs.Endpoints.{endpoint_of, takes_sdu}
+use Rattle.pair_laws.specs.host_model.specs.Pdus.{sdu_of}
+use Rattle.pair_laws.specs.host_model.specs.Servers.{ServerProfile, server_profile}
+use Rattle.pair_laws.specs.host_model.specs.Shelves.{unused}
+use Rattle.pair_laws.specs.host_laws.specs.Calls.{from_call, values_after}
+use Rattle.pair_laws.specs.host_laws.specs.Serving.{taken_by as sent_by, lent_by}
+use Rattle.pair_laws.specs.host_laws.specs.Woven.{Strand, Hearing, Giving, Firing, Telling, Gifting, Learning, Checking, Stepping, strand_list, strand_profile, woven_list}
+use Rattle.pair_laws.specs.host_laws.proofs.Asking.{send_if, sends_on, closes_on, asked, clients_ask, clients-call, hosts_ask, lent_call, servers-call}
 use Rattle.request_laws.specs.Streams.{gone_on, taken_by, taken_at}
 use Rattle.request_laws.specs.Twists.{taken_on}
 use Rattle.request_laws.proofs.Accepted.{Opened, opened-stays}

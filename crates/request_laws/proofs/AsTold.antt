@@ -1,50 +1,50 @@
 -- Host a of a run goes by what service discovery told it, on each of its links.
 use Rattle.std.proofs.Common.{◌≡◌, Bool, true, false, List, [], ◌∷◌, ◌++◌, map, refl, sym, ap, subst, ◌∙◌}
 use Rattle.std.specs.List.{AllByRecursion, AllZip, flat_map}
-use Rattle.bt_base.specs.declared.settings.Settings.{Settings}
-use Rattle.push_terms.specs.declared.word.Side.TheVariants as sides
-use Rattle.capture.specs.Links.{links}
-use Rattle.capture.specs.Pdus.{Pdu, pdus}
-use Rattle.link_talk.specs.declared.party.Party.{Party}
-use Rattle.link_talk.specs.Sayings.{Saying, said_by, talk}
-use Rattle.channel_model.specs.Calls.{link_down}
-use Rattle.channel_model.specs.Policies.{Policy, policy}
-use Rattle.channel_model.specs.Value.{Channels, no_channels}
-use Rattle.channel_laws.specs.Frames.{AreUttered}
-use Rattle.channel_laws.specs.Runs.{Occurrence, run_of}
-use Rattle.world_model.specs.Machines.{LinkEvent, Up, Down, Linked, Failed, Heard, TimerFired, Cancelled, Opening}
-use Rattle.world_model.specs.Carriages.{linked_by}
-use Rattle.world_model.specs.Talks.{Talk, Told, Said, Unsent, Met, Done}
-use Rattle.host_model.specs.Circumstances.{Circumstance}
-use Rattle.host_model.specs.Clients.{ClientProfile, client_profile}
-use Rattle.host_model.specs.Hosts.{tells_each}
-use Rattle.host_model.specs.Profiles.{Profile}
-use Rattle.host_laws.specs.Asked.{BeginsNoneIf, AreAsked}
-use Rattle.host_laws.specs.Calls.{Asks, values_after}
-use Rattle.host_laws.specs.Calm.{pdus_in}
-use Rattle.host_laws.specs.ClientCalls.{AsksWell}
-use Rattle.host_laws.specs.Fed.{WovenFed, FedSpan, span_feeds, behind_span, AreFed}
-use Rattle.host_laws.specs.Feeds.{Feed}
-use Rattle.host_laws.specs.InOrder.{CallsInOrder}
-use Rattle.host_laws.specs.Lives.{Span, all_marks}
-use Rattle.host_laws.specs.OverLinks.{IsTalkOf, parts, talk_outer, AreTimely}
-use Rattle.host_laws.specs.Searching.{AsksAsItSteps, ComesInOctets, BeginsSearch}
-use Rattle.host_laws.specs.Seen.{spoken_of}
-use Rattle.host_laws.specs.Services.{Follows, GoesAsTold}
-use Rattle.host_laws.specs.Woven.{TalksWoven, turned}
-use Rattle.host_laws.proofs.Asking.{hosts_ask}
-use Rattle.host_laws.proofs.ClientCalls.{clients-ask_in_order}
-use Rattle.host_laws.proofs.FramesSent.{IsOver}
-use Rattle.host_laws.proofs.GoingAsTold.{first_over, fed_over, link_goes}
-use Rattle.host_laws.proofs.OverLinks.{fed_woven}
-use Rattle.host_laws.proofs.Paging.{PagesSo, first_pages, fed_pages, wanted_begins}
-use Rattle.host_laws.proofs.SearchingWeave.{each_split, all_split}
-use Rattle.host_laws.proofs.SearchUp.{outer_octets}
-use Rattle.host_laws.proofs.Stepping.{clients_step}
-use Rattle.host_laws.proofs.StrandsFed.{here_so, span_so}
-use Rattle.scenario_laws.specs.Parties.{party_of}
-use Rattle.scenario_laws.proofs.Gentle.{IsTameInto, IsTamePart, fallen, both_tame}
-use Rattle.scenario_laws.proofs.UnlinkedClients.{HasNoLink, clients_keep}
+use Rattle.pair_laws.specs.bt_base.specs.declared.settings.Settings.{Settings}
+use Rattle.pair_laws.specs.push_terms.specs.declared.word.Side.TheVariants as sides
+use Rattle.pair_laws.specs.capture.specs.Links.{links}
+use Rattle.pair_laws.specs.capture.specs.Pdus.{Pdu, pdus}
+use Rattle.pair_laws.specs.link_talk.specs.declared.party.Party.{Party}
+use Rattle.pair_laws.specs.link_talk.specs.Sayings.{Saying, said_by, talk}
+use Rattle.pair_laws.specs.channel_model.specs.Calls.{link_down}
+use Rattle.pair_laws.specs.channel_model.specs.Policies.{Policy, policy}
+use Rattle.pair_laws.specs.channel_model.specs.Value.{Channels, no_channels}
+use Rattle.pair_laws.specs.channel_laws.specs.Frames.{AreUttered}
+use Rattle.pair_laws.specs.channel_laws.specs.Runs.{Occurrence, run_of}
+use Rattle.pair_laws.specs.world_model.specs.Machines.{LinkEvent, Up, Down, Linked, Failed, Heard, TimerFired, Cancelled, Opening}
+use Rattle.pair_laws.specs.world_model.specs.Carriages.{linked_by}
+use Rattle.pair_laws.specs.world_model.specs.Talks.{Talk, Told, Said, Unsent, Met, Done}
+use Rattle.pair_laws.specs.host_model.specs.Circumstances.{Circumstance}
+use Rattle.pair_laws.specs.host_model.specs.Clients.{ClientProfile, client_profile}
+use Rattle.pair_laws.specs.host_model.specs.Hosts.{tells_each}
+use Rattle.pair_laws.specs.host_model.specs.Profiles.{Profile}
+use Rattle.pair_laws.specs.host_laws.specs.Asked.{BeginsNoneIf, AreAsked}
+use Rattle.pair_laws.specs.host_laws.specs.Calls.{Asks, values_after}
+use Rattle.pair_laws.specs.host_laws.specs.Calm.{pdus_in}
+use Rattle.pair_laws.specs.host_laws.specs.ClientCalls.{AsksWell}
+use Rattle.pair_laws.specs.host_laws.specs.Fed.{WovenFed, FedSpan, span_feeds, behind_span, AreFed}
+use Rattle.pair_laws.specs.host_laws.specs.Feeds.{Feed}
+use Rattle.pair_laws.specs.host_laws.specs.InOrder.{CallsInOrder}
+use Rattle.pair_laws.specs.host_laws.specs.Lives.{Span, all_marks}
+use Rattle.pair_laws.specs.host_laws.specs.OverLinks.{IsTalkOf, parts, talk_outer, AreTimely}
+use Rattle.pair_laws.specs.host_laws.specs.Searching.{AsksAsItSteps, ComesInOctets, BeginsSearch}
+use Rattle.pair_laws.specs.host_laws.specs.Seen.{spoken_of}
+use Rattle.pair_laws.specs.host_laws.specs.Services.{Follows, GoesAsTold}
+use Rattle.pair_laws.specs.host_laws.specs.Woven.{TalksWoven, turned}
+use Rattle.pair_laws.specs.host_laws.proofs.Asking.{hosts_ask}
+use Rattle.pair_laws.specs.host_laws.proofs.ClientCalls.{clients-ask_in_order}
+use Rattle.pair_laws.specs.host_laws.proofs.FramesSent.{IsOver}
+use Rattle.pair_laws.specs.host_laws.proofs.GoingAsTold.{first_over, fed_over, link_goes}
+use Rattle.pair_laws.specs.host_laws.proofs.OverLinks.{fed_woven}
+use Rattle.pair_laws.specs.host_laws.proofs.Paging.{PagesSo, first_pages, fed_pages, wanted_begins}
+use Rattle.pair_laws.specs.host_laws.proofs.SearchingWeave.{each_split, all_split}
+use Rattle.pair_laws.specs.host_laws.proofs.SearchUp.{outer_octets}
+use Rattle.pair_laws.specs.host_laws.proofs.Stepping.{clients_step}
+use Rattle.pair_laws.specs.host_laws.proofs.StrandsFed.{here_so, span_so}
+use Rattle.pair_laws.specs.scenario_laws.specs.Parties.{party_of}
+use Rattle.pair_laws.specs.scenario_laws.proofs.Gentle.{IsTameInto, IsTamePart, fallen, both_tame}
+use Rattle.pair_laws.specs.scenario_laws.proofs.UnlinkedClients.{HasNoLink, clients_keep}
 use Rattle.pair_laws.proofs.Moved.{links_move, each_link, each_talk}
 use Rattle.pair_laws.proofs.Pairing.{hosts-take_turns}
 use Rattle.request_laws.specs.AsTold.{RunsUseService}

@@ -1,48 +1,48 @@
 -- What each thing that happens to a client makes of the SDUs that it asks to send, and of those that its channel took.
 use Rattle.std.proofs.Common.{◌≡◌, ℕ, ◌-◌, Bool, true, false, cond, ◌==◌, List, [], ◌∷◌, ◌++◌, Option, Some, None, Result, Ok, Err, refl, sym, ap, subst, ◌∙◌, ◌⊎◌, inl, inr, append-nil}
 use Rattle.std.proofs.lemmas.Bool.{cond-true, cond-false}
-use Rattle.acl_fragments.specs.Pieces.{channel_of}
-use Rattle.bt_base.specs.declared.ports.PortFault.{PortFault}
-use Rattle.bt_base.specs.declared.ports.PortFault.TheVariants as fault
-use Rattle.bt_base.specs.declared.settings.Settings.{Settings}
-use Rattle.bt_base.specs.declared.settings.Transport.{Transport}
-use Rattle.bt_base.specs.declared.settings.Transport.TheVariants.{L2cap, Rfcomm}
-use Rattle.channel_model.specs.declared.event.ChannelEvent.{ChannelEvent}
-use Rattle.channel_model.specs.declared.event.ChannelEvent.TheVariants as channels
-use Rattle.channel_model.specs.Carrying.{Up as Handed, Nothing, Received}
-use Rattle.channel_model.specs.Calls.{peer_mtu, sends, waits}
-use Rattle.channel_model.specs.Hearing.{up}
-use Rattle.channel_model.specs.Value.{Channels}
-use Rattle.push_terms.specs.declared.outcome.Outcome.{Outcome}
-use Rattle.push_terms.specs.declared.outcome.Outcome.TheVariants as outcomes
-use Rattle.sdp_client.specs.Asking.{is_due, request_octets, after_request}
-use Rattle.push_model.specs.declared.closing.CloseCause.{CloseCause}
-use Rattle.push_model.specs.declared.course.Point.TheVariants.{Due, Asked}
-use Rattle.push_model.specs.declared.course.Stage.{Stage}
-use Rattle.push_model.specs.declared.course.Stage.TheVariants as stages
-use Rattle.push_model.specs.Client.{Client, cancelled, may_cancel, ends, ends_by}
-use Rattle.push_model.specs.Events as events
-use Rattle.push_model.specs.Laws as push
-use Rattle.push_model.specs.Laws.{Deed, Hears, Asks, Finishes, Cancels, all_done}
-use Rattle.push_model.specs.Payloads.{Payload, Octets}
-use Rattle.push_model.specs.Responding.{is_object}
-use Rattle.push_model.specs.Server.{object_psm}
-use Rattle.push_model.specs.Steps as steps
-use Rattle.push_model.specs.Steps.{Part, Step, Stepped, Made, Wait, MakeLink, AskFeatures, OpenChannel, SendSdu, CloseChannel, BreakLink, Ended, NoMemory, Ask, Connect, Put, Abort, Disconnect, Close}
-use Rattle.push_laws.specs.Parties.{sent_by}
-use Rattle.push_laws.specs.Sending.{sdus_of, packets_through}
-use Rattle.world_model.specs.Machines.{News, Linked, Failed, Heard, TimerFired, Cancelled, Opening}
-use Rattle.host_model.specs.Circumstances.{Circumstance, Excerpt}
-use Rattle.host_model.specs.Clients as profile
-use Rattle.host_model.specs.Clients.{ClientProfile, ended, cause_of, client_profile, fitted}
-use Rattle.host_model.specs.Endpoints.{Endpoint, endpoint_of, takes_sdu}
-use Rattle.host_model.specs.Hosts.{handed}
-use Rattle.host_model.specs.Pdus.{sdu_of}
-use Rattle.host_model.specs.Shelves.{unused}
-use Rattle.host_laws.specs.Fed.{feeds_up, next_happening, strand_feeds}
-use Rattle.host_laws.specs.Feeds.{Learns}
-use Rattle.host_laws.specs.Pushing.{Affair, Does, end_asked, then_ends, opened_pushed, closed_pushed, event_pushed, sent_pushed, step_pushed, pushed_from}
-use Rattle.host_laws.specs.Woven.{Strand, Hearing, Giving, Firing, Telling, Gifting, Learning, Checking, Stepping, told_next, strand_profile}
+use Rattle.pair_laws.specs.acl_fragments.specs.Pieces.{channel_of}
+use Rattle.pair_laws.specs.bt_base.specs.declared.ports.PortFault.{PortFault}
+use Rattle.pair_laws.specs.bt_base.specs.declared.ports.PortFault.TheVariants as fault
+use Rattle.pair_laws.specs.bt_base.specs.declared.settings.Settings.{Settings}
+use Rattle.pair_laws.specs.bt_base.specs.declared.settings.Transport.{Transport}
+use Rattle.pair_laws.specs.bt_base.specs.declared.settings.Transport.TheVariants.{L2cap, Rfcomm}
+use Rattle.pair_laws.specs.channel_model.specs.declared.event.ChannelEvent.{ChannelEvent}
+use Rattle.pair_laws.specs.channel_model.specs.declared.event.ChannelEvent.TheVariants as channels
+use Rattle.pair_laws.specs.channel_model.specs.Carrying.{Up as Handed, Nothing, Received}
+use Rattle.pair_laws.specs.channel_model.specs.Calls.{peer_mtu, sends, waits}
+use Rattle.pair_laws.specs.channel_model.specs.Hearing.{up}
+use Rattle.pair_laws.specs.channel_model.specs.Value.{Channels}
+use Rattle.pair_laws.specs.push_terms.specs.declared.outcome.Outcome.{Outcome}
+use Rattle.pair_laws.specs.push_terms.specs.declared.outcome.Outcome.TheVariants as outcomes
+use Rattle.pair_laws.specs.sdp_client.specs.Asking.{is_due, request_octets, after_request}
+use Rattle.pair_laws.specs.push_model.specs.declared.closing.CloseCause.{CloseCause}
+use Rattle.pair_laws.specs.push_model.specs.declared.course.Point.TheVariants.{Due, Asked}
+use Rattle.pair_laws.specs.push_model.specs.declared.course.Stage.{Stage}
+use Rattle.pair_laws.specs.push_model.specs.declared.course.Stage.TheVariants as stages
+use Rattle.pair_laws.specs.push_model.specs.Client.{Client, cancelled, may_cancel, ends, ends_by}
+use Rattle.pair_laws.specs.push_model.specs.Events as events
+use Rattle.pair_laws.specs.push_model.specs.Laws as push
+use Rattle.pair_laws.specs.push_model.specs.Laws.{Deed, Hears, Asks, Finishes, Cancels, all_done}
+use Rattle.pair_laws.specs.push_model.specs.Payloads.{Payload, Octets}
+use Rattle.pair_laws.specs.push_model.specs.Responding.{is_object}
+use Rattle.pair_laws.specs.push_model.specs.Server.{object_psm}
+use Rattle.pair_laws.specs.push_model.specs.Steps as steps
+use Rattle.pair_laws.specs.push_model.specs.Steps.{Part, Step, Stepped, Made, Wait, MakeLink, AskFeatures, OpenChannel, SendSdu, CloseChannel, BreakLink, Ended, NoMemory, Ask, Connect, Put, Abort, Disconnect, Close}
+use Rattle.pair_laws.specs.push_laws.specs.Parties.{sent_by}
+use Rattle.pair_laws.specs.push_laws.specs.Sending.{sdus_of, packets_through}
+use Rattle.pair_laws.specs.world_model.specs.Machines.{News, Linked, Failed, Heard, TimerFired, Cancelled, Opening}
+use Rattle.pair_laws.specs.host_model.specs.Circumstances.{Circumstance, Excerpt}
+use Rattle.pair_laws.specs.host_model.specs.Clients as profile
+use Rattle.pair_laws.specs.host_model.specs.Clients.{ClientProfile, ended, cause_of, client_profile, fitted}
+use Rattle.pair_laws.specs.host_model.specs.Endpoints.{Endpoint, endpoint_of, takes_sdu}
+use Rattle.pair_laws.specs.host_model.specs.Hosts.{handed}
+use Rattle.pair_laws.specs.host_model.specs.Pdus.{sdu_of}
+use Rattle.pair_laws.specs.host_model.specs.Shelves.{unused}
+use Rattle.pair_laws.specs.host_laws.specs.Fed.{feeds_up, next_happening, strand_feeds}
+use Rattle.pair_laws.specs.host_laws.specs.Feeds.{Learns}
+use Rattle.pair_laws.specs.host_laws.specs.Pushing.{Affair, Does, end_asked, then_ends, opened_pushed, closed_pushed, event_pushed, sent_pushed, step_pushed, pushed_from}
+use Rattle.pair_laws.specs.host_laws.specs.Woven.{Strand, Hearing, Giving, Firing, Telling, Gifting, Learning, Checking, Stepping, told_next, strand_profile}
 use Rattle.request_laws.specs.Twists.{all_deeds, taken_on, taken_with, taken_in, OpensNone}
 use Rattle.request_laws.proofs.Taking.{event_same, sdu_same, fires_same, cancelled_same, ended_held}
 

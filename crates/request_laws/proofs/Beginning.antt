@@ -3,25 +3,25 @@ use Rattle.std.proofs.Common.{◌≡◌, ℕ, ◌≤◌, ◌<◌, ◌^◌, ◌++
 use Rattle.std.specs.Char.Escape.{encode_utf16}
 use Rattle.std.specs.List.{flat_map}
 use Rattle.std.proofs.lemmas.Str.{chars-nil}
-use Rattle.bt_base.specs.declared.ports.PortFault.{PortFault}
-use Rattle.bt_base.specs.declared.ports.PortFault.TheVariants as fault
-use Rattle.bt_base.specs.declared.settings.Settings.{Settings}
-use Rattle.bt_base.specs.declared.settings.Transport.{Transport}
-use Rattle.bt_base.specs.declared.settings.Transport.TheVariants.{L2cap, Rfcomm}
-use Rattle.push_terms.specs.declared.outcome.Outcome.{Outcome}
-use Rattle.push_terms.specs.declared.outcome.Outcome.TheVariants as outcomes
-use Rattle.obex_session.specs.PutPackets.{units_in}
-use Rattle.push_model.specs.Client.{Client, own_maximum, begun_by, with_object, new_client, may_cancel, ends, ends_by}
-use Rattle.push_model.specs.Laws as push
-use Rattle.push_model.specs.Laws.{Deed, Hears, Asks, Finishes, Cancels, all_done}
-use Rattle.push_laws.specs.Sending.{packets_by, AnswersTo, MayPush}
-use Rattle.push_laws.proofs.Inverting.{Sends, Rests, Connects, Puts, Aborts, Leaves, asks_send}
-use Rattle.push_laws.proofs.Pushing.{Task, Fixed, Fresh, Stands}
-use Rattle.push_laws.proofs.Sending.{deed_stands}
-use Rattle.push_laws.proofs.Staying.{multiplexers-stay}
-use Rattle.push_laws.proofs.Talks.{Talk, talk_of, Kept, news_keeps, hears_by}
-use Rattle.host_laws.specs.Answered.{IsSmall, IsAnswered}
-use Rattle.host_laws.specs.Pushing.{Affair, Begins, Does, client_after, client_behind, AllAsked}
+use Rattle.pair_laws.specs.bt_base.specs.declared.ports.PortFault.{PortFault}
+use Rattle.pair_laws.specs.bt_base.specs.declared.ports.PortFault.TheVariants as fault
+use Rattle.pair_laws.specs.bt_base.specs.declared.settings.Settings.{Settings}
+use Rattle.pair_laws.specs.bt_base.specs.declared.settings.Transport.{Transport}
+use Rattle.pair_laws.specs.bt_base.specs.declared.settings.Transport.TheVariants.{L2cap, Rfcomm}
+use Rattle.pair_laws.specs.push_terms.specs.declared.outcome.Outcome.{Outcome}
+use Rattle.pair_laws.specs.push_terms.specs.declared.outcome.Outcome.TheVariants as outcomes
+use Rattle.pair_laws.specs.obex_session.specs.PutPackets.{units_in}
+use Rattle.pair_laws.specs.push_model.specs.Client.{Client, own_maximum, begun_by, with_object, new_client, may_cancel, ends, ends_by}
+use Rattle.pair_laws.specs.push_model.specs.Laws as push
+use Rattle.pair_laws.specs.push_model.specs.Laws.{Deed, Hears, Asks, Finishes, Cancels, all_done}
+use Rattle.pair_laws.specs.push_laws.specs.Sending.{packets_by, AnswersTo, MayPush}
+use Rattle.pair_laws.specs.push_laws.proofs.Inverting.{Sends, Rests, Connects, Puts, Aborts, Leaves, asks_send}
+use Rattle.pair_laws.specs.push_laws.proofs.Pushing.{Task, Fixed, Fresh, Stands}
+use Rattle.pair_laws.specs.push_laws.proofs.Sending.{deed_stands}
+use Rattle.pair_laws.specs.push_laws.proofs.Staying.{multiplexers-stay}
+use Rattle.pair_laws.specs.push_laws.proofs.Talks.{Talk, talk_of, Kept, news_keeps, hears_by}
+use Rattle.pair_laws.specs.host_laws.specs.Answered.{IsSmall, IsAnswered}
+use Rattle.pair_laws.specs.host_laws.specs.Pushing.{Affair, Begins, Does, client_after, client_behind, AllAsked}
 
 -- ---- it stays on its transport
 

@@ -4,49 +4,49 @@ use Rattle.std.specs.Prelude.{map, slice_get, option_to_list}
 use Rattle.std.specs.List.{AllByRecursion, flat_map, cons_option}
 use Rattle.std.proofs.lemmas.Bool.{eqb-true, eq-eqb}
 use Rattle.std.proofs.lemmas.List.Concat.{flat_map-append}
-use Rattle.acl_fragments.specs.Pieces.{channel_of}
-use Rattle.bt_base.specs.declared.settings.Settings.{Settings}
-use Rattle.bt_base.specs.Objects.{Contents}
-use Rattle.link_talk.specs.declared.channel.Channel.{Channel}
-use Rattle.link_talk.specs.Channels.{Entry, reading}
-use Rattle.channel_model.specs.declared.event.ChannelEvent.{ChannelEvent}
-use Rattle.channel_model.specs.declared.event.ChannelEvent.TheVariants as events
-use Rattle.channel_model.specs.Hearing.{up}
-use Rattle.channel_model.specs.Policies.{Policy, policy}
-use Rattle.channel_model.specs.Value.{Channels, no_channels}
-use Rattle.channel_laws.specs.Closings.{IsClosingRead}
-use Rattle.channel_laws.specs.Endpoints.{IsOf}
-use Rattle.channel_laws.specs.Runs.{Occurrence, run_of}
-use Rattle.channel_laws.specs.Singly.{AsksForNoChannel}
-use Rattle.channel_laws.specs.Views.{channel_by, read_at}
-use Rattle.channel_laws.proofs.Shutting.{closings-are_read}
-use Rattle.push_model.specs.Server.{Lent, lends, lent_sdu, object_psm}
-use Rattle.push_laws.specs.Occurrences as push
-use Rattle.push_laws.specs.Parties.{sdu_if}
-use Rattle.push_laws.specs.Readings.{closes}
-use Rattle.world_model.specs.Machines.{Linked, Up, Down, Failed, Heard, TimerFired, Cancelled, Opening}
-use Rattle.host_model.specs.Endpoints.{endpoint_of, takes_sdu}
-use Rattle.host_model.specs.Pdus.{sdu_of}
-use Rattle.host_model.specs.Profiles.{Profile}
-use Rattle.host_model.specs.Servers.{ServerProfile, is_told, server_profile}
-use Rattle.host_laws.specs.Calls.{Call, Connect, AskFeatures, Disconnect, Send, Asks, from_call, values_after}
-use Rattle.host_laws.specs.Fed.{next_happening, strand_feeds, woven_feeds}
-use Rattle.host_laws.specs.Feeds.{Feed, Gifts, Learns, Receives, Happens, Sent, Steps, fed, Tiding, Brings, Tells, Turns, tidings_in, tidings_of, tidings_from}
-use Rattle.host_laws.specs.Gaining.{IsNoSdu}
-use Rattle.host_laws.specs.GainingOver.{CarriesOne}
-use Rattle.host_laws.specs.Serving.{event_served, taken_by, lent_by, served_from}
-use Rattle.host_laws.specs.InOrder.{AsksNoChannels}
-use Rattle.host_laws.specs.Told.{IsOfChannel, events_told, sdus_told, told_on}
-use Rattle.host_laws.specs.Woven.{Strand, Hearing, Giving, Firing, Telling, Gifting, Learning, Checking, Stepping, IsOnLink, strand_list, strand_profile, woven_list, Woven}
-use Rattle.host_laws.proofs.Gaining.{NoTurn, Fits, Ends, no_turns, all_fit, all_end}
-use Rattle.host_laws.proofs.GainingOver.{none_told as none_comes_in}
-use Rattle.host_laws.proofs.Growing.{tidings-append, told_up, none_told}
-use Rattle.host_laws.proofs.Silence.{ends-are_last, channels-are_named}
-use Rattle.host_laws.proofs.Telling.{events_run}
+use Rattle.pair_laws.specs.acl_fragments.specs.Pieces.{channel_of}
+use Rattle.pair_laws.specs.bt_base.specs.declared.settings.Settings.{Settings}
+use Rattle.pair_laws.specs.bt_base.specs.Objects.{Contents}
+use Rattle.pair_laws.specs.link_talk.specs.declared.channel.Channel.{Channel}
+use Rattle.pair_laws.specs.link_talk.specs.Channels.{Entry, reading}
+use Rattle.pair_laws.specs.channel_model.specs.declared.event.ChannelEvent.{ChannelEvent}
+use Rattle.pair_laws.specs.channel_model.specs.declared.event.ChannelEvent.TheVariants as events
+use Rattle.pair_laws.specs.channel_model.specs.Hearing.{up}
+use Rattle.pair_laws.specs.channel_model.specs.Policies.{Policy, policy}
+use Rattle.pair_laws.specs.channel_model.specs.Value.{Channels, no_channels}
+use Rattle.pair_laws.specs.channel_laws.specs.Closings.{IsClosingRead}
+use Rattle.pair_laws.specs.channel_laws.specs.Endpoints.{IsOf}
+use Rattle.pair_laws.specs.channel_laws.specs.Runs.{Occurrence, run_of}
+use Rattle.pair_laws.specs.channel_laws.specs.Singly.{AsksForNoChannel}
+use Rattle.pair_laws.specs.channel_laws.specs.Views.{channel_by, read_at}
+use Rattle.pair_laws.specs.channel_laws.proofs.Shutting.{closings-are_read}
+use Rattle.pair_laws.specs.push_model.specs.Server.{Lent, lends, lent_sdu, object_psm}
+use Rattle.pair_laws.specs.push_laws.specs.Occurrences as push
+use Rattle.pair_laws.specs.push_laws.specs.Parties.{sdu_if}
+use Rattle.pair_laws.specs.push_laws.specs.Readings.{closes}
+use Rattle.pair_laws.specs.world_model.specs.Machines.{Linked, Up, Down, Failed, Heard, TimerFired, Cancelled, Opening}
+use Rattle.pair_laws.specs.host_model.specs.Endpoints.{endpoint_of, takes_sdu}
+use Rattle.pair_laws.specs.host_model.specs.Pdus.{sdu_of}
+use Rattle.pair_laws.specs.host_model.specs.Profiles.{Profile}
+use Rattle.pair_laws.specs.host_model.specs.Servers.{ServerProfile, is_told, server_profile}
+use Rattle.pair_laws.specs.host_laws.specs.Calls.{Call, Connect, AskFeatures, Disconnect, Send, Asks, from_call, values_after}
+use Rattle.pair_laws.specs.host_laws.specs.Fed.{next_happening, strand_feeds, woven_feeds}
+use Rattle.pair_laws.specs.host_laws.specs.Feeds.{Feed, Gifts, Learns, Receives, Happens, Sent, Steps, fed, Tiding, Brings, Tells, Turns, tidings_in, tidings_of, tidings_from}
+use Rattle.pair_laws.specs.host_laws.specs.Gaining.{IsNoSdu}
+use Rattle.pair_laws.specs.host_laws.specs.GainingOver.{CarriesOne}
+use Rattle.pair_laws.specs.host_laws.specs.Serving.{event_served, taken_by, lent_by, served_from}
+use Rattle.pair_laws.specs.host_laws.specs.InOrder.{AsksNoChannels}
+use Rattle.pair_laws.specs.host_laws.specs.Told.{IsOfChannel, events_told, sdus_told, told_on}
+use Rattle.pair_laws.specs.host_laws.specs.Woven.{Strand, Hearing, Giving, Firing, Telling, Gifting, Learning, Checking, Stepping, IsOnLink, strand_list, strand_profile, woven_list, Woven}
+use Rattle.pair_laws.specs.host_laws.proofs.Gaining.{NoTurn, Fits, Ends, no_turns, all_fit, all_end}
+use Rattle.pair_laws.specs.host_laws.proofs.GainingOver.{none_told as none_comes_in}
+use Rattle.pair_laws.specs.host_laws.proofs.Growing.{tidings-append, told_up, none_told}
+use Rattle.pair_laws.specs.host_laws.proofs.Silence.{ends-are_last, channels-are_named}
+use Rattle.pair_laws.specs.host_laws.proofs.Telling.{events_run}
 use Rattle.request_laws.specs.Behind.{NothingComesBehind}
 use Rattle.request_laws.specs.BothFed.{ComesNone}
 use Rattle.request_laws.specs.Carried.{NoneComesBehind}
-use Rattle.host_laws.specs.OneOnLinks.{CarriesOneOn}
+use Rattle.pair_laws.specs.host_laws.specs.OneOnLinks.{CarriesOneOn}
 use Rattle.request_laws.specs.Streams.{come_on}
 use Rattle.request_laws.specs.Twists.{NoneBehind}
 use Rattle.request_laws.proofs.Feeding.{all_both, event_shape, lent_shape}

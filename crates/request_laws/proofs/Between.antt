@@ -1,22 +1,22 @@
 -- While no link is up the server is still, and a link comes up for a push that has just begun.
 use Rattle.std.proofs.Common.{◌≡◌, ℕ, List, [], ◌∷◌, ◌++◌, Option, Some, None, refl, sym, subst, ◌∙◌}
 use Rattle.std.specs.List.{AllByRecursion}
-use Rattle.bt_base.specs.declared.settings.Settings.{Settings}
-use Rattle.bt_base.specs.Objects.{Contents}
-use Rattle.channel_model.specs.Value.{Channels, no_channels}
-use Rattle.channel_laws.specs.Runs as channels
-use Rattle.push_model.specs.Server.{Lent, lends, lent_sdu}
-use Rattle.push_laws.specs.Occurrences.{Occurrence, Asked as AskedFor}
-use Rattle.world_model.specs.Machines.{News, Linked, Failed, Heard, TimerFired, Cancelled, Opening}
-use Rattle.host_model.specs.Circumstances.{Circumstance}
-use Rattle.host_model.specs.Endpoints.{endpoint_of}
-use Rattle.host_model.specs.Servers.{ServerProfile, takes, submits, server_profile}
-use Rattle.host_laws.specs.Calls.{Asks as Asking, values_after}
-use Rattle.host_laws.specs.Fed.{strand_feeds, woven_feeds, WovenFed}
-use Rattle.host_laws.specs.Feeds.{Feed, Learns, tidings_by}
-use Rattle.host_laws.specs.Serving.{served_from, taken_by, lent_by}
-use Rattle.host_laws.specs.Woven.{Strand, IsOnLink, Hearing, Giving, Firing, Telling, Gifting, Learning, Checking, Stepping, strand_list, strand_profile, woven_list}
-use Rattle.host_laws.proofs.StrandsFed.{strand_so}
+use Rattle.pair_laws.specs.bt_base.specs.declared.settings.Settings.{Settings}
+use Rattle.pair_laws.specs.bt_base.specs.Objects.{Contents}
+use Rattle.pair_laws.specs.channel_model.specs.Value.{Channels, no_channels}
+use Rattle.pair_laws.specs.channel_laws.specs.Runs as channels
+use Rattle.pair_laws.specs.push_model.specs.Server.{Lent, lends, lent_sdu}
+use Rattle.pair_laws.specs.push_laws.specs.Occurrences.{Occurrence, Asked as AskedFor}
+use Rattle.pair_laws.specs.world_model.specs.Machines.{News, Linked, Failed, Heard, TimerFired, Cancelled, Opening}
+use Rattle.pair_laws.specs.host_model.specs.Circumstances.{Circumstance}
+use Rattle.pair_laws.specs.host_model.specs.Endpoints.{endpoint_of}
+use Rattle.pair_laws.specs.host_model.specs.Servers.{ServerProfile, takes, submits, server_profile}
+use Rattle.pair_laws.specs.host_laws.specs.Calls.{Asks as Asking, values_after}
+use Rattle.pair_laws.specs.host_laws.specs.Fed.{strand_feeds, woven_feeds, WovenFed}
+use Rattle.pair_laws.specs.host_laws.specs.Feeds.{Feed, Learns, tidings_by}
+use Rattle.pair_laws.specs.host_laws.specs.Serving.{served_from, taken_by, lent_by}
+use Rattle.pair_laws.specs.host_laws.specs.Woven.{Strand, IsOnLink, Hearing, Giving, Firing, Telling, Gifting, Learning, Checking, Stepping, strand_list, strand_profile, woven_list}
+use Rattle.pair_laws.specs.host_laws.proofs.StrandsFed.{strand_so}
 use Rattle.request_laws.proofs.Feeding.{all_both, all_ahead, served-both}
 use Rattle.request_laws.proofs.Timely.{HearsNothing}
 use Rattle.request_laws.proofs.Silent.{IsStill}

@@ -1,13 +1,13 @@
 -- What the channels carry, and the same with what the client asked to send.
 use Rattle.std.proofs.Common.{◌≡◌, ℕ, Bool, ◌||◌, List, [], ◌∷◌, ◌++◌, None, refl, sym, ap, subst, ◌∙◌, inl, append_assoc, append-nil}
-use Rattle.push_model.specs.Client.{Client}
-use Rattle.push_model.specs.Laws as push
-use Rattle.push_model.specs.Laws.{Deed}
-use Rattle.push_model.specs.Server.{object_psm}
-use Rattle.push_laws.specs.Occurrences.{Occurrence}
-use Rattle.push_laws.specs.Parties.{OfServer, OfClient, Pipes, no_pipes, sent_by, heard_by, come_by, gone_by, pipes_after, IsFrontOf, ArePipes}
-use Rattle.push_laws.specs.Readings.{closes}
-use Rattle.host_model.specs.Clients.{ClientProfile}
+use Rattle.pair_laws.specs.push_model.specs.Client.{Client}
+use Rattle.pair_laws.specs.push_model.specs.Laws as push
+use Rattle.pair_laws.specs.push_model.specs.Laws.{Deed}
+use Rattle.pair_laws.specs.push_model.specs.Server.{object_psm}
+use Rattle.pair_laws.specs.push_laws.specs.Occurrences.{Occurrence}
+use Rattle.pair_laws.specs.push_laws.specs.Parties.{OfServer, OfClient, Pipes, no_pipes, sent_by, heard_by, come_by, gone_by, pipes_after, IsFrontOf, ArePipes}
+use Rattle.pair_laws.specs.push_laws.specs.Readings.{closes}
+use Rattle.pair_laws.specs.host_model.specs.Clients.{ClientProfile}
 use Rattle.request_laws.specs.Twists.{pipes_behind}
 use Rattle.request_laws.proofs.Asking.{sent_over, Sent, All, OneMore, Makes, sent_more}
 use Rattle.request_laws.proofs.Piping.{by_client, by_server}

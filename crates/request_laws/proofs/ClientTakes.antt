@@ -1,43 +1,43 @@
 -- What a client asks to be sent on the one channel of a PSM is what its end of that channel takes.
 use Rattle.std.proofs.Common.{◌≡◌, ℕ, List, [], ◌∷◌, ◌++◌, Bool, true, false, cond, eqb, ◌&&◌, Option, Some, None, refl, sym, ap, ap₂, subst, ◌∙◌, inl, append_assoc, arith}
-use Rattle.acl_fragments.specs.Pieces.{channel_of}
-use Rattle.bt_base.specs.declared.settings.Settings.{Settings}
-use Rattle.l2cap_signal.specs.Commands.{Command, connection_request}
-use Rattle.link_talk.specs.Sayings.{Saying}
-use Rattle.channel_model.specs.declared.errand.Errand.TheVariants as errands
-use Rattle.channel_model.specs.declared.event.ChannelEvent.{ChannelEvent}
-use Rattle.channel_model.specs.Asking.{new_request, asks}
-use Rattle.channel_model.specs.Calls.{can_connect, carrier_at, peer_mtu, sends, waits}
-use Rattle.channel_model.specs.Carrying.{Up as Handed, Nothing, Received}
-use Rattle.channel_model.specs.Changing.{held_at}
-use Rattle.channel_model.specs.Following.{with_channel}
-use Rattle.channel_model.specs.Giving.{on_held, connection_at}
-use Rattle.channel_model.specs.Hearing.{up}
-use Rattle.channel_model.specs.Policies.{Policy, policy}
-use Rattle.channel_model.specs.Value.{Requested, Held, Channels, no_channels}
-use Rattle.channel_model.proofs.Going.{new_held}
-use Rattle.channel_laws.specs.Belonging.{HasAsked}
-use Rattle.channel_laws.specs.OwnTalk.{spoken, command_with, asked_between}
-use Rattle.channel_laws.specs.Runs.{Occurrence, Connects, Run, run_of}
-use Rattle.channel_laws.specs.Taken.{is_free, taken_of}
-use Rattle.channel_laws.proofs.Asking.{newest-asks, asked-one}
-use Rattle.channel_laws.proofs.Inviting.{held_here}
-use Rattle.channel_laws.proofs.Running.{all-sound}
-use Rattle.channel_laws.proofs.Saying.{stands-left, stands-right}
-use Rattle.push_model.specs.Payloads.{Payload}
-use Rattle.push_model.specs.Client.{Client, begins}
-use Rattle.push_model.specs.Steps.{Step, Wait, MakeLink, AskFeatures, OpenChannel, SendSdu, CloseChannel, BreakLink, Ended, NoMemory, steps}
-use Rattle.world_model.specs.Machines.{News, Linked, Up, Down, Failed, Heard, TimerFired, Cancelled, Opening}
-use Rattle.host_model.specs.Circumstances.{Circumstance}
-use Rattle.host_model.specs.Clients.{ClientProfile, NoBid, ended, after_call, submits, sent_on, takes, client_profile, fitted}
-use Rattle.host_model.specs.Clients as profile
-use Rattle.host_model.specs.Endpoints.{Endpoint, endpoint_of, with_answer, takes_sdu}
-use Rattle.host_model.specs.Hosts.{handed}
-use Rattle.host_model.specs.Pdus.{sdu_of}
-use Rattle.host_model.specs.Shelves.{size_for, name_for, unused}
-use Rattle.host_laws.specs.Calls.{from_call, values_after}
-use Rattle.host_laws.specs.Woven.{Strand, Hearing, Giving, Firing, Telling, Gifting, Learning, Checking, Stepping, told_next, strand_list, strand_profile, woven_list}
-use Rattle.host_laws.proofs.Asking.{send_if, sends_on, closes_on, asked, clients_ask, clients-call}
+use Rattle.pair_laws.specs.acl_fragments.specs.Pieces.{channel_of}
+use Rattle.pair_laws.specs.bt_base.specs.declared.settings.Settings.{Settings}
+use Rattle.pair_laws.specs.l2cap_signal.specs.Commands.{Command, connection_request}
+use Rattle.pair_laws.specs.link_talk.specs.Sayings.{Saying}
+use Rattle.pair_laws.specs.channel_model.specs.declared.errand.Errand.TheVariants as errands
+use Rattle.pair_laws.specs.channel_model.specs.declared.event.ChannelEvent.{ChannelEvent}
+use Rattle.pair_laws.specs.channel_model.specs.Asking.{new_request, asks}
+use Rattle.pair_laws.specs.channel_model.specs.Calls.{can_connect, carrier_at, peer_mtu, sends, waits}
+use Rattle.pair_laws.specs.channel_model.specs.Carrying.{Up as Handed, Nothing, Received}
+use Rattle.pair_laws.specs.channel_model.specs.Changing.{held_at}
+use Rattle.pair_laws.specs.channel_model.specs.Following.{with_channel}
+use Rattle.pair_laws.specs.channel_model.specs.Giving.{on_held, connection_at}
+use Rattle.pair_laws.specs.channel_model.specs.Hearing.{up}
+use Rattle.pair_laws.specs.channel_model.specs.Policies.{Policy, policy}
+use Rattle.pair_laws.specs.channel_model.specs.Value.{Requested, Held, Channels, no_channels}
+use Rattle.pair_laws.specs.channel_model.proofs.Going.{new_held}
+use Rattle.pair_laws.specs.channel_laws.specs.Belonging.{HasAsked}
+use Rattle.pair_laws.specs.channel_laws.specs.OwnTalk.{spoken, command_with, asked_between}
+use Rattle.pair_laws.specs.channel_laws.specs.Runs.{Occurrence, Connects, Run, run_of}
+use Rattle.pair_laws.specs.channel_laws.specs.Taken.{is_free, taken_of}
+use Rattle.pair_laws.specs.channel_laws.proofs.Asking.{newest-asks, asked-one}
+use Rattle.pair_laws.specs.channel_laws.proofs.Inviting.{held_here}
+use Rattle.pair_laws.specs.channel_laws.proofs.Running.{all-sound}
+use Rattle.pair_laws.specs.channel_laws.proofs.Saying.{stands-left, stands-right}
+use Rattle.pair_laws.specs.push_model.specs.Payloads.{Payload}
+use Rattle.pair_laws.specs.push_model.specs.Client.{Client, begins}
+use Rattle.pair_laws.specs.push_model.specs.Steps.{Step, Wait, MakeLink, AskFeatures, OpenChannel, SendSdu, CloseChannel, BreakLink, Ended, NoMemory, steps}
+use Rattle.pair_laws.specs.world_model.specs.Machines.{News, Linked, Up, Down, Failed, Heard, TimerFired, Cancelled, Opening}
+use Rattle.pair_laws.specs.host_model.specs.Circumstances.{Circumstance}
+use Rattle.pair_laws.specs.host_model.specs.Clients.{ClientProfile, NoBid, ended, after_call, submits, sent_on, takes, client_profile, fitted}
+use Rattle.pair_laws.specs.host_model.specs.Clients as profile
+use Rattle.pair_laws.specs.host_model.specs.Endpoints.{Endpoint, endpoint_of, with_answer, takes_sdu}
+use Rattle.pair_laws.specs.host_model.specs.Hosts.{handed}
+use Rattle.pair_laws.specs.host_model.specs.Pdus.{sdu_of}
+use Rattle.pair_laws.specs.host_model.specs.Shelves.{size_for, name_for, unused}
+use Rattle.pair_laws.specs.host_laws.specs.Calls.{from_call, values_after}
+use Rattle.pair_laws.specs.host_laws.specs.Woven.{Strand, Hearing, Giving, Firing, Telling, Gifting, Learning, Checking, Stepping, told_next, strand_list, strand_profile, woven_list}
+use Rattle.pair_laws.specs.host_laws.proofs.Asking.{send_if, sends_on, closes_on, asked, clients_ask, clients-call}
 use Rattle.request_laws.specs.Streams.{taken_by, taken_at}
 use Rattle.request_laws.specs.Twists.{taken_on}
 use Rattle.request_laws.proofs.Accepted.{Opened, opened-open, opened-stays}

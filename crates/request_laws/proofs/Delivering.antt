@@ -2,33 +2,33 @@
 use Rattle.std.proofs.Common.{◌≡◌, ℕ, Bool, true, false, cond, eqb, List, [], ◌∷◌, ◌++◌, Option, Some, None, ◌⊎◌, inl, inr, refl, sym, ap, subst, ◌∙◌}
 use Rattle.std.specs.List.{AllByRecursion, flat_map, cons_option}
 use Rattle.std.proofs.lemmas.Bool.{eqb-true, eq-eqb}
-use Rattle.bt_base.specs.declared.settings.Settings.{Settings}
-use Rattle.capture.specs.Histories.{EachAfter}
-use Rattle.push_terms.specs.declared.word.Side.TheVariants as sides
-use Rattle.l2cap_config.specs.declared.wish.Mode.TheVariants.{Basic, Enhanced}
-use Rattle.l2cap_config.specs.declared.wish.Wish.{Wish}
-use Rattle.link_talk.specs.declared.channel.Channel.{Channel}
-use Rattle.link_talk.specs.Channels.{Entry, reading}
-use Rattle.link_talk.specs.Sayings.{Saying}
-use Rattle.channel_model.specs.Carrying.{Up as Handed, Nothing, Received}
-use Rattle.channel_model.specs.Policies.{Policy, policy, enhanced_wish, wished}
-use Rattle.channel_laws.specs.Belonging.{HasGranted, HasAsked, Belongs, IsRead, AreRead, said_at}
-use Rattle.channel_laws.specs.Common.{mirrored}
-use Rattle.channel_laws.specs.Delivered.{IsRunBy}
-use Rattle.channel_laws.specs.Endpoints.{IsOf}
-use Rattle.channel_laws.specs.Ends.{DoesSo, end_at}
-use Rattle.channel_laws.specs.Frames.{IsUttered, AreUttered}
-use Rattle.channel_laws.specs.Pairs.{Side, Near, Far, Turn, turned, new_pair, pair_of}
-use Rattle.channel_laws.specs.Pipes.{HaveChannel, IsCarried, AreCarried, IsFront}
-use Rattle.channel_laws.specs.Runs.{Occurrence, Run, run_of, sdus_up}
-use Rattle.channel_laws.specs.Taken.{taken_of}
-use Rattle.channel_laws.specs.Views.{channel_by, read_at}
-use Rattle.channel_laws.proofs.Belonging.{channels-belong}
-use Rattle.channel_laws.proofs.Bestowing.{endpoints-are_granted_once, endpoints-ask_for_one_psm}
-use Rattle.channel_laws.proofs.Delivered.{wished-is_delivered}
-use Rattle.channel_laws.proofs.Sharing.{channels-are_common}
-use Rattle.scenario_laws.specs.Parties.{party_of}
-use Rattle.scenario_laws.proofs.Wishes.{states_frame}
+use Rattle.pair_laws.specs.bt_base.specs.declared.settings.Settings.{Settings}
+use Rattle.pair_laws.specs.capture.specs.Histories.{EachAfter}
+use Rattle.pair_laws.specs.push_terms.specs.declared.word.Side.TheVariants as sides
+use Rattle.pair_laws.specs.l2cap_config.specs.declared.wish.Mode.TheVariants.{Basic, Enhanced}
+use Rattle.pair_laws.specs.l2cap_config.specs.declared.wish.Wish.{Wish}
+use Rattle.pair_laws.specs.link_talk.specs.declared.channel.Channel.{Channel}
+use Rattle.pair_laws.specs.link_talk.specs.Channels.{Entry, reading}
+use Rattle.pair_laws.specs.link_talk.specs.Sayings.{Saying}
+use Rattle.pair_laws.specs.channel_model.specs.Carrying.{Up as Handed, Nothing, Received}
+use Rattle.pair_laws.specs.channel_model.specs.Policies.{Policy, policy, enhanced_wish, wished}
+use Rattle.pair_laws.specs.channel_laws.specs.Belonging.{HasGranted, HasAsked, Belongs, IsRead, AreRead, said_at}
+use Rattle.pair_laws.specs.channel_laws.specs.Common.{mirrored}
+use Rattle.pair_laws.specs.channel_laws.specs.Delivered.{IsRunBy}
+use Rattle.pair_laws.specs.channel_laws.specs.Endpoints.{IsOf}
+use Rattle.pair_laws.specs.channel_laws.specs.Ends.{DoesSo, end_at}
+use Rattle.pair_laws.specs.channel_laws.specs.Frames.{IsUttered, AreUttered}
+use Rattle.pair_laws.specs.channel_laws.specs.Pairs.{Side, Near, Far, Turn, turned, new_pair, pair_of}
+use Rattle.pair_laws.specs.channel_laws.specs.Pipes.{HaveChannel, IsCarried, AreCarried, IsFront}
+use Rattle.pair_laws.specs.channel_laws.specs.Runs.{Occurrence, Run, run_of, sdus_up}
+use Rattle.pair_laws.specs.channel_laws.specs.Taken.{taken_of}
+use Rattle.pair_laws.specs.channel_laws.specs.Views.{channel_by, read_at}
+use Rattle.pair_laws.specs.channel_laws.proofs.Belonging.{channels-belong}
+use Rattle.pair_laws.specs.channel_laws.proofs.Bestowing.{endpoints-are_granted_once, endpoints-ask_for_one_psm}
+use Rattle.pair_laws.specs.channel_laws.proofs.Delivered.{wished-is_delivered}
+use Rattle.pair_laws.specs.channel_laws.proofs.Sharing.{channels-are_common}
+use Rattle.pair_laws.specs.scenario_laws.specs.Parties.{party_of}
+use Rattle.pair_laws.specs.scenario_laws.proofs.Wishes.{states_frame}
 use Rattle.pair_laws.specs.Fronts.{IsFrontOfTurns}
 use Rattle.pair_laws.specs.Orders.{Joint, near_in, far_in, joints_from}
 use Rattle.pair_laws.specs.Pairs.{PairOnLink}

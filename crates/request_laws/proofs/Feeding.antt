@@ -1,38 +1,38 @@
 -- What both profiles went through, put together and taken apart.
 use Rattle.std.proofs.Common.{◌≡◌, ℕ, Bool, true, false, cond, List, [], ◌∷◌, ◌++◌, Option, Some, None, refl, sym, ap, ◌∙◌, append_assoc}
 use Rattle.std.specs.List.{AllByRecursion}
-use Rattle.acl_fragments.specs.Pieces.{channel_of}
-use Rattle.bt_base.specs.declared.settings.Settings.{Settings}
-use Rattle.bt_base.specs.Objects.{Contents}
-use Rattle.channel_model.specs.declared.event.ChannelEvent.{ChannelEvent}
-use Rattle.channel_model.specs.declared.event.ChannelEvent.TheVariants as events
-use Rattle.channel_model.specs.Carrying.{Up as Handed, Nothing, Received}
-use Rattle.channel_model.specs.Calls.{link_down, peer_mtu, waits}
-use Rattle.channel_model.specs.Hearing.{up}
-use Rattle.channel_model.specs.Value.{Channels}
-use Rattle.push_model.specs.declared.closing.CloseCause.{CloseCause}
-use Rattle.push_model.specs.Client.{Client, cancelled}
-use Rattle.push_model.specs.Events.{hears_news}
-use Rattle.push_model.specs.Events as news
-use Rattle.push_model.specs.Laws as push
-use Rattle.push_model.specs.Laws.{Hears, Asks, Finishes, Cancels, all_done}
-use Rattle.push_model.specs.Server.{Lent, lends, lent_sdu}
-use Rattle.push_model.specs.Steps.{Part, Step, Wait, MakeLink, AskFeatures, OpenChannel, SendSdu, CloseChannel, BreakLink, Ended, NoMemory, steps}
-use Rattle.push_laws.specs.Occurrences.{Occurrence, Came, Went, Closed, LinkDown}
-use Rattle.world_model.specs.Machines.{LinkEvent, Up, Down, News, Linked, Failed, Heard, TimerFired, Cancelled, Opening}
-use Rattle.host_model.specs.Circumstances.{Circumstance}
-use Rattle.host_model.specs.Clients.{ClientProfile, cause_of, client_profile, fitted}
-use Rattle.host_model.specs.Endpoints.{endpoint_of, takes_sdu}
-use Rattle.host_model.specs.Pdus.{sdu_of}
-use Rattle.host_model.specs.Servers.{ServerProfile, is_told, server_profile}
-use Rattle.host_laws.specs.Calls.{Asks as Asking}
-use Rattle.host_laws.specs.Fed.{feeds_up, next_happening, strand_feeds, happenings, turned_feeds}
-use Rattle.host_laws.specs.Feeds.{Feed, Gifts, Learns, Receives, Happens, Sent, Steps, fed, all_fed}
-use Rattle.host_laws.specs.Pushing.{Affair, Begins, Does, client_behind, end_asked, news_pushed, opened_pushed, closed_pushed, event_pushed, sent_pushed, step_pushed, pushed_with, pushed_from}
-use Rattle.host_laws.specs.Serving.{news_served, event_served, taken_by, lent_by, served_with, served_from}
-use Rattle.host_laws.specs.Woven.{Strand, Hearing, Giving, Firing, Telling, Gifting, Learning, Checking, Stepping, strand_profile}
-use Rattle.host_laws.proofs.Pushing.{all_pushed}
-use Rattle.host_laws.proofs.StrandsFed.{strand_so}
+use Rattle.pair_laws.specs.acl_fragments.specs.Pieces.{channel_of}
+use Rattle.pair_laws.specs.bt_base.specs.declared.settings.Settings.{Settings}
+use Rattle.pair_laws.specs.bt_base.specs.Objects.{Contents}
+use Rattle.pair_laws.specs.channel_model.specs.declared.event.ChannelEvent.{ChannelEvent}
+use Rattle.pair_laws.specs.channel_model.specs.declared.event.ChannelEvent.TheVariants as events
+use Rattle.pair_laws.specs.channel_model.specs.Carrying.{Up as Handed, Nothing, Received}
+use Rattle.pair_laws.specs.channel_model.specs.Calls.{link_down, peer_mtu, waits}
+use Rattle.pair_laws.specs.channel_model.specs.Hearing.{up}
+use Rattle.pair_laws.specs.channel_model.specs.Value.{Channels}
+use Rattle.pair_laws.specs.push_model.specs.declared.closing.CloseCause.{CloseCause}
+use Rattle.pair_laws.specs.push_model.specs.Client.{Client, cancelled}
+use Rattle.pair_laws.specs.push_model.specs.Events.{hears_news}
+use Rattle.pair_laws.specs.push_model.specs.Events as news
+use Rattle.pair_laws.specs.push_model.specs.Laws as push
+use Rattle.pair_laws.specs.push_model.specs.Laws.{Hears, Asks, Finishes, Cancels, all_done}
+use Rattle.pair_laws.specs.push_model.specs.Server.{Lent, lends, lent_sdu}
+use Rattle.pair_laws.specs.push_model.specs.Steps.{Part, Step, Wait, MakeLink, AskFeatures, OpenChannel, SendSdu, CloseChannel, BreakLink, Ended, NoMemory, steps}
+use Rattle.pair_laws.specs.push_laws.specs.Occurrences.{Occurrence, Came, Went, Closed, LinkDown}
+use Rattle.pair_laws.specs.world_model.specs.Machines.{LinkEvent, Up, Down, News, Linked, Failed, Heard, TimerFired, Cancelled, Opening}
+use Rattle.pair_laws.specs.host_model.specs.Circumstances.{Circumstance}
+use Rattle.pair_laws.specs.host_model.specs.Clients.{ClientProfile, cause_of, client_profile, fitted}
+use Rattle.pair_laws.specs.host_model.specs.Endpoints.{endpoint_of, takes_sdu}
+use Rattle.pair_laws.specs.host_model.specs.Pdus.{sdu_of}
+use Rattle.pair_laws.specs.host_model.specs.Servers.{ServerProfile, is_told, server_profile}
+use Rattle.pair_laws.specs.host_laws.specs.Calls.{Asks as Asking}
+use Rattle.pair_laws.specs.host_laws.specs.Fed.{feeds_up, next_happening, strand_feeds, happenings, turned_feeds}
+use Rattle.pair_laws.specs.host_laws.specs.Feeds.{Feed, Gifts, Learns, Receives, Happens, Sent, Steps, fed, all_fed}
+use Rattle.pair_laws.specs.host_laws.specs.Pushing.{Affair, Begins, Does, client_behind, end_asked, news_pushed, opened_pushed, closed_pushed, event_pushed, sent_pushed, step_pushed, pushed_with, pushed_from}
+use Rattle.pair_laws.specs.host_laws.specs.Serving.{news_served, event_served, taken_by, lent_by, served_with, served_from}
+use Rattle.pair_laws.specs.host_laws.specs.Woven.{Strand, Hearing, Giving, Firing, Telling, Gifting, Learning, Checking, Stepping, strand_profile}
+use Rattle.pair_laws.specs.host_laws.proofs.Pushing.{all_pushed}
+use Rattle.pair_laws.specs.host_laws.proofs.StrandsFed.{strand_so}
 use Rattle.request_laws.specs.BothFed.{ComesNone}
 use Rattle.request_laws.specs.Twists.{all_deeds, OpensNone}
 

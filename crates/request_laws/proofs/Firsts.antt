@@ -1,11 +1,11 @@
 -- Both hosts to which nothing happened yet.
 use Rattle.std.proofs.Common.{[], refl}
-use Rattle.host_model.specs.Clients.{client_profile}
-use Rattle.host_model.specs.Hosts.{first_host}
-use Rattle.host_model.specs.Profiles.{Profile}
-use Rattle.host_model.specs.Servers.{server_profile}
-use Rattle.host_laws.specs.Calls.{Asks}
-use Rattle.host_laws.specs.Fed.{TalksFed}
+use Rattle.pair_laws.specs.host_model.specs.Clients.{client_profile}
+use Rattle.pair_laws.specs.host_model.specs.Hosts.{first_host}
+use Rattle.pair_laws.specs.host_model.specs.Profiles.{Profile}
+use Rattle.pair_laws.specs.host_model.specs.Servers.{server_profile}
+use Rattle.pair_laws.specs.host_laws.specs.Calls.{Asks}
+use Rattle.pair_laws.specs.host_laws.specs.Fed.{TalksFed}
 use Rattle.request_laws.specs.BothFed.{over_stored}
 use Rattle.request_laws.specs.Firsts.{FirstHostsAreHeard}
 

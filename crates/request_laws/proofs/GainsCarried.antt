@@ -1,37 +1,37 @@
 -- Over RFCOMM the inbox of host b gains what the capture spells.
 use Rattle.std.proofs.Common.{◌≡◌, false, List, [], ◌∷◌, ◌++◌, map, Some, refl, sym, ap, subst, ◌∙◌}
 use Rattle.std.specs.List.{AllByRecursion, AllZip, flat_map}
-use Rattle.bt_base.specs.declared.settings.Transport.{Transport}
-use Rattle.bt_base.specs.declared.settings.Transport.TheVariants.{Rfcomm}
-use Rattle.bt_base.specs.Objects.{Object}
-use Rattle.push_script.specs.declared.scenario.Scenario.{Scenario}
-use Rattle.push_terms.specs.declared.word.Side.TheVariants as sides
-use Rattle.capture.specs.Entries.{Entry}
-use Rattle.capture.specs.Links.{Link, links}
-use Rattle.capture.specs.Pdus.{pdus}
-use Rattle.link_talk.specs.Captures.{objects_heard}
-use Rattle.link_talk.specs.ObjectsHeard.{objects}
-use Rattle.link_talk.specs.Sayings.{talk}
-use Rattle.channel_model.specs.Policies.{Policy}
-use Rattle.channel_laws.specs.Runs.{Occurrence}
-use Rattle.channel_laws.specs.Singly.{AsksForNoChannel}
-use Rattle.push_laws.specs.Gains as clear
-use Rattle.push_laws.specs.Laws.{stored_in}
-use Rattle.world_model.specs.Talks.{Talk}
-use Rattle.host_laws.specs.Carriers.{reader}
-use Rattle.host_laws.specs.InOrder.{AsksForOneObject}
-use Rattle.host_laws.specs.Lives.{Span}
-use Rattle.host_laws.specs.OverLinks.{AreTimely, IsTalkOf, parts, moved_in, talk_marks}
-use Rattle.host_laws.specs.Serving.{served_from}
-use Rattle.host_laws.specs.Spoken.{IsServed}
-use Rattle.host_laws.proofs.Carriers.{read_by_carriers}
-use Rattle.host_laws.proofs.InOrder.{asks-nothing, links-ask_none}
-use Rattle.host_laws.proofs.Seeking.{is-served}
-use Rattle.host_laws.proofs.Serving.{hosts_gain}
-use Rattle.scenario_laws.specs.Captures.{Ran}
-use Rattle.scenario_laws.specs.Gains.{holding, serving, asked_by}
-use Rattle.scenario_laws.specs.Parties.{party_of}
-use Rattle.scenario_laws.proofs.Orderly.{parts-are_asked}
+use Rattle.pair_laws.specs.bt_base.specs.declared.settings.Transport.{Transport}
+use Rattle.pair_laws.specs.bt_base.specs.declared.settings.Transport.TheVariants.{Rfcomm}
+use Rattle.pair_laws.specs.bt_base.specs.Objects.{Object}
+use Rattle.pair_laws.specs.push_script.specs.declared.scenario.Scenario.{Scenario}
+use Rattle.pair_laws.specs.push_terms.specs.declared.word.Side.TheVariants as sides
+use Rattle.pair_laws.specs.capture.specs.Entries.{Entry}
+use Rattle.pair_laws.specs.capture.specs.Links.{Link, links}
+use Rattle.pair_laws.specs.capture.specs.Pdus.{pdus}
+use Rattle.pair_laws.specs.link_talk.specs.Captures.{objects_heard}
+use Rattle.pair_laws.specs.link_talk.specs.ObjectsHeard.{objects}
+use Rattle.pair_laws.specs.link_talk.specs.Sayings.{talk}
+use Rattle.pair_laws.specs.channel_model.specs.Policies.{Policy}
+use Rattle.pair_laws.specs.channel_laws.specs.Runs.{Occurrence}
+use Rattle.pair_laws.specs.channel_laws.specs.Singly.{AsksForNoChannel}
+use Rattle.pair_laws.specs.push_laws.specs.Gains as clear
+use Rattle.pair_laws.specs.push_laws.specs.Laws.{stored_in}
+use Rattle.pair_laws.specs.world_model.specs.Talks.{Talk}
+use Rattle.pair_laws.specs.host_laws.specs.Carriers.{reader}
+use Rattle.pair_laws.specs.host_laws.specs.InOrder.{AsksForOneObject}
+use Rattle.pair_laws.specs.host_laws.specs.Lives.{Span}
+use Rattle.pair_laws.specs.host_laws.specs.OverLinks.{AreTimely, IsTalkOf, parts, moved_in, talk_marks}
+use Rattle.pair_laws.specs.host_laws.specs.Serving.{served_from}
+use Rattle.pair_laws.specs.host_laws.specs.Spoken.{IsServed}
+use Rattle.pair_laws.specs.host_laws.proofs.Carriers.{read_by_carriers}
+use Rattle.pair_laws.specs.host_laws.proofs.InOrder.{asks-nothing, links-ask_none}
+use Rattle.pair_laws.specs.host_laws.proofs.Seeking.{is-served}
+use Rattle.pair_laws.specs.host_laws.proofs.Serving.{hosts_gain}
+use Rattle.pair_laws.specs.scenario_laws.specs.Captures.{Ran}
+use Rattle.pair_laws.specs.scenario_laws.specs.Gains.{holding, serving, asked_by}
+use Rattle.pair_laws.specs.scenario_laws.specs.Parties.{party_of}
+use Rattle.pair_laws.specs.scenario_laws.proofs.Orderly.{parts-are_asked}
 use Rattle.pair_laws.specs.Keeping.{PairsKeepOrder}
 use Rattle.request_laws.specs.GainsCarried.{AllAreHeard, GainsCarried}
 use Rattle.request_laws.proofs.AlongStreams.{all_carry}

@@ -1,21 +1,21 @@
 -- Where the parts that a shelf gave are octets, so are those that its client is answered.
 use Rattle.std.proofs.Common.{ℕ, ◌==◌, Bool, true, false, cond, List, [], ◌∷◌, length, map, None, Ok, Err}
 use Rattle.std.specs.List.{AllByRecursion}
-use Rattle.bt_base.specs.declared.ports.PortFault.TheVariants as fault
-use Rattle.bt_base.specs.declared.settings.Settings.{Settings}
-use Rattle.push_model.specs.Client.{Client}
-use Rattle.push_model.specs.Laws.{Deed, Hears, Asks, Finishes, Cancels}
-use Rattle.push_model.specs.Steps.{Part, put_count}
-use Rattle.world_model.specs.Machines.{News, Linked, Failed, Heard, TimerFired, Cancelled, Opening}
-use Rattle.host_model.specs.Circumstances.{Circumstance, Excerpt}
-use Rattle.host_model.specs.Clients.{ClientProfile}
-use Rattle.host_model.specs.Shelves.{is_next, measured, bare_part, fitting}
-use Rattle.host_laws.specs.Feeds.{Feed, Gifts, Learns, Receives, Happens, Sent, Steps}
-use Rattle.host_laws.specs.Pushing.{Affair, Begins, Does, AllAsked, client_after, pushed_from}
-use Rattle.host_laws.proofs.AllAsked.{IsBare, FeedSo, all_asked}
-use Rattle.host_laws.proofs.Excerpts.{HasAll, GivesAll, feed_held}
-use Rattle.shelf_model.specs.Held.{IsPartOctets, IsHeld}
-use Rattle.shelf_model.proofs.Sizes.{octets_held}
+use Rattle.pair_laws.specs.bt_base.specs.declared.ports.PortFault.TheVariants as fault
+use Rattle.pair_laws.specs.bt_base.specs.declared.settings.Settings.{Settings}
+use Rattle.pair_laws.specs.push_model.specs.Client.{Client}
+use Rattle.pair_laws.specs.push_model.specs.Laws.{Deed, Hears, Asks, Finishes, Cancels}
+use Rattle.pair_laws.specs.push_model.specs.Steps.{Part, put_count}
+use Rattle.pair_laws.specs.world_model.specs.Machines.{News, Linked, Failed, Heard, TimerFired, Cancelled, Opening}
+use Rattle.pair_laws.specs.host_model.specs.Circumstances.{Circumstance, Excerpt}
+use Rattle.pair_laws.specs.host_model.specs.Clients.{ClientProfile}
+use Rattle.pair_laws.specs.host_model.specs.Shelves.{is_next, measured, bare_part, fitting}
+use Rattle.pair_laws.specs.host_laws.specs.Feeds.{Feed, Gifts, Learns, Receives, Happens, Sent, Steps}
+use Rattle.pair_laws.specs.host_laws.specs.Pushing.{Affair, Begins, Does, AllAsked, client_after, pushed_from}
+use Rattle.pair_laws.specs.host_laws.proofs.AllAsked.{IsBare, FeedSo, all_asked}
+use Rattle.pair_laws.specs.host_laws.proofs.Excerpts.{HasAll, GivesAll, feed_held}
+use Rattle.pair_laws.specs.shelf_model.specs.Held.{IsPartOctets, IsHeld}
+use Rattle.pair_laws.specs.shelf_model.proofs.Sizes.{octets_held}
 use Rattle.request_laws.specs.TogetherHeard.{GivesOctets}
 
 -- what its client is answered with a deed

@@ -3,32 +3,32 @@ use Rattle.std.proofs.Common.{◌≡◌, ℕ, Bool, true, false, cond, ◌==◌,
 use Rattle.std.specs.List.{AllByRecursion, flat_map, cons_option}
 use Rattle.std.proofs.lemmas.List.Concat.{flat_map-append}
 use Rattle.std.proofs.lemmas.List.Elements.{filter_map-append}
-use Rattle.acl_fragments.specs.Pieces.{channel_of}
-use Rattle.bt_base.specs.declared.settings.Settings.{Settings}
-use Rattle.bt_base.specs.Objects.{Contents}
-use Rattle.channel_model.specs.declared.event.ChannelEvent.{ChannelEvent}
-use Rattle.channel_model.specs.Carrying.{Up as Handed, Nothing, Received}
-use Rattle.channel_model.specs.Hearing.{up}
-use Rattle.channel_model.specs.Policies.{Policy, policy}
-use Rattle.channel_model.specs.Value.{Channels, no_channels}
-use Rattle.channel_laws.specs.Runs.{Occurrence, Run, new_link, run_on, run_of, value_after, up_with}
-use Rattle.push_model.specs.Server.{lends, lent_sdu, object_psm}
-use Rattle.push_laws.specs.Occurrences as push
-use Rattle.push_model.specs.Steps as steps
-use Rattle.push_model.specs.Steps.{Step, Wait, MakeLink, OpenChannel, SendSdu, CloseChannel, BreakLink, Ended, NoMemory}
-use Rattle.host_model.specs.Endpoints.{Endpoint}
-use Rattle.push_laws.specs.Parties.{sdu_if}
-use Rattle.world_model.specs.Machines.{News, Linked, Failed, Heard, TimerFired, Cancelled, Opening}
-use Rattle.host_model.specs.Circumstances.{Circumstance}
-use Rattle.host_model.specs.Clients.{ClientProfile, client_profile, fitted}
-use Rattle.host_model.specs.Servers.{ServerProfile, server_profile}
-use Rattle.host_laws.specs.Calls.{Call, Connect, AskFeatures, Disconnect, Send, Asks, from_call, values_after}
-use Rattle.host_laws.specs.Fed.{feeds_up, next_happening, strand_feeds, woven_feeds}
-use Rattle.host_laws.specs.Feeds.{Feed, Learns, Sent, Steps}
-use Rattle.host_laws.specs.Pushing.{Affair, pushed_from}
-use Rattle.host_laws.specs.Serving.{news_served, event_served, lent_by, served_from}
-use Rattle.host_laws.specs.Woven.{Strand, Hearing, Giving, Firing, Telling, Gifting, Learning, Checking, Stepping, strand_list, strand_profile, woven_list}
-use Rattle.host_laws.proofs.StrandsFed.{strand_so}
+use Rattle.pair_laws.specs.acl_fragments.specs.Pieces.{channel_of}
+use Rattle.pair_laws.specs.bt_base.specs.declared.settings.Settings.{Settings}
+use Rattle.pair_laws.specs.bt_base.specs.Objects.{Contents}
+use Rattle.pair_laws.specs.channel_model.specs.declared.event.ChannelEvent.{ChannelEvent}
+use Rattle.pair_laws.specs.channel_model.specs.Carrying.{Up as Handed, Nothing, Received}
+use Rattle.pair_laws.specs.channel_model.specs.Hearing.{up}
+use Rattle.pair_laws.specs.channel_model.specs.Policies.{Policy, policy}
+use Rattle.pair_laws.specs.channel_model.specs.Value.{Channels, no_channels}
+use Rattle.pair_laws.specs.channel_laws.specs.Runs.{Occurrence, Run, new_link, run_on, run_of, value_after, up_with}
+use Rattle.pair_laws.specs.push_model.specs.Server.{lends, lent_sdu, object_psm}
+use Rattle.pair_laws.specs.push_laws.specs.Occurrences as push
+use Rattle.pair_laws.specs.push_model.specs.Steps as steps
+use Rattle.pair_laws.specs.push_model.specs.Steps.{Step, Wait, MakeLink, OpenChannel, SendSdu, CloseChannel, BreakLink, Ended, NoMemory}
+use Rattle.pair_laws.specs.host_model.specs.Endpoints.{Endpoint}
+use Rattle.pair_laws.specs.push_laws.specs.Parties.{sdu_if}
+use Rattle.pair_laws.specs.world_model.specs.Machines.{News, Linked, Failed, Heard, TimerFired, Cancelled, Opening}
+use Rattle.pair_laws.specs.host_model.specs.Circumstances.{Circumstance}
+use Rattle.pair_laws.specs.host_model.specs.Clients.{ClientProfile, client_profile, fitted}
+use Rattle.pair_laws.specs.host_model.specs.Servers.{ServerProfile, server_profile}
+use Rattle.pair_laws.specs.host_laws.specs.Calls.{Call, Connect, AskFeatures, Disconnect, Send, Asks, from_call, values_after}
+use Rattle.pair_laws.specs.host_laws.specs.Fed.{feeds_up, next_happening, strand_feeds, woven_feeds}
+use Rattle.pair_laws.specs.host_laws.specs.Feeds.{Feed, Learns, Sent, Steps}
+use Rattle.pair_laws.specs.host_laws.specs.Pushing.{Affair, pushed_from}
+use Rattle.pair_laws.specs.host_laws.specs.Serving.{news_served, event_served, lent_by, served_from}
+use Rattle.pair_laws.specs.host_laws.specs.Woven.{Strand, Hearing, Giving, Firing, Telling, Gifting, Learning, Checking, Stepping, strand_list, strand_profile, woven_list}
+use Rattle.pair_laws.specs.host_laws.proofs.StrandsFed.{strand_so}
 use Rattle.request_laws.specs.BothFed.{ComesNone}
 use Rattle.request_laws.specs.HandedUp.{up_for, handed_for, ObjectsAreHandedUp}
 use Rattle.request_laws.specs.Streams.{come_on, heard_on, taken_by, taken_at}

@@ -1,46 +1,46 @@
 -- What happened to both hosts over their links is a list of pushes, so no request is ignored.
 use Rattle.std.proofs.Common.{◌≡◌, ℕ, ◌≤◌, ◌<◌, ◌^◌, Some, Bool, true, false, List, [], ◌∷◌, ◌++◌, map, Option, None, Result, Ok, inl, inr, refl, sym, ap, ap₂, subst, ◌∙◌, append-nil, arith}
 use Rattle.std.specs.List.{AllByRecursion, flat_map}
-use Rattle.bt_base.specs.declared.ports.PortFault.{PortFault}
-use Rattle.bt_base.specs.declared.settings.Transport.TheVariants.{L2cap}
-use Rattle.channel_model.specs.Value.{no_channels}
-use Rattle.push_model.specs.Client.{Client, with_object, new_client}
-use Rattle.push_model.specs.Events as events
-use Rattle.push_model.specs.Events.{hears_news}
-use Rattle.push_model.specs.Laws as push
-use Rattle.push_model.specs.Laws.{Deed, Hears, all_done}
-use Rattle.push_laws.specs.Laws.{new_over, stored_in}
-use Rattle.push_laws.specs.Occurrences.{Occurrence, all_done as all_done_by}
-use Rattle.push_laws.specs.Gains.{objects as spelled_by}
-use Rattle.obex_session.specs.InboxCalls.{Answer}
-use Rattle.push_laws.specs.Parties.{come_by, Move, server_side, client_side, Pipes, no_pipes, ArePipes, StayPipes, Push, IsOffered, IsPushed, over_pushes, AllServeDirectly}
-use Rattle.push_laws.specs.Premises.{AllGranted, AllMayCome}
-use Rattle.push_laws.specs.Sending.{AllAnswer}
-use Rattle.push_laws.specs.Spelled.{name_by}
-use Rattle.push_laws.proofs.Among.{name_among}
-use Rattle.push_laws.proofs.Losing.{pushes-gain_all}
-use Rattle.push_laws.proofs.Parties.{requests-are_heard}
-use Rattle.bt_base.specs.Objects.{Object}
-use Rattle.bt_base.specs.declared.settings.Settings.{Settings}
-use Rattle.world_model.specs.Talks.{Talk}
-use Rattle.host_model.specs.Hosts.{Host}
-use Rattle.host_laws.specs.Calls.{HostsAsk}
-use Rattle.host_model.specs.Clients.{ClientProfile, client_profile}
-use Rattle.host_model.specs.Servers.{ServerProfile, server_profile}
-use Rattle.shelf_model.specs.Held.{longest_octets}
-use Rattle.host_laws.specs.Answered.{IsSmall, IsAnswered, BeginsAtMost}
-use Rattle.host_laws.specs.Gaining.{IsDirect}
-use Rattle.host_laws.specs.Fed.{strand_feeds, woven_feeds, TalksFed}
-use Rattle.host_laws.specs.OverLinks.{AreTimely}
-use Rattle.host_laws.specs.Openings.{names_begun}
-use Rattle.host_laws.specs.Pushing.{Affair, Begins, Does, client_after, client_behind, pushed_from, AllAsked}
-use Rattle.host_laws.specs.ShelfAnswers.{IsGiven}
-use Rattle.host_laws.specs.Serving.{served_from}
-use Rattle.host_laws.specs.Woven.{Strand}
-use Rattle.host_laws.proofs.Answered.{clients_are_answered}
-use Rattle.host_laws.proofs.Pushing.{all_pushed}
+use Rattle.pair_laws.specs.bt_base.specs.declared.ports.PortFault.{PortFault}
+use Rattle.pair_laws.specs.bt_base.specs.declared.settings.Transport.TheVariants.{L2cap}
+use Rattle.pair_laws.specs.channel_model.specs.Value.{no_channels}
+use Rattle.pair_laws.specs.push_model.specs.Client.{Client, with_object, new_client}
+use Rattle.pair_laws.specs.push_model.specs.Events as events
+use Rattle.pair_laws.specs.push_model.specs.Events.{hears_news}
+use Rattle.pair_laws.specs.push_model.specs.Laws as push
+use Rattle.pair_laws.specs.push_model.specs.Laws.{Deed, Hears, all_done}
+use Rattle.pair_laws.specs.push_laws.specs.Laws.{new_over, stored_in}
+use Rattle.pair_laws.specs.push_laws.specs.Occurrences.{Occurrence, all_done as all_done_by}
+use Rattle.pair_laws.specs.push_laws.specs.Gains.{objects as spelled_by}
+use Rattle.pair_laws.specs.obex_session.specs.InboxCalls.{Answer}
+use Rattle.pair_laws.specs.push_laws.specs.Parties.{come_by, Move, server_side, client_side, Pipes, no_pipes, ArePipes, StayPipes, Push, IsOffered, IsPushed, over_pushes, AllServeDirectly}
+use Rattle.pair_laws.specs.push_laws.specs.Premises.{AllGranted, AllMayCome}
+use Rattle.pair_laws.specs.push_laws.specs.Sending.{AllAnswer}
+use Rattle.pair_laws.specs.push_laws.specs.Spelled.{name_by}
+use Rattle.pair_laws.specs.push_laws.proofs.Among.{name_among}
+use Rattle.pair_laws.specs.push_laws.proofs.Losing.{pushes-gain_all}
+use Rattle.pair_laws.specs.push_laws.proofs.Parties.{requests-are_heard}
+use Rattle.pair_laws.specs.bt_base.specs.Objects.{Object}
+use Rattle.pair_laws.specs.bt_base.specs.declared.settings.Settings.{Settings}
+use Rattle.pair_laws.specs.world_model.specs.Talks.{Talk}
+use Rattle.pair_laws.specs.host_model.specs.Hosts.{Host}
+use Rattle.pair_laws.specs.host_laws.specs.Calls.{HostsAsk}
+use Rattle.pair_laws.specs.host_model.specs.Clients.{ClientProfile, client_profile}
+use Rattle.pair_laws.specs.host_model.specs.Servers.{ServerProfile, server_profile}
+use Rattle.pair_laws.specs.shelf_model.specs.Held.{longest_octets}
+use Rattle.pair_laws.specs.host_laws.specs.Answered.{IsSmall, IsAnswered, BeginsAtMost}
+use Rattle.pair_laws.specs.host_laws.specs.Gaining.{IsDirect}
+use Rattle.pair_laws.specs.host_laws.specs.Fed.{strand_feeds, woven_feeds, TalksFed}
+use Rattle.pair_laws.specs.host_laws.specs.OverLinks.{AreTimely}
+use Rattle.pair_laws.specs.host_laws.specs.Openings.{names_begun}
+use Rattle.pair_laws.specs.host_laws.specs.Pushing.{Affair, Begins, Does, client_after, client_behind, pushed_from, AllAsked}
+use Rattle.pair_laws.specs.host_laws.specs.ShelfAnswers.{IsGiven}
+use Rattle.pair_laws.specs.host_laws.specs.Serving.{served_from}
+use Rattle.pair_laws.specs.host_laws.specs.Woven.{Strand}
+use Rattle.pair_laws.specs.host_laws.proofs.Answered.{clients_are_answered}
+use Rattle.pair_laws.specs.host_laws.proofs.Pushing.{all_pushed}
 use Rattle.request_laws.specs.BothFed.{most_octets, ComesNone, AreTwined, over_stored, RequestsOfLinksAreHeard}
-use Rattle.host_laws.proofs.StrandsFed.{strand_so}
+use Rattle.pair_laws.specs.host_laws.proofs.StrandsFed.{strand_so}
 use Rattle.request_laws.specs.AllSizes.{BothAreOffered, LinksGainAll}
 use Rattle.request_laws.specs.Twists.{Twist, AtClient, AtServer, of_client, of_server, Both, new_both, Set, both_after, all_deeds, moves_by, all_moves, taken_in, carried_by, pipes_behind, AllStayPiped, NoneBehind, OpensNone, Twined}
 use Rattle.request_laws.proofs.Asking.{even_of, strand_makes}

@@ -2,49 +2,49 @@
 use Rattle.std.proofs.Common.{◌≡◌, ℕ, suc, true, false, List, [], ◌∷◌, Option, None, refl, sym, subst, ◌∙◌}
 use Rattle.std.specs.Prelude.{get_or}
 use Rattle.std.specs.List.{AllByRecursion}
-use Rattle.bt_base.specs.declared.settings.Settings.{Settings}
-use Rattle.bt_base.specs.declared.settings.Transport.TheVariants.{Rfcomm}
-use Rattle.bt_base.specs.Objects.{Object}
-use Rattle.push_script.specs.declared.scenario.Scenario.{Scenario}
-use Rattle.push_terms.specs.declared.word.Side.TheVariants as sides
-use Rattle.capture.specs.Entries.{Entry}
-use Rattle.channel_laws.specs.Pairs.{new_pair}
-use Rattle.channel_laws.specs.Runs as channels
-use Rattle.channel_model.specs.Policies.{policy}
-use Rattle.channel_model.specs.Value.{Channels, no_channels}
-use Rattle.obex_session.specs.InboxCalls.{Answer}
-use Rattle.push_model.specs.Client.{Client, begins}
-use Rattle.push_model.specs.Events.{search_psm}
-use Rattle.push_model.specs.Laws.{Deed, Hears, Asks, Finishes, Cancels, done}
-use Rattle.push_model.specs.Server.{object_psm, rfcomm_psm}
-use Rattle.push_model.specs.Steps.{Step, Wait, MakeLink, AskFeatures, OpenChannel, SendSdu, CloseChannel, BreakLink, Ended, NoMemory, steps}
-use Rattle.push_laws.specs.Laws.{new_over}
-use Rattle.push_laws.specs.Parties.{Push}
-use Rattle.push_laws.specs.Premises.{AllGranted, AllMayCome}
-use Rattle.push_laws.specs.Searches.{AllServe, IsPushedOver}
-use Rattle.push_laws.proofs.Pushed.{pushed-are_heard}
-use Rattle.world_model.specs.Machines.{News, LinkEvent, Linked, Up, Down, Failed, Heard, TimerFired, Cancelled, Opening}
-use Rattle.host_model.specs.Circumstances.{Circumstance}
-use Rattle.host_model.specs.Clients.{ClientProfile, ended, client_profile}
-use Rattle.host_model.specs.Servers.{ServerProfile, server_profile}
-use Rattle.host_model.specs.Shelves.{size_for, name_for}
-use Rattle.host_laws.specs.Answered.{BeginsAtMost}
-use Rattle.shelf_model.specs.Held.{longest_octets}
-use Rattle.host_laws.specs.Calls.{values_after}
-use Rattle.host_laws.specs.Fed.{FedSpan, behind_span, AreFed}
-use Rattle.host_laws.specs.Feeds.{Feed, Gifts, Learns, Receives, Happens, Sent, Steps, fed}
-use Rattle.host_laws.specs.Lives.{Span}
-use Rattle.host_laws.specs.OneOnLinks.{CarriesOneOn}
-use Rattle.host_laws.specs.Openings.{names_begun}
-use Rattle.host_laws.specs.OverLinks.{AreTimely}
-use Rattle.host_laws.specs.Pushing.{Affair, Begins, Does, client_after, link_asked, then_ends, then_calls, pushed_with, pushed_from, AllAsked}
-use Rattle.host_laws.specs.Serving.{served_from}
-use Rattle.host_laws.specs.ShelfAnswers.{IsGiven}
-use Rattle.host_laws.specs.Woven.{Woven, turned}
-use Rattle.host_laws.proofs.Answered.{clients_are_answered}
-use Rattle.host_laws.proofs.InOrder.{asks-nothing}
-use Rattle.scenario_laws.specs.Captures.{Ran}
-use Rattle.scenario_laws.specs.Gains.{holding, serving, asked_by}
+use Rattle.pair_laws.specs.bt_base.specs.declared.settings.Settings.{Settings}
+use Rattle.pair_laws.specs.bt_base.specs.declared.settings.Transport.TheVariants.{Rfcomm}
+use Rattle.pair_laws.specs.bt_base.specs.Objects.{Object}
+use Rattle.pair_laws.specs.push_script.specs.declared.scenario.Scenario.{Scenario}
+use Rattle.pair_laws.specs.push_terms.specs.declared.word.Side.TheVariants as sides
+use Rattle.pair_laws.specs.capture.specs.Entries.{Entry}
+use Rattle.pair_laws.specs.channel_laws.specs.Pairs.{new_pair}
+use Rattle.pair_laws.specs.channel_laws.specs.Runs as channels
+use Rattle.pair_laws.specs.channel_model.specs.Policies.{policy}
+use Rattle.pair_laws.specs.channel_model.specs.Value.{Channels, no_channels}
+use Rattle.pair_laws.specs.obex_session.specs.InboxCalls.{Answer}
+use Rattle.pair_laws.specs.push_model.specs.Client.{Client, begins}
+use Rattle.pair_laws.specs.push_model.specs.Events.{search_psm}
+use Rattle.pair_laws.specs.push_model.specs.Laws.{Deed, Hears, Asks, Finishes, Cancels, done}
+use Rattle.pair_laws.specs.push_model.specs.Server.{object_psm, rfcomm_psm}
+use Rattle.pair_laws.specs.push_model.specs.Steps.{Step, Wait, MakeLink, AskFeatures, OpenChannel, SendSdu, CloseChannel, BreakLink, Ended, NoMemory, steps}
+use Rattle.pair_laws.specs.push_laws.specs.Laws.{new_over}
+use Rattle.pair_laws.specs.push_laws.specs.Parties.{Push}
+use Rattle.pair_laws.specs.push_laws.specs.Premises.{AllGranted, AllMayCome}
+use Rattle.pair_laws.specs.push_laws.specs.Searches.{AllServe, IsPushedOver}
+use Rattle.pair_laws.specs.push_laws.proofs.Pushed.{pushed-are_heard}
+use Rattle.pair_laws.specs.world_model.specs.Machines.{News, LinkEvent, Linked, Up, Down, Failed, Heard, TimerFired, Cancelled, Opening}
+use Rattle.pair_laws.specs.host_model.specs.Circumstances.{Circumstance}
+use Rattle.pair_laws.specs.host_model.specs.Clients.{ClientProfile, ended, client_profile}
+use Rattle.pair_laws.specs.host_model.specs.Servers.{ServerProfile, server_profile}
+use Rattle.pair_laws.specs.host_model.specs.Shelves.{size_for, name_for}
+use Rattle.pair_laws.specs.host_laws.specs.Answered.{BeginsAtMost}
+use Rattle.pair_laws.specs.shelf_model.specs.Held.{longest_octets}
+use Rattle.pair_laws.specs.host_laws.specs.Calls.{values_after}
+use Rattle.pair_laws.specs.host_laws.specs.Fed.{FedSpan, behind_span, AreFed}
+use Rattle.pair_laws.specs.host_laws.specs.Feeds.{Feed, Gifts, Learns, Receives, Happens, Sent, Steps, fed}
+use Rattle.pair_laws.specs.host_laws.specs.Lives.{Span}
+use Rattle.pair_laws.specs.host_laws.specs.OneOnLinks.{CarriesOneOn}
+use Rattle.pair_laws.specs.host_laws.specs.Openings.{names_begun}
+use Rattle.pair_laws.specs.host_laws.specs.OverLinks.{AreTimely}
+use Rattle.pair_laws.specs.host_laws.specs.Pushing.{Affair, Begins, Does, client_after, link_asked, then_ends, then_calls, pushed_with, pushed_from, AllAsked}
+use Rattle.pair_laws.specs.host_laws.specs.Serving.{served_from}
+use Rattle.pair_laws.specs.host_laws.specs.ShelfAnswers.{IsGiven}
+use Rattle.pair_laws.specs.host_laws.specs.Woven.{Woven, turned}
+use Rattle.pair_laws.specs.host_laws.proofs.Answered.{clients_are_answered}
+use Rattle.pair_laws.specs.host_laws.proofs.InOrder.{asks-nothing}
+use Rattle.pair_laws.specs.scenario_laws.specs.Captures.{Ran}
+use Rattle.pair_laws.specs.scenario_laws.specs.Gains.{holding, serving, asked_by}
 use Rattle.pair_laws.specs.Keeping.{PairsKeepOrder}
 use Rattle.pair_laws.specs.OnLinks.{happened_on}
 use Rattle.pair_laws.specs.Orders.{joints_from}

@@ -2,13 +2,13 @@
 use Rattle.std.proofs.Common.{◌≡◌, List, [], ◌∷◌, ◌++◌, map, Option, Some, None, refl, sym, ap, ap₂, ◌∙◌, append_assoc, append-nil}
 use Rattle.std.specs.List.{flat_map}
 use Rattle.std.proofs.lemmas.List.Concat.{flat_map-append}
-use Rattle.channel_model.specs.Value.{Channels}
-use Rattle.channel_laws.specs.Runs.{Occurrence, Comes, Gives, Fires, Tells}
-use Rattle.host_model.specs.Clients.{ClientProfile, client_profile}
-use Rattle.host_model.specs.Profiles.{Profile}
-use Rattle.host_model.specs.Servers.{ServerProfile, server_profile}
-use Rattle.host_laws.specs.Calls.{Call, Asks, occurrence_of, from_call}
-use Rattle.host_laws.specs.Woven.{Strand, Hearing, Giving, Firing, Telling, Gifting, Learning, Checking, Stepping, strand_list, woven_list}
+use Rattle.pair_laws.specs.channel_model.specs.Value.{Channels}
+use Rattle.pair_laws.specs.channel_laws.specs.Runs.{Occurrence, Comes, Gives, Fires, Tells}
+use Rattle.pair_laws.specs.host_model.specs.Clients.{ClientProfile, client_profile}
+use Rattle.pair_laws.specs.host_model.specs.Profiles.{Profile}
+use Rattle.pair_laws.specs.host_model.specs.Servers.{ServerProfile, server_profile}
+use Rattle.pair_laws.specs.host_laws.specs.Calls.{Call, Asks, occurrence_of, from_call}
+use Rattle.pair_laws.specs.host_laws.specs.Woven.{Strand, Hearing, Giving, Firing, Telling, Gifting, Learning, Checking, Stepping, strand_list, woven_list}
 use Rattle.pair_laws.specs.Orders.{Joint, AtNear, AtFar, near_in, far_in}
 use Rattle.request_laws.specs.Joined.{twist_joints, joints_of, JoinedAreTwined}
 use Rattle.request_laws.specs.Twists.{Twist, AtClient, AtServer, of_client, of_server, Both, new_both, Set, both_after}

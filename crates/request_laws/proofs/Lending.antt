@@ -2,31 +2,31 @@
 use Rattle.std.proofs.Common.{◌≡◌, ℕ, Bool, true, false, cond, not, ◌&&◌, List, [], ◌∷◌, ◌++◌, length, Option, Some, None, refl, subst, ◌∙◌}
 use Rattle.std.specs.List.{AllByRecursion}
 use Rattle.std.proofs.lemmas.Bool.{and_parts}
-use Rattle.bt_base.specs.declared.settings.Settings.{Settings}
-use Rattle.bt_base.specs.Objects.{Contents}
-use Rattle.bt_base.specs.Octets.{IsOctets}
-use Rattle.channel_model.specs.declared.event.ChannelEvent.{ChannelEvent}
-use Rattle.channel_model.specs.declared.event.ChannelEvent.TheVariants as events
-use Rattle.channel_model.specs.Calls.{peer_mtu, waits}
-use Rattle.channel_model.specs.Value.{Channels}
-use Rattle.push_model.specs.declared.outlet.Outlet.{Outlet}
-use Rattle.push_model.specs.declared.outlet.Outlet.TheVariants.{Records, Direct, Muxed}
-use Rattle.push_model.specs.Payloads.{Payload, Octets, Framed, IsSaid}
-use Rattle.push_model.specs.Server.{Server, Reacted, Lent, lends, lent_sdu}
-use Rattle.push_model.specs.Server as server
-use Rattle.push_laws.specs.Occurrences.{Occurrence, Went, Closed, Asked, IsLent, done, all_done}
-use Rattle.push_laws.specs.Parties.{AllServeDirectly}
-use Rattle.obex_session.specs.InboxCalls.{Answer}
-use Rattle.rfcomm_frames.specs.Frames.{PlainFrame}
-use Rattle.world_model.specs.Machines.{News, Linked, Up, Down, Failed, Heard, TimerFired, Cancelled, Opening}
-use Rattle.host_model.specs.Endpoints.{endpoint_of, fits, takes_sdu}
-use Rattle.host_model.specs.Pdus.{sdu_of, are_octets}
-use Rattle.host_model.specs.Servers.{ServerProfile, is_told, server_profile}
-use Rattle.host_model.proofs.Orderly.{octets_by}
-use Rattle.host_laws.specs.Feeds.{Feed, Gifts, Learns, Receives, Happens, Sent, Steps, fed}
-use Rattle.host_laws.specs.Gaining.{IsDirect}
-use Rattle.host_laws.specs.Serving.{news_served, event_served, taken_by, lent_by, served_with, served_from, reacted}
-use Rattle.host_laws.proofs.Serving.{feed_done}
+use Rattle.pair_laws.specs.bt_base.specs.declared.settings.Settings.{Settings}
+use Rattle.pair_laws.specs.bt_base.specs.Objects.{Contents}
+use Rattle.pair_laws.specs.bt_base.specs.Octets.{IsOctets}
+use Rattle.pair_laws.specs.channel_model.specs.declared.event.ChannelEvent.{ChannelEvent}
+use Rattle.pair_laws.specs.channel_model.specs.declared.event.ChannelEvent.TheVariants as events
+use Rattle.pair_laws.specs.channel_model.specs.Calls.{peer_mtu, waits}
+use Rattle.pair_laws.specs.channel_model.specs.Value.{Channels}
+use Rattle.pair_laws.specs.push_model.specs.declared.outlet.Outlet.{Outlet}
+use Rattle.pair_laws.specs.push_model.specs.declared.outlet.Outlet.TheVariants.{Records, Direct, Muxed}
+use Rattle.pair_laws.specs.push_model.specs.Payloads.{Payload, Octets, Framed, IsSaid}
+use Rattle.pair_laws.specs.push_model.specs.Server.{Server, Reacted, Lent, lends, lent_sdu}
+use Rattle.pair_laws.specs.push_model.specs.Server as server
+use Rattle.pair_laws.specs.push_laws.specs.Occurrences.{Occurrence, Went, Closed, Asked, IsLent, done, all_done}
+use Rattle.pair_laws.specs.push_laws.specs.Parties.{AllServeDirectly}
+use Rattle.pair_laws.specs.obex_session.specs.InboxCalls.{Answer}
+use Rattle.pair_laws.specs.rfcomm_frames.specs.Frames.{PlainFrame}
+use Rattle.pair_laws.specs.world_model.specs.Machines.{News, Linked, Up, Down, Failed, Heard, TimerFired, Cancelled, Opening}
+use Rattle.pair_laws.specs.host_model.specs.Endpoints.{endpoint_of, fits, takes_sdu}
+use Rattle.pair_laws.specs.host_model.specs.Pdus.{sdu_of, are_octets}
+use Rattle.pair_laws.specs.host_model.specs.Servers.{ServerProfile, is_told, server_profile}
+use Rattle.pair_laws.specs.host_model.proofs.Orderly.{octets_by}
+use Rattle.pair_laws.specs.host_laws.specs.Feeds.{Feed, Gifts, Learns, Receives, Happens, Sent, Steps, fed}
+use Rattle.pair_laws.specs.host_laws.specs.Gaining.{IsDirect}
+use Rattle.pair_laws.specs.host_laws.specs.Serving.{news_served, event_served, taken_by, lent_by, served_with, served_from, reacted}
+use Rattle.pair_laws.specs.host_laws.proofs.Serving.{feed_done}
 use Rattle.request_laws.specs.BothFed.{InboxAnswers}
 use Rattle.request_laws.proofs.Feeding.{all_ahead}
 

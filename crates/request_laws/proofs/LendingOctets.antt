@@ -1,20 +1,20 @@
 -- Where SDUs that come to a server are octets, the octets of all that it lends are those that spell it.
 use Rattle.std.proofs.Common.{Bool, true, false, cond, ◌≡◌, ℕ, List, [], ◌∷◌, Option, Some, None, refl}
 use Rattle.std.specs.List.{AllByRecursion}
-use Rattle.bt_base.specs.declared.settings.Settings.{Settings}
-use Rattle.bt_base.specs.Objects.{Contents}
-use Rattle.channel_model.specs.declared.event.ChannelEvent.{ChannelEvent}
-use Rattle.channel_model.specs.declared.event.ChannelEvent.TheVariants as events
-use Rattle.channel_model.specs.Value.{Channels}
-use Rattle.push_model.specs.Server.{Lent, Server, lends, lent_sdu}
-use Rattle.push_laws.specs.Occurrences.{Came, Went, Closed, LinkDown, Asked}
-use Rattle.world_model.specs.Machines.{News, Linked, Up, Down, Failed, Heard, TimerFired, Cancelled, Opening}
-use Rattle.host_model.specs.Circumstances.{Circumstance}
-use Rattle.host_model.specs.Endpoints.{endpoint_of, takes_sdu}
-use Rattle.host_model.specs.Pdus.{sdu_of}
-use Rattle.host_model.specs.Servers.{ServerProfile, server_profile, told, happened, is_told, submits, takes, next_stride}
-use Rattle.host_laws.specs.Feeds.{Feed, Gifts, Learns, Receives, Happens, Sent, Steps, fed}
-use Rattle.host_laws.specs.Serving.{reacted}
+use Rattle.pair_laws.specs.bt_base.specs.declared.settings.Settings.{Settings}
+use Rattle.pair_laws.specs.bt_base.specs.Objects.{Contents}
+use Rattle.pair_laws.specs.channel_model.specs.declared.event.ChannelEvent.{ChannelEvent}
+use Rattle.pair_laws.specs.channel_model.specs.declared.event.ChannelEvent.TheVariants as events
+use Rattle.pair_laws.specs.channel_model.specs.Value.{Channels}
+use Rattle.pair_laws.specs.push_model.specs.Server.{Lent, Server, lends, lent_sdu}
+use Rattle.pair_laws.specs.push_laws.specs.Occurrences.{Came, Went, Closed, LinkDown, Asked}
+use Rattle.pair_laws.specs.world_model.specs.Machines.{News, Linked, Up, Down, Failed, Heard, TimerFired, Cancelled, Opening}
+use Rattle.pair_laws.specs.host_model.specs.Circumstances.{Circumstance}
+use Rattle.pair_laws.specs.host_model.specs.Endpoints.{endpoint_of, takes_sdu}
+use Rattle.pair_laws.specs.host_model.specs.Pdus.{sdu_of}
+use Rattle.pair_laws.specs.host_model.specs.Servers.{ServerProfile, server_profile, told, happened, is_told, submits, takes, next_stride}
+use Rattle.pair_laws.specs.host_laws.specs.Feeds.{Feed, Gifts, Learns, Receives, Happens, Sent, Steps, fed}
+use Rattle.pair_laws.specs.host_laws.specs.Serving.{reacted}
 use Rattle.request_laws.specs.MuxFed.{AllSaySo, SaysSo}
 use Rattle.request_laws.specs.SpellableServers.{LendsSpellable}
 use Rattle.request_laws.specs.TogetherHeard.{ReceivesOctets}

@@ -2,23 +2,23 @@
 use Rattle.std.proofs.Common.{arith, ◌≡◌, List, ◌++◌, Some, sym, ap, subst, ◌∙◌}
 use Rattle.std.specs.List.{flat_map}
 use Rattle.std.proofs.lemmas.List.{append_cancel_left}
-use Rattle.bt_base.specs.declared.settings.Transport.TheVariants.{Rfcomm}
-use Rattle.bt_base.specs.Objects.{Object}
-use Rattle.push_script.specs.declared.scenario.Scenario.{Scenario}
-use Rattle.capture.specs.Entries.{Entry}
-use Rattle.push_model.specs.Server.{Reacted}
-use Rattle.push_laws.specs.Faults.{spent_from}
-use Rattle.push_laws.specs.Laws.{new_over, stored_in}
-use Rattle.push_laws.specs.Losing.{LeavesOut}
-use Rattle.push_laws.specs.Occurrences.{Occurrence}
-use Rattle.push_laws.specs.OneName.{LosesByFaults}
-use Rattle.push_laws.specs.Premises.{NoneShort}
-use Rattle.push_laws.specs.Searches.{AllServe}
-use Rattle.push_laws.proofs.Pushed.{pushed-gain_less}
-use Rattle.host_laws.specs.OverLinks.{talk_marks}
-use Rattle.host_laws.proofs.Serving.{servers_are_served}
-use Rattle.scenario_laws.specs.Captures.{Ran}
-use Rattle.scenario_laws.specs.Gains.{holding, serving, asked_by}
+use Rattle.pair_laws.specs.bt_base.specs.declared.settings.Transport.TheVariants.{Rfcomm}
+use Rattle.pair_laws.specs.bt_base.specs.Objects.{Object}
+use Rattle.pair_laws.specs.push_script.specs.declared.scenario.Scenario.{Scenario}
+use Rattle.pair_laws.specs.capture.specs.Entries.{Entry}
+use Rattle.pair_laws.specs.push_model.specs.Server.{Reacted}
+use Rattle.pair_laws.specs.push_laws.specs.Faults.{spent_from}
+use Rattle.pair_laws.specs.push_laws.specs.Laws.{new_over, stored_in}
+use Rattle.pair_laws.specs.push_laws.specs.Losing.{LeavesOut}
+use Rattle.pair_laws.specs.push_laws.specs.Occurrences.{Occurrence}
+use Rattle.pair_laws.specs.push_laws.specs.OneName.{LosesByFaults}
+use Rattle.pair_laws.specs.push_laws.specs.Premises.{NoneShort}
+use Rattle.pair_laws.specs.push_laws.specs.Searches.{AllServe}
+use Rattle.pair_laws.specs.push_laws.proofs.Pushed.{pushed-gain_less}
+use Rattle.pair_laws.specs.host_laws.specs.OverLinks.{talk_marks}
+use Rattle.pair_laws.specs.host_laws.proofs.Serving.{servers_are_served}
+use Rattle.pair_laws.specs.scenario_laws.specs.Captures.{Ran}
+use Rattle.pair_laws.specs.scenario_laws.specs.Gains.{holding, serving, asked_by}
 use Rattle.pair_laws.specs.Keeping.{PairsKeepOrder}
 use Rattle.pair_laws.proofs.Pairing.{runs-keep_order}
 use Rattle.request_laws.specs.LessHeard.{LosesHeard, FailingAnswer, HeardRunsGainLess}

@@ -2,19 +2,19 @@
 use Rattle.std.proofs.Common.{◌≡◌, ◌≤◌, ◌+◌, ℕ, suc, Bool, true, false, List, [], ◌∷◌, length, refl, sym, subst, arith}
 use Rattle.std.specs.List.{AllByRecursion}
 use Rattle.std.specs.Prelude.{get_or}
-use Rattle.push_terms.specs.declared.word.Side.TheVariants as sides
-use Rattle.channel_laws.specs.Runs as channels
-use Rattle.world_model.specs.Machines.{LinkEvent, Up, Down}
-use Rattle.world_model.specs.Carriages.{linked_by}
-use Rattle.host_model.specs.Clients.{ClientProfile, client_profile}
-use Rattle.host_model.specs.Servers.{ServerProfile, server_profile}
-use Rattle.host_laws.specs.Asked.{BeginsNoneIf, IsWantedAt, AreAsked}
-use Rattle.host_laws.specs.Fed.{behind_span, AreFed}
-use Rattle.host_laws.specs.Feeds.{Feed}
-use Rattle.host_laws.specs.Lives.{Span, all_marks}
-use Rattle.host_laws.specs.OverLinks.{AreTimely}
-use Rattle.host_laws.specs.Woven.{Strand}
-use Rattle.scenario_laws.specs.Gains.{serving, asked_by}
+use Rattle.pair_laws.specs.push_terms.specs.declared.word.Side.TheVariants as sides
+use Rattle.pair_laws.specs.channel_laws.specs.Runs as channels
+use Rattle.pair_laws.specs.world_model.specs.Machines.{LinkEvent, Up, Down}
+use Rattle.pair_laws.specs.world_model.specs.Carriages.{linked_by}
+use Rattle.pair_laws.specs.host_model.specs.Clients.{ClientProfile, client_profile}
+use Rattle.pair_laws.specs.host_model.specs.Servers.{ServerProfile, server_profile}
+use Rattle.pair_laws.specs.host_laws.specs.Asked.{BeginsNoneIf, IsWantedAt, AreAsked}
+use Rattle.pair_laws.specs.host_laws.specs.Fed.{behind_span, AreFed}
+use Rattle.pair_laws.specs.host_laws.specs.Feeds.{Feed}
+use Rattle.pair_laws.specs.host_laws.specs.Lives.{Span, all_marks}
+use Rattle.pair_laws.specs.host_laws.specs.OverLinks.{AreTimely}
+use Rattle.pair_laws.specs.host_laws.specs.Woven.{Strand}
+use Rattle.pair_laws.specs.scenario_laws.specs.Gains.{serving, asked_by}
 use Rattle.pair_laws.specs.OnLinks.{happened_on}
 use Rattle.request_laws.specs.BothFed.{IsDown, AreLinked, over_stored}
 use Rattle.request_laws.specs.Linked.{RunsAreLinked}

@@ -2,24 +2,24 @@
 use Rattle.std.proofs.Common.{◌≡◌, List, [], ◌++◌, Some, sym, subst, ◌∙◌}
 use Rattle.std.specs.List.{AllByRecursion}
 use Rattle.std.proofs.lemmas.List.{append_cancel_left}
-use Rattle.bt_base.specs.declared.settings.Settings.{Settings}
-use Rattle.bt_base.specs.declared.settings.Transport.TheVariants.{L2cap}
-use Rattle.bt_base.specs.Objects.{Object}
-use Rattle.push_script.specs.declared.scenario.Scenario.{Scenario}
-use Rattle.push_terms.specs.declared.word.Side.TheVariants as sides
-use Rattle.capture.specs.Entries.{Entry}
-use Rattle.link_talk.specs.Captures.{objects_heard}
-use Rattle.push_laws.specs.Gains.{objects}
-use Rattle.push_laws.specs.Laws.{new_over, stored_in}
-use Rattle.push_laws.specs.Occurrences.{Occurrence, all_done}
-use Rattle.push_laws.specs.Parties.{Push, IsOffered, over_pushes, AllServeDirectly}
-use Rattle.push_laws.specs.Premises.{NoneShort}
-use Rattle.push_laws.proofs.Losing.{pushes-gain_less}
-use Rattle.push_laws.proofs.Marking.{gains-all_but_refusals}
-use Rattle.push_laws.proofs.Missing.{first_stays, all_may_miss}
-use Rattle.scenario_laws.specs.Captures.{Ran}
-use Rattle.scenario_laws.specs.Gains.{holding}
-use Rattle.scenario_laws.specs.Parties.{party_of}
+use Rattle.pair_laws.specs.bt_base.specs.declared.settings.Settings.{Settings}
+use Rattle.pair_laws.specs.bt_base.specs.declared.settings.Transport.TheVariants.{L2cap}
+use Rattle.pair_laws.specs.bt_base.specs.Objects.{Object}
+use Rattle.pair_laws.specs.push_script.specs.declared.scenario.Scenario.{Scenario}
+use Rattle.pair_laws.specs.push_terms.specs.declared.word.Side.TheVariants as sides
+use Rattle.pair_laws.specs.capture.specs.Entries.{Entry}
+use Rattle.pair_laws.specs.link_talk.specs.Captures.{objects_heard}
+use Rattle.pair_laws.specs.push_laws.specs.Gains.{objects}
+use Rattle.pair_laws.specs.push_laws.specs.Laws.{new_over, stored_in}
+use Rattle.pair_laws.specs.push_laws.specs.Occurrences.{Occurrence, all_done}
+use Rattle.pair_laws.specs.push_laws.specs.Parties.{Push, IsOffered, over_pushes, AllServeDirectly}
+use Rattle.pair_laws.specs.push_laws.specs.Premises.{NoneShort}
+use Rattle.pair_laws.specs.push_laws.proofs.Losing.{pushes-gain_less}
+use Rattle.pair_laws.specs.push_laws.proofs.Marking.{gains-all_but_refusals}
+use Rattle.pair_laws.specs.push_laws.proofs.Missing.{first_stays, all_may_miss}
+use Rattle.pair_laws.specs.scenario_laws.specs.Captures.{Ran}
+use Rattle.pair_laws.specs.scenario_laws.specs.Gains.{holding}
+use Rattle.pair_laws.specs.scenario_laws.specs.Parties.{party_of}
 use Rattle.pair_laws.specs.InTurn.{PairsInTurn}
 use Rattle.pair_laws.proofs.Pairing.{hosts-take_turns}
 use Rattle.request_laws.specs.Losing.{LosesFew, LinksGainLess, InboxIsEnough, served_in, RunsGainLess}

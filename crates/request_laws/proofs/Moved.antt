@@ -5,46 +5,46 @@ use Rattle.std.specs.List.{AllByRecursion, flat_map, cons_option}
 use Rattle.std.proofs.lemmas.Bool.{eqb-true, eq-eqb}
 use Rattle.std.proofs.lemmas.List.{map-append}
 use Rattle.std.proofs.lemmas.List.Elements.{filter_map-append}
-use Rattle.acl_fragments.specs.Pieces.{channel_of}
-use Rattle.bt_base.specs.declared.settings.Settings.{Settings}
-use Rattle.bt_base.specs.Objects.{Contents}
-use Rattle.capture.specs.declared.flow.Flow.TheVariants.{Out, Into}
-use Rattle.capture.specs.Histories.{each_after, given_by}
-use Rattle.l2cap_config.specs.declared.wish.Mode.TheVariants.{Basic}
-use Rattle.link_talk.specs.declared.party.Party.{Party}
-use Rattle.link_talk.specs.Channels.{Entry, reading}
-use Rattle.link_talk.specs.Carriages.{mode_of}
-use Rattle.link_talk.specs.GrowingLaws.{has_opened}
-use Rattle.link_talk.specs.Sdus.{Spoken, spoken_as, spoken_with, spoken}
-use Rattle.channel_model.specs.declared.event.ChannelEvent.{ChannelEvent}
-use Rattle.channel_model.specs.Calls.{carrier_at, carrier_mtu}
-use Rattle.channel_model.specs.Carrying.{Up as Handed, Nothing, Received}
-use Rattle.channel_model.specs.Hearing.{up}
-use Rattle.channel_model.specs.Policies.{Policy, policy}
-use Rattle.channel_model.specs.Value.{Carrier, Channels, no_channels}
-use Rattle.channel_laws.specs.Endpoints.{IsOf}
-use Rattle.channel_laws.specs.Exchanged.{heard_in, exchanged_in, exchanged_of}
-use Rattle.channel_laws.specs.Frames.{AreUttered}
-use Rattle.channel_laws.specs.Runs.{Occurrence, Comes, Connects, AsksFeatures, Disconnects, Sends, Gives, Fires, Tells, up_with, value_after, Run, run_of}
-use Rattle.channel_laws.specs.Taken.{is_free}
-use Rattle.channel_laws.specs.Views.{channel_by, read_at}
-use Rattle.channel_laws.proofs.Entries.{read-own}
-use Rattle.channel_laws.proofs.Exchanged.{exchanged-is_spoken}
-use Rattle.channel_laws.proofs.Stretching.{unopened-stretch}
-use Rattle.push_model.specs.Server.{lends, lent_sdu}
-use Rattle.push_laws.specs.Occurrences as served
-use Rattle.push_laws.specs.Parties.{sdu_if}
-use Rattle.host_model.specs.Servers.{ServerProfile, server_profile}
-use Rattle.host_laws.specs.Calls.{Call, Connect, AskFeatures, Disconnect, Send, from_call, values_after}
-use Rattle.host_laws.specs.Carriers.{move_on}
-use Rattle.host_laws.specs.Fed.{feeds_up, next_happening, strand_feeds, woven_feeds}
-use Rattle.host_laws.specs.OneCarrier.{IsFor}
-use Rattle.host_laws.specs.OneOnLinks.{CarriesOneOn}
-use Rattle.host_laws.specs.Serving.{news_served, event_served, lent_by, served_from}
-use Rattle.host_laws.specs.Woven.{Strand, Hearing, Giving, Firing, Telling, Gifting, Learning, Checking, Stepping, strand_list, strand_profile, woven_list}
-use Rattle.host_laws.proofs.Asking.{hosts_ask}
-use Rattle.host_laws.proofs.Gaining.{found_in}
-use Rattle.host_laws.proofs.StrandsFed.{strand_so}
+use Rattle.pair_laws.specs.acl_fragments.specs.Pieces.{channel_of}
+use Rattle.pair_laws.specs.bt_base.specs.declared.settings.Settings.{Settings}
+use Rattle.pair_laws.specs.bt_base.specs.Objects.{Contents}
+use Rattle.pair_laws.specs.capture.specs.declared.flow.Flow.TheVariants.{Out, Into}
+use Rattle.pair_laws.specs.capture.specs.Histories.{each_after, given_by}
+use Rattle.pair_laws.specs.l2cap_config.specs.declared.wish.Mode.TheVariants.{Basic}
+use Rattle.pair_laws.specs.link_talk.specs.declared.party.Party.{Party}
+use Rattle.pair_laws.specs.link_talk.specs.Channels.{Entry, reading}
+use Rattle.pair_laws.specs.link_talk.specs.Carriages.{mode_of}
+use Rattle.pair_laws.specs.link_talk.specs.GrowingLaws.{has_opened}
+use Rattle.pair_laws.specs.link_talk.specs.Sdus.{Spoken, spoken_as, spoken_with, spoken}
+use Rattle.pair_laws.specs.channel_model.specs.declared.event.ChannelEvent.{ChannelEvent}
+use Rattle.pair_laws.specs.channel_model.specs.Calls.{carrier_at, carrier_mtu}
+use Rattle.pair_laws.specs.channel_model.specs.Carrying.{Up as Handed, Nothing, Received}
+use Rattle.pair_laws.specs.channel_model.specs.Hearing.{up}
+use Rattle.pair_laws.specs.channel_model.specs.Policies.{Policy, policy}
+use Rattle.pair_laws.specs.channel_model.specs.Value.{Carrier, Channels, no_channels}
+use Rattle.pair_laws.specs.channel_laws.specs.Endpoints.{IsOf}
+use Rattle.pair_laws.specs.channel_laws.specs.Exchanged.{heard_in, exchanged_in, exchanged_of}
+use Rattle.pair_laws.specs.channel_laws.specs.Frames.{AreUttered}
+use Rattle.pair_laws.specs.channel_laws.specs.Runs.{Occurrence, Comes, Connects, AsksFeatures, Disconnects, Sends, Gives, Fires, Tells, up_with, value_after, Run, run_of}
+use Rattle.pair_laws.specs.channel_laws.specs.Taken.{is_free}
+use Rattle.pair_laws.specs.channel_laws.specs.Views.{channel_by, read_at}
+use Rattle.pair_laws.specs.channel_laws.proofs.Entries.{read-own}
+use Rattle.pair_laws.specs.channel_laws.proofs.Exchanged.{exchanged-is_spoken}
+use Rattle.pair_laws.specs.channel_laws.proofs.Stretching.{unopened-stretch}
+use Rattle.pair_laws.specs.push_model.specs.Server.{lends, lent_sdu}
+use Rattle.pair_laws.specs.push_laws.specs.Occurrences as served
+use Rattle.pair_laws.specs.push_laws.specs.Parties.{sdu_if}
+use Rattle.pair_laws.specs.host_model.specs.Servers.{ServerProfile, server_profile}
+use Rattle.pair_laws.specs.host_laws.specs.Calls.{Call, Connect, AskFeatures, Disconnect, Send, from_call, values_after}
+use Rattle.pair_laws.specs.host_laws.specs.Carriers.{move_on}
+use Rattle.pair_laws.specs.host_laws.specs.Fed.{feeds_up, next_happening, strand_feeds, woven_feeds}
+use Rattle.pair_laws.specs.host_laws.specs.OneCarrier.{IsFor}
+use Rattle.pair_laws.specs.host_laws.specs.OneOnLinks.{CarriesOneOn}
+use Rattle.pair_laws.specs.host_laws.specs.Serving.{news_served, event_served, lent_by, served_from}
+use Rattle.pair_laws.specs.host_laws.specs.Woven.{Strand, Hearing, Giving, Firing, Telling, Gifting, Learning, Checking, Stepping, strand_list, strand_profile, woven_list}
+use Rattle.pair_laws.specs.host_laws.proofs.Asking.{hosts_ask}
+use Rattle.pair_laws.specs.host_laws.proofs.Gaining.{found_in}
+use Rattle.pair_laws.specs.host_laws.proofs.StrandsFed.{strand_so}
 use Rattle.request_laws.specs.BothFed.{ComesNone}
 use Rattle.request_laws.specs.Streams.{come_on, gone_on}
 use Rattle.request_laws.proofs.Accepted.{Accepted, Opened, opened-stays, opened-open, OpenedUp, opened-up, up-stays}

@@ -1,46 +1,46 @@
 -- What each thing that happens to a client over RFCOMM makes of the frames that it asks to send, and of the SDUs that its channel took.
 use Rattle.std.proofs.Common.{◌≡◌, ℕ, ◌-◌, Bool, true, false, cond, List, [], ◌∷◌, ◌++◌, map, Option, Some, None, Result, Ok, Err, refl, sym, ap, subst, ◌∙◌, ◌⊎◌, inl, inr, append-nil}
 use Rattle.std.proofs.lemmas.Bool.{cond-true, cond-false}
-use Rattle.acl_fragments.specs.Pieces.{channel_of}
-use Rattle.bt_base.specs.declared.ports.PortFault.{PortFault}
-use Rattle.bt_base.specs.declared.settings.Settings.{Settings}
-use Rattle.bt_base.specs.declared.settings.Transport.{Transport}
-use Rattle.bt_base.specs.declared.settings.Transport.TheVariants.{L2cap, Rfcomm}
-use Rattle.channel_model.specs.declared.event.ChannelEvent.{ChannelEvent}
-use Rattle.channel_model.specs.declared.event.ChannelEvent.TheVariants as channels
-use Rattle.channel_model.specs.Carrying.{Up as Handed, Nothing, Received}
-use Rattle.channel_model.specs.Calls.{peer_mtu, waits}
-use Rattle.channel_model.specs.Hearing.{up}
-use Rattle.channel_model.specs.Value.{Channels}
-use Rattle.push_terms.specs.declared.outcome.Outcome.{Outcome}
-use Rattle.rfcomm_frames.specs.Frames.{PlainFrame}
-use Rattle.rfcomm_model.specs.Machine.{leaves}
-use Rattle.rfcomm_model.specs.Saying.{Said, next}
-use Rattle.sdp_client.specs.Asking.{is_due, request_octets, after_request}
-use Rattle.push_model.specs.declared.closing.CloseCause.{CloseCause}
-use Rattle.push_model.specs.declared.course.Contact.TheVariants.{Closing}
-use Rattle.push_model.specs.declared.course.Point.TheVariants.{Due, Asked}
-use Rattle.push_model.specs.declared.course.Stage.{Stage}
-use Rattle.push_model.specs.declared.course.Stage.TheVariants as stages
-use Rattle.push_model.specs.Client.{Client, cancelled}
-use Rattle.push_model.specs.Laws.{Deed, Asks, Finishes, Cancels}
-use Rattle.push_model.specs.Payloads.{Payload, Octets, Framed}
-use Rattle.push_model.specs.Server.{rfcomm_psm}
-use Rattle.push_model.specs.Steps as steps
-use Rattle.push_model.specs.Steps.{Part, Step, Stepped, Made, Wait, MakeLink, AskFeatures, OpenChannel, SendSdu, CloseChannel, BreakLink, Ended, NoMemory, Ask, Connect, Put, Abort, Disconnect, Close}
-use Rattle.push_laws.specs.Carriage.{frames_of, frames_by}
-use Rattle.world_model.specs.Machines.{News, Linked, Failed, Heard, TimerFired, Cancelled, Opening}
-use Rattle.host_model.specs.Circumstances.{Circumstance}
-use Rattle.host_model.specs.Clients as profile
-use Rattle.host_model.specs.Clients.{ClientProfile, ended, cause_of, client_profile, fitted}
-use Rattle.host_model.specs.Endpoints.{Endpoint, endpoint_of}
-use Rattle.host_model.specs.Hosts.{handed}
-use Rattle.host_model.specs.Pdus.{mux_octets}
-use Rattle.host_model.specs.Shelves.{unused}
-use Rattle.host_laws.specs.Fed.{feeds_up, next_happening, strand_feeds}
-use Rattle.host_laws.specs.Feeds.{Learns}
-use Rattle.host_laws.specs.Pushing.{Affair, Does, end_asked, then_ends, opened_pushed, closed_pushed, event_pushed, sent_pushed, step_pushed, pushed_from}
-use Rattle.host_laws.specs.Woven.{Strand, Hearing, Giving, Firing, Telling, Gifting, Learning, Checking, Stepping, told_next, strand_profile}
+use Rattle.pair_laws.specs.acl_fragments.specs.Pieces.{channel_of}
+use Rattle.pair_laws.specs.bt_base.specs.declared.ports.PortFault.{PortFault}
+use Rattle.pair_laws.specs.bt_base.specs.declared.settings.Settings.{Settings}
+use Rattle.pair_laws.specs.bt_base.specs.declared.settings.Transport.{Transport}
+use Rattle.pair_laws.specs.bt_base.specs.declared.settings.Transport.TheVariants.{L2cap, Rfcomm}
+use Rattle.pair_laws.specs.channel_model.specs.declared.event.ChannelEvent.{ChannelEvent}
+use Rattle.pair_laws.specs.channel_model.specs.declared.event.ChannelEvent.TheVariants as channels
+use Rattle.pair_laws.specs.channel_model.specs.Carrying.{Up as Handed, Nothing, Received}
+use Rattle.pair_laws.specs.channel_model.specs.Calls.{peer_mtu, waits}
+use Rattle.pair_laws.specs.channel_model.specs.Hearing.{up}
+use Rattle.pair_laws.specs.channel_model.specs.Value.{Channels}
+use Rattle.pair_laws.specs.push_terms.specs.declared.outcome.Outcome.{Outcome}
+use Rattle.pair_laws.specs.rfcomm_frames.specs.Frames.{PlainFrame}
+use Rattle.pair_laws.specs.rfcomm_model.specs.Machine.{leaves}
+use Rattle.pair_laws.specs.rfcomm_model.specs.Saying.{Said, next}
+use Rattle.pair_laws.specs.sdp_client.specs.Asking.{is_due, request_octets, after_request}
+use Rattle.pair_laws.specs.push_model.specs.declared.closing.CloseCause.{CloseCause}
+use Rattle.pair_laws.specs.push_model.specs.declared.course.Contact.TheVariants.{Closing}
+use Rattle.pair_laws.specs.push_model.specs.declared.course.Point.TheVariants.{Due, Asked}
+use Rattle.pair_laws.specs.push_model.specs.declared.course.Stage.{Stage}
+use Rattle.pair_laws.specs.push_model.specs.declared.course.Stage.TheVariants as stages
+use Rattle.pair_laws.specs.push_model.specs.Client.{Client, cancelled}
+use Rattle.pair_laws.specs.push_model.specs.Laws.{Deed, Asks, Finishes, Cancels}
+use Rattle.pair_laws.specs.push_model.specs.Payloads.{Payload, Octets, Framed}
+use Rattle.pair_laws.specs.push_model.specs.Server.{rfcomm_psm}
+use Rattle.pair_laws.specs.push_model.specs.Steps as steps
+use Rattle.pair_laws.specs.push_model.specs.Steps.{Part, Step, Stepped, Made, Wait, MakeLink, AskFeatures, OpenChannel, SendSdu, CloseChannel, BreakLink, Ended, NoMemory, Ask, Connect, Put, Abort, Disconnect, Close}
+use Rattle.pair_laws.specs.push_laws.specs.Carriage.{frames_of, frames_by}
+use Rattle.pair_laws.specs.world_model.specs.Machines.{News, Linked, Failed, Heard, TimerFired, Cancelled, Opening}
+use Rattle.pair_laws.specs.host_model.specs.Circumstances.{Circumstance}
+use Rattle.pair_laws.specs.host_model.specs.Clients as profile
+use Rattle.pair_laws.specs.host_model.specs.Clients.{ClientProfile, ended, cause_of, client_profile, fitted}
+use Rattle.pair_laws.specs.host_model.specs.Endpoints.{Endpoint, endpoint_of}
+use Rattle.pair_laws.specs.host_model.specs.Hosts.{handed}
+use Rattle.pair_laws.specs.host_model.specs.Pdus.{mux_octets}
+use Rattle.pair_laws.specs.host_model.specs.Shelves.{unused}
+use Rattle.pair_laws.specs.host_laws.specs.Fed.{feeds_up, next_happening, strand_feeds}
+use Rattle.pair_laws.specs.host_laws.specs.Feeds.{Learns}
+use Rattle.pair_laws.specs.host_laws.specs.Pushing.{Affair, Does, end_asked, then_ends, opened_pushed, closed_pushed, event_pushed, sent_pushed, step_pushed, pushed_from}
+use Rattle.pair_laws.specs.host_laws.specs.Woven.{Strand, Hearing, Giving, Firing, Telling, Gifting, Learning, Checking, Stepping, told_next, strand_profile}
 use Rattle.request_laws.specs.Carried.{frames_over}
 use Rattle.request_laws.specs.Streams.{taken_by, taken_at}
 use Rattle.request_laws.specs.Twists.{all_deeds, taken_on, OpensNone}

@@ -3,26 +3,26 @@ use Rattle.std.proofs.Common.{◌≡◌, ℕ, Bool, true, false, ◌||◌, List,
 use Rattle.std.specs.List.{AllByRecursion, flat_map}
 use Rattle.std.proofs.lemmas.List.{map-append}
 use Rattle.std.proofs.lemmas.List.Concat.{flat_map-append}
-use Rattle.bt_base.specs.declared.settings.Transport.TheVariants.{Rfcomm}
-use Rattle.rfcomm_frames.specs.FrameReading.{frame_answer}
-use Rattle.rfcomm_frames.specs.Frames.{PlainFrame}
-use Rattle.rfcomm_laws.specs.Links.{AreFrames}
-use Rattle.push_model.specs.Client.{Client}
-use Rattle.push_model.specs.Laws as push
-use Rattle.push_model.specs.Laws.{Deed, Hears, all_done}
-use Rattle.push_model.specs.Server.{rfcomm_psm}
-use Rattle.push_laws.specs.Carriage.{Carriage, no_carriage, frames_by, heard_by, come_by, gone_by, carriage_after, AreCarried, StayCarried}
-use Rattle.push_laws.specs.Occurrences.{Occurrence}
-use Rattle.push_laws.specs.Parties.{Move, OfServer, OfClient, server_side, client_side, client_after, IsFrontOf}
-use Rattle.push_laws.specs.Readings.{closes}
-use Rattle.push_laws.proofs.Staying.{multiplexers-stay}
-use Rattle.host_model.specs.Clients.{ClientProfile}
-use Rattle.host_model.specs.Pdus.{mux_octets}
-use Rattle.host_model.specs.Servers.{ServerProfile}
-use Rattle.host_laws.specs.Fed.{strand_feeds}
-use Rattle.host_laws.specs.Pushing.{pushed_from}
-use Rattle.host_laws.specs.Serving.{served_from}
-use Rattle.host_laws.specs.Woven.{Strand}
+use Rattle.pair_laws.specs.bt_base.specs.declared.settings.Transport.TheVariants.{Rfcomm}
+use Rattle.pair_laws.specs.rfcomm_frames.specs.FrameReading.{frame_answer}
+use Rattle.pair_laws.specs.rfcomm_frames.specs.Frames.{PlainFrame}
+use Rattle.pair_laws.specs.rfcomm_laws.specs.Links.{AreFrames}
+use Rattle.pair_laws.specs.push_model.specs.Client.{Client}
+use Rattle.pair_laws.specs.push_model.specs.Laws as push
+use Rattle.pair_laws.specs.push_model.specs.Laws.{Deed, Hears, all_done}
+use Rattle.pair_laws.specs.push_model.specs.Server.{rfcomm_psm}
+use Rattle.pair_laws.specs.push_laws.specs.Carriage.{Carriage, no_carriage, frames_by, heard_by, come_by, gone_by, carriage_after, AreCarried, StayCarried}
+use Rattle.pair_laws.specs.push_laws.specs.Occurrences.{Occurrence}
+use Rattle.pair_laws.specs.push_laws.specs.Parties.{Move, OfServer, OfClient, server_side, client_side, client_after, IsFrontOf}
+use Rattle.pair_laws.specs.push_laws.specs.Readings.{closes}
+use Rattle.pair_laws.specs.push_laws.proofs.Staying.{multiplexers-stay}
+use Rattle.pair_laws.specs.host_model.specs.Clients.{ClientProfile}
+use Rattle.pair_laws.specs.host_model.specs.Pdus.{mux_octets}
+use Rattle.pair_laws.specs.host_model.specs.Servers.{ServerProfile}
+use Rattle.pair_laws.specs.host_laws.specs.Fed.{strand_feeds}
+use Rattle.pair_laws.specs.host_laws.specs.Pushing.{pushed_from}
+use Rattle.pair_laws.specs.host_laws.specs.Serving.{served_from}
+use Rattle.pair_laws.specs.host_laws.specs.Woven.{Strand}
 use Rattle.request_laws.specs.BothFed.{ComesNone}
 use Rattle.request_laws.specs.Carried.{frames_over, IsReadSo, NoneComesBehind, IsGoneThrough, LinksAreCarried}
 use Rattle.request_laws.specs.Streams.{come_on, taken_at, Streams, no_streams, streams_after, AreStreams, AllStayStreams}

@@ -2,54 +2,54 @@
 use Rattle.std.proofs.Common.{◌≡◌, ℕ, ◌≤◌, Bool, true, false, cond, ◌&&◌, not, List, [], ◌∷◌, ◌++◌, map, length, ◌-◌, Option, Some, None, Result, Ok, Err, refl, sym, ap, ap₂, subst, ◌∙◌, append_assoc, append-nil, arith}
 use Rattle.std.proofs.lemmas.Bool.{and_parts}
 use Rattle.std.specs.List.{AllByRecursion, flat_map}
-use Rattle.bt_base.specs.declared.ports.PortFault.{PortFault}
-use Rattle.bt_base.specs.declared.ports.PortFault.TheVariants as fault
-use Rattle.bt_base.specs.declared.settings.Settings.{Settings}
-use Rattle.bt_base.specs.declared.settings.Transport.{Transport}
-use Rattle.bt_base.specs.declared.settings.Transport.TheVariants.{Rfcomm}
-use Rattle.bt_base.specs.Objects.{Contents}
-use Rattle.bt_base.specs.Octets.{IsOctets}
-use Rattle.channel_model.specs.declared.event.ChannelEvent.{ChannelEvent}
-use Rattle.channel_model.specs.declared.event.ChannelEvent.TheVariants as channels
-use Rattle.channel_model.specs.Calls.{peer_mtu, waits}
-use Rattle.channel_model.specs.Value.{Channels, no_channels}
-use Rattle.obex_session.specs.InboxCalls.{Answer}
-use Rattle.rfcomm_model.specs.Machine.{Mux}
-use Rattle.sdp_elements.specs.declared.target.Target.{Target}
-use Rattle.push_model.specs.Client.{Client, own_maximum, is_direct, with_object, begun_by, new_client}
-use Rattle.push_model.specs.Events as events
-use Rattle.push_model.specs.Laws as push
-use Rattle.push_model.specs.Laws.{Deed, Hears, all_done}
-use Rattle.push_model.specs.Payloads.{IsSaid}
-use Rattle.push_model.specs.Server.{Reacted, Lent, lends, lent_sdu, rfcomm_psm}
-use Rattle.push_laws.specs.Carriage.{no_carriage, frames_by, StayCarried, AreCarried}
-use Rattle.push_laws.specs.Dialogs.{NameServer, NoPacket, IsCarried, AllServeCarried, SameNumbers}
-use Rattle.push_laws.specs.Laws.{new_over}
-use Rattle.push_laws.specs.Occurrences.{Occurrence, Went, Closed, Asked, IsLent, done}
-use Rattle.push_laws.specs.Occurrences as served
-use Rattle.push_laws.specs.Opening.{targets_by, targets_heard}
-use Rattle.push_laws.specs.Parties.{Move, server_side, client_side, Push}
-use Rattle.push_laws.specs.Premises.{AllGranted, AllMayCome}
-use Rattle.push_laws.specs.Sending.{AllAnswer}
-use Rattle.push_laws.specs.Spelled.{name_by}
-use Rattle.push_laws.proofs.Among.{name_among}
-use Rattle.push_laws.proofs.Carried.{carried-are_heard}
-use Rattle.push_laws.proofs.Staying.{multiplexers-stay}
-use Rattle.world_model.specs.Machines.{News, Linked, Up, Down, Failed, Heard, TimerFired, Cancelled, Opening}
-use Rattle.host_model.specs.Clients.{client_profile}
-use Rattle.host_model.specs.Endpoints.{endpoint_of, fits, takes_sdu}
-use Rattle.host_model.specs.Pdus.{sdu_of, are_octets}
-use Rattle.host_model.specs.Servers.{ServerProfile, is_told, server_profile}
-use Rattle.host_model.proofs.Orderly.{octets_by}
-use Rattle.shelf_model.specs.Held.{longest_octets}
-use Rattle.host_laws.specs.Answered.{IsSmall, IsAnswered, AllAnswered}
-use Rattle.host_laws.specs.Feeds.{Feed, Gifts, Learns, Receives, Happens, Sent, Steps, fed}
-use Rattle.host_laws.specs.OverLinks.{AreTimely}
-use Rattle.host_laws.specs.Pushing.{Affair, Begins, Does, client_after, AllAsked}
-use Rattle.host_laws.specs.Serving.{news_served, event_served, taken_by, lent_by, served_with, served_from, reacted}
-use Rattle.host_laws.specs.Woven.{Strand}
-use Rattle.host_laws.proofs.Answered.{clients_are_answered}
-use Rattle.host_laws.proofs.Serving.{feed_done}
+use Rattle.pair_laws.specs.bt_base.specs.declared.ports.PortFault.{PortFault}
+use Rattle.pair_laws.specs.bt_base.specs.declared.ports.PortFault.TheVariants as fault
+use Rattle.pair_laws.specs.bt_base.specs.declared.settings.Settings.{Settings}
+use Rattle.pair_laws.specs.bt_base.specs.declared.settings.Transport.{Transport}
+use Rattle.pair_laws.specs.bt_base.specs.declared.settings.Transport.TheVariants.{Rfcomm}
+use Rattle.pair_laws.specs.bt_base.specs.Objects.{Contents}
+use Rattle.pair_laws.specs.bt_base.specs.Octets.{IsOctets}
+use Rattle.pair_laws.specs.channel_model.specs.declared.event.ChannelEvent.{ChannelEvent}
+use Rattle.pair_laws.specs.channel_model.specs.declared.event.ChannelEvent.TheVariants as channels
+use Rattle.pair_laws.specs.channel_model.specs.Calls.{peer_mtu, waits}
+use Rattle.pair_laws.specs.channel_model.specs.Value.{Channels, no_channels}
+use Rattle.pair_laws.specs.obex_session.specs.InboxCalls.{Answer}
+use Rattle.pair_laws.specs.rfcomm_model.specs.Machine.{Mux}
+use Rattle.pair_laws.specs.sdp_elements.specs.declared.target.Target.{Target}
+use Rattle.pair_laws.specs.push_model.specs.Client.{Client, own_maximum, is_direct, with_object, begun_by, new_client}
+use Rattle.pair_laws.specs.push_model.specs.Events as events
+use Rattle.pair_laws.specs.push_model.specs.Laws as push
+use Rattle.pair_laws.specs.push_model.specs.Laws.{Deed, Hears, all_done}
+use Rattle.pair_laws.specs.push_model.specs.Payloads.{IsSaid}
+use Rattle.pair_laws.specs.push_model.specs.Server.{Reacted, Lent, lends, lent_sdu, rfcomm_psm}
+use Rattle.pair_laws.specs.push_laws.specs.Carriage.{no_carriage, frames_by, StayCarried, AreCarried}
+use Rattle.pair_laws.specs.push_laws.specs.Dialogs.{NameServer, NoPacket, IsCarried, AllServeCarried, SameNumbers}
+use Rattle.pair_laws.specs.push_laws.specs.Laws.{new_over}
+use Rattle.pair_laws.specs.push_laws.specs.Occurrences.{Occurrence, Went, Closed, Asked, IsLent, done}
+use Rattle.pair_laws.specs.push_laws.specs.Occurrences as served
+use Rattle.pair_laws.specs.push_laws.specs.Opening.{targets_by, targets_heard}
+use Rattle.pair_laws.specs.push_laws.specs.Parties.{Move, server_side, client_side, Push}
+use Rattle.pair_laws.specs.push_laws.specs.Premises.{AllGranted, AllMayCome}
+use Rattle.pair_laws.specs.push_laws.specs.Sending.{AllAnswer}
+use Rattle.pair_laws.specs.push_laws.specs.Spelled.{name_by}
+use Rattle.pair_laws.specs.push_laws.proofs.Among.{name_among}
+use Rattle.pair_laws.specs.push_laws.proofs.Carried.{carried-are_heard}
+use Rattle.pair_laws.specs.push_laws.proofs.Staying.{multiplexers-stay}
+use Rattle.pair_laws.specs.world_model.specs.Machines.{News, Linked, Up, Down, Failed, Heard, TimerFired, Cancelled, Opening}
+use Rattle.pair_laws.specs.host_model.specs.Clients.{client_profile}
+use Rattle.pair_laws.specs.host_model.specs.Endpoints.{endpoint_of, fits, takes_sdu}
+use Rattle.pair_laws.specs.host_model.specs.Pdus.{sdu_of, are_octets}
+use Rattle.pair_laws.specs.host_model.specs.Servers.{ServerProfile, is_told, server_profile}
+use Rattle.pair_laws.specs.host_model.proofs.Orderly.{octets_by}
+use Rattle.pair_laws.specs.shelf_model.specs.Held.{longest_octets}
+use Rattle.pair_laws.specs.host_laws.specs.Answered.{IsSmall, IsAnswered, AllAnswered}
+use Rattle.pair_laws.specs.host_laws.specs.Feeds.{Feed, Gifts, Learns, Receives, Happens, Sent, Steps, fed}
+use Rattle.pair_laws.specs.host_laws.specs.OverLinks.{AreTimely}
+use Rattle.pair_laws.specs.host_laws.specs.Pushing.{Affair, Begins, Does, client_after, AllAsked}
+use Rattle.pair_laws.specs.host_laws.specs.Serving.{news_served, event_served, taken_by, lent_by, served_with, served_from, reacted}
+use Rattle.pair_laws.specs.host_laws.specs.Woven.{Strand}
+use Rattle.pair_laws.specs.host_laws.proofs.Answered.{clients_are_answered}
+use Rattle.pair_laws.specs.host_laws.proofs.Serving.{feed_done}
 use Rattle.request_laws.specs.BothFed.{InboxAnswers, over_stored}
 use Rattle.request_laws.specs.Carried.{frames_over, IsReadSo, NoneComesBehind, IsGoneThrough}
 use Rattle.request_laws.specs.MuxFed.{IsMuxAsked, SaysSo, AllSaySo, MuxTwined, CarriedRequestsAreHeard}

@@ -3,33 +3,33 @@ use Rattle.std.proofs.Common.{◌≡◌, ℕ, suc, Bool, true, false, eqb, List,
 use Rattle.std.specs.Prelude.{get_or}
 use Rattle.std.specs.List.{AllByRecursion, flat_map}
 use Rattle.std.proofs.lemmas.Bool.{eq-eqb}
-use Rattle.bt_base.specs.declared.settings.Settings.{Settings}
-use Rattle.bt_base.specs.Objects.{Contents}
-use Rattle.link_talk.specs.declared.channel.Channel.{Channel}
-use Rattle.link_talk.specs.Channels.{reading}
-use Rattle.channel_model.specs.Policies.{Policy, policy}
-use Rattle.channel_model.specs.Value.{Channels, no_channels}
-use Rattle.channel_laws.specs.Endpoints.{IsOf}
-use Rattle.channel_laws.specs.Runs as channels
-use Rattle.channel_laws.specs.Runs.{run_of}
-use Rattle.channel_laws.specs.Views.{channel_by, read_at}
-use Rattle.push_model.specs.Server.{object_psm, rfcomm_psm}
-use Rattle.push_laws.specs.Dialogs.{NoPacket}
-use Rattle.push_laws.specs.Occurrences.{Occurrence, Came, Went, Closed, LinkDown, Asked, Answering}
-use Rattle.push_laws.specs.Parties.{sdu_if, come_by}
-use Rattle.world_model.specs.Machines.{LinkEvent, Up, Down}
-use Rattle.host_model.specs.Circumstances.{Circumstance}
-use Rattle.host_model.specs.Servers.{ServerProfile, server_profile}
-use Rattle.host_laws.specs.Calls.{Asks, values_after}
-use Rattle.host_laws.specs.Fed.{turned_feeds, span_feeds, behind_span, WovenFed, AreFed}
-use Rattle.host_laws.specs.Feeds.{Feed}
-use Rattle.host_laws.specs.Lives.{Span}
-use Rattle.host_laws.specs.OneCarrier.{IsFor}
-use Rattle.host_laws.specs.Serving.{served_from}
-use Rattle.host_laws.proofs.StrandsFed.{here_so, span_so}
+use Rattle.pair_laws.specs.bt_base.specs.declared.settings.Settings.{Settings}
+use Rattle.pair_laws.specs.bt_base.specs.Objects.{Contents}
+use Rattle.pair_laws.specs.link_talk.specs.declared.channel.Channel.{Channel}
+use Rattle.pair_laws.specs.link_talk.specs.Channels.{reading}
+use Rattle.pair_laws.specs.channel_model.specs.Policies.{Policy, policy}
+use Rattle.pair_laws.specs.channel_model.specs.Value.{Channels, no_channels}
+use Rattle.pair_laws.specs.channel_laws.specs.Endpoints.{IsOf}
+use Rattle.pair_laws.specs.channel_laws.specs.Runs as channels
+use Rattle.pair_laws.specs.channel_laws.specs.Runs.{run_of}
+use Rattle.pair_laws.specs.channel_laws.specs.Views.{channel_by, read_at}
+use Rattle.pair_laws.specs.push_model.specs.Server.{object_psm, rfcomm_psm}
+use Rattle.pair_laws.specs.push_laws.specs.Dialogs.{NoPacket}
+use Rattle.pair_laws.specs.push_laws.specs.Occurrences.{Occurrence, Came, Went, Closed, LinkDown, Asked, Answering}
+use Rattle.pair_laws.specs.push_laws.specs.Parties.{sdu_if, come_by}
+use Rattle.pair_laws.specs.world_model.specs.Machines.{LinkEvent, Up, Down}
+use Rattle.pair_laws.specs.host_model.specs.Circumstances.{Circumstance}
+use Rattle.pair_laws.specs.host_model.specs.Servers.{ServerProfile, server_profile}
+use Rattle.pair_laws.specs.host_laws.specs.Calls.{Asks, values_after}
+use Rattle.pair_laws.specs.host_laws.specs.Fed.{turned_feeds, span_feeds, behind_span, WovenFed, AreFed}
+use Rattle.pair_laws.specs.host_laws.specs.Feeds.{Feed}
+use Rattle.pair_laws.specs.host_laws.specs.Lives.{Span}
+use Rattle.pair_laws.specs.host_laws.specs.OneCarrier.{IsFor}
+use Rattle.pair_laws.specs.host_laws.specs.Serving.{served_from}
+use Rattle.pair_laws.specs.host_laws.proofs.StrandsFed.{here_so, span_so}
 use Rattle.request_laws.specs.BothFed.{ComesNone}
 use Rattle.request_laws.specs.HandedUp.{handed_for}
-use Rattle.host_laws.specs.OneOnLinks.{CarriesOneOn}
+use Rattle.pair_laws.specs.host_laws.specs.OneOnLinks.{CarriesOneOn}
 use Rattle.request_laws.proofs.Accepted.{all-opened}
 use Rattle.request_laws.proofs.Feeding.{served-both, all_both, down_served}
 use Rattle.request_laws.proofs.HandedUp.{none_flat, objects_are_handed_up}

@@ -1,34 +1,34 @@
 -- What happened to both hosts over their links is a list of pushes over RFCOMM whose clients find the server's channel in its own answers.
 use Rattle.std.proofs.Common.{◌≡◌, ℕ, ◌≤◌, ◌&&◌, List, [], ◌∷◌, ◌++◌, map, ◌-◌, Option, None, Result, Ok, inl, inr, refl, sym, ap, ap₂, subst, ◌∙◌, append-nil, arith}
 use Rattle.std.specs.List.{AllByRecursion, flat_map}
-use Rattle.bt_base.specs.declared.ports.PortFault.{PortFault}
-use Rattle.bt_base.specs.Objects.{Object}
-use Rattle.bt_base.specs.declared.settings.Settings.{Settings}
-use Rattle.bt_base.specs.declared.settings.Transport.{Transport}
-use Rattle.bt_base.specs.declared.settings.Transport.TheVariants.{Rfcomm}
-use Rattle.channel_model.specs.Value.{no_channels}
-use Rattle.obex_session.specs.InboxCalls.{Answer}
-use Rattle.push_model.specs.Client.{Client, own_maximum, is_direct, with_object, new_client}
-use Rattle.push_model.specs.Events as events
-use Rattle.push_model.specs.Laws as push
-use Rattle.push_model.specs.Laws.{Deed, Hears, all_done}
-use Rattle.push_model.specs.Server.{Reacted, object_psm, rfcomm_psm}
-use Rattle.push_laws.specs.Carriage.{no_carriage, frames_by, StayCarried, AreCarried}
-use Rattle.push_laws.specs.Dialogs.{AllServeCarried}
-use Rattle.push_laws.specs.Occurrences.{Occurrence, done}
-use Rattle.push_laws.specs.Parties.{Move, server_side, client_side, Push}
-use Rattle.push_laws.specs.Searches.{AllServe, IsPushedOver, StaysTrue, no_traffic}
-use Rattle.push_laws.specs.Sending.{AllAnswer}
-use Rattle.push_laws.specs.Spelled.{name_by}
-use Rattle.push_laws.proofs.Among.{name_among}
-use Rattle.push_model.specs.Events.{search_psm}
-use Rattle.host_model.specs.Clients.{ClientProfile}
-use Rattle.host_model.specs.Servers.{ServerProfile}
-use Rattle.shelf_model.specs.Held.{longest_octets}
-use Rattle.host_laws.specs.Answered.{IsSmall, IsAnswered, AllAnswered}
-use Rattle.host_laws.specs.Pushing.{Affair, Begins, Does, client_after, AllAsked}
-use Rattle.host_laws.specs.ShelfAnswers.{IsGiven}
-use Rattle.host_laws.specs.Woven.{Strand}
+use Rattle.pair_laws.specs.bt_base.specs.declared.ports.PortFault.{PortFault}
+use Rattle.pair_laws.specs.bt_base.specs.Objects.{Object}
+use Rattle.pair_laws.specs.bt_base.specs.declared.settings.Settings.{Settings}
+use Rattle.pair_laws.specs.bt_base.specs.declared.settings.Transport.{Transport}
+use Rattle.pair_laws.specs.bt_base.specs.declared.settings.Transport.TheVariants.{Rfcomm}
+use Rattle.pair_laws.specs.channel_model.specs.Value.{no_channels}
+use Rattle.pair_laws.specs.obex_session.specs.InboxCalls.{Answer}
+use Rattle.pair_laws.specs.push_model.specs.Client.{Client, own_maximum, is_direct, with_object, new_client}
+use Rattle.pair_laws.specs.push_model.specs.Events as events
+use Rattle.pair_laws.specs.push_model.specs.Laws as push
+use Rattle.pair_laws.specs.push_model.specs.Laws.{Deed, Hears, all_done}
+use Rattle.pair_laws.specs.push_model.specs.Server.{Reacted, object_psm, rfcomm_psm}
+use Rattle.pair_laws.specs.push_laws.specs.Carriage.{no_carriage, frames_by, StayCarried, AreCarried}
+use Rattle.pair_laws.specs.push_laws.specs.Dialogs.{AllServeCarried}
+use Rattle.pair_laws.specs.push_laws.specs.Occurrences.{Occurrence, done}
+use Rattle.pair_laws.specs.push_laws.specs.Parties.{Move, server_side, client_side, Push}
+use Rattle.pair_laws.specs.push_laws.specs.Searches.{AllServe, IsPushedOver, StaysTrue, no_traffic}
+use Rattle.pair_laws.specs.push_laws.specs.Sending.{AllAnswer}
+use Rattle.pair_laws.specs.push_laws.specs.Spelled.{name_by}
+use Rattle.pair_laws.specs.push_laws.proofs.Among.{name_among}
+use Rattle.pair_laws.specs.push_model.specs.Events.{search_psm}
+use Rattle.pair_laws.specs.host_model.specs.Clients.{ClientProfile}
+use Rattle.pair_laws.specs.host_model.specs.Servers.{ServerProfile}
+use Rattle.pair_laws.specs.shelf_model.specs.Held.{longest_octets}
+use Rattle.pair_laws.specs.host_laws.specs.Answered.{IsSmall, IsAnswered, AllAnswered}
+use Rattle.pair_laws.specs.host_laws.specs.Pushing.{Affair, Begins, Does, client_after, AllAsked}
+use Rattle.pair_laws.specs.host_laws.specs.ShelfAnswers.{IsGiven}
+use Rattle.pair_laws.specs.host_laws.specs.Woven.{Strand}
 use Rattle.request_laws.specs.Carried.{frames_over, IsReadSo, NoneComesBehind, IsGoneThrough}
 use Rattle.request_laws.specs.MuxFed.{MuxTwined}
 use Rattle.request_laws.specs.Twists.{of_client, Set, new_both, all_deeds, all_moves, OpensNone}

@@ -2,30 +2,30 @@
 use Rattle.std.proofs.Common.{◌≡◌, ℕ, zero, suc, true, false, List, [], ◌∷◌, ◌++◌, map, refl, sym, subst, inl, inr}
 use Rattle.std.specs.Prelude.{get_or}
 use Rattle.std.specs.List.{AllByRecursion, flat_map}
-use Rattle.bt_base.specs.declared.settings.Settings.{Settings}
-use Rattle.bt_base.specs.declared.settings.Transport.TheVariants.{L2cap}
-use Rattle.bt_base.specs.Objects.{Object}
-use Rattle.push_script.specs.declared.scenario.Scenario.{Scenario}
-use Rattle.capture.specs.Entries.{Entry}
-use Rattle.scenario_laws.specs.Captures.{Ran}
-use Rattle.push_terms.specs.declared.word.Side.TheVariants as sides
-use Rattle.channel_model.specs.Policies.{Policy, policy}
-use Rattle.channel_laws.specs.Frames.{AreUttered}
-use Rattle.channel_laws.specs.Runs as channels
-use Rattle.world_model.specs.Machines.{LinkEvent, Up, Down}
-use Rattle.host_model.specs.Clients.{ClientProfile, client_profile}
-use Rattle.host_model.specs.Servers.{ServerProfile, server_profile}
-use Rattle.host_laws.specs.Calls.{values_after}
-use Rattle.host_laws.specs.Fed.{FedSpan, behind_span, AreFed}
-use Rattle.host_laws.specs.Feeds.{Feed}
-use Rattle.host_laws.specs.GainingOver.{IsNoPdu, CarriedOne, CarriesOne}
-use Rattle.host_laws.specs.Lives.{Span, all_marks, on_links}
-use Rattle.host_laws.specs.OverLinks.{AreTimely, talk_marks}
-use Rattle.host_laws.specs.Woven.{turned}
-use Rattle.host_model.specs.Circumstances.{Circumstance}
-use Rattle.channel_model.specs.Value.{Channels, no_channels}
-use Rattle.host_laws.proofs.InOrder.{asks-nothing}
-use Rattle.scenario_laws.specs.Gains.{holding, serving, asked_by}
+use Rattle.pair_laws.specs.bt_base.specs.declared.settings.Settings.{Settings}
+use Rattle.pair_laws.specs.bt_base.specs.declared.settings.Transport.TheVariants.{L2cap}
+use Rattle.pair_laws.specs.bt_base.specs.Objects.{Object}
+use Rattle.pair_laws.specs.push_script.specs.declared.scenario.Scenario.{Scenario}
+use Rattle.pair_laws.specs.capture.specs.Entries.{Entry}
+use Rattle.pair_laws.specs.scenario_laws.specs.Captures.{Ran}
+use Rattle.pair_laws.specs.push_terms.specs.declared.word.Side.TheVariants as sides
+use Rattle.pair_laws.specs.channel_model.specs.Policies.{Policy, policy}
+use Rattle.pair_laws.specs.channel_laws.specs.Frames.{AreUttered}
+use Rattle.pair_laws.specs.channel_laws.specs.Runs as channels
+use Rattle.pair_laws.specs.world_model.specs.Machines.{LinkEvent, Up, Down}
+use Rattle.pair_laws.specs.host_model.specs.Clients.{ClientProfile, client_profile}
+use Rattle.pair_laws.specs.host_model.specs.Servers.{ServerProfile, server_profile}
+use Rattle.pair_laws.specs.host_laws.specs.Calls.{values_after}
+use Rattle.pair_laws.specs.host_laws.specs.Fed.{FedSpan, behind_span, AreFed}
+use Rattle.pair_laws.specs.host_laws.specs.Feeds.{Feed}
+use Rattle.pair_laws.specs.host_laws.specs.GainingOver.{IsNoPdu, CarriedOne, CarriesOne}
+use Rattle.pair_laws.specs.host_laws.specs.Lives.{Span, all_marks, on_links}
+use Rattle.pair_laws.specs.host_laws.specs.OverLinks.{AreTimely, talk_marks}
+use Rattle.pair_laws.specs.host_laws.specs.Woven.{turned}
+use Rattle.pair_laws.specs.host_model.specs.Circumstances.{Circumstance}
+use Rattle.pair_laws.specs.channel_model.specs.Value.{Channels, no_channels}
+use Rattle.pair_laws.specs.host_laws.proofs.InOrder.{asks-nothing}
+use Rattle.pair_laws.specs.scenario_laws.specs.Gains.{holding, serving, asked_by}
 use Rattle.pair_laws.specs.OnLinks.{happened_on, ArePairs}
 use Rattle.pair_laws.specs.Within.{BothSendWithin}
 use Rattle.pair_laws.proofs.Taking.{clients_within, servers_within, pairs-are_carried}

@@ -1,15 +1,15 @@
 -- What the shelf answers in pushes, as it is said of all that happened to their client.
 use Rattle.std.proofs.Common.{◌≡◌, ◌⊎◌, ℕ, List, [], ◌∷◌, ◌++◌, Option, Some, None, IfSome}
-use Rattle.bt_base.specs.Objects.{Object}
-use Rattle.push_model.specs.Client.{Client}
-use Rattle.push_model.specs.Laws as push
-use Rattle.push_model.specs.Laws.{Deed, all_done}
-use Rattle.push_laws.specs.Parties.{client_side, Push}
-use Rattle.push_laws.specs.Sending.{AllAnswer}
-use Rattle.shelf_model.specs.Held.{length_of}
-use Rattle.host_laws.specs.Answered.{IsAnswered}
-use Rattle.host_laws.specs.Pushing.{Affair, Begins, Does, AllAsked, client_after}
-use Rattle.host_laws.specs.ShelfAnswers.{IsGiven}
+use Rattle.pair_laws.specs.bt_base.specs.Objects.{Object}
+use Rattle.pair_laws.specs.push_model.specs.Client.{Client}
+use Rattle.pair_laws.specs.push_model.specs.Laws as push
+use Rattle.pair_laws.specs.push_model.specs.Laws.{Deed, all_done}
+use Rattle.pair_laws.specs.push_laws.specs.Parties.{client_side, Push}
+use Rattle.pair_laws.specs.push_laws.specs.Sending.{AllAnswer}
+use Rattle.pair_laws.specs.shelf_model.specs.Held.{length_of}
+use Rattle.pair_laws.specs.host_laws.specs.Answered.{IsAnswered}
+use Rattle.pair_laws.specs.host_laws.specs.Pushing.{Affair, Begins, Does, AllAsked, client_after}
+use Rattle.pair_laws.specs.host_laws.specs.ShelfAnswers.{IsGiven}
 
 -- its client does nothing, or it is of an object that the shelf holds, as long as it told
 abbrev pub IsOfObject : Option (List Object) → Push → Type 0

@@ -3,41 +3,41 @@ use Rattle.std.proofs.Common.{◌≡◌, ℕ, zero, suc, Bool, true, false, cond
 use Rattle.std.specs.Prelude.{get_or, not}
 use Rattle.std.specs.List.{AllByRecursion, flat_map, cons_option}
 use Rattle.std.proofs.lemmas.Bool.{and_parts, eq-eqb}
-use Rattle.bt_base.specs.declared.settings.Settings.{Settings}
-use Rattle.bt_base.specs.Objects.{Object, Contents}
-use Rattle.bt_base.specs.Octets.{IsOctets}
-use Rattle.push_script.specs.declared.scenario.Scenario.{Scenario}
-use Rattle.push_terms.specs.declared.word.Side.TheVariants as sides
-use Rattle.capture.specs.Entries.{Entry}
-use Rattle.channel_model.specs.declared.event.ChannelEvent.{ChannelEvent}
-use Rattle.channel_model.specs.Calls.{carrier_at, peer_mtu, waits}
-use Rattle.channel_model.specs.Carrying.{Up as Handed, Nothing, Received}
-use Rattle.channel_model.specs.Policies.{Policy, policy}
-use Rattle.channel_model.specs.Value.{Channels, no_channels}
-use Rattle.channel_laws.specs.Frames.{AreUttered}
-use Rattle.channel_laws.specs.Pairs.{new_pair}
-use Rattle.channel_laws.specs.Runs.{Occurrence, Comes, Connects, AsksFeatures, Disconnects, Sends, Gives, Fires, Tells as TellsNext, value_after, up_with, told_in, run_of}
-use Rattle.channel_laws.specs.Taken.{is_free, taken_in, taken_of}
-use Rattle.push_model.specs.Payloads.{Payload}
-use Rattle.push_model.specs.Server.{Lent, lends, lent_sdu}
-use Rattle.push_model.specs.Steps.{Step, Wait, MakeLink, AskFeatures as AskForFeatures, OpenChannel, SendSdu, CloseChannel, BreakLink, Ended, NoMemory, steps}
-use Rattle.world_model.specs.Machines.{LinkEvent, Up, Down}
-use Rattle.host_model.specs.Clients.{ClientProfile, client_profile, fitted}
-use Rattle.host_model.specs.Endpoints.{endpoint_of, fits, takes_sdu}
-use Rattle.host_model.specs.Pdus.{sdu_of, are_octets}
-use Rattle.host_model.specs.Profiles.{Profile}
-use Rattle.host_model.specs.Servers.{ServerProfile, server_profile}
-use Rattle.host_model.specs.Shelves.{unused}
-use Rattle.host_model.proofs.Orderly.{octets_by}
-use Rattle.host_laws.specs.Calls.{Call, Connect, AskFeatures, Disconnect, Send, Asks, from_call, values_after}
-use Rattle.host_laws.specs.Fed.{behind_span, AreFed}
-use Rattle.host_laws.specs.Feeds.{Feed, Gifts, Learns, Receives, Happens, Sent, Steps, Tiding, Brings, Tells, Turns, brought_by, tidings_in, tidings_of, tidings_from}
-use Rattle.host_laws.specs.Lives.{Span, end_tidings, span_tidings, all_tidings, on_links}
-use Rattle.host_laws.specs.OverLinks.{talk_marks}
-use Rattle.host_laws.specs.Woven.{Strand, Hearing, Giving, Firing, Telling, Gifting, Learning, Checking, Stepping, strand_list, strand_profile, woven_list, Woven}
-use Rattle.host_laws.proofs.Asking.{send_if, sends_on, closes_on, asked, hosts_ask, clients_ask, clients-call, lent_call, servers-call}
-use Rattle.scenario_laws.specs.Captures.{Ran}
-use Rattle.scenario_laws.specs.Gains.{holding, serving, asked_by}
+use Rattle.pair_laws.specs.bt_base.specs.declared.settings.Settings.{Settings}
+use Rattle.pair_laws.specs.bt_base.specs.Objects.{Object, Contents}
+use Rattle.pair_laws.specs.bt_base.specs.Octets.{IsOctets}
+use Rattle.pair_laws.specs.push_script.specs.declared.scenario.Scenario.{Scenario}
+use Rattle.pair_laws.specs.push_terms.specs.declared.word.Side.TheVariants as sides
+use Rattle.pair_laws.specs.capture.specs.Entries.{Entry}
+use Rattle.pair_laws.specs.channel_model.specs.declared.event.ChannelEvent.{ChannelEvent}
+use Rattle.pair_laws.specs.channel_model.specs.Calls.{carrier_at, peer_mtu, waits}
+use Rattle.pair_laws.specs.channel_model.specs.Carrying.{Up as Handed, Nothing, Received}
+use Rattle.pair_laws.specs.channel_model.specs.Policies.{Policy, policy}
+use Rattle.pair_laws.specs.channel_model.specs.Value.{Channels, no_channels}
+use Rattle.pair_laws.specs.channel_laws.specs.Frames.{AreUttered}
+use Rattle.pair_laws.specs.channel_laws.specs.Pairs.{new_pair}
+use Rattle.pair_laws.specs.channel_laws.specs.Runs.{Occurrence, Comes, Connects, AsksFeatures, Disconnects, Sends, Gives, Fires, Tells as TellsNext, value_after, up_with, told_in, run_of}
+use Rattle.pair_laws.specs.channel_laws.specs.Taken.{is_free, taken_in, taken_of}
+use Rattle.pair_laws.specs.push_model.specs.Payloads.{Payload}
+use Rattle.pair_laws.specs.push_model.specs.Server.{Lent, lends, lent_sdu}
+use Rattle.pair_laws.specs.push_model.specs.Steps.{Step, Wait, MakeLink, AskFeatures as AskForFeatures, OpenChannel, SendSdu, CloseChannel, BreakLink, Ended, NoMemory, steps}
+use Rattle.pair_laws.specs.world_model.specs.Machines.{LinkEvent, Up, Down}
+use Rattle.pair_laws.specs.host_model.specs.Clients.{ClientProfile, client_profile, fitted}
+use Rattle.pair_laws.specs.host_model.specs.Endpoints.{endpoint_of, fits, takes_sdu}
+use Rattle.pair_laws.specs.host_model.specs.Pdus.{sdu_of, are_octets}
+use Rattle.pair_laws.specs.host_model.specs.Profiles.{Profile}
+use Rattle.pair_laws.specs.host_model.specs.Servers.{ServerProfile, server_profile}
+use Rattle.pair_laws.specs.host_model.specs.Shelves.{unused}
+use Rattle.pair_laws.specs.host_model.proofs.Orderly.{octets_by}
+use Rattle.pair_laws.specs.host_laws.specs.Calls.{Call, Connect, AskFeatures, Disconnect, Send, Asks, from_call, values_after}
+use Rattle.pair_laws.specs.host_laws.specs.Fed.{behind_span, AreFed}
+use Rattle.pair_laws.specs.host_laws.specs.Feeds.{Feed, Gifts, Learns, Receives, Happens, Sent, Steps, Tiding, Brings, Tells, Turns, brought_by, tidings_in, tidings_of, tidings_from}
+use Rattle.pair_laws.specs.host_laws.specs.Lives.{Span, end_tidings, span_tidings, all_tidings, on_links}
+use Rattle.pair_laws.specs.host_laws.specs.OverLinks.{talk_marks}
+use Rattle.pair_laws.specs.host_laws.specs.Woven.{Strand, Hearing, Giving, Firing, Telling, Gifting, Learning, Checking, Stepping, strand_list, strand_profile, woven_list, Woven}
+use Rattle.pair_laws.specs.host_laws.proofs.Asking.{send_if, sends_on, closes_on, asked, hosts_ask, clients_ask, clients-call, lent_call, servers-call}
+use Rattle.pair_laws.specs.scenario_laws.specs.Captures.{Ran}
+use Rattle.pair_laws.specs.scenario_laws.specs.Gains.{holding, serving, asked_by}
 use Rattle.pair_laws.specs.Keeping.{PairsKeepOrder}
 use Rattle.pair_laws.specs.OnLinks.{happened_on}
 use Rattle.pair_laws.specs.Orders.{near_in, joints_from}

@@ -1,13 +1,13 @@
 -- SDUs of the object's channel and of the multiplexer's are SDUs of their PSMs.
 use Rattle.std.proofs.Common.{◌≡◌, ℕ, List, [], ◌∷◌, ◌++◌, refl, ap₂}
 use Rattle.std.specs.List.{flat_map}
-use Rattle.push_model.specs.Events as events
-use Rattle.push_model.specs.Laws as push
-use Rattle.push_model.specs.Laws.{Deed, Hears}
-use Rattle.push_model.specs.Server.{object_psm, rfcomm_psm}
-use Rattle.push_laws.specs.Carriage as muxed
-use Rattle.push_laws.specs.Occurrences.{Occurrence, Came, Went, Closed, LinkDown, Asked, Answering}
-use Rattle.push_laws.specs.Parties as direct
+use Rattle.pair_laws.specs.push_model.specs.Events as events
+use Rattle.pair_laws.specs.push_model.specs.Laws as push
+use Rattle.pair_laws.specs.push_model.specs.Laws.{Deed, Hears}
+use Rattle.pair_laws.specs.push_model.specs.Server.{object_psm, rfcomm_psm}
+use Rattle.pair_laws.specs.push_laws.specs.Carriage as muxed
+use Rattle.pair_laws.specs.push_laws.specs.Occurrences.{Occurrence, Came, Went, Closed, LinkDown, Asked, Answering}
+use Rattle.pair_laws.specs.push_laws.specs.Parties as direct
 use Rattle.request_laws.specs.Streams.{come_on, gone_on, told_on, heard_on}
 
 -- ---- of the object

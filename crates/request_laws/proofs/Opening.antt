@@ -3,42 +3,42 @@ use Rattle.std.proofs.Common.{◌≡◌, ℕ, Bool, true, false, cond, ◌==◌,
 use Rattle.std.proofs.lemmas.Bool.{cond-true, cond-false}
 use Rattle.std.specs.List.{AllByRecursion}
 use Rattle.std.proofs.lemmas.List.{map-append}
-use Rattle.bt_base.specs.declared.ports.PortFault.{PortFault}
-use Rattle.bt_base.specs.declared.ports.PortFault.TheVariants as fault
-use Rattle.bt_base.specs.declared.settings.Settings.{Settings}
-use Rattle.channel_model.specs.declared.event.ChannelEvent.{ChannelEvent}
-use Rattle.channel_model.specs.Value.{Channels, no_channels}
-use Rattle.channel_model.specs.Calls.{sends, waits}
-use Rattle.channel_laws.specs.Runs as channels
-use Rattle.push_terms.specs.declared.outcome.Outcome.{Outcome}
-use Rattle.push_terms.specs.declared.outcome.Outcome.TheVariants as outcomes
-use Rattle.push_model.specs.declared.course.Point.TheVariants.{Due, Asked}
-use Rattle.push_model.specs.declared.course.Stage.{Stage}
-use Rattle.push_model.specs.declared.course.Stage.TheVariants as stages
-use Rattle.push_model.specs.Client.{Client, begins, begun_by, with_object, may_cancel, ends, ends_by, in_order, at_once, stage_after}
-use Rattle.push_model.specs.Causes.{Ending, InOrder, AtOnce, ending_of}
-use Rattle.push_model.specs.Events as news
-use Rattle.push_model.specs.Events.{hears_news, is_linked, armed}
-use Rattle.push_model.specs.Laws as push
-use Rattle.push_model.specs.Laws.{Deed, Hears, Asks, Finishes, Cancels, all_done}
-use Rattle.push_model.specs.Responding.{is_object}
-use Rattle.push_model.specs.Server.{object_psm}
-use Rattle.push_model.specs.Steps.{Part, Step, Stepped, Wait, MakeLink, AskFeatures, OpenChannel, SendSdu, CloseChannel, BreakLink, Ended, NoMemory, steps, steps_at, tells_end}
-use Rattle.push_laws.specs.Carriage.{frames_of}
-use Rattle.push_laws.specs.Sending.{packets_through}
-use Rattle.world_model.specs.Machines.{LinkEvent, News, Linked, Up, Down, Failed, Heard, TimerFired, Cancelled, Opening}
-use Rattle.host_model.specs.Circumstances.{Circumstance}
-use Rattle.host_model.specs.Clients as profile
-use Rattle.host_model.specs.Clients.{ClientProfile, Bid, NoBid, Paging, is_paging, ended, after_end, after_call, client_profile, fitted}
-use Rattle.host_model.specs.Endpoints.{endpoint_of, takes_sdu}
-use Rattle.host_model.specs.Pdus.{sdu_of}
-use Rattle.host_model.specs.Shelves.{size_for, name_for, unused}
-use Rattle.host_laws.specs.Calls.{Asks as Asking, values_after}
-use Rattle.host_laws.specs.Fed.{next_happening, strand_feeds, woven_feeds, WovenFed}
-use Rattle.host_laws.specs.Feeds.{Feed, Gifts, Learns, Receives, Happens, Sent, Steps, tidings_by, fed, all_fed}
-use Rattle.host_laws.specs.Pushing.{Affair, Begins, Does, client_behind, end_asked, link_asked, then_ends, then_calls, pushed_with, pushed_from}
-use Rattle.host_laws.specs.Woven.{Strand, IsOnLink, Hearing, Giving, Firing, Telling, Gifting, Learning, Checking, Stepping, strand_list, strand_profile, woven_list, turned}
-use Rattle.host_laws.proofs.Pushing.{all_pushed}
+use Rattle.pair_laws.specs.bt_base.specs.declared.ports.PortFault.{PortFault}
+use Rattle.pair_laws.specs.bt_base.specs.declared.ports.PortFault.TheVariants as fault
+use Rattle.pair_laws.specs.bt_base.specs.declared.settings.Settings.{Settings}
+use Rattle.pair_laws.specs.channel_model.specs.declared.event.ChannelEvent.{ChannelEvent}
+use Rattle.pair_laws.specs.channel_model.specs.Value.{Channels, no_channels}
+use Rattle.pair_laws.specs.channel_model.specs.Calls.{sends, waits}
+use Rattle.pair_laws.specs.channel_laws.specs.Runs as channels
+use Rattle.pair_laws.specs.push_terms.specs.declared.outcome.Outcome.{Outcome}
+use Rattle.pair_laws.specs.push_terms.specs.declared.outcome.Outcome.TheVariants as outcomes
+use Rattle.pair_laws.specs.push_model.specs.declared.course.Point.TheVariants.{Due, Asked}
+use Rattle.pair_laws.specs.push_model.specs.declared.course.Stage.{Stage}
+use Rattle.pair_laws.specs.push_model.specs.declared.course.Stage.TheVariants as stages
+use Rattle.pair_laws.specs.push_model.specs.Client.{Client, begins, begun_by, with_object, may_cancel, ends, ends_by, in_order, at_once, stage_after}
+use Rattle.pair_laws.specs.push_model.specs.Causes.{Ending, InOrder, AtOnce, ending_of}
+use Rattle.pair_laws.specs.push_model.specs.Events as news
+use Rattle.pair_laws.specs.push_model.specs.Events.{hears_news, is_linked, armed}
+use Rattle.pair_laws.specs.push_model.specs.Laws as push
+use Rattle.pair_laws.specs.push_model.specs.Laws.{Deed, Hears, Asks, Finishes, Cancels, all_done}
+use Rattle.pair_laws.specs.push_model.specs.Responding.{is_object}
+use Rattle.pair_laws.specs.push_model.specs.Server.{object_psm}
+use Rattle.pair_laws.specs.push_model.specs.Steps.{Part, Step, Stepped, Wait, MakeLink, AskFeatures, OpenChannel, SendSdu, CloseChannel, BreakLink, Ended, NoMemory, steps, steps_at, tells_end}
+use Rattle.pair_laws.specs.push_laws.specs.Carriage.{frames_of}
+use Rattle.pair_laws.specs.push_laws.specs.Sending.{packets_through}
+use Rattle.pair_laws.specs.world_model.specs.Machines.{LinkEvent, News, Linked, Up, Down, Failed, Heard, TimerFired, Cancelled, Opening}
+use Rattle.pair_laws.specs.host_model.specs.Circumstances.{Circumstance}
+use Rattle.pair_laws.specs.host_model.specs.Clients as profile
+use Rattle.pair_laws.specs.host_model.specs.Clients.{ClientProfile, Bid, NoBid, Paging, is_paging, ended, after_end, after_call, client_profile, fitted}
+use Rattle.pair_laws.specs.host_model.specs.Endpoints.{endpoint_of, takes_sdu}
+use Rattle.pair_laws.specs.host_model.specs.Pdus.{sdu_of}
+use Rattle.pair_laws.specs.host_model.specs.Shelves.{size_for, name_for, unused}
+use Rattle.pair_laws.specs.host_laws.specs.Calls.{Asks as Asking, values_after}
+use Rattle.pair_laws.specs.host_laws.specs.Fed.{next_happening, strand_feeds, woven_feeds, WovenFed}
+use Rattle.pair_laws.specs.host_laws.specs.Feeds.{Feed, Gifts, Learns, Receives, Happens, Sent, Steps, tidings_by, fed, all_fed}
+use Rattle.pair_laws.specs.host_laws.specs.Pushing.{Affair, Begins, Does, client_behind, end_asked, link_asked, then_ends, then_calls, pushed_with, pushed_from}
+use Rattle.pair_laws.specs.host_laws.specs.Woven.{Strand, IsOnLink, Hearing, Giving, Firing, Telling, Gifting, Learning, Checking, Stepping, strand_list, strand_profile, woven_list, turned}
+use Rattle.pair_laws.specs.host_laws.proofs.Pushing.{all_pushed}
 use Rattle.request_laws.specs.Streams.{heard_on}
 use Rattle.request_laws.specs.Twists.{all_deeds}
 use Rattle.request_laws.proofs.Beginning.{client-both}

@@ -3,21 +3,21 @@ use Rattle.std.proofs.Common.{Bool, true, false, cond, eqb, leb, suc, ◌&&◌, 
 use Rattle.std.specs.Prelude.{nat_lt, slice_index}
 use Rattle.std.specs.List.{AllByRecursion, flat_map}
 use Rattle.std.proofs.lemmas.Bool.{and_parts, eqb-true, leb-true, ltb-true}
-use Rattle.bt_base.specs.Octets.{IsOctets, be16, be32}
-use Rattle.obex_headers.specs.Packets.{PlainValue, Text, Octets, One, Four, PlainHeader, PlainPacket, header_octets, value_octets, headers_octets, packet_octets, packet_len, text_octets}
-use Rattle.obex_headers.proofs.Numbers.{IsOctets-drop}
-use Rattle.obex_session.specs.PutPackets.{head_with, body_header, put_packet, units_in, ahead_with}
-use Rattle.obex_session.specs.Responses.{connect_fields}
-use Rattle.sdp_elements.specs.Exchange.{continuation_in}
-use Rattle.sdp_elements.specs.Optional.{◌>>=◌}
-use Rattle.sdp_elements.specs.Pdus.{PlainPdu, states_length, pdu_in}
-use Rattle.sdp_elements.specs.Questions.{pattern_octets, ranges_octets}
-use Rattle.sdp_client.specs.declared.query.Stage.{Stage}
-use Rattle.sdp_client.specs.declared.query.Stage.TheVariants as stages
-use Rattle.sdp_client.specs.declared.reason.QueryReason.TheVariants.{TooLong}
-use Rattle.sdp_client.specs.Asking.{Asking, asked_pattern, asked_ranges, request_octets, request_parameters}
-use Rattle.sdp_client.specs.Hearing.{ended, after_whole, with_part, asks_on, when_said, after_said, after_when, after_reply}
-use Rattle.sdp_client.specs.Replies.{PlainPart, PlainSaid, Gives, Failed, Nothing, goes_on, counted_part, part_in, given, said_by, said_in, is_of_another}
+use Rattle.pair_laws.specs.bt_base.specs.Octets.{IsOctets, be16, be32}
+use Rattle.pair_laws.specs.obex_headers.specs.Packets.{PlainValue, Text, Octets, One, Four, PlainHeader, PlainPacket, header_octets, value_octets, headers_octets, packet_octets, packet_len, text_octets}
+use Rattle.pair_laws.specs.obex_headers.proofs.Numbers.{IsOctets-drop}
+use Rattle.pair_laws.specs.obex_session.specs.PutPackets.{head_with, body_header, put_packet, units_in, ahead_with}
+use Rattle.pair_laws.specs.obex_session.specs.Responses.{connect_fields}
+use Rattle.pair_laws.specs.sdp_elements.specs.Exchange.{continuation_in}
+use Rattle.pair_laws.specs.sdp_elements.specs.Optional.{◌>>=◌}
+use Rattle.pair_laws.specs.sdp_elements.specs.Pdus.{PlainPdu, states_length, pdu_in}
+use Rattle.pair_laws.specs.sdp_elements.specs.Questions.{pattern_octets, ranges_octets}
+use Rattle.pair_laws.specs.sdp_client.specs.declared.query.Stage.{Stage}
+use Rattle.pair_laws.specs.sdp_client.specs.declared.query.Stage.TheVariants as stages
+use Rattle.pair_laws.specs.sdp_client.specs.declared.reason.QueryReason.TheVariants.{TooLong}
+use Rattle.pair_laws.specs.sdp_client.specs.Asking.{Asking, asked_pattern, asked_ranges, request_octets, request_parameters}
+use Rattle.pair_laws.specs.sdp_client.specs.Hearing.{ended, after_whole, with_part, asks_on, when_said, after_said, after_when, after_reply}
+use Rattle.pair_laws.specs.sdp_client.specs.Replies.{PlainPart, PlainSaid, Gives, Failed, Nothing, goes_on, counted_part, part_in, given, said_by, said_in, is_of_another}
 use Rattle.request_laws.specs.SpellableClients.{IsState}
 use Rattle.request_laws.proofs.SpellableParts.{none_octets, cons_octets, append_octets, three}
 

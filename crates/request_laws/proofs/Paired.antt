@@ -2,31 +2,31 @@
 use Rattle.std.proofs.Common.{◌≡◌, ℕ, suc, true, List, [], ◌∷◌, ◌++◌, map, false, inr, refl, sym, subst, ◌∙◌}
 use Rattle.std.specs.List.{AllByRecursion}
 use Rattle.std.specs.Prelude.{get_or}
-use Rattle.push_terms.specs.declared.word.Side.TheVariants as sides
-use Rattle.channel_model.specs.Policies.{policy}
-use Rattle.channel_laws.specs.Pairs.{new_pair}
-use Rattle.channel_laws.specs.Runs as channels
-use Rattle.world_model.specs.Machines.{LinkEvent, Up, Down}
-use Rattle.host_model.specs.Clients.{ClientProfile, client_profile}
-use Rattle.host_model.specs.Servers.{ServerProfile, server_profile}
-use Rattle.host_laws.specs.Fed.{behind_span, AreFed}
-use Rattle.host_laws.specs.Feeds.{Feed}
-use Rattle.host_laws.specs.GainingOver.{CarriedOne, CarriesOne}
-use Rattle.host_laws.specs.Lives.{Span, all_marks}
-use Rattle.host_laws.specs.OverLinks.{AreTimely}
-use Rattle.host_laws.specs.Woven.{Woven}
-use Rattle.scenario_laws.specs.Gains.{holding, serving, asked_by}
+use Rattle.pair_laws.specs.push_terms.specs.declared.word.Side.TheVariants as sides
+use Rattle.pair_laws.specs.channel_model.specs.Policies.{policy}
+use Rattle.pair_laws.specs.channel_laws.specs.Pairs.{new_pair}
+use Rattle.pair_laws.specs.channel_laws.specs.Runs as channels
+use Rattle.pair_laws.specs.world_model.specs.Machines.{LinkEvent, Up, Down}
+use Rattle.pair_laws.specs.host_model.specs.Clients.{ClientProfile, client_profile}
+use Rattle.pair_laws.specs.host_model.specs.Servers.{ServerProfile, server_profile}
+use Rattle.pair_laws.specs.host_laws.specs.Fed.{behind_span, AreFed}
+use Rattle.pair_laws.specs.host_laws.specs.Feeds.{Feed}
+use Rattle.pair_laws.specs.host_laws.specs.GainingOver.{CarriedOne, CarriesOne}
+use Rattle.pair_laws.specs.host_laws.specs.Lives.{Span, all_marks}
+use Rattle.pair_laws.specs.host_laws.specs.OverLinks.{AreTimely}
+use Rattle.pair_laws.specs.host_laws.specs.Woven.{Woven}
+use Rattle.pair_laws.specs.scenario_laws.specs.Gains.{holding, serving, asked_by}
 use Rattle.pair_laws.specs.OnLinks.{ArePairs, happened_on}
 use Rattle.pair_laws.specs.Orders.{joints_from}
 use Rattle.pair_laws.proofs.Whole.{pairs-are_whole}
 use Rattle.request_laws.specs.BothFed.{IsDown, AreLinked, AreTwined, over_stored}
 use Rattle.request_laws.specs.Paired.{PairsOf, IsPiped, PipedOn, PairsLinked, PairedServersServe}
-use Rattle.bt_base.specs.Objects.{Object}
-use Rattle.push_script.specs.declared.scenario.Scenario.{Scenario}
-use Rattle.capture.specs.Entries.{Entry}
-use Rattle.host_laws.specs.Calls.{HostsAsk}
-use Rattle.host_laws.specs.InOrder.{IsServedInOrder}
-use Rattle.scenario_laws.specs.Captures.{Ran}
+use Rattle.pair_laws.specs.bt_base.specs.Objects.{Object}
+use Rattle.pair_laws.specs.push_script.specs.declared.scenario.Scenario.{Scenario}
+use Rattle.pair_laws.specs.capture.specs.Entries.{Entry}
+use Rattle.pair_laws.specs.host_laws.specs.Calls.{HostsAsk}
+use Rattle.pair_laws.specs.host_laws.specs.InOrder.{IsServedInOrder}
+use Rattle.pair_laws.specs.scenario_laws.specs.Captures.{Ran}
 use Rattle.request_laws.specs.Runs.{BothCameFed}
 use Rattle.request_laws.specs.Twists.{Set, Twined}
 use Rattle.request_laws.proofs.Joining.{joined_are_twined}

@@ -2,13 +2,13 @@
 use Rattle.std.proofs.Common.{◌≡◌, ℕ, Bool, true, false, ◌||◌, List, [], ◌∷◌, ◌++◌, map, refl, sym, ap, subst, ◌∙◌, append_assoc, append-nil}
 use Rattle.std.specs.List.{AllByRecursion, flat_map}
 use Rattle.std.proofs.lemmas.List.Concat.{flat_map-append}
-use Rattle.push_model.specs.Client.{Client}
-use Rattle.push_model.specs.Laws as push
-use Rattle.push_model.specs.Laws.{Deed, all_done}
-use Rattle.push_model.specs.Server.{object_psm}
-use Rattle.push_laws.specs.Occurrences.{Occurrence}
-use Rattle.push_laws.specs.Parties.{Move, OfServer, OfClient, of_server, of_client, server_side, client_side, client_after, Pipes, no_pipes, sent_by, heard_by, come_by, gone_by, pipes_after, IsFrontOf, ArePipes, StayPipes}
-use Rattle.push_laws.specs.Readings.{closes}
+use Rattle.pair_laws.specs.push_model.specs.Client.{Client}
+use Rattle.pair_laws.specs.push_model.specs.Laws as push
+use Rattle.pair_laws.specs.push_model.specs.Laws.{Deed, all_done}
+use Rattle.pair_laws.specs.push_model.specs.Server.{object_psm}
+use Rattle.pair_laws.specs.push_laws.specs.Occurrences.{Occurrence}
+use Rattle.pair_laws.specs.push_laws.specs.Parties.{Move, OfServer, OfClient, of_server, of_client, server_side, client_side, client_after, Pipes, no_pipes, sent_by, heard_by, come_by, gone_by, pipes_after, IsFrontOf, ArePipes, StayPipes}
+use Rattle.pair_laws.specs.push_laws.specs.Readings.{closes}
 use Rattle.request_laws.specs.BothFed.{ComesNone}
 use Rattle.request_laws.specs.Twists.{pipes_behind, NoneBehind}
 use Rattle.request_laws.proofs.OnPsm.{come_one, gone_one, heard_one}

@@ -3,34 +3,34 @@ use Rattle.std.proofs.Common.{◌≡◌, ℕ, suc, ◌==◌, Bool, true, false, 
 use Rattle.std.proofs.lemmas.Bool.{cond-false}
 use Rattle.std.specs.List.{AllByRecursion, flat_map}
 use Rattle.std.proofs.lemmas.List.Concat.{flat_map-append}
-use Rattle.channel_model.specs.Value.{Channels, no_channels}
-use Rattle.channel_laws.specs.Runs as channels
-use Rattle.push_model.specs.Client.{Client, with_object, is_idle}
-use Rattle.push_model.specs.Events as events
-use Rattle.push_model.specs.Events.{hears_news}
-use Rattle.push_model.specs.Laws as push
-use Rattle.push_model.specs.Laws.{Deed, Hears, all_done}
-use Rattle.push_model.specs.Server.{object_psm}
-use Rattle.push_laws.specs.Occurrences.{Occurrence, LinkDown}
-use Rattle.push_laws.specs.Parties.{server_side, client_side, Push, ended_with, over_pushes}
-use Rattle.push_laws.specs.Spelled.{AreAmong, name_of, names_of}
-use Rattle.push_laws.proofs.Among.{none_among, all_among, both_among, ahead_among, behind_among, among_trans}
-use Rattle.world_model.specs.Machines.{LinkEvent, Up, Down}
-use Rattle.host_model.specs.Clients.{ClientProfile, is_paging, client_profile}
-use Rattle.host_model.specs.Circumstances.{Circumstance}
-use Rattle.host_model.specs.Servers.{ServerProfile, server_profile}
-use Rattle.host_laws.specs.Calls.{values_after}
-use Rattle.host_laws.specs.Fed.{strand_feeds, woven_feeds, WovenFed, turned_feeds, FedSpan, span_feeds, behind_span, AreFed}
-use Rattle.host_laws.specs.Feeds.{Feed, all_fed}
-use Rattle.host_laws.specs.Lives.{Span, all_marks}
-use Rattle.host_laws.specs.Openings.{name_begun, names_begun}
-use Rattle.host_laws.specs.OverLinks.{AreTimely}
-use Rattle.host_laws.specs.Pushing.{Affair, Begins, Does, client_after, client_behind, pushed_from, AllAsked}
-use Rattle.host_laws.specs.Serving.{served_from}
-use Rattle.host_laws.specs.Woven.{Strand, strand_list, strand_profile, turned}
-use Rattle.host_laws.proofs.Pushing.{all_pushed}
+use Rattle.pair_laws.specs.channel_model.specs.Value.{Channels, no_channels}
+use Rattle.pair_laws.specs.channel_laws.specs.Runs as channels
+use Rattle.pair_laws.specs.push_model.specs.Client.{Client, with_object, is_idle}
+use Rattle.pair_laws.specs.push_model.specs.Events as events
+use Rattle.pair_laws.specs.push_model.specs.Events.{hears_news}
+use Rattle.pair_laws.specs.push_model.specs.Laws as push
+use Rattle.pair_laws.specs.push_model.specs.Laws.{Deed, Hears, all_done}
+use Rattle.pair_laws.specs.push_model.specs.Server.{object_psm}
+use Rattle.pair_laws.specs.push_laws.specs.Occurrences.{Occurrence, LinkDown}
+use Rattle.pair_laws.specs.push_laws.specs.Parties.{server_side, client_side, Push, ended_with, over_pushes}
+use Rattle.pair_laws.specs.push_laws.specs.Spelled.{AreAmong, name_of, names_of}
+use Rattle.pair_laws.specs.push_laws.proofs.Among.{none_among, all_among, both_among, ahead_among, behind_among, among_trans}
+use Rattle.pair_laws.specs.world_model.specs.Machines.{LinkEvent, Up, Down}
+use Rattle.pair_laws.specs.host_model.specs.Clients.{ClientProfile, is_paging, client_profile}
+use Rattle.pair_laws.specs.host_model.specs.Circumstances.{Circumstance}
+use Rattle.pair_laws.specs.host_model.specs.Servers.{ServerProfile, server_profile}
+use Rattle.pair_laws.specs.host_laws.specs.Calls.{values_after}
+use Rattle.pair_laws.specs.host_laws.specs.Fed.{strand_feeds, woven_feeds, WovenFed, turned_feeds, FedSpan, span_feeds, behind_span, AreFed}
+use Rattle.pair_laws.specs.host_laws.specs.Feeds.{Feed, all_fed}
+use Rattle.pair_laws.specs.host_laws.specs.Lives.{Span, all_marks}
+use Rattle.pair_laws.specs.host_laws.specs.Openings.{name_begun, names_begun}
+use Rattle.pair_laws.specs.host_laws.specs.OverLinks.{AreTimely}
+use Rattle.pair_laws.specs.host_laws.specs.Pushing.{Affair, Begins, Does, client_after, client_behind, pushed_from, AllAsked}
+use Rattle.pair_laws.specs.host_laws.specs.Serving.{served_from}
+use Rattle.pair_laws.specs.host_laws.specs.Woven.{Strand, strand_list, strand_profile, turned}
+use Rattle.pair_laws.specs.host_laws.proofs.Pushing.{all_pushed}
 use Rattle.request_laws.specs.BothFed.{ComesNone, IsDown, WantsLink, AreLinked}
-use Rattle.host_laws.proofs.StrandsFed.{strand_so, here_so, span_so}
+use Rattle.pair_laws.specs.host_laws.proofs.StrandsFed.{strand_so, here_so, span_so}
 use Rattle.request_laws.specs.Twists.{Twist, AtClient, AtServer, of_client, of_server, Both, Set, both_after, deeds_in, all_deeds, all_moves, OpensNone}
 use Rattle.request_laws.proofs.Beginning.{client-both}
 use Rattle.request_laws.proofs.Timely.{HearsNothing, is_up, goes_down, is_deaf, is_down, is_deaf_now}

@@ -2,23 +2,23 @@
 use Rattle.std.proofs.Common.{◌≡◌, false, List, [], ◌∷◌, ◌++◌, fold, None, refl, sym, ap, subst, ◌∙◌, append-nil}
 use Rattle.std.specs.List.{AllByRecursion}
 use Rattle.std.proofs.lemmas.List.Sums.{fold-append}
-use Rattle.bt_base.specs.declared.settings.Settings.{Settings}
-use Rattle.channel_model.specs.Policies.{Policy, policy}
-use Rattle.channel_model.specs.Value.{Channels, no_channels}
-use Rattle.channel_laws.specs.Runs.{Occurrence, Gives, Fires, Tells, said_in, value_after, Run, new_link, run_on, run_of}
-use Rattle.push_model.specs.Steps.{Step, Wait, MakeLink, AskFeatures, OpenChannel, SendSdu, CloseChannel, BreakLink, Ended, NoMemory, steps}
-use Rattle.world_model.specs.Machines.{News, Linked, Failed, Heard, TimerFired, Cancelled, Opening}
-use Rattle.host_model.specs.Clients.{ClientProfile, client_profile, fitted}
-use Rattle.host_model.specs.Profiles.{Profile}
-use Rattle.host_model.specs.Shelves.{unused}
-use Rattle.host_laws.specs.Calls.{Asks, from_call, values_after}
-use Rattle.host_laws.specs.Feeds.{tidings_by}
-use Rattle.host_laws.specs.Searching.{step_call, AsksAsItSteps}
-use Rattle.host_laws.specs.Woven.{Strand, Hearing, Giving, Firing, Telling, Gifting, Learning, Checking, Stepping, IsOnLink, strand_list, strand_profile, woven_list, Woven}
-use Rattle.host_laws.proofs.Links.{value_run}
-use Rattle.host_laws.proofs.SearchingWeave.{all_split}
-use Rattle.scenario_laws.proofs.Acting.{IsAside}
-use Rattle.scenario_laws.proofs.UnlinkedClients.{IsAlone, steps_free, HasNoLink, clients_keep}
+use Rattle.pair_laws.specs.bt_base.specs.declared.settings.Settings.{Settings}
+use Rattle.pair_laws.specs.channel_model.specs.Policies.{Policy, policy}
+use Rattle.pair_laws.specs.channel_model.specs.Value.{Channels, no_channels}
+use Rattle.pair_laws.specs.channel_laws.specs.Runs.{Occurrence, Gives, Fires, Tells, said_in, value_after, Run, new_link, run_on, run_of}
+use Rattle.pair_laws.specs.push_model.specs.Steps.{Step, Wait, MakeLink, AskFeatures, OpenChannel, SendSdu, CloseChannel, BreakLink, Ended, NoMemory, steps}
+use Rattle.pair_laws.specs.world_model.specs.Machines.{News, Linked, Failed, Heard, TimerFired, Cancelled, Opening}
+use Rattle.pair_laws.specs.host_model.specs.Clients.{ClientProfile, client_profile, fitted}
+use Rattle.pair_laws.specs.host_model.specs.Profiles.{Profile}
+use Rattle.pair_laws.specs.host_model.specs.Shelves.{unused}
+use Rattle.pair_laws.specs.host_laws.specs.Calls.{Asks, from_call, values_after}
+use Rattle.pair_laws.specs.host_laws.specs.Feeds.{tidings_by}
+use Rattle.pair_laws.specs.host_laws.specs.Searching.{step_call, AsksAsItSteps}
+use Rattle.pair_laws.specs.host_laws.specs.Woven.{Strand, Hearing, Giving, Firing, Telling, Gifting, Learning, Checking, Stepping, IsOnLink, strand_list, strand_profile, woven_list, Woven}
+use Rattle.pair_laws.specs.host_laws.proofs.Links.{value_run}
+use Rattle.pair_laws.specs.host_laws.proofs.SearchingWeave.{all_split}
+use Rattle.pair_laws.specs.scenario_laws.proofs.Acting.{IsAside}
+use Rattle.pair_laws.specs.scenario_laws.proofs.UnlinkedClients.{IsAlone, steps_free, HasNoLink, clients_keep}
 use Rattle.request_laws.proofs.Timely.{HearsNothing}
 
 aside_of : (news : News) → tidings_by news ≡ [] → IsAside news

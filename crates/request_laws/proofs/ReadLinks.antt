@@ -5,54 +5,54 @@ use Rattle.std.specs.List.{AllByRecursion, AllZip, flat_map}
 use Rattle.std.proofs.lemmas.Bool.{eq-eqb}
 use Rattle.std.proofs.lemmas.List.Concat.{flat_map-append}
 use Rattle.std.proofs.lemmas.List.Elements.{filter_map-append}
-use Rattle.acl_fragments.specs.Pieces.{channel_of}
-use Rattle.bt_base.specs.declared.settings.Settings.{Settings}
-use Rattle.bt_base.specs.declared.settings.Transport.TheVariants.{Rfcomm}
-use Rattle.bt_base.specs.Objects.{Object, Contents}
-use Rattle.capture.specs.Histories.{EachAfter}
-use Rattle.capture.specs.Pdus.{Pdu}
-use Rattle.link_talk.specs.declared.party.Party.{Party}
-use Rattle.link_talk.specs.ObjectsHeard.{objects}
-use Rattle.link_talk.specs.Sayings.{Saying, said_by}
-use Rattle.link_talk.specs.Sdus.{Spoken, spoken}
-use Rattle.channel_model.specs.declared.event.ChannelEvent.{ChannelEvent}
-use Rattle.channel_model.specs.declared.event.ChannelEvent.TheVariants as events
-use Rattle.channel_model.specs.Calls.{link_down}
-use Rattle.channel_model.specs.Carrying.{Up as Handed, Nothing, Received}
-use Rattle.channel_model.specs.Hearing.{up}
-use Rattle.channel_model.specs.Policies.{Policy, policy}
-use Rattle.channel_model.specs.Value.{Channels, no_channels}
-use Rattle.channel_laws.specs.Frames.{AreUttered}
-use Rattle.channel_laws.specs.Runs as channels
-use Rattle.channel_laws.specs.Runs.{run_of}
-use Rattle.push_model.specs.Server.{Lent, lends, lent_sdu, object_psm, rfcomm_psm}
-use Rattle.push_laws.specs.Dialogs.{NoPacket}
-use Rattle.push_laws.specs.Occurrences.{Occurrence, Came, Went, Closed, LinkDown, Asked, Answering}
-use Rattle.push_laws.specs.Parties.{sdu_if}
-use Rattle.world_model.specs.Machines.{News, LinkEvent, Linked, Up, Down, Failed, Heard, TimerFired, Cancelled, Opening}
-use Rattle.world_model.specs.Talks.{Talk}
-use Rattle.host_model.specs.Circumstances.{Circumstance}
-use Rattle.host_model.specs.Endpoints.{endpoint_of, takes_sdu}
-use Rattle.host_model.specs.Pdus.{sdu_of}
-use Rattle.host_model.specs.Servers.{ServerProfile, is_told, server_profile}
-use Rattle.host_laws.specs.Calls.{values_after}
-use Rattle.host_laws.specs.Carriers.{links_from, links_of, move_on, ComesAside, ClosesLast, reader, CarriedLink, IsReadOn, objects_moved}
-use Rattle.host_laws.specs.Fed.{feeds_up, next_happening, happenings, strand_feeds, woven_feeds, turned_feeds, span_feeds, behind_span, WovenFed, FedSpan, AreFed}
-use Rattle.host_laws.specs.Feeds.{Feed, Happens, Learns, fed, tidings_by}
-use Rattle.host_laws.specs.GainingOver.{IsNoPdu}
-use Rattle.host_laws.specs.InOrder.{AsksNoChannels}
-use Rattle.host_laws.specs.Lives.{Span, all_marks}
-use Rattle.host_laws.specs.OneCarrier.{IsAside}
-use Rattle.host_laws.specs.OneOnLinks.{CarriesOneOn}
-use Rattle.host_laws.specs.OverLinks.{GoesOut, moved_in, AreTimely, IsTalkOf}
-use Rattle.host_laws.specs.Seen.{spoken_of}
-use Rattle.host_laws.specs.Serving.{news_served, event_served, taken_by, lent_by, served_from}
-use Rattle.host_laws.specs.Spoken.{AsksForNone, GrantsAnew, IsServed}
-use Rattle.host_laws.specs.Woven.{Strand, Hearing, Giving, Firing, Telling, Gifting, Learning, Checking, Stepping, IsOnLink, strand_list, strand_profile, woven_list, turned, Woven}
-use Rattle.host_laws.proofs.Asking.{hosts_ask}
-use Rattle.scenario_laws.specs.Coming.{out_of, FallTo}
-use Rattle.scenario_laws.proofs.Gaining.{all-out}
-use Rattle.host_laws.proofs.StrandsFed.{strand_so, here_so, span_so}
+use Rattle.pair_laws.specs.acl_fragments.specs.Pieces.{channel_of}
+use Rattle.pair_laws.specs.bt_base.specs.declared.settings.Settings.{Settings}
+use Rattle.pair_laws.specs.bt_base.specs.declared.settings.Transport.TheVariants.{Rfcomm}
+use Rattle.pair_laws.specs.bt_base.specs.Objects.{Object, Contents}
+use Rattle.pair_laws.specs.capture.specs.Histories.{EachAfter}
+use Rattle.pair_laws.specs.capture.specs.Pdus.{Pdu}
+use Rattle.pair_laws.specs.link_talk.specs.declared.party.Party.{Party}
+use Rattle.pair_laws.specs.link_talk.specs.ObjectsHeard.{objects}
+use Rattle.pair_laws.specs.link_talk.specs.Sayings.{Saying, said_by}
+use Rattle.pair_laws.specs.link_talk.specs.Sdus.{Spoken, spoken}
+use Rattle.pair_laws.specs.channel_model.specs.declared.event.ChannelEvent.{ChannelEvent}
+use Rattle.pair_laws.specs.channel_model.specs.declared.event.ChannelEvent.TheVariants as events
+use Rattle.pair_laws.specs.channel_model.specs.Calls.{link_down}
+use Rattle.pair_laws.specs.channel_model.specs.Carrying.{Up as Handed, Nothing, Received}
+use Rattle.pair_laws.specs.channel_model.specs.Hearing.{up}
+use Rattle.pair_laws.specs.channel_model.specs.Policies.{Policy, policy}
+use Rattle.pair_laws.specs.channel_model.specs.Value.{Channels, no_channels}
+use Rattle.pair_laws.specs.channel_laws.specs.Frames.{AreUttered}
+use Rattle.pair_laws.specs.channel_laws.specs.Runs as channels
+use Rattle.pair_laws.specs.channel_laws.specs.Runs.{run_of}
+use Rattle.pair_laws.specs.push_model.specs.Server.{Lent, lends, lent_sdu, object_psm, rfcomm_psm}
+use Rattle.pair_laws.specs.push_laws.specs.Dialogs.{NoPacket}
+use Rattle.pair_laws.specs.push_laws.specs.Occurrences.{Occurrence, Came, Went, Closed, LinkDown, Asked, Answering}
+use Rattle.pair_laws.specs.push_laws.specs.Parties.{sdu_if}
+use Rattle.pair_laws.specs.world_model.specs.Machines.{News, LinkEvent, Linked, Up, Down, Failed, Heard, TimerFired, Cancelled, Opening}
+use Rattle.pair_laws.specs.world_model.specs.Talks.{Talk}
+use Rattle.pair_laws.specs.host_model.specs.Circumstances.{Circumstance}
+use Rattle.pair_laws.specs.host_model.specs.Endpoints.{endpoint_of, takes_sdu}
+use Rattle.pair_laws.specs.host_model.specs.Pdus.{sdu_of}
+use Rattle.pair_laws.specs.host_model.specs.Servers.{ServerProfile, is_told, server_profile}
+use Rattle.pair_laws.specs.host_laws.specs.Calls.{values_after}
+use Rattle.pair_laws.specs.host_laws.specs.Carriers.{links_from, links_of, move_on, ComesAside, ClosesLast, reader, CarriedLink, IsReadOn, objects_moved}
+use Rattle.pair_laws.specs.host_laws.specs.Fed.{feeds_up, next_happening, happenings, strand_feeds, woven_feeds, turned_feeds, span_feeds, behind_span, WovenFed, FedSpan, AreFed}
+use Rattle.pair_laws.specs.host_laws.specs.Feeds.{Feed, Happens, Learns, fed, tidings_by}
+use Rattle.pair_laws.specs.host_laws.specs.GainingOver.{IsNoPdu}
+use Rattle.pair_laws.specs.host_laws.specs.InOrder.{AsksNoChannels}
+use Rattle.pair_laws.specs.host_laws.specs.Lives.{Span, all_marks}
+use Rattle.pair_laws.specs.host_laws.specs.OneCarrier.{IsAside}
+use Rattle.pair_laws.specs.host_laws.specs.OneOnLinks.{CarriesOneOn}
+use Rattle.pair_laws.specs.host_laws.specs.OverLinks.{GoesOut, moved_in, AreTimely, IsTalkOf}
+use Rattle.pair_laws.specs.host_laws.specs.Seen.{spoken_of}
+use Rattle.pair_laws.specs.host_laws.specs.Serving.{news_served, event_served, taken_by, lent_by, served_from}
+use Rattle.pair_laws.specs.host_laws.specs.Spoken.{AsksForNone, GrantsAnew, IsServed}
+use Rattle.pair_laws.specs.host_laws.specs.Woven.{Strand, Hearing, Giving, Firing, Telling, Gifting, Learning, Checking, Stepping, IsOnLink, strand_list, strand_profile, woven_list, turned, Woven}
+use Rattle.pair_laws.specs.host_laws.proofs.Asking.{hosts_ask}
+use Rattle.pair_laws.specs.scenario_laws.specs.Coming.{out_of, FallTo}
+use Rattle.pair_laws.specs.scenario_laws.proofs.Gaining.{all-out}
+use Rattle.pair_laws.specs.host_laws.proofs.StrandsFed.{strand_so, here_so, span_so}
 use Rattle.request_laws.specs.BothFed.{IsDown}
 use Rattle.request_laws.specs.Carried.{NoneComesBehind}
 use Rattle.request_laws.specs.Streams.{come_on}

@@ -2,29 +2,29 @@
 use Rattle.std.proofs.Common.{Bool, true, false, cond, eqb, ltb, ◌||◌, ◌&&◌, ◌+◌, ◌<◌, ◌≡◌, ℕ, List, [], ◌∷◌, length, Option, Some, None, Result, Ok, Err, arith, refl}
 use Rattle.std.specs.Prelude.{not}
 use Rattle.std.specs.List.{list_any}
-use Rattle.bt_base.specs.declared.ports.PortFault.TheVariants as fault
-use Rattle.bt_base.specs.declared.settings.Transport.{Transport}
-use Rattle.bt_base.specs.Octets.{IsOctets}
-use Rattle.obex_headers.specs.declared.fault.ObexRefusal.{ObexRefusal}
-use Rattle.obex_headers.specs.declared.packet.Phase.TheVariants.{Request}
-use Rattle.obex_headers.specs.Packets.{PlainHeader, PlainPacket, bare, with_header, units_of}
-use Rattle.obex_headers.specs.Reading.{packet_in}
-use Rattle.obex_headers.specs.Runs.{name_text, body_of, is_final}
-use Rattle.obex_session.specs.declared.codes.Code.{Code}
-use Rattle.obex_session.specs.declared.codes.Code.TheVariants.{Success, BadRequest, TooLarge, NotImplemented, Continue, InternalError}
-use Rattle.obex_session.specs.declared.course.Course.{Course}
-use Rattle.obex_session.specs.declared.course.Progress.{Progress}
-use Rattle.obex_session.specs.declared.course.Progress.TheVariants.{Unnamed, Named, Filled}
-use Rattle.obex_session.specs.Codes.{octet_of}
-use Rattle.obex_session.specs.InboxCalls.{InboxCall, Begin, Append, Answer, come_of}
-use Rattle.obex_session.specs.Marks.{is_name}
-use Rattle.obex_session.specs.Past.{Serving}
-use Rattle.obex_session.specs.Responses.{is_connect, connect_fields, single_header, response_octets, confirmation_octets}
-use Rattle.obex_session.specs.Rules.{Ruling, ends, opens, at_name, at_total, at_body, at_parts, then_on, then_at, after_headers, finished, at_put, other_response, progress_in, is_ignoring, at_put_in, at_packet}
-use Rattle.obex_session.specs.Serving.{kind_heard, ruling_on, verdict_or}
-use Rattle.obex_session.specs.Turns.{is_first_in, is_single_in, said_open, said_whole, said_after}
-use Rattle.obex_session.specs.Views.{octets_said}
-use Rattle.push_model.specs.Sessions.{Sessions, Gift, Parted, Heard, session_of, other_of, lets_go, answers_to, is_naming, hears_after, hears}
+use Rattle.pair_laws.specs.bt_base.specs.declared.ports.PortFault.TheVariants as fault
+use Rattle.pair_laws.specs.bt_base.specs.declared.settings.Transport.{Transport}
+use Rattle.pair_laws.specs.bt_base.specs.Octets.{IsOctets}
+use Rattle.pair_laws.specs.obex_headers.specs.declared.fault.ObexRefusal.{ObexRefusal}
+use Rattle.pair_laws.specs.obex_headers.specs.declared.packet.Phase.TheVariants.{Request}
+use Rattle.pair_laws.specs.obex_headers.specs.Packets.{PlainHeader, PlainPacket, bare, with_header, units_of}
+use Rattle.pair_laws.specs.obex_headers.specs.Reading.{packet_in}
+use Rattle.pair_laws.specs.obex_headers.specs.Runs.{name_text, body_of, is_final}
+use Rattle.pair_laws.specs.obex_session.specs.declared.codes.Code.{Code}
+use Rattle.pair_laws.specs.obex_session.specs.declared.codes.Code.TheVariants.{Success, BadRequest, TooLarge, NotImplemented, Continue, InternalError}
+use Rattle.pair_laws.specs.obex_session.specs.declared.course.Course.{Course}
+use Rattle.pair_laws.specs.obex_session.specs.declared.course.Progress.{Progress}
+use Rattle.pair_laws.specs.obex_session.specs.declared.course.Progress.TheVariants.{Unnamed, Named, Filled}
+use Rattle.pair_laws.specs.obex_session.specs.Codes.{octet_of}
+use Rattle.pair_laws.specs.obex_session.specs.InboxCalls.{InboxCall, Begin, Append, Answer, come_of}
+use Rattle.pair_laws.specs.obex_session.specs.Marks.{is_name}
+use Rattle.pair_laws.specs.obex_session.specs.Past.{Serving}
+use Rattle.pair_laws.specs.obex_session.specs.Responses.{is_connect, connect_fields, single_header, response_octets, confirmation_octets}
+use Rattle.pair_laws.specs.obex_session.specs.Rules.{Ruling, ends, opens, at_name, at_total, at_body, at_parts, then_on, then_at, after_headers, finished, at_put, other_response, progress_in, is_ignoring, at_put_in, at_packet}
+use Rattle.pair_laws.specs.obex_session.specs.Serving.{kind_heard, ruling_on, verdict_or}
+use Rattle.pair_laws.specs.obex_session.specs.Turns.{is_first_in, is_single_in, said_open, said_whole, said_after}
+use Rattle.pair_laws.specs.obex_session.specs.Views.{octets_said}
+use Rattle.pair_laws.specs.push_model.specs.Sessions.{Sessions, Gift, Parted, Heard, session_of, other_of, lets_go, answers_to, is_naming, hears_after, hears}
 use Rattle.request_laws.proofs.PacketOctets.{packet_are_octets, connect_are_octets}
 use Rattle.request_laws.proofs.SpellableParts.{none_octets}
 

@@ -1,26 +1,26 @@
 -- Host b of a run serves in order.
 use Rattle.std.specs.Prelude.{◌≡◌, true, List}
 use Rattle.std.specs.List.{AllByRecursion, flat_map}
-use Rattle.bt_base.specs.declared.settings.Transport.TheVariants.{L2cap}
-use Rattle.bt_base.specs.Objects.{Object}
-use Rattle.push_script.specs.declared.scenario.Scenario.{Scenario}
-use Rattle.capture.specs.Entries.{Entry}
-use Rattle.channel_model.specs.Policies.{policy}
-use Rattle.push_terms.specs.declared.word.Side.TheVariants as sides
+use Rattle.pair_laws.specs.bt_base.specs.declared.settings.Transport.TheVariants.{L2cap}
+use Rattle.pair_laws.specs.bt_base.specs.Objects.{Object}
+use Rattle.pair_laws.specs.push_script.specs.declared.scenario.Scenario.{Scenario}
+use Rattle.pair_laws.specs.capture.specs.Entries.{Entry}
+use Rattle.pair_laws.specs.channel_model.specs.Policies.{policy}
+use Rattle.pair_laws.specs.push_terms.specs.declared.word.Side.TheVariants as sides
 use Rattle.std.proofs.Common.{subst}
-use Rattle.host_model.specs.Clients.{client_profile}
-use Rattle.host_model.specs.Servers.{server_profile}
-use Rattle.host_laws.specs.Calls.{HostsAsk}
-use Rattle.host_laws.specs.InOrder.{AsksForOneObject, AsksNoChannels, IsWhole, IsServedInOrder}
-use Rattle.host_laws.specs.Lives.{on_links}
-use Rattle.host_laws.specs.OverLinks.{parts, moved_in, talk_marks, TalksOverLinks}
-use Rattle.host_laws.proofs.InOrder.{servers-are_served_in_order}
-use Rattle.host_laws.proofs.OverLinks.{hosts_talk_fed}
-use Rattle.scenario_laws.specs.Captures.{Ran}
-use Rattle.scenario_laws.specs.Coming.{CameOver}
-use Rattle.scenario_laws.specs.Gains.{holding, serving, asked_by}
-use Rattle.scenario_laws.proofs.Free.{free_runs_are_gentle}
-use Rattle.scenario_laws.proofs.Orderly.{parts-are_asked}
+use Rattle.pair_laws.specs.host_model.specs.Clients.{client_profile}
+use Rattle.pair_laws.specs.host_model.specs.Servers.{server_profile}
+use Rattle.pair_laws.specs.host_laws.specs.Calls.{HostsAsk}
+use Rattle.pair_laws.specs.host_laws.specs.InOrder.{AsksForOneObject, AsksNoChannels, IsWhole, IsServedInOrder}
+use Rattle.pair_laws.specs.host_laws.specs.Lives.{on_links}
+use Rattle.pair_laws.specs.host_laws.specs.OverLinks.{parts, moved_in, talk_marks, TalksOverLinks}
+use Rattle.pair_laws.specs.host_laws.proofs.InOrder.{servers-are_served_in_order}
+use Rattle.pair_laws.specs.host_laws.proofs.OverLinks.{hosts_talk_fed}
+use Rattle.pair_laws.specs.scenario_laws.specs.Captures.{Ran}
+use Rattle.pair_laws.specs.scenario_laws.specs.Coming.{CameOver}
+use Rattle.pair_laws.specs.scenario_laws.specs.Gains.{holding, serving, asked_by}
+use Rattle.pair_laws.specs.scenario_laws.proofs.Free.{free_runs_are_gentle}
+use Rattle.pair_laws.specs.scenario_laws.proofs.Orderly.{parts-are_asked}
 use Rattle.request_laws.specs.Runs.{RunsAreFed, ServersServeInOrder}
 use Rattle.request_laws.proofs.Heard.{requests_of_links_are_heard}
 

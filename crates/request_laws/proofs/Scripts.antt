@@ -2,11 +2,11 @@
 use Rattle.std.proofs.Common.{◌≡◌, ℕ, zero, suc, false, List, [], ◌∷◌, Some, subst}
 use Rattle.std.specs.Prelude.{replicate}
 use Rattle.std.specs.List.{AllByRecursion}
-use Rattle.bt_base.specs.declared.settings.Transport.{Transport}
-use Rattle.bt_base.specs.declared.settings.Transport.TheVariants.{Rfcomm}
-use Rattle.push_script.specs.Runs.{IsBorne, is_lossy}
-use Rattle.push_terms.specs.declared.word.Word.{Word}
-use Rattle.capture.specs.Air.{words_of}
+use Rattle.pair_laws.specs.bt_base.specs.declared.settings.Transport.{Transport}
+use Rattle.pair_laws.specs.bt_base.specs.declared.settings.Transport.TheVariants.{Rfcomm}
+use Rattle.pair_laws.specs.push_script.specs.Runs.{IsBorne, is_lossy}
+use Rattle.pair_laws.specs.push_terms.specs.declared.word.Word.{Word}
+use Rattle.pair_laws.specs.capture.specs.Air.{words_of}
 use Rattle.request_laws.specs.Scripts.{ScriptsLoseNothing}
 use Rattle.request_laws.proofs.Feeding.{all_both, all_ahead}
 

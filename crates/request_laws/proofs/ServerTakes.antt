@@ -1,36 +1,36 @@
 -- What goes from a server on the one channel of a PSM is what its end of that channel takes.
 use Rattle.std.proofs.Common.{◌≡◌, ℕ, List, [], ◌∷◌, ◌++◌, fold, Bool, true, false, cond, eqb, ◌&&◌, Option, Some, None, refl, sym, ap, ap₂, subst, ◌∙◌, append_assoc}
 use Rattle.std.specs.List.{AllByRecursion, flat_map}
-use Rattle.acl_fragments.specs.Pieces.{channel_of}
-use Rattle.bt_base.specs.declared.settings.Settings.{Settings}
-use Rattle.bt_base.specs.Objects.{Contents}
-use Rattle.link_talk.specs.Sayings.{Saying}
-use Rattle.channel_model.specs.declared.event.ChannelEvent.{ChannelEvent}
-use Rattle.channel_model.specs.declared.event.ChannelEvent.TheVariants as events
-use Rattle.channel_model.specs.Calls.{carrier_at, sends}
-use Rattle.channel_model.specs.Carrying.{Up as Handed, Nothing, Received}
-use Rattle.channel_model.specs.Hearing.{up}
-use Rattle.channel_model.specs.Policies.{Policy, policy}
-use Rattle.channel_model.specs.Value.{Channels, no_channels}
-use Rattle.channel_laws.specs.Runs.{Occurrence, Comes, Connects, AsksFeatures, Disconnects, Sends, Gives, Fires, Tells, said_in, value_after, Run, new_link, run_on, run_of}
-use Rattle.channel_laws.specs.Taken.{is_free, taken_of}
-use Rattle.push_model.specs.Server.{Server, Lent, lends, lent_sdu}
-use Rattle.push_model.specs.Server as push
-use Rattle.push_laws.specs.Occurrences as served
-use Rattle.push_laws.specs.Parties.{sdu_if}
-use Rattle.world_model.specs.Machines.{News, Linked, Up, Down, Failed, Heard, TimerFired, Cancelled, Opening}
-use Rattle.host_model.specs.Circumstances.{Circumstance}
-use Rattle.host_model.specs.Endpoints.{Endpoint, endpoint_of, takes_sdu}
-use Rattle.host_model.specs.Hosts.{handed}
-use Rattle.host_model.specs.Pdus.{sdu_of}
-use Rattle.host_model.specs.Servers.{ServerProfile, is_told, submits, takes, server_profile}
-use Rattle.host_model.specs.Servers as profile
-use Rattle.host_laws.specs.Calls.{from_call, values_after}
-use Rattle.host_laws.specs.Fed.{feeds_up, next_happening, strand_feeds}
-use Rattle.host_laws.specs.GainingOver.{IsNoPdu}
-use Rattle.host_laws.specs.Serving.{news_served, taken_by, lent_by, served_from}
-use Rattle.host_laws.specs.Woven.{Strand, Hearing, Giving, Firing, Telling, Gifting, Learning, Checking, Stepping, told_next, strand_list, strand_profile, woven_list}
-use Rattle.host_laws.proofs.Asking.{send_if, sends_on, lent_call, hosts_ask, servers-call}
+use Rattle.pair_laws.specs.acl_fragments.specs.Pieces.{channel_of}
+use Rattle.pair_laws.specs.bt_base.specs.declared.settings.Settings.{Settings}
+use Rattle.pair_laws.specs.bt_base.specs.Objects.{Contents}
+use Rattle.pair_laws.specs.link_talk.specs.Sayings.{Saying}
+use Rattle.pair_laws.specs.channel_model.specs.declared.event.ChannelEvent.{ChannelEvent}
+use Rattle.pair_laws.specs.channel_model.specs.declared.event.ChannelEvent.TheVariants as events
+use Rattle.pair_laws.specs.channel_model.specs.Calls.{carrier_at, sends}
+use Rattle.pair_laws.specs.channel_model.specs.Carrying.{Up as Handed, Nothing, Received}
+use Rattle.pair_laws.specs.channel_model.specs.Hearing.{up}
+use Rattle.pair_laws.specs.channel_model.specs.Policies.{Policy, policy}
+use Rattle.pair_laws.specs.channel_model.specs.Value.{Channels, no_channels}
+use Rattle.pair_laws.specs.channel_laws.specs.Runs.{Occurrence, Comes, Connects, AsksFeatures, Disconnects, Sends, Gives, Fires, Tells, said_in, value_after, Run, new_link, run_on, run_of}
+use Rattle.pair_laws.specs.channel_laws.specs.Taken.{is_free, taken_of}
+use Rattle.pair_laws.specs.push_model.specs.Server.{Server, Lent, lends, lent_sdu}
+use Rattle.pair_laws.specs.push_model.specs.Server as push
+use Rattle.pair_laws.specs.push_laws.specs.Occurrences as served
+use Rattle.pair_laws.specs.push_laws.specs.Parties.{sdu_if}
+use Rattle.pair_laws.specs.world_model.specs.Machines.{News, Linked, Up, Down, Failed, Heard, TimerFired, Cancelled, Opening}
+use Rattle.pair_laws.specs.host_model.specs.Circumstances.{Circumstance}
+use Rattle.pair_laws.specs.host_model.specs.Endpoints.{Endpoint, endpoint_of, takes_sdu}
+use Rattle.pair_laws.specs.host_model.specs.Hosts.{handed}
+use Rattle.pair_laws.specs.host_model.specs.Pdus.{sdu_of}
+use Rattle.pair_laws.specs.host_model.specs.Servers.{ServerProfile, is_told, submits, takes, server_profile}
+use Rattle.pair_laws.specs.host_model.specs.Servers as profile
+use Rattle.pair_laws.specs.host_laws.specs.Calls.{from_call, values_after}
+use Rattle.pair_laws.specs.host_laws.specs.Fed.{feeds_up, next_happening, strand_feeds}
+use Rattle.pair_laws.specs.host_laws.specs.GainingOver.{IsNoPdu}
+use Rattle.pair_laws.specs.host_laws.specs.Serving.{news_served, taken_by, lent_by, served_from}
+use Rattle.pair_laws.specs.host_laws.specs.Woven.{Strand, Hearing, Giving, Firing, Telling, Gifting, Learning, Checking, Stepping, told_next, strand_list, strand_profile, woven_list}
+use Rattle.pair_laws.specs.host_laws.proofs.Asking.{send_if, sends_on, lent_call, hosts_ask, servers-call}
 use Rattle.request_laws.specs.Streams.{gone_on}
 use Rattle.request_laws.proofs.Accepted.{Opened, opened-stays, OpenedUp, opened-up, up-stays}
 use Rattle.request_laws.proofs.Feeding.{all_ahead}

@@ -4,42 +4,42 @@ use Rattle.std.proofs.lemmas.Bool.{eqb-true}
 use Rattle.std.proofs.lemmas.Str.{IsUtf8-from_is_utf8}
 use Rattle.std.specs.List.{AllByRecursion}
 use Rattle.std.specs.Option.{option_map}
-use Rattle.bt_base.specs.declared.settings.Transport.{Transport}
-use Rattle.bt_base.specs.declared.settings.Transport.TheVariants.{L2cap, Rfcomm}
-use Rattle.bt_base.specs.Objects.{Object, octets_of}
-use Rattle.obex_session.specs.InboxCalls.{Answer}
-use Rattle.obex_session.specs.PutPackets.{units_in}
-use Rattle.obex_session.proofs.UnitLaws.{names-have_units}
-use Rattle.push_script.specs.declared.scenario.Scenario.{Scenario}
-use Rattle.push_script.specs.Names.{IsName}
-use Rattle.capture.specs.Entries.{Entry}
-use Rattle.push_model.specs.Laws.{Deed}
-use Rattle.push_model.specs.Server.{rfcomm_psm}
-use Rattle.push_laws.specs.Gains.{objects}
-use Rattle.push_laws.specs.Laws.{new_over}
-use Rattle.push_laws.specs.Occurrences.{Occurrence, Came, Went, Closed, LinkDown, Asked, Answering}
-use Rattle.push_laws.specs.Parties.{client_side, Push, over_pushes}
-use Rattle.push_laws.specs.Premises.{NoneShort}
-use Rattle.push_laws.specs.Readings.{passed_by}
-use Rattle.push_laws.specs.Searches.{AllServe}
-use Rattle.push_laws.specs.Spelled.{ArePushed, AreAmong, IsOfShelf, IsOfShelfOrStill, PassesNone, name_by, name_of, names_of}
-use Rattle.push_laws.proofs.Among.{among_all, among_trans, among_pushed, ahead_among, all_among}
-use Rattle.push_laws.proofs.Pushed.{pushed-spell_once}
-use Rattle.push_laws.proofs.SpeltDirect.{pushes-spell_once}
-use Rattle.world_model.specs.Worlds.{all_words}
-use Rattle.host_model.specs.Circumstances.{Circumstance}
-use Rattle.host_model.specs.Clients.{client_profile}
-use Rattle.shelf_model.specs.Held.{longest_octets, length_of}
-use Rattle.host_laws.specs.Feeds.{Feed, Gifts, Learns, Receives, Happens, Sent, Steps}
-use Rattle.host_laws.specs.Gaining.{IsDirect}
-use Rattle.host_laws.specs.Openings.{names_told, names_begun}
-use Rattle.host_laws.specs.Pushing.{pushed_from}
-use Rattle.host_laws.specs.Serving.{served_from}
-use Rattle.host_laws.specs.ShelfAnswers.{AnswersOf}
-use Rattle.host_laws.proofs.Openings.{clients_begin_what_is_told}
-use Rattle.host_laws.proofs.ShelfAnswers.{clients_are_given_objects}
-use Rattle.scenario_laws.specs.Captures.{client_of, server_of, beginning, Ran}
-use Rattle.scenario_laws.specs.Gains.{holding, serving}
+use Rattle.pair_laws.specs.bt_base.specs.declared.settings.Transport.{Transport}
+use Rattle.pair_laws.specs.bt_base.specs.declared.settings.Transport.TheVariants.{L2cap, Rfcomm}
+use Rattle.pair_laws.specs.bt_base.specs.Objects.{Object, octets_of}
+use Rattle.pair_laws.specs.obex_session.specs.InboxCalls.{Answer}
+use Rattle.pair_laws.specs.obex_session.specs.PutPackets.{units_in}
+use Rattle.pair_laws.specs.obex_session.proofs.UnitLaws.{names-have_units}
+use Rattle.pair_laws.specs.push_script.specs.declared.scenario.Scenario.{Scenario}
+use Rattle.pair_laws.specs.push_script.specs.Names.{IsName}
+use Rattle.pair_laws.specs.capture.specs.Entries.{Entry}
+use Rattle.pair_laws.specs.push_model.specs.Laws.{Deed}
+use Rattle.pair_laws.specs.push_model.specs.Server.{rfcomm_psm}
+use Rattle.pair_laws.specs.push_laws.specs.Gains.{objects}
+use Rattle.pair_laws.specs.push_laws.specs.Laws.{new_over}
+use Rattle.pair_laws.specs.push_laws.specs.Occurrences.{Occurrence, Came, Went, Closed, LinkDown, Asked, Answering}
+use Rattle.pair_laws.specs.push_laws.specs.Parties.{client_side, Push, over_pushes}
+use Rattle.pair_laws.specs.push_laws.specs.Premises.{NoneShort}
+use Rattle.pair_laws.specs.push_laws.specs.Readings.{passed_by}
+use Rattle.pair_laws.specs.push_laws.specs.Searches.{AllServe}
+use Rattle.pair_laws.specs.push_laws.specs.Spelled.{ArePushed, AreAmong, IsOfShelf, IsOfShelfOrStill, PassesNone, name_by, name_of, names_of}
+use Rattle.pair_laws.specs.push_laws.proofs.Among.{among_all, among_trans, among_pushed, ahead_among, all_among}
+use Rattle.pair_laws.specs.push_laws.proofs.Pushed.{pushed-spell_once}
+use Rattle.pair_laws.specs.push_laws.proofs.SpeltDirect.{pushes-spell_once}
+use Rattle.pair_laws.specs.world_model.specs.Worlds.{all_words}
+use Rattle.pair_laws.specs.host_model.specs.Circumstances.{Circumstance}
+use Rattle.pair_laws.specs.host_model.specs.Clients.{client_profile}
+use Rattle.pair_laws.specs.shelf_model.specs.Held.{longest_octets, length_of}
+use Rattle.pair_laws.specs.host_laws.specs.Feeds.{Feed, Gifts, Learns, Receives, Happens, Sent, Steps}
+use Rattle.pair_laws.specs.host_laws.specs.Gaining.{IsDirect}
+use Rattle.pair_laws.specs.host_laws.specs.Openings.{names_told, names_begun}
+use Rattle.pair_laws.specs.host_laws.specs.Pushing.{pushed_from}
+use Rattle.pair_laws.specs.host_laws.specs.Serving.{served_from}
+use Rattle.pair_laws.specs.host_laws.specs.ShelfAnswers.{AnswersOf}
+use Rattle.pair_laws.specs.host_laws.proofs.Openings.{clients_begin_what_is_told}
+use Rattle.pair_laws.specs.host_laws.proofs.ShelfAnswers.{clients_are_given_objects}
+use Rattle.pair_laws.specs.scenario_laws.specs.Captures.{client_of, server_of, beginning, Ran}
+use Rattle.pair_laws.specs.scenario_laws.specs.Gains.{holding, serving}
 use Rattle.pair_laws.specs.Enough.{remembered, HappenedEnough}
 use Rattle.pair_laws.specs.InTurn.{PairsInTurn}
 use Rattle.pair_laws.specs.Keeping.{LosesNothing}

@@ -1,12 +1,12 @@
 -- What moves nothing on the channel of the object, nor on that of the multiplexer.
 use Rattle.std.proofs.Common.{◌≡◌, ℕ, false, List, [], ◌∷◌, ◌++◌, map, Ok}
-use Rattle.push_model.specs.Client.{Client, with_object}
-use Rattle.push_model.specs.Laws.{Deed, done}
-use Rattle.push_laws.specs.Carriage.{frames_by}
-use Rattle.push_laws.specs.Occurrences.{Occurrence}
-use Rattle.push_laws.specs.Parties.{sent_by}
-use Rattle.push_laws.specs.Readings.{closes}
-use Rattle.host_laws.specs.Pushing.{Affair, Begins, Does, client_behind}
+use Rattle.pair_laws.specs.push_model.specs.Client.{Client, with_object}
+use Rattle.pair_laws.specs.push_model.specs.Laws.{Deed, done}
+use Rattle.pair_laws.specs.push_laws.specs.Carriage.{frames_by}
+use Rattle.pair_laws.specs.push_laws.specs.Occurrences.{Occurrence}
+use Rattle.pair_laws.specs.push_laws.specs.Parties.{sent_by}
+use Rattle.pair_laws.specs.push_laws.specs.Readings.{closes}
+use Rattle.pair_laws.specs.host_laws.specs.Pushing.{Affair, Begins, Does, client_behind}
 use Rattle.request_laws.specs.Streams.{come_on, gone_on, heard_on}
 
 -- nothing goes and nothing comes, whatever the PSM

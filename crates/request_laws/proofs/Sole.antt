@@ -2,26 +2,26 @@
 use Rattle.std.proofs.Common.{◌≡◌, ℕ, List, [], ◌∷◌, ◌++◌, Bool, true, false, cond, eqb, Option, Some, None, refl, sym, ap, ap₂, subst, ◌∙◌, ◌⊎◌, inl, inr}
 use Rattle.std.specs.List.{AllByRecursion, cons_option}
 use Rattle.std.proofs.lemmas.Bool.{eqb-true, eq-eqb}
-use Rattle.link_talk.specs.declared.channel.Channel.{Channel}
-use Rattle.link_talk.specs.Channels.{Entry, reading}
-use Rattle.link_talk.specs.Sayings.{Saying}
-use Rattle.channel_model.specs.Carrying.{Up as Handed, Nothing, Received}
-use Rattle.channel_model.specs.Policies.{Policy}
-use Rattle.channel_laws.specs.Belonging.{AreRead, said_at, HasAsked, HasGranted, Belongs}
-use Rattle.channel_laws.specs.Common.{mirrored}
-use Rattle.channel_laws.specs.Delivered.{IsRunBy}
-use Rattle.channel_laws.specs.Endpoints.{IsOf}
-use Rattle.channel_laws.specs.Pairs.{Side, Near, Far, turned, Turn, pair_of}
-use Rattle.channel_laws.specs.Pipes.{HaveChannel, IsFront}
-use Rattle.channel_laws.specs.Runs.{Occurrence, Run, run_of, sdus_up}
-use Rattle.channel_laws.specs.Taken.{taken_of}
-use Rattle.channel_laws.specs.Views.{channel_by, read_at}
-use Rattle.channel_laws.proofs.Belonging.{channels-belong}
-use Rattle.channel_laws.proofs.Bestowing.{endpoints-are_granted_once, endpoints-ask_for_one_psm}
-use Rattle.channel_laws.proofs.Naming.{endpoints-name_one}
-use Rattle.channel_laws.proofs.Sharing.{channels-are_common}
-use Rattle.host_laws.specs.OneCarrier.{IsAside, IsFor, CarriesAlone}
-use Rattle.host_laws.proofs.Gaining.{found_in}
+use Rattle.pair_laws.specs.link_talk.specs.declared.channel.Channel.{Channel}
+use Rattle.pair_laws.specs.link_talk.specs.Channels.{Entry, reading}
+use Rattle.pair_laws.specs.link_talk.specs.Sayings.{Saying}
+use Rattle.pair_laws.specs.channel_model.specs.Carrying.{Up as Handed, Nothing, Received}
+use Rattle.pair_laws.specs.channel_model.specs.Policies.{Policy}
+use Rattle.pair_laws.specs.channel_laws.specs.Belonging.{AreRead, said_at, HasAsked, HasGranted, Belongs}
+use Rattle.pair_laws.specs.channel_laws.specs.Common.{mirrored}
+use Rattle.pair_laws.specs.channel_laws.specs.Delivered.{IsRunBy}
+use Rattle.pair_laws.specs.channel_laws.specs.Endpoints.{IsOf}
+use Rattle.pair_laws.specs.channel_laws.specs.Pairs.{Side, Near, Far, turned, Turn, pair_of}
+use Rattle.pair_laws.specs.channel_laws.specs.Pipes.{HaveChannel, IsFront}
+use Rattle.pair_laws.specs.channel_laws.specs.Runs.{Occurrence, Run, run_of, sdus_up}
+use Rattle.pair_laws.specs.channel_laws.specs.Taken.{taken_of}
+use Rattle.pair_laws.specs.channel_laws.specs.Views.{channel_by, read_at}
+use Rattle.pair_laws.specs.channel_laws.proofs.Belonging.{channels-belong}
+use Rattle.pair_laws.specs.channel_laws.proofs.Bestowing.{endpoints-are_granted_once, endpoints-ask_for_one_psm}
+use Rattle.pair_laws.specs.channel_laws.proofs.Naming.{endpoints-name_one}
+use Rattle.pair_laws.specs.channel_laws.proofs.Sharing.{channels-are_common}
+use Rattle.pair_laws.specs.host_laws.specs.OneCarrier.{IsAside, IsFor, CarriesAlone}
+use Rattle.pair_laws.specs.host_laws.proofs.Gaining.{found_in}
 use Rattle.request_laws.specs.HandedUp.{handed_for}
 use Rattle.request_laws.proofs.Accepted.{Accepted, Opened, OpenedUp, all-opened}
 

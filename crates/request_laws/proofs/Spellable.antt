@@ -4,28 +4,28 @@ use Rattle.std.specs.Prelude.{not, is_none}
 use Rattle.std.specs.List.{AllByRecursion}
 use Rattle.std.proofs.lemmas.Bool.{and_parts, leb-true, leb-false}
 use Rattle.std.proofs.lemmas.List.{length-take}
-use Rattle.bt_base.specs.Octets.{IsOctets}
-use Rattle.obex_headers.proofs.Numbers.{IsOctets-take}
-use Rattle.rfcomm_frames.specs.declared.connection.Dlc.TheVariants.{Ended}
-use Rattle.rfcomm_frames.specs.declared.connection.Role.{Role}
-use Rattle.rfcomm_frames.specs.declared.connection.Role.TheVariants.{Initiator, Responder}
-use Rattle.rfcomm_frames.specs.declared.frame.MuxKind.{MuxKind}
-use Rattle.rfcomm_frames.specs.declared.frame.MuxKind.TheVariants.{Sabm, Ua, Dm, Disc, Uih}
-use Rattle.rfcomm_frames.specs.Answers.{Answer, IsAnswer}
-use Rattle.rfcomm_frames.specs.Connections.{other_role, turned, is_left, is_ended}
-use Rattle.rfcomm_frames.specs.Controls.{PlainControl, pn, msc, test, rpn, rls, nsc, other, IsControl, written}
-use Rattle.rfcomm_frames.specs.FrameReading.{is_empty, MessageAnswer, messages, frame_answer}
-use Rattle.rfcomm_frames.specs.Frames.{PlainFrame, IsFrame, carries}
-use Rattle.rfcomm_frames.proofs.FrameReading.{frame_answered}
-use Rattle.rfcomm_model.specs.declared.state.Asks.{Asks}
-use Rattle.rfcomm_model.specs.declared.state.Asks.TheVariants.{Nothing, Due, Awaited}
-use Rattle.rfcomm_model.specs.declared.state.Command.TheVariants.{OpenControl, Agree, OpenUser, Signal, LeaveUser, LeaveControl}
-use Rattle.rfcomm_model.specs.declared.state.MuxReason.{MuxReason}
-use Rattle.rfcomm_model.specs.declared.state.MuxReason.TheVariants as reasons
-use Rattle.rfcomm_model.specs.Hearing.{has_room, answering, says_dm, tells, opens_control, opens_user, hears_sabm, control_answered, hears_ua, control_refused, user_refused, hears_dm, ends, hears_disc, credited, charged, if_stands, with_credits, hears_data, counts, pn_credited, lesser, own_credits, terms_agreed, peer_answered, hears_offer, hears_acceptance, hears_other_offer, hears_pn, signals_answered, hears_msc, settings_of, hears_control, hears_message, hears_messages, hears_uih, hears_kind, hears_settled, hears_frame, hears_answer, hears, signals_next}
-use Rattle.rfcomm_model.specs.Machine.{Mux, may_pass, closes, sends, leaves, taken_count, is_leaving, reset, first_credits}
-use Rattle.rfcomm_model.specs.Saying.{Said, says_data, says_grant, first_of, says_command, says_answer, next}
-use Rattle.rfcomm_model.specs.Written.{response_frame, control_frame}
+use Rattle.pair_laws.specs.bt_base.specs.Octets.{IsOctets}
+use Rattle.pair_laws.specs.obex_headers.proofs.Numbers.{IsOctets-take}
+use Rattle.pair_laws.specs.rfcomm_frames.specs.declared.connection.Dlc.TheVariants.{Ended}
+use Rattle.pair_laws.specs.rfcomm_frames.specs.declared.connection.Role.{Role}
+use Rattle.pair_laws.specs.rfcomm_frames.specs.declared.connection.Role.TheVariants.{Initiator, Responder}
+use Rattle.pair_laws.specs.rfcomm_frames.specs.declared.frame.MuxKind.{MuxKind}
+use Rattle.pair_laws.specs.rfcomm_frames.specs.declared.frame.MuxKind.TheVariants.{Sabm, Ua, Dm, Disc, Uih}
+use Rattle.pair_laws.specs.rfcomm_frames.specs.Answers.{Answer, IsAnswer}
+use Rattle.pair_laws.specs.rfcomm_frames.specs.Connections.{other_role, turned, is_left, is_ended}
+use Rattle.pair_laws.specs.rfcomm_frames.specs.Controls.{PlainControl, pn, msc, test, rpn, rls, nsc, other, IsControl, written}
+use Rattle.pair_laws.specs.rfcomm_frames.specs.FrameReading.{is_empty, MessageAnswer, messages, frame_answer}
+use Rattle.pair_laws.specs.rfcomm_frames.specs.Frames.{PlainFrame, IsFrame, carries}
+use Rattle.pair_laws.specs.rfcomm_frames.proofs.FrameReading.{frame_answered}
+use Rattle.pair_laws.specs.rfcomm_model.specs.declared.state.Asks.{Asks}
+use Rattle.pair_laws.specs.rfcomm_model.specs.declared.state.Asks.TheVariants.{Nothing, Due, Awaited}
+use Rattle.pair_laws.specs.rfcomm_model.specs.declared.state.Command.TheVariants.{OpenControl, Agree, OpenUser, Signal, LeaveUser, LeaveControl}
+use Rattle.pair_laws.specs.rfcomm_model.specs.declared.state.MuxReason.{MuxReason}
+use Rattle.pair_laws.specs.rfcomm_model.specs.declared.state.MuxReason.TheVariants as reasons
+use Rattle.pair_laws.specs.rfcomm_model.specs.Hearing.{has_room, answering, says_dm, tells, opens_control, opens_user, hears_sabm, control_answered, hears_ua, control_refused, user_refused, hears_dm, ends, hears_disc, credited, charged, if_stands, with_credits, hears_data, counts, pn_credited, lesser, own_credits, terms_agreed, peer_answered, hears_offer, hears_acceptance, hears_other_offer, hears_pn, signals_answered, hears_msc, settings_of, hears_control, hears_message, hears_messages, hears_uih, hears_kind, hears_settled, hears_frame, hears_answer, hears, signals_next}
+use Rattle.pair_laws.specs.rfcomm_model.specs.Machine.{Mux, may_pass, closes, sends, leaves, taken_count, is_leaving, reset, first_credits}
+use Rattle.pair_laws.specs.rfcomm_model.specs.Saying.{Said, says_data, says_grant, first_of, says_command, says_answer, next}
+use Rattle.pair_laws.specs.rfcomm_model.specs.Written.{response_frame, control_frame}
 use Rattle.request_laws.specs.Spellable.{IsSpellable, IsInformation, SaysSpellable, IsSaidSpellable, FramesAreSpellable}
 use Rattle.request_laws.proofs.SpellableParts.{none_octets, cons_octets, append_octets, command_fits, response_fits, data_fits, grant_fits, few_by, control_fits, IsMessage, messages_fit, three, read_so}
 

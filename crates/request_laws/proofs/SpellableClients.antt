@@ -3,50 +3,50 @@ use Rattle.std.proofs.Common.{Bool, true, false, cond, eqb, leb, ltb, ◌&&◌, 
 use Rattle.std.specs.Prelude.{not, is_some}
 use Rattle.std.specs.List.{AllByRecursion}
 use Rattle.std.proofs.lemmas.Bool.{and_parts, leb-true}
-use Rattle.bt_base.specs.declared.ports.PortFault.{PortFault}
-use Rattle.bt_base.specs.declared.ports.PortFault.TheVariants as fault
-use Rattle.bt_base.specs.declared.settings.Settings.{Settings}
-use Rattle.bt_base.specs.declared.settings.Transport.{Transport}
-use Rattle.bt_base.specs.declared.settings.Transport.TheVariants.{L2cap, Rfcomm}
-use Rattle.bt_base.specs.Octets.{IsOctets}
-use Rattle.obex_headers.specs.Packets.{bare}
-use Rattle.obex_headers.proofs.Numbers.{IsOctets-drop}
-use Rattle.obex_session.specs.declared.client.Answered.{Answered}
-use Rattle.obex_session.specs.declared.client.Answered.TheVariants.{Go, Done, Refused, Bad, Srmp}
-use Rattle.obex_session.specs.Responses.{connect_fields}
-use Rattle.obex_session.specs.Views.{answer_at, after_at}
-use Rattle.push_terms.specs.declared.outcome.Outcome.{Outcome}
-use Rattle.push_terms.specs.declared.outcome.Outcome.TheVariants as outcomes
-use Rattle.rfcomm_frames.specs.FrameReading.{is_empty}
-use Rattle.rfcomm_frames.specs.declared.connection.Role.TheVariants.{Initiator}
-use Rattle.rfcomm_frames.specs.Frames.{PlainFrame}
-use Rattle.rfcomm_model.specs.declared.state.MuxReason.{MuxReason}
-use Rattle.rfcomm_model.specs.Hearing.{Up, nothing, opened, bytes, closed, up, hears}
-use Rattle.rfcomm_model.specs.Machine.{is_ready, sends, taken_count}
-use Rattle.rfcomm_model.specs.Saying.{Said, next}
-use Rattle.sdp_client.specs.declared.reason.Found.{Found}
-use Rattle.sdp_client.specs.declared.reason.Found.TheVariants.{More, Service, NoService}
-use Rattle.sdp_client.specs.declared.reason.Found.TheVariants as found
-use Rattle.sdp_client.specs.Asking.{is_due, after_resend}
-use Rattle.sdp_client.specs.Hearing.{found_at, after_reply}
-use Rattle.sdp_elements.specs.declared.target.Target.{Target}
-use Rattle.sdp_elements.specs.Targets.{is_service_psm, is_server_channel}
-use Rattle.push_model.specs.declared.closing.CloseCause.{CloseCause}
-use Rattle.push_model.specs.declared.course.Point.TheVariants.{Due, Asked}
-use Rattle.push_model.specs.declared.course.Stage.{Stage}
-use Rattle.push_model.specs.declared.course.Stage.TheVariants.{Rest, Link, SearchChannel, Search, SearchEnd, Features, ObjectChannel, Object, ObjectEnd, LinkEnd, Over}
-use Rattle.push_model.specs.Causes.{cause_of_close, cause_of_obex, cause_of_query, unawaited_response, unknown_parameters, small_channel}
-use Rattle.push_model.specs.Client.{Client, ends_by, ends, ends_if, cancelled, begins, begun_by, new_client, may_cancel}
-use Rattle.push_model.specs.Events.{News, LinkUp, LinkFailed, ChannelOpen, ChannelClosed, Sdu, FeaturesTold, FeaturesLost, Timer, linked_at, over_by, own_frame, muxed_anew, object_opened, opened_at, search_left, search_closed, closed_at, kept_of, found_psm, found_channel, found_way, finds, hears_reply, hears_object, hears_outside, sdu_at, fires, armed, hears_news, is_linked, is_paging, is_asking_features}
-use Rattle.push_model.specs.Events as news
-use Rattle.push_model.specs.Laws.{Deed, Hears, Asks, Finishes, Cancels, done}
-use Rattle.push_model.specs.Responding.{takes, hears_answer, hears_response, is_object, hears_front, hears_stream, is_left, hears_end, hears_up, hears_frame}
-use Rattle.push_model.specs.Steps.{Part, Stepped, Made, Ask, Connect, Put, Abort, Disconnect, Close, Nothing, rests, next_ask, may_ask, put_count, is_last_put, puts_part, puts_from, puts, aborts, disconnects, leaves_by, failing, requests, puts_or_leaves, sends_direct, asks_direct, steps_direct, filled, said_by, says, sends_muxed, takes_some, asks_through, asks_muxed, goes_muxed, steps_muxed, steps_object, steps_search, tells_end, steps_at, steps, stepped, is_muxed, connect_octets, abort_octets, disconnect_octets, put_octets}
-use Rattle.push_model.specs.Streams.{Front, Whole, Partial, Broken, front_of}
-use Rattle.push_laws.specs.Carriage.{frames_of, frames_by}
+use Rattle.pair_laws.specs.bt_base.specs.declared.ports.PortFault.{PortFault}
+use Rattle.pair_laws.specs.bt_base.specs.declared.ports.PortFault.TheVariants as fault
+use Rattle.pair_laws.specs.bt_base.specs.declared.settings.Settings.{Settings}
+use Rattle.pair_laws.specs.bt_base.specs.declared.settings.Transport.{Transport}
+use Rattle.pair_laws.specs.bt_base.specs.declared.settings.Transport.TheVariants.{L2cap, Rfcomm}
+use Rattle.pair_laws.specs.bt_base.specs.Octets.{IsOctets}
+use Rattle.pair_laws.specs.obex_headers.specs.Packets.{bare}
+use Rattle.pair_laws.specs.obex_headers.proofs.Numbers.{IsOctets-drop}
+use Rattle.pair_laws.specs.obex_session.specs.declared.client.Answered.{Answered}
+use Rattle.pair_laws.specs.obex_session.specs.declared.client.Answered.TheVariants.{Go, Done, Refused, Bad, Srmp}
+use Rattle.pair_laws.specs.obex_session.specs.Responses.{connect_fields}
+use Rattle.pair_laws.specs.obex_session.specs.Views.{answer_at, after_at}
+use Rattle.pair_laws.specs.push_terms.specs.declared.outcome.Outcome.{Outcome}
+use Rattle.pair_laws.specs.push_terms.specs.declared.outcome.Outcome.TheVariants as outcomes
+use Rattle.pair_laws.specs.rfcomm_frames.specs.FrameReading.{is_empty}
+use Rattle.pair_laws.specs.rfcomm_frames.specs.declared.connection.Role.TheVariants.{Initiator}
+use Rattle.pair_laws.specs.rfcomm_frames.specs.Frames.{PlainFrame}
+use Rattle.pair_laws.specs.rfcomm_model.specs.declared.state.MuxReason.{MuxReason}
+use Rattle.pair_laws.specs.rfcomm_model.specs.Hearing.{Up, nothing, opened, bytes, closed, up, hears}
+use Rattle.pair_laws.specs.rfcomm_model.specs.Machine.{is_ready, sends, taken_count}
+use Rattle.pair_laws.specs.rfcomm_model.specs.Saying.{Said, next}
+use Rattle.pair_laws.specs.sdp_client.specs.declared.reason.Found.{Found}
+use Rattle.pair_laws.specs.sdp_client.specs.declared.reason.Found.TheVariants.{More, Service, NoService}
+use Rattle.pair_laws.specs.sdp_client.specs.declared.reason.Found.TheVariants as found
+use Rattle.pair_laws.specs.sdp_client.specs.Asking.{is_due, after_resend}
+use Rattle.pair_laws.specs.sdp_client.specs.Hearing.{found_at, after_reply}
+use Rattle.pair_laws.specs.sdp_elements.specs.declared.target.Target.{Target}
+use Rattle.pair_laws.specs.sdp_elements.specs.Targets.{is_service_psm, is_server_channel}
+use Rattle.pair_laws.specs.push_model.specs.declared.closing.CloseCause.{CloseCause}
+use Rattle.pair_laws.specs.push_model.specs.declared.course.Point.TheVariants.{Due, Asked}
+use Rattle.pair_laws.specs.push_model.specs.declared.course.Stage.{Stage}
+use Rattle.pair_laws.specs.push_model.specs.declared.course.Stage.TheVariants.{Rest, Link, SearchChannel, Search, SearchEnd, Features, ObjectChannel, Object, ObjectEnd, LinkEnd, Over}
+use Rattle.pair_laws.specs.push_model.specs.Causes.{cause_of_close, cause_of_obex, cause_of_query, unawaited_response, unknown_parameters, small_channel}
+use Rattle.pair_laws.specs.push_model.specs.Client.{Client, ends_by, ends, ends_if, cancelled, begins, begun_by, new_client, may_cancel}
+use Rattle.pair_laws.specs.push_model.specs.Events.{News, LinkUp, LinkFailed, ChannelOpen, ChannelClosed, Sdu, FeaturesTold, FeaturesLost, Timer, linked_at, over_by, own_frame, muxed_anew, object_opened, opened_at, search_left, search_closed, closed_at, kept_of, found_psm, found_channel, found_way, finds, hears_reply, hears_object, hears_outside, sdu_at, fires, armed, hears_news, is_linked, is_paging, is_asking_features}
+use Rattle.pair_laws.specs.push_model.specs.Events as news
+use Rattle.pair_laws.specs.push_model.specs.Laws.{Deed, Hears, Asks, Finishes, Cancels, done}
+use Rattle.pair_laws.specs.push_model.specs.Responding.{takes, hears_answer, hears_response, is_object, hears_front, hears_stream, is_left, hears_end, hears_up, hears_frame}
+use Rattle.pair_laws.specs.push_model.specs.Steps.{Part, Stepped, Made, Ask, Connect, Put, Abort, Disconnect, Close, Nothing, rests, next_ask, may_ask, put_count, is_last_put, puts_part, puts_from, puts, aborts, disconnects, leaves_by, failing, requests, puts_or_leaves, sends_direct, asks_direct, steps_direct, filled, said_by, says, sends_muxed, takes_some, asks_through, asks_muxed, goes_muxed, steps_muxed, steps_object, steps_search, tells_end, steps_at, steps, stepped, is_muxed, connect_octets, abort_octets, disconnect_octets, put_octets}
+use Rattle.pair_laws.specs.push_model.specs.Streams.{Front, Whole, Partial, Broken, front_of}
+use Rattle.pair_laws.specs.push_laws.specs.Carriage.{frames_of, frames_by}
 use Rattle.request_laws.specs.Carried.{IsReadSo}
 use Rattle.request_laws.specs.Spellable.{IsSpellable, IsSaidSpellable}
-use Rattle.shelf_model.specs.Held.{IsPartOctets}
+use Rattle.pair_laws.specs.shelf_model.specs.Held.{IsPartOctets}
 use Rattle.request_laws.specs.SpellableClients.{BringsOctets, IsOfOctets, IsState, SpellsAll, ClientFramesAreRead}
 use Rattle.request_laws.proofs.PacketOctets.{packet_are_octets, connect_are_octets, put_are_octets, request_are_octets, after_reply_state}
 use Rattle.request_laws.proofs.Spellable.{frames_are_spellable}

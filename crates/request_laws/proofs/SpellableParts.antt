@@ -3,20 +3,20 @@ use Rattle.std.proofs.Common.{Bool, true, false, cond, ltb, ◌&&◌, ◌+◌, �
 use Rattle.std.specs.Prelude.{not}
 use Rattle.std.specs.List.{AllByRecursion}
 use Rattle.std.proofs.lemmas.Bool.{eqb-true, ltb-true}
-use Rattle.bt_base.specs.Octets.{IsOctets}
-use Rattle.rfcomm_frames.specs.declared.connection.Role.{Role}
-use Rattle.rfcomm_frames.specs.declared.frame.MuxKind.{MuxKind}
-use Rattle.rfcomm_frames.specs.declared.frame.MuxKind.TheVariants.{Sabm, Ua, Dm, Disc, Uih}
-use Rattle.rfcomm_frames.specs.ControlAnswers.{ControlAnswer, IsControlAnswer}
-use Rattle.rfcomm_frames.specs.Controls.{PlainControl, pn, msc, test, rpn, rls, nsc, other, type_of, value_of, IsControl, written}
-use Rattle.rfcomm_frames.specs.FrameReading.{MessageAnswer, message_answer, messages_from, messages_within, messages, used_by}
-use Rattle.rfcomm_frames.specs.Frames.{PlainFrame, bit, code_of, carries, address_of, control_octet, credit_octets, body_of, Spells}
-use Rattle.rfcomm_frames.specs.Lengths.{States, shortest}
-use Rattle.rfcomm_frames.proofs.FrameReading.{message_answered, spelled_answered}
-use Rattle.rfcomm_frames.proofs.MessageReading.{behind_fits}
-use Rattle.rfcomm_model.specs.Written.{response_frame, command_frame, grant_frame, data_frame, control_frame}
-use Rattle.host_model.specs.Pdus.{mux_octets}
-use Rattle.host_model.proofs.Spelled.{octets_are_right}
+use Rattle.pair_laws.specs.bt_base.specs.Octets.{IsOctets}
+use Rattle.pair_laws.specs.rfcomm_frames.specs.declared.connection.Role.{Role}
+use Rattle.pair_laws.specs.rfcomm_frames.specs.declared.frame.MuxKind.{MuxKind}
+use Rattle.pair_laws.specs.rfcomm_frames.specs.declared.frame.MuxKind.TheVariants.{Sabm, Ua, Dm, Disc, Uih}
+use Rattle.pair_laws.specs.rfcomm_frames.specs.ControlAnswers.{ControlAnswer, IsControlAnswer}
+use Rattle.pair_laws.specs.rfcomm_frames.specs.Controls.{PlainControl, pn, msc, test, rpn, rls, nsc, other, type_of, value_of, IsControl, written}
+use Rattle.pair_laws.specs.rfcomm_frames.specs.FrameReading.{MessageAnswer, message_answer, messages_from, messages_within, messages, used_by}
+use Rattle.pair_laws.specs.rfcomm_frames.specs.Frames.{PlainFrame, bit, code_of, carries, address_of, control_octet, credit_octets, body_of, Spells}
+use Rattle.pair_laws.specs.rfcomm_frames.specs.Lengths.{States, shortest}
+use Rattle.pair_laws.specs.rfcomm_frames.proofs.FrameReading.{message_answered, spelled_answered}
+use Rattle.pair_laws.specs.rfcomm_frames.proofs.MessageReading.{behind_fits}
+use Rattle.pair_laws.specs.rfcomm_model.specs.Written.{response_frame, command_frame, grant_frame, data_frame, control_frame}
+use Rattle.pair_laws.specs.host_model.specs.Pdus.{mux_octets}
+use Rattle.pair_laws.specs.host_model.proofs.Spelled.{octets_are_right}
 use Rattle.request_laws.specs.Spellable.{IsSpellable, IsInformation, SpelledIsReadSo}
 
 -- ---- octets

@@ -1,28 +1,28 @@
 -- Whatever comes to a server over RFCOMM, what it lends can be spelled.
 use Rattle.std.proofs.Common.{Bool, true, false, cond, eqb, zero, suc, ◌&&◌, ◌-◌, ◌^◌, ◌<◌, ◌≡◌, ℕ, List, [], ◌∷◌, ◌++◌, length, take, Option, Some, None, arith, refl, subst}
 use Rattle.std.specs.Prelude.{not}
-use Rattle.bt_base.specs.declared.settings.Transport.{Transport}
-use Rattle.bt_base.specs.declared.settings.Transport.TheVariants.{L2cap, Rfcomm}
-use Rattle.bt_base.specs.Octets.{IsOctets}
-use Rattle.obex_headers.proofs.Numbers.{IsOctets-drop}
-use Rattle.rfcomm_frames.specs.FrameReading.{is_empty}
-use Rattle.rfcomm_frames.specs.declared.connection.Role.TheVariants.{Responder}
-use Rattle.rfcomm_frames.specs.Frames.{PlainFrame}
-use Rattle.rfcomm_model.specs.Hearing as hearing
-use Rattle.rfcomm_model.specs.Hearing.{Up, nothing, opened, bytes, closed, up}
-use Rattle.rfcomm_model.specs.Machine.{is_ready, leaves, sends, taken_count}
-use Rattle.rfcomm_model.specs.Saying.{Said, next}
-use Rattle.push_model.specs.declared.outlet.Outlet.{Outlet}
-use Rattle.push_model.specs.declared.outlet.Outlet.TheVariants.{Records, Direct, Muxed}
-use Rattle.push_model.specs.Listening as listening
-use Rattle.push_model.specs.Listening.{Listener, Heeded, Received, stops, received, heeds_carried, heeds_broken, hears_front, hears_stream}
-use Rattle.push_model.specs.Payloads.{Octets, Framed, IsSaid}
-use Rattle.push_model.specs.Server.{Server, Reacted, Lent, received_by, reacted_by, hears_up, hears_search, hears_on, filled, with_service, said_on, breaks_now, left_by, leaves_with, framed_by, framed, outlet_of, lends_by, lends, lent_by, frame_lent, taken_by, closed_on, lets_go_on, lets_go_twice, remuxed, unreplied, unanswered}
-use Rattle.push_model.specs.Service.{Service, Served, response_over, is_ignored, after_parted, after_heard, hears_packet, answer_cut}
-use Rattle.push_model.specs.Sessions.{Gift, lets_go, hears}
-use Rattle.push_model.specs.Streams.{Front, Whole, Partial, Broken, front_of}
-use Rattle.push_laws.specs.Occurrences.{Occurrence, Came, Went, Closed, LinkDown, Asked, Answering, done}
-use Rattle.host_model.specs.Pdus.{sdu_of}
+use Rattle.pair_laws.specs.bt_base.specs.declared.settings.Transport.{Transport}
+use Rattle.pair_laws.specs.bt_base.specs.declared.settings.Transport.TheVariants.{L2cap, Rfcomm}
+use Rattle.pair_laws.specs.bt_base.specs.Octets.{IsOctets}
+use Rattle.pair_laws.specs.obex_headers.proofs.Numbers.{IsOctets-drop}
+use Rattle.pair_laws.specs.rfcomm_frames.specs.FrameReading.{is_empty}
+use Rattle.pair_laws.specs.rfcomm_frames.specs.declared.connection.Role.TheVariants.{Responder}
+use Rattle.pair_laws.specs.rfcomm_frames.specs.Frames.{PlainFrame}
+use Rattle.pair_laws.specs.rfcomm_model.specs.Hearing as hearing
+use Rattle.pair_laws.specs.rfcomm_model.specs.Hearing.{Up, nothing, opened, bytes, closed, up}
+use Rattle.pair_laws.specs.rfcomm_model.specs.Machine.{is_ready, leaves, sends, taken_count}
+use Rattle.pair_laws.specs.rfcomm_model.specs.Saying.{Said, next}
+use Rattle.pair_laws.specs.push_model.specs.declared.outlet.Outlet.{Outlet}
+use Rattle.pair_laws.specs.push_model.specs.declared.outlet.Outlet.TheVariants.{Records, Direct, Muxed}
+use Rattle.pair_laws.specs.push_model.specs.Listening as listening
+use Rattle.pair_laws.specs.push_model.specs.Listening.{Listener, Heeded, Received, stops, received, heeds_carried, heeds_broken, hears_front, hears_stream}
+use Rattle.pair_laws.specs.push_model.specs.Payloads.{Octets, Framed, IsSaid}
+use Rattle.pair_laws.specs.push_model.specs.Server.{Server, Reacted, Lent, received_by, reacted_by, hears_up, hears_search, hears_on, filled, with_service, said_on, breaks_now, left_by, leaves_with, framed_by, framed, outlet_of, lends_by, lends, lent_by, frame_lent, taken_by, closed_on, lets_go_on, lets_go_twice, remuxed, unreplied, unanswered}
+use Rattle.pair_laws.specs.push_model.specs.Service.{Service, Served, response_over, is_ignored, after_parted, after_heard, hears_packet, answer_cut}
+use Rattle.pair_laws.specs.push_model.specs.Sessions.{Gift, lets_go, hears}
+use Rattle.pair_laws.specs.push_model.specs.Streams.{Front, Whole, Partial, Broken, front_of}
+use Rattle.pair_laws.specs.push_laws.specs.Occurrences.{Occurrence, Came, Went, Closed, LinkDown, Asked, Answering, done}
+use Rattle.pair_laws.specs.host_model.specs.Pdus.{sdu_of}
 use Rattle.request_laws.specs.Spellable.{SaysSpellable, IsSaidSpellable}
 use Rattle.request_laws.specs.SpellableServers.{ComesInOctets, IsSomeSpellable, LendsSpellable, ServerFramesAreSaid}
 use Rattle.request_laws.proofs.ResponseOctets.{response_are_octets}

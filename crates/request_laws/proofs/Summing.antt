@@ -2,31 +2,31 @@
 use Rattle.std.proofs.Common.{◌≡◌, List, [], ◌∷◌, ◌++◌, ℕ, true, false, map, Option, refl, sym, ap, ap₂, ◌∙◌, append_assoc, append-nil}
 use Rattle.std.specs.List.{AllByRecursion, flat_map}
 use Rattle.std.proofs.lemmas.List.Concat.{flat_map-append}
-use Rattle.bt_base.specs.declared.settings.Settings.{Settings}
-use Rattle.bt_base.specs.Objects.{Contents}
-use Rattle.channel_model.specs.Policies.{policy}
-use Rattle.channel_model.specs.Value.{Channels}
-use Rattle.channel_laws.specs.Runs.{Occurrence}
-use Rattle.push_model.specs.Client.{Client, begins, cancelled}
-use Rattle.push_model.specs.Events as events
-use Rattle.push_model.specs.Events.{hears_news}
-use Rattle.push_model.specs.Laws as push
-use Rattle.push_model.specs.Laws.{Deed}
-use Rattle.push_model.specs.Server.{object_psm}
-use Rattle.push_model.specs.Steps.{Step, Wait, MakeLink, AskFeatures, OpenChannel, SendSdu, CloseChannel, BreakLink, Ended, NoMemory, steps}
-use Rattle.push_laws.specs.Occurrences as served
-use Rattle.push_laws.specs.Parties.{OfServer, OfClient, Pipes, ArePipes, come_by, gone_by, heard_by, pipes_after}
-use Rattle.world_model.specs.Machines.{News, Linked, Up, Down, Failed, Heard, TimerFired, Cancelled, Opening}
-use Rattle.host_model.specs.Circumstances.{Circumstance}
-use Rattle.host_model.specs.Clients.{ClientProfile, ended, client_profile}
-use Rattle.host_model.specs.Servers.{server_profile}
-use Rattle.host_model.specs.Shelves.{size_for, name_for}
-use Rattle.host_laws.specs.Calls.{HostsAsk}
-use Rattle.host_laws.specs.Fed.{strand_feeds}
-use Rattle.host_laws.specs.Pushing.{end_asked, then_ends, link_asked, then_calls, news_pushed, pushed_from}
-use Rattle.host_laws.specs.Serving.{served_from}
-use Rattle.host_laws.specs.Woven.{Strand, Hearing, Giving, Firing, Telling, Gifting, Learning, Checking, Stepping, strand_list, woven_list}
-use Rattle.host_laws.proofs.Asking.{clients_ask, hosts_ask}
+use Rattle.pair_laws.specs.bt_base.specs.declared.settings.Settings.{Settings}
+use Rattle.pair_laws.specs.bt_base.specs.Objects.{Contents}
+use Rattle.pair_laws.specs.channel_model.specs.Policies.{policy}
+use Rattle.pair_laws.specs.channel_model.specs.Value.{Channels}
+use Rattle.pair_laws.specs.channel_laws.specs.Runs.{Occurrence}
+use Rattle.pair_laws.specs.push_model.specs.Client.{Client, begins, cancelled}
+use Rattle.pair_laws.specs.push_model.specs.Events as events
+use Rattle.pair_laws.specs.push_model.specs.Events.{hears_news}
+use Rattle.pair_laws.specs.push_model.specs.Laws as push
+use Rattle.pair_laws.specs.push_model.specs.Laws.{Deed}
+use Rattle.pair_laws.specs.push_model.specs.Server.{object_psm}
+use Rattle.pair_laws.specs.push_model.specs.Steps.{Step, Wait, MakeLink, AskFeatures, OpenChannel, SendSdu, CloseChannel, BreakLink, Ended, NoMemory, steps}
+use Rattle.pair_laws.specs.push_laws.specs.Occurrences as served
+use Rattle.pair_laws.specs.push_laws.specs.Parties.{OfServer, OfClient, Pipes, ArePipes, come_by, gone_by, heard_by, pipes_after}
+use Rattle.pair_laws.specs.world_model.specs.Machines.{News, Linked, Up, Down, Failed, Heard, TimerFired, Cancelled, Opening}
+use Rattle.pair_laws.specs.host_model.specs.Circumstances.{Circumstance}
+use Rattle.pair_laws.specs.host_model.specs.Clients.{ClientProfile, ended, client_profile}
+use Rattle.pair_laws.specs.host_model.specs.Servers.{server_profile}
+use Rattle.pair_laws.specs.host_model.specs.Shelves.{size_for, name_for}
+use Rattle.pair_laws.specs.host_laws.specs.Calls.{HostsAsk}
+use Rattle.pair_laws.specs.host_laws.specs.Fed.{strand_feeds}
+use Rattle.pair_laws.specs.host_laws.specs.Pushing.{end_asked, then_ends, link_asked, then_calls, news_pushed, pushed_from}
+use Rattle.pair_laws.specs.host_laws.specs.Serving.{served_from}
+use Rattle.pair_laws.specs.host_laws.specs.Woven.{Strand, Hearing, Giving, Firing, Telling, Gifting, Learning, Checking, Stepping, strand_list, woven_list}
+use Rattle.pair_laws.specs.host_laws.proofs.Asking.{clients_ask, hosts_ask}
 use Rattle.pair_laws.specs.Orders.{Joint, AtNear, AtFar, near_in, far_in}
 use Rattle.request_laws.specs.Joined.{twist_joints, joints_of}
 use Rattle.request_laws.specs.Streams.{heard_on}

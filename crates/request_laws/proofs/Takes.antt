@@ -4,16 +4,16 @@ use Rattle.std.specs.Prelude.{find, length, option_map}
 use Rattle.std.specs.List.{AllByRecursion}
 use Rattle.std.proofs.lemmas.Bool.{eqb-true, and_parts}
 use Rattle.std.proofs.lemmas.List.Sums.{fold-append}
-use Rattle.capture.specs.Histories.{each_after}
-use Rattle.link_talk.specs.Sayings.{Saying}
-use Rattle.channel_model.specs.Calls.{carrier_mtu, some_waits, carrier_at, peer_mtu, waits}
-use Rattle.channel_model.specs.Policies.{Policy}
-use Rattle.channel_model.specs.Value.{Carrier, Channels, no_channels}
-use Rattle.channel_laws.specs.Runs.{Occurrence, said_in, Run, new_link, run_on, run_of, value_after}
-use Rattle.channel_laws.specs.Taken.{is_free, taken_in, taken_of}
-use Rattle.host_model.specs.Endpoints.{Endpoint, is_of, endpoint_of, with_endpoint, fits, takes_sdu}
-use Rattle.host_model.specs.Pdus.{are_octets}
-use Rattle.host_laws.specs.Calls.{values_after}
+use Rattle.pair_laws.specs.capture.specs.Histories.{each_after}
+use Rattle.pair_laws.specs.link_talk.specs.Sayings.{Saying}
+use Rattle.pair_laws.specs.channel_model.specs.Calls.{carrier_mtu, some_waits, carrier_at, peer_mtu, waits}
+use Rattle.pair_laws.specs.channel_model.specs.Policies.{Policy}
+use Rattle.pair_laws.specs.channel_model.specs.Value.{Carrier, Channels, no_channels}
+use Rattle.pair_laws.specs.channel_laws.specs.Runs.{Occurrence, said_in, Run, new_link, run_on, run_of, value_after}
+use Rattle.pair_laws.specs.channel_laws.specs.Taken.{is_free, taken_in, taken_of}
+use Rattle.pair_laws.specs.host_model.specs.Endpoints.{Endpoint, is_of, endpoint_of, with_endpoint, fits, takes_sdu}
+use Rattle.pair_laws.specs.host_model.specs.Pdus.{are_octets}
+use Rattle.pair_laws.specs.host_laws.specs.Calls.{values_after}
 
 -- ---- what was taken
 

@@ -1,32 +1,32 @@
 -- What a client's channel took is a front of what the client asked to send there: one SDU more at most, and then nothing goes any more.
 use Rattle.std.proofs.Common.{◌≡◌, ℕ, zero, suc, Bool, true, false, cond, ◌==◌, List, [], Option, Some, None, is_some, refl, ap, ◌∙◌}
 use Rattle.std.proofs.lemmas.Bool.{cond-true, cond-false}
-use Rattle.bt_base.specs.declared.settings.Transport.{Transport}
-use Rattle.bt_base.specs.declared.settings.Transport.TheVariants.{L2cap, Rfcomm}
-use Rattle.channel_model.specs.declared.event.ChannelEvent.{ChannelEvent}
-use Rattle.channel_model.specs.declared.event.ChannelEvent.TheVariants as channels
-use Rattle.channel_model.specs.Calls.{peer_mtu}
-use Rattle.channel_model.specs.Value.{Channels}
-use Rattle.push_terms.specs.declared.outcome.Outcome.{Outcome}
-use Rattle.rfcomm_model.specs.Hearing.{Up, nothing, opened, bytes, closed}
-use Rattle.sdp_elements.specs.declared.target.Target.{Target}
-use Rattle.sdp_client.specs.declared.reason.Found.{Found}
-use Rattle.sdp_client.specs.declared.reason.Found.TheVariants.{More, Service, NoService, Refused}
-use Rattle.sdp_client.specs.Hearing.{found_at, after_reply}
-use Rattle.obex_session.specs.declared.client.Answered.{Answered}
-use Rattle.obex_session.specs.declared.client.Answered.TheVariants as answers
-use Rattle.push_model.specs.declared.closing.CloseCause.{CloseCause}
-use Rattle.push_model.specs.declared.course.Point.TheVariants.{Due, Asked}
-use Rattle.push_model.specs.declared.course.Stage.{Stage}
-use Rattle.push_model.specs.declared.course.Stage.TheVariants as stages
-use Rattle.push_model.specs.Client.{Client, cancelled, ends, ends_by, ends_if, may_cancel}
-use Rattle.push_model.specs.Events as events
-use Rattle.push_model.specs.Events.{hears_news}
-use Rattle.push_model.specs.Responding as responses
-use Rattle.push_model.specs.Responding.{is_object}
-use Rattle.push_model.specs.Steps.{Stepped}
-use Rattle.push_model.specs.Streams.{Front, Whole, Partial, Broken, front_of}
-use Rattle.host_model.specs.Clients.{ended, after_end, cause_of, closed_by, opened_by, event_heard}
+use Rattle.pair_laws.specs.bt_base.specs.declared.settings.Transport.{Transport}
+use Rattle.pair_laws.specs.bt_base.specs.declared.settings.Transport.TheVariants.{L2cap, Rfcomm}
+use Rattle.pair_laws.specs.channel_model.specs.declared.event.ChannelEvent.{ChannelEvent}
+use Rattle.pair_laws.specs.channel_model.specs.declared.event.ChannelEvent.TheVariants as channels
+use Rattle.pair_laws.specs.channel_model.specs.Calls.{peer_mtu}
+use Rattle.pair_laws.specs.channel_model.specs.Value.{Channels}
+use Rattle.pair_laws.specs.push_terms.specs.declared.outcome.Outcome.{Outcome}
+use Rattle.pair_laws.specs.rfcomm_model.specs.Hearing.{Up, nothing, opened, bytes, closed}
+use Rattle.pair_laws.specs.sdp_elements.specs.declared.target.Target.{Target}
+use Rattle.pair_laws.specs.sdp_client.specs.declared.reason.Found.{Found}
+use Rattle.pair_laws.specs.sdp_client.specs.declared.reason.Found.TheVariants.{More, Service, NoService, Refused}
+use Rattle.pair_laws.specs.sdp_client.specs.Hearing.{found_at, after_reply}
+use Rattle.pair_laws.specs.obex_session.specs.declared.client.Answered.{Answered}
+use Rattle.pair_laws.specs.obex_session.specs.declared.client.Answered.TheVariants as answers
+use Rattle.pair_laws.specs.push_model.specs.declared.closing.CloseCause.{CloseCause}
+use Rattle.pair_laws.specs.push_model.specs.declared.course.Point.TheVariants.{Due, Asked}
+use Rattle.pair_laws.specs.push_model.specs.declared.course.Stage.{Stage}
+use Rattle.pair_laws.specs.push_model.specs.declared.course.Stage.TheVariants as stages
+use Rattle.pair_laws.specs.push_model.specs.Client.{Client, cancelled, ends, ends_by, ends_if, may_cancel}
+use Rattle.pair_laws.specs.push_model.specs.Events as events
+use Rattle.pair_laws.specs.push_model.specs.Events.{hears_news}
+use Rattle.pair_laws.specs.push_model.specs.Responding as responses
+use Rattle.pair_laws.specs.push_model.specs.Responding.{is_object}
+use Rattle.pair_laws.specs.push_model.specs.Steps.{Stepped}
+use Rattle.pair_laws.specs.push_model.specs.Streams.{Front, Whole, Partial, Broken, front_of}
+use Rattle.pair_laws.specs.host_model.specs.Clients.{ended, after_end, cause_of, closed_by, opened_by, event_heard}
 
 -- ---- a step that was given stays so
 

@@ -1,10 +1,10 @@
 -- While no link is up no PDU comes in.
 use Rattle.std.proofs.Common.{◌≡◌, Bool, true, false, List, [], ◌∷◌, ◌++◌, refl, sym, subst, ◌∙◌, append_assoc, append-nil}
 use Rattle.std.specs.List.{AllByRecursion, flat_map}
-use Rattle.channel_laws.specs.Runs as channels
-use Rattle.world_model.specs.Machines.{LinkEvent, Up, Down}
-use Rattle.host_laws.specs.Lives.{Mark, Turned, Span, marks_on, span_marks, all_marks}
-use Rattle.host_laws.specs.OverLinks.{AreTimely}
+use Rattle.pair_laws.specs.channel_laws.specs.Runs as channels
+use Rattle.pair_laws.specs.world_model.specs.Machines.{LinkEvent, Up, Down}
+use Rattle.pair_laws.specs.host_laws.specs.Lives.{Mark, Turned, Span, marks_on, span_marks, all_marks}
+use Rattle.pair_laws.specs.host_laws.specs.OverLinks.{AreTimely}
 use Rattle.request_laws.specs.BothFed.{IsDown}
 use Rattle.request_laws.specs.Alternating.{Alternate, LinksAlternate}
 

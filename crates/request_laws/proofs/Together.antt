@@ -1,18 +1,18 @@
 -- All laws on requests together.
 use Rattle.std.proofs.Common.{◌≡◌, List}
 use Rattle.std.specs.List.{AllByRecursion}
-use Rattle.bt_base.specs.declared.settings.Transport.TheVariants.{L2cap}
-use Rattle.bt_base.specs.Objects.{Object}
-use Rattle.push_script.specs.declared.scenario.Scenario.{Scenario}
-use Rattle.capture.specs.Entries.{Entry}
-use Rattle.push_laws.specs.Premises.{AllGranted}
-use Rattle.host_model.specs.Circumstances.{Circumstance, answers_in}
-use Rattle.host_laws.specs.Feeds.{Feed}
-use Rattle.host_laws.specs.Gifts.{gifts_of}
-use Rattle.host_laws.proofs.InOrder.{asks-nothing}
-use Rattle.scenario_laws.specs.Captures.{Ran}
-use Rattle.scenario_laws.specs.Gains.{holding}
-use Rattle.scenario_laws.proofs.Gaining.{gains_exactly}
+use Rattle.pair_laws.specs.bt_base.specs.declared.settings.Transport.TheVariants.{L2cap}
+use Rattle.pair_laws.specs.bt_base.specs.Objects.{Object}
+use Rattle.pair_laws.specs.push_script.specs.declared.scenario.Scenario.{Scenario}
+use Rattle.pair_laws.specs.capture.specs.Entries.{Entry}
+use Rattle.pair_laws.specs.push_laws.specs.Premises.{AllGranted}
+use Rattle.pair_laws.specs.host_model.specs.Circumstances.{Circumstance, answers_in}
+use Rattle.pair_laws.specs.host_laws.specs.Feeds.{Feed}
+use Rattle.pair_laws.specs.host_laws.specs.Gifts.{gifts_of}
+use Rattle.pair_laws.specs.host_laws.proofs.InOrder.{asks-nothing}
+use Rattle.pair_laws.specs.scenario_laws.specs.Captures.{Ran}
+use Rattle.pair_laws.specs.scenario_laws.specs.Gains.{holding}
+use Rattle.pair_laws.specs.scenario_laws.proofs.Gaining.{gains_exactly}
 use Rattle.pair_laws.specs.InTurn.{PairsInTurn}
 use Rattle.pair_laws.proofs.Pairing.{hosts-take_turns, granted-take_turns}
 use Rattle.pair_laws.proofs.Taking.{clients_within, servers_within}

@@ -1,16 +1,16 @@
 -- What the shelf told and the inbox answered, as it is said of all that a host went through.
 use Rattle.std.proofs.Common.{ℕ, List, [], ◌∷◌, Option, None}
 use Rattle.std.specs.List.{AllByRecursion}
-use Rattle.bt_base.specs.Objects.{Object}
-use Rattle.obex_session.specs.InboxCalls.{Answer}
-use Rattle.world_model.specs.Machines.{News, Linked, Failed, Heard, TimerFired, Cancelled, Opening}
-use Rattle.host_model.specs.Circumstances.{Circumstance, Excerpt, parts_in, answers_in}
-use Rattle.shelf_model.specs.Held.{longest_octets, IsHeld}
-use Rattle.shelf_model.proofs.Sizes.{held_any}
-use Rattle.host_laws.specs.Answered.{TellsAtMost, BeginsAtMost}
-use Rattle.host_laws.specs.Feeds.{Feed, Gifts, Learns, Receives, Happens, Sent, Steps}
-use Rattle.host_laws.specs.Gifts.{gifts_of}
-use Rattle.host_laws.specs.ShelfAnswers.{TellsSizeOf, AnswersOf}
+use Rattle.pair_laws.specs.bt_base.specs.Objects.{Object}
+use Rattle.pair_laws.specs.obex_session.specs.InboxCalls.{Answer}
+use Rattle.pair_laws.specs.world_model.specs.Machines.{News, Linked, Failed, Heard, TimerFired, Cancelled, Opening}
+use Rattle.pair_laws.specs.host_model.specs.Circumstances.{Circumstance, Excerpt, parts_in, answers_in}
+use Rattle.pair_laws.specs.shelf_model.specs.Held.{longest_octets, IsHeld}
+use Rattle.pair_laws.specs.shelf_model.proofs.Sizes.{held_any}
+use Rattle.pair_laws.specs.host_laws.specs.Answered.{TellsAtMost, BeginsAtMost}
+use Rattle.pair_laws.specs.host_laws.specs.Feeds.{Feed, Gifts, Learns, Receives, Happens, Sent, Steps}
+use Rattle.pair_laws.specs.host_laws.specs.Gifts.{gifts_of}
+use Rattle.pair_laws.specs.host_laws.specs.ShelfAnswers.{TellsSizeOf, AnswersOf}
 use Rattle.request_laws.specs.BothFed.{InboxAnswers}
 use Rattle.request_laws.specs.TogetherHeard.{GivesOctets}
 

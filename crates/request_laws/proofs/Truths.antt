@@ -3,42 +3,42 @@ use Rattle.std.proofs.Common.{◌≡◌, ℕ, Bool, true, false, cond, eqb, List
 use Rattle.std.specs.List.{All, AllByRecursion, Contains, flat_map}
 use Rattle.std.proofs.lemmas.Bool.{eqb-true, eq-eqb}
 use Rattle.std.proofs.lemmas.List.Elements.{All-nil, All-append, All-weaker, All-contains, All-from_recursion, recursion_from_All, Contains-append_left, Contains-append_right, All-contains_itself}
-use Rattle.bt_base.specs.declared.settings.Settings.{Settings}
-use Rattle.bt_base.specs.declared.settings.Transport.TheVariants.{Rfcomm}
-use Rattle.bt_base.specs.Objects.{Contents}
-use Rattle.rfcomm_frames.specs.Frames.{PlainFrame}
-use Rattle.link_talk.specs.declared.channel.Channel.{Channel}
-use Rattle.link_talk.specs.Channels.{Entry, reading}
-use Rattle.channel_model.specs.Policies.{Policy, policy}
-use Rattle.channel_model.specs.Value.{Channels}
-use Rattle.channel_laws.specs.Belonging.{HasAsked}
-use Rattle.channel_laws.specs.Endpoints.{IsOf}
-use Rattle.channel_laws.specs.Frames.{AreUttered}
-use Rattle.channel_laws.specs.Pairs.{new_pair}
-use Rattle.channel_laws.specs.Pipes.{AreCarried}
-use Rattle.channel_laws.specs.Runs.{Occurrence, run_of}
-use Rattle.channel_laws.specs.Taken.{taken_of}
-use Rattle.channel_laws.specs.Views.{channel_by, read_at}
-use Rattle.push_model.specs.Client.{Client}
-use Rattle.push_model.specs.Events as news
-use Rattle.push_model.specs.Laws as push
-use Rattle.push_model.specs.Laws.{Deed, Hears, Asks, Finishes, Cancels}
-use Rattle.push_model.specs.Payloads.{Octets, Framed}
-use Rattle.push_model.specs.Server.{rfcomm_psm}
-use Rattle.push_model.specs.Steps as steps
-use Rattle.push_model.specs.Steps.{Part, Step, Stepped, Wait, MakeLink, AskFeatures, OpenChannel, SendSdu, CloseChannel, BreakLink, Ended, NoMemory}
-use Rattle.push_laws.specs.Occurrences as served
-use Rattle.push_laws.specs.Parties.{Move, OfServer, OfClient}
-use Rattle.push_laws.specs.Searches as searches
-use Rattle.push_laws.specs.Searches.{Traffic, no_traffic, sent_on, sdus_on, traffic_after, IsTrue, StaysTrue}
-use Rattle.push_laws.proofs.Staying.{multiplexers-stay}
-use Rattle.host_model.specs.Clients.{ClientProfile, fitted}
-use Rattle.host_model.specs.Endpoints.{Endpoint, endpoint_of, takes_sdu}
-use Rattle.host_model.specs.Servers.{ServerProfile}
-use Rattle.host_laws.specs.Fed.{strand_feeds}
-use Rattle.host_laws.specs.Pushing.{step_pushed, pushed_from}
-use Rattle.host_laws.specs.Serving.{served_from}
-use Rattle.host_laws.specs.Woven.{Strand, Hearing, Giving, Firing, Telling, Gifting, Learning, Checking, Stepping}
+use Rattle.pair_laws.specs.bt_base.specs.declared.settings.Settings.{Settings}
+use Rattle.pair_laws.specs.bt_base.specs.declared.settings.Transport.TheVariants.{Rfcomm}
+use Rattle.pair_laws.specs.bt_base.specs.Objects.{Contents}
+use Rattle.pair_laws.specs.rfcomm_frames.specs.Frames.{PlainFrame}
+use Rattle.pair_laws.specs.link_talk.specs.declared.channel.Channel.{Channel}
+use Rattle.pair_laws.specs.link_talk.specs.Channels.{Entry, reading}
+use Rattle.pair_laws.specs.channel_model.specs.Policies.{Policy, policy}
+use Rattle.pair_laws.specs.channel_model.specs.Value.{Channels}
+use Rattle.pair_laws.specs.channel_laws.specs.Belonging.{HasAsked}
+use Rattle.pair_laws.specs.channel_laws.specs.Endpoints.{IsOf}
+use Rattle.pair_laws.specs.channel_laws.specs.Frames.{AreUttered}
+use Rattle.pair_laws.specs.channel_laws.specs.Pairs.{new_pair}
+use Rattle.pair_laws.specs.channel_laws.specs.Pipes.{AreCarried}
+use Rattle.pair_laws.specs.channel_laws.specs.Runs.{Occurrence, run_of}
+use Rattle.pair_laws.specs.channel_laws.specs.Taken.{taken_of}
+use Rattle.pair_laws.specs.channel_laws.specs.Views.{channel_by, read_at}
+use Rattle.pair_laws.specs.push_model.specs.Client.{Client}
+use Rattle.pair_laws.specs.push_model.specs.Events as news
+use Rattle.pair_laws.specs.push_model.specs.Laws as push
+use Rattle.pair_laws.specs.push_model.specs.Laws.{Deed, Hears, Asks, Finishes, Cancels}
+use Rattle.pair_laws.specs.push_model.specs.Payloads.{Octets, Framed}
+use Rattle.pair_laws.specs.push_model.specs.Server.{rfcomm_psm}
+use Rattle.pair_laws.specs.push_model.specs.Steps as steps
+use Rattle.pair_laws.specs.push_model.specs.Steps.{Part, Step, Stepped, Wait, MakeLink, AskFeatures, OpenChannel, SendSdu, CloseChannel, BreakLink, Ended, NoMemory}
+use Rattle.pair_laws.specs.push_laws.specs.Occurrences as served
+use Rattle.pair_laws.specs.push_laws.specs.Parties.{Move, OfServer, OfClient}
+use Rattle.pair_laws.specs.push_laws.specs.Searches as searches
+use Rattle.pair_laws.specs.push_laws.specs.Searches.{Traffic, no_traffic, sent_on, sdus_on, traffic_after, IsTrue, StaysTrue}
+use Rattle.pair_laws.specs.push_laws.proofs.Staying.{multiplexers-stay}
+use Rattle.pair_laws.specs.host_model.specs.Clients.{ClientProfile, fitted}
+use Rattle.pair_laws.specs.host_model.specs.Endpoints.{Endpoint, endpoint_of, takes_sdu}
+use Rattle.pair_laws.specs.host_model.specs.Servers.{ServerProfile}
+use Rattle.pair_laws.specs.host_laws.specs.Fed.{strand_feeds}
+use Rattle.pair_laws.specs.host_laws.specs.Pushing.{step_pushed, pushed_from}
+use Rattle.pair_laws.specs.host_laws.specs.Serving.{served_from}
+use Rattle.pair_laws.specs.host_laws.specs.Woven.{Strand, Hearing, Giving, Firing, Telling, Gifting, Learning, Checking, Stepping}
 use Rattle.pair_laws.specs.Orders.{near_in, joints_from}
 use Rattle.pair_laws.specs.Pairs.{PairOnLink}
 use Rattle.pair_laws.specs.PlainPipes.{ArePlainPipes}

@@ -1,26 +1,26 @@
 -- On a link of which the other host has not heard nothing comes in.
 use Rattle.std.proofs.Common.{◌≡◌, ℕ, Bool, true, false, cond, List, [], ◌∷◌, ◌++◌, Option, Some, None, refl, sym, subst, ◌∙◌}
 use Rattle.std.specs.List.{AllByRecursion, flat_map}
-use Rattle.bt_base.specs.declared.settings.Settings.{Settings}
-use Rattle.bt_base.specs.Objects.{Contents}
-use Rattle.channel_model.specs.declared.event.ChannelEvent.{ChannelEvent}
-use Rattle.channel_model.specs.Giving.{Given, next_given}
-use Rattle.channel_model.specs.Policies.{Policy}
-use Rattle.channel_model.specs.Value.{Channels, no_channels}
-use Rattle.channel_laws.specs.Pairs.{End, Pair, new_pair, Happening, Acts, Puts, Takes, Repeats, Loses, Damages, is_alone, occurs, with_near, puts, takes_first, repeats_first, loses_first, damages_first, happens_near, happens_at, Side, Near, Far, turned, Turn}
-use Rattle.channel_laws.specs.Runs as channels
-use Rattle.push_model.specs.Server.{lends, lent_sdu}
-use Rattle.world_model.specs.Machines.{Up}
-use Rattle.host_model.specs.Servers.{ServerProfile, server_profile}
-use Rattle.host_laws.specs.Calls.{Asks as Asking, values_after}
-use Rattle.host_laws.specs.Fed.{next_happening, strand_feeds, woven_feeds, WovenFed, turned_feeds, FedSpan, span_feeds, behind_span}
-use Rattle.host_laws.specs.Feeds.{Feed, all_fed}
-use Rattle.host_laws.specs.Lives.{Span}
-use Rattle.host_laws.specs.Serving.{event_served, lent_by, served_from}
-use Rattle.host_laws.specs.Woven.{Strand, Hearing, Giving, Firing, Telling, Gifting, Learning, Checking, Stepping, strand_list, strand_profile, woven_list}
+use Rattle.pair_laws.specs.bt_base.specs.declared.settings.Settings.{Settings}
+use Rattle.pair_laws.specs.bt_base.specs.Objects.{Contents}
+use Rattle.pair_laws.specs.channel_model.specs.declared.event.ChannelEvent.{ChannelEvent}
+use Rattle.pair_laws.specs.channel_model.specs.Giving.{Given, next_given}
+use Rattle.pair_laws.specs.channel_model.specs.Policies.{Policy}
+use Rattle.pair_laws.specs.channel_model.specs.Value.{Channels, no_channels}
+use Rattle.pair_laws.specs.channel_laws.specs.Pairs.{End, Pair, new_pair, Happening, Acts, Puts, Takes, Repeats, Loses, Damages, is_alone, occurs, with_near, puts, takes_first, repeats_first, loses_first, damages_first, happens_near, happens_at, Side, Near, Far, turned, Turn}
+use Rattle.pair_laws.specs.channel_laws.specs.Runs as channels
+use Rattle.pair_laws.specs.push_model.specs.Server.{lends, lent_sdu}
+use Rattle.pair_laws.specs.world_model.specs.Machines.{Up}
+use Rattle.pair_laws.specs.host_model.specs.Servers.{ServerProfile, server_profile}
+use Rattle.pair_laws.specs.host_laws.specs.Calls.{Asks as Asking, values_after}
+use Rattle.pair_laws.specs.host_laws.specs.Fed.{next_happening, strand_feeds, woven_feeds, WovenFed, turned_feeds, FedSpan, span_feeds, behind_span}
+use Rattle.pair_laws.specs.host_laws.specs.Feeds.{Feed, all_fed}
+use Rattle.pair_laws.specs.host_laws.specs.Lives.{Span}
+use Rattle.pair_laws.specs.host_laws.specs.Serving.{event_served, lent_by, served_from}
+use Rattle.pair_laws.specs.host_laws.specs.Woven.{Strand, Hearing, Giving, Firing, Telling, Gifting, Learning, Checking, Stepping, strand_list, strand_profile, woven_list}
 use Rattle.pair_laws.specs.Orders.{first_come, given_as, damaged_come, occurs_by, Joint, AtNear, AtFar, near_in, far_in, joints_with, joints_at, joints_from}
 use Rattle.pair_laws.specs.Pairs.{PairOnLink}
-use Rattle.host_laws.proofs.StrandsFed.{strand_so, span_so}
+use Rattle.pair_laws.specs.host_laws.proofs.StrandsFed.{strand_so, span_so}
 use Rattle.request_laws.specs.BothFed.{ComesNone}
 use Rattle.request_laws.proofs.Feeding.{all_both, all_ahead, served-both, news_shape, event_shape, lent_shape, up_served}
 use Rattle.request_laws.proofs.Timely.{HearsNothing}

@@ -1,15 +1,15 @@
 -- Links of a host come up and go down in turn (this project's own).
 use Rattle.std.specs.Prelude.{◌≡◌, List, [], ◌∷◌, Option}
-use Rattle.bt_base.specs.declared.settings.Settings.{Settings}
-use Rattle.bt_base.specs.Objects.{Contents}
-use Rattle.world_model.specs.Machines.{Up}
-use Rattle.world_model.specs.Talks.{Talk}
-use Rattle.host_model.specs.Clients.{ClientProfile, client_profile}
-use Rattle.host_model.specs.Hosts.{Host}
-use Rattle.host_model.specs.Servers.{ServerProfile, server_profile}
-use Rattle.host_laws.specs.Calls.{Asks}
-use Rattle.host_laws.specs.Lives.{Span}
-use Rattle.host_laws.specs.OverLinks.{TalksOverLinks}
+use Rattle.pair_laws.specs.bt_base.specs.declared.settings.Settings.{Settings}
+use Rattle.pair_laws.specs.bt_base.specs.Objects.{Contents}
+use Rattle.pair_laws.specs.world_model.specs.Machines.{Up}
+use Rattle.pair_laws.specs.world_model.specs.Talks.{Talk}
+use Rattle.pair_laws.specs.host_model.specs.Clients.{ClientProfile, client_profile}
+use Rattle.pair_laws.specs.host_model.specs.Hosts.{Host}
+use Rattle.pair_laws.specs.host_model.specs.Servers.{ServerProfile, server_profile}
+use Rattle.pair_laws.specs.host_laws.specs.Calls.{Asks}
+use Rattle.pair_laws.specs.host_laws.specs.Lives.{Span}
+use Rattle.pair_laws.specs.host_laws.specs.OverLinks.{TalksOverLinks}
 use Rattle.request_laws.specs.BothFed.{IsDown}
 
 -- the first time that the host hears of its link is that one comes up, then that it goes down, and so on

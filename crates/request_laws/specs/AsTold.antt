@@ -2,15 +2,15 @@
 -- 4.7; RFCOMM 1.2, 5.4).
 use Rattle.std.specs.Prelude.{List, Option}
 use Rattle.std.specs.List.{AllByRecursion}
-use Rattle.bt_base.specs.declared.settings.Settings.{Settings}
-use Rattle.bt_base.specs.Objects.{Contents}
-use Rattle.push_script.specs.declared.scenario.Scenario.{Scenario}
-use Rattle.push_terms.specs.declared.word.Side.TheVariants.{A}
-use Rattle.capture.specs.Entries.{Entry}
-use Rattle.link_talk.specs.Captures.{talks}
-use Rattle.host_laws.specs.Services.{GoesAsTold}
-use Rattle.scenario_laws.specs.Captures.{Ran}
-use Rattle.scenario_laws.specs.Parties.{party_of}
+use Rattle.pair_laws.specs.bt_base.specs.declared.settings.Settings.{Settings}
+use Rattle.pair_laws.specs.bt_base.specs.Objects.{Contents}
+use Rattle.pair_laws.specs.push_script.specs.declared.scenario.Scenario.{Scenario}
+use Rattle.pair_laws.specs.push_terms.specs.declared.word.Side.TheVariants.{A}
+use Rattle.pair_laws.specs.capture.specs.Entries.{Entry}
+use Rattle.pair_laws.specs.link_talk.specs.Captures.{talks}
+use Rattle.pair_laws.specs.host_laws.specs.Services.{GoesAsTold}
+use Rattle.pair_laws.specs.scenario_laws.specs.Captures.{Ran}
+use Rattle.pair_laws.specs.scenario_laws.specs.Parties.{party_of}
 
 -- On each of its links it asks for no channel, and opens, uses and closes no data link connection, but as an answer told it there before.
 abbrev pub UsesService : Settings → List Entry → Type 0

@@ -1,29 +1,29 @@
 -- Both hosts over all their links, which come up and go down for both at once (Object Push Profile 1.2, 4.3; IrOBEX 1.5, 3.2).
 use Rattle.std.specs.Prelude.{ℕ, suc, ◌≡◌, true, List, [], ◌∷◌, Some, None}
 use Rattle.std.specs.List.{AllByRecursion}
-use Rattle.bt_base.specs.declared.settings.Settings.{Settings}
-use Rattle.bt_base.specs.declared.settings.Transport.TheVariants.{L2cap}
-use Rattle.bt_base.specs.Objects.{Object}
-use Rattle.channel_laws.specs.Runs as channels
-use Rattle.obex_session.specs.InboxCalls.{Answer}
-use Rattle.push_laws.specs.Laws.{new_over}
-use Rattle.push_laws.specs.Occurrences.{Occurrence}
-use Rattle.obex_session.specs.InboxCalls.{Answer}
-use Rattle.push_laws.specs.Premises.{AllGranted, AllMayCome}
-use Rattle.world_model.specs.Machines.{LinkEvent, Up, Down}
-use Rattle.world_model.specs.Talks.{Talk}
-use Rattle.host_model.specs.Circumstances.{answers_in}
-use Rattle.host_model.specs.Clients.{ClientProfile, client_profile}
-use Rattle.host_model.specs.Hosts.{Host}
-use Rattle.host_model.specs.Servers.{ServerProfile, server_profile}
-use Rattle.host_laws.specs.Answered.{BeginsAtMost}
-use Rattle.host_laws.specs.Calls.{HostsAsk}
-use Rattle.host_laws.specs.Fed.{FedSpan, behind_span, AreFed, TalksFed}
-use Rattle.host_laws.specs.Feeds.{Feed, Gifts, Learns, Receives, Happens, Sent, Steps}
-use Rattle.host_laws.specs.Gaining.{IsDirect}
-use Rattle.host_laws.specs.Lives.{Span}
-use Rattle.host_laws.specs.Serving.{served_from}
-use Rattle.host_laws.specs.Woven.{Woven}
+use Rattle.pair_laws.specs.bt_base.specs.declared.settings.Settings.{Settings}
+use Rattle.pair_laws.specs.bt_base.specs.declared.settings.Transport.TheVariants.{L2cap}
+use Rattle.pair_laws.specs.bt_base.specs.Objects.{Object}
+use Rattle.pair_laws.specs.channel_laws.specs.Runs as channels
+use Rattle.pair_laws.specs.obex_session.specs.InboxCalls.{Answer}
+use Rattle.pair_laws.specs.push_laws.specs.Laws.{new_over}
+use Rattle.pair_laws.specs.push_laws.specs.Occurrences.{Occurrence}
+use Rattle.pair_laws.specs.obex_session.specs.InboxCalls.{Answer}
+use Rattle.pair_laws.specs.push_laws.specs.Premises.{AllGranted, AllMayCome}
+use Rattle.pair_laws.specs.world_model.specs.Machines.{LinkEvent, Up, Down}
+use Rattle.pair_laws.specs.world_model.specs.Talks.{Talk}
+use Rattle.pair_laws.specs.host_model.specs.Circumstances.{answers_in}
+use Rattle.pair_laws.specs.host_model.specs.Clients.{ClientProfile, client_profile}
+use Rattle.pair_laws.specs.host_model.specs.Hosts.{Host}
+use Rattle.pair_laws.specs.host_model.specs.Servers.{ServerProfile, server_profile}
+use Rattle.pair_laws.specs.host_laws.specs.Answered.{BeginsAtMost}
+use Rattle.pair_laws.specs.host_laws.specs.Calls.{HostsAsk}
+use Rattle.pair_laws.specs.host_laws.specs.Fed.{FedSpan, behind_span, AreFed, TalksFed}
+use Rattle.pair_laws.specs.host_laws.specs.Feeds.{Feed, Gifts, Learns, Receives, Happens, Sent, Steps}
+use Rattle.pair_laws.specs.host_laws.specs.Gaining.{IsDirect}
+use Rattle.pair_laws.specs.host_laws.specs.Lives.{Span}
+use Rattle.pair_laws.specs.host_laws.specs.Serving.{served_from}
+use Rattle.pair_laws.specs.host_laws.specs.Woven.{Woven}
 use Rattle.request_laws.specs.Streams.{come_on}
 use Rattle.request_laws.specs.Twists.{Set, Twined}
 

@@ -1,19 +1,19 @@
 -- What both hosts go through on a link over RFCOMM, as moves of a client and a server whose multiplexers are carried (RFCOMM 1.2, 2.1).
 use Rattle.std.specs.Prelude.{ℕ, ◌≡◌, true, List, [], ◌∷◌, ◌++◌, None, Ok}
 use Rattle.std.specs.List.{AllByRecursion, flat_map}
-use Rattle.bt_base.specs.declared.settings.Transport.TheVariants.{Rfcomm}
-use Rattle.rfcomm_frames.specs.FrameReading.{frame_answer}
-use Rattle.rfcomm_frames.specs.Frames.{PlainFrame}
-use Rattle.push_model.specs.Client.{Client}
-use Rattle.push_model.specs.Laws.{Deed, done}
-use Rattle.push_model.specs.Server.{rfcomm_psm}
-use Rattle.push_laws.specs.Carriage.{no_carriage, frames_by, StayCarried}
-use Rattle.push_laws.specs.Occurrences.{Occurrence}
-use Rattle.push_laws.specs.Parties.{server_side, client_side}
-use Rattle.push_laws.specs.Readings.{closes}
-use Rattle.host_model.specs.Clients.{ClientProfile}
-use Rattle.host_model.specs.Pdus.{mux_octets}
-use Rattle.host_model.specs.Servers.{ServerProfile}
+use Rattle.pair_laws.specs.bt_base.specs.declared.settings.Transport.TheVariants.{Rfcomm}
+use Rattle.pair_laws.specs.rfcomm_frames.specs.FrameReading.{frame_answer}
+use Rattle.pair_laws.specs.rfcomm_frames.specs.Frames.{PlainFrame}
+use Rattle.pair_laws.specs.push_model.specs.Client.{Client}
+use Rattle.pair_laws.specs.push_model.specs.Laws.{Deed, done}
+use Rattle.pair_laws.specs.push_model.specs.Server.{rfcomm_psm}
+use Rattle.pair_laws.specs.push_laws.specs.Carriage.{no_carriage, frames_by, StayCarried}
+use Rattle.pair_laws.specs.push_laws.specs.Occurrences.{Occurrence}
+use Rattle.pair_laws.specs.push_laws.specs.Parties.{server_side, client_side}
+use Rattle.pair_laws.specs.push_laws.specs.Readings.{closes}
+use Rattle.pair_laws.specs.host_model.specs.Clients.{ClientProfile}
+use Rattle.pair_laws.specs.host_model.specs.Pdus.{mux_octets}
+use Rattle.pair_laws.specs.host_model.specs.Servers.{ServerProfile}
 use Rattle.request_laws.specs.Streams.{come_on, no_streams, AllStayStreams}
 use Rattle.request_laws.specs.Twists.{Twist, of_client, Set, new_both, all_moves, OpensNone}
 

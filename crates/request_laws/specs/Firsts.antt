@@ -1,12 +1,12 @@
 -- Both hosts to which nothing happened yet.
 use Rattle.std.specs.Prelude.{List, []}
-use Rattle.bt_base.specs.declared.settings.Settings.{Settings}
-use Rattle.bt_base.specs.Objects.{Object}
-use Rattle.host_model.specs.Clients.{client_profile}
-use Rattle.host_model.specs.Hosts.{first_host}
-use Rattle.host_model.specs.Servers.{server_profile}
-use Rattle.host_laws.specs.Calls.{HostsAsk}
-use Rattle.host_laws.specs.Fed.{TalksFed}
+use Rattle.pair_laws.specs.bt_base.specs.declared.settings.Settings.{Settings}
+use Rattle.pair_laws.specs.bt_base.specs.Objects.{Object}
+use Rattle.pair_laws.specs.host_model.specs.Clients.{client_profile}
+use Rattle.pair_laws.specs.host_model.specs.Hosts.{first_host}
+use Rattle.pair_laws.specs.host_model.specs.Servers.{server_profile}
+use Rattle.pair_laws.specs.host_laws.specs.Calls.{HostsAsk}
+use Rattle.pair_laws.specs.host_laws.specs.Fed.{TalksFed}
 use Rattle.request_laws.specs.BothFed.{over_stored, BothAreHeard}
 use Rattle.request_laws.specs.Twists.{Set}
 

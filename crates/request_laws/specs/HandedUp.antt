@@ -1,20 +1,20 @@
 -- What comes on the channel of the object at either host, as its channels hand it up (Core 5.1, Volume 3 Part A, 3.1).
 use Rattle.std.specs.Prelude.{ℕ, ◌≡◌, ◌==◌, true, false, List, Option, Some, None, if◌then◌else◌}
 use Rattle.std.specs.List.{AllByRecursion, flat_map, filter_map}
-use Rattle.bt_base.specs.declared.settings.Settings.{Settings}
-use Rattle.bt_base.specs.Objects.{Contents}
-use Rattle.channel_model.specs.Carrying.{Up, Nothing, Received}
-use Rattle.channel_model.specs.Policies.{policy}
-use Rattle.channel_laws.specs.Runs.{Occurrence, run_of}
-use Rattle.push_model.specs.Server.{object_psm}
-use Rattle.push_laws.specs.Parties.{come_by, heard_by}
-use Rattle.host_model.specs.Clients.{ClientProfile, client_profile}
-use Rattle.host_model.specs.Servers.{ServerProfile, server_profile}
-use Rattle.host_laws.specs.Calls.{Asks}
-use Rattle.host_laws.specs.Fed.{WovenFed}
-use Rattle.host_laws.specs.Feeds.{Feed}
-use Rattle.host_laws.specs.Pushing.{pushed_from}
-use Rattle.host_laws.specs.Serving.{served_from}
+use Rattle.pair_laws.specs.bt_base.specs.declared.settings.Settings.{Settings}
+use Rattle.pair_laws.specs.bt_base.specs.Objects.{Contents}
+use Rattle.pair_laws.specs.channel_model.specs.Carrying.{Up, Nothing, Received}
+use Rattle.pair_laws.specs.channel_model.specs.Policies.{policy}
+use Rattle.pair_laws.specs.channel_laws.specs.Runs.{Occurrence, run_of}
+use Rattle.pair_laws.specs.push_model.specs.Server.{object_psm}
+use Rattle.pair_laws.specs.push_laws.specs.Parties.{come_by, heard_by}
+use Rattle.pair_laws.specs.host_model.specs.Clients.{ClientProfile, client_profile}
+use Rattle.pair_laws.specs.host_model.specs.Servers.{ServerProfile, server_profile}
+use Rattle.pair_laws.specs.host_laws.specs.Calls.{Asks}
+use Rattle.pair_laws.specs.host_laws.specs.Fed.{WovenFed}
+use Rattle.pair_laws.specs.host_laws.specs.Feeds.{Feed}
+use Rattle.pair_laws.specs.host_laws.specs.Pushing.{pushed_from}
+use Rattle.pair_laws.specs.host_laws.specs.Serving.{served_from}
 use Rattle.request_laws.specs.Twists.{all_deeds, OpensNone}
 
 -- an SDU of a channel to that PSM

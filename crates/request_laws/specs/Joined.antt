@@ -1,11 +1,11 @@
 -- What happens to the channels of both hosts on one link, in one order, and what both hosts go through along that order (this project's own).
 use Rattle.std.specs.Prelude.{◌≡◌, List, [], ◌∷◌, ◌++◌, map}
 use Rattle.std.specs.List.{AllByRecursion, flat_map}
-use Rattle.channel_model.specs.Value.{no_channels}
-use Rattle.push_laws.specs.Parties.{no_pipes}
-use Rattle.host_model.specs.Clients.{ClientProfile, client_profile}
-use Rattle.host_model.specs.Servers.{ServerProfile, server_profile}
-use Rattle.host_laws.specs.Woven.{Strand, strand_list, woven_list}
+use Rattle.pair_laws.specs.channel_model.specs.Value.{no_channels}
+use Rattle.pair_laws.specs.push_laws.specs.Parties.{no_pipes}
+use Rattle.pair_laws.specs.host_model.specs.Clients.{ClientProfile, client_profile}
+use Rattle.pair_laws.specs.host_model.specs.Servers.{ServerProfile, server_profile}
+use Rattle.pair_laws.specs.host_laws.specs.Woven.{Strand, strand_list, woven_list}
 use Rattle.pair_laws.specs.Orders.{Joint, AtNear, AtFar, near_in, far_in}
 use Rattle.request_laws.specs.Twists.{Twist, AtClient, AtServer, Both, new_both, Set, both_after, AllStayPiped, NoneBehind, served_on, OpensNone, Twined}
 

@@ -2,25 +2,25 @@
 -- leaves out one object at most is this project's own).
 use Rattle.std.specs.Prelude.{ℕ, ◌≡◌, ◌≤◌, List, [], sum_by}
 use Rattle.std.specs.List.{AllByRecursion}
-use Rattle.bt_base.specs.declared.settings.Transport.TheVariants.{Rfcomm}
-use Rattle.bt_base.specs.Objects.{Object}
-use Rattle.push_script.specs.declared.scenario.Scenario.{Scenario}
-use Rattle.push_terms.specs.declared.word.Side.TheVariants as sides
-use Rattle.capture.specs.Entries.{Entry}
-use Rattle.link_talk.specs.Captures.{objects_heard}
-use Rattle.push_laws.specs.Faults.{faults_of, spent_from}
-use Rattle.push_laws.specs.Laws.{new_over, stored_in}
-use Rattle.push_laws.specs.OneName.{AllKeptOrLeft}
-use Rattle.push_laws.specs.Premises.{NoneShort}
-use Rattle.shelf_model.specs.Held.{longest_octets}
-use Rattle.world_model.specs.Worlds.{all_words}
-use Rattle.host_model.specs.Circumstances.{Circumstance, answers_in}
-use Rattle.host_laws.specs.Answered.{BeginsAtMost}
-use Rattle.host_laws.specs.Calls.{HostsAsk}
-use Rattle.host_laws.specs.Gifts.{gifts_of}
-use Rattle.scenario_laws.specs.Captures.{Ran}
-use Rattle.scenario_laws.specs.Gains.{holding}
-use Rattle.scenario_laws.specs.Parties.{party_of}
+use Rattle.pair_laws.specs.bt_base.specs.declared.settings.Transport.TheVariants.{Rfcomm}
+use Rattle.pair_laws.specs.bt_base.specs.Objects.{Object}
+use Rattle.pair_laws.specs.push_script.specs.declared.scenario.Scenario.{Scenario}
+use Rattle.pair_laws.specs.push_terms.specs.declared.word.Side.TheVariants as sides
+use Rattle.pair_laws.specs.capture.specs.Entries.{Entry}
+use Rattle.pair_laws.specs.link_talk.specs.Captures.{objects_heard}
+use Rattle.pair_laws.specs.push_laws.specs.Faults.{faults_of, spent_from}
+use Rattle.pair_laws.specs.push_laws.specs.Laws.{new_over, stored_in}
+use Rattle.pair_laws.specs.push_laws.specs.OneName.{AllKeptOrLeft}
+use Rattle.pair_laws.specs.push_laws.specs.Premises.{NoneShort}
+use Rattle.pair_laws.specs.shelf_model.specs.Held.{longest_octets}
+use Rattle.pair_laws.specs.world_model.specs.Worlds.{all_words}
+use Rattle.pair_laws.specs.host_model.specs.Circumstances.{Circumstance, answers_in}
+use Rattle.pair_laws.specs.host_laws.specs.Answered.{BeginsAtMost}
+use Rattle.pair_laws.specs.host_laws.specs.Calls.{HostsAsk}
+use Rattle.pair_laws.specs.host_laws.specs.Gifts.{gifts_of}
+use Rattle.pair_laws.specs.scenario_laws.specs.Captures.{Ran}
+use Rattle.pair_laws.specs.scenario_laws.specs.Gains.{holding}
+use Rattle.pair_laws.specs.scenario_laws.specs.Parties.{party_of}
 use Rattle.pair_laws.specs.Keeping.{LosesNothing, PairsKeepOrder}
 use Rattle.pair_laws.specs.OnLinks.{ArePairs}
 use Rattle.request_laws.specs.BothFed.{InboxAnswers}

@@ -1,11 +1,11 @@
 -- Links of both hosts of a run go side by side (Core 5.1, Volume 2 Part E, 7.7.3 and 7.7.5).
 use Rattle.std.specs.Prelude.{List}
-use Rattle.bt_base.specs.Objects.{Object}
-use Rattle.push_script.specs.declared.scenario.Scenario.{Scenario}
-use Rattle.capture.specs.Entries.{Entry}
-use Rattle.host_laws.specs.Calls.{HostsAsk}
-use Rattle.scenario_laws.specs.Captures.{Ran}
-use Rattle.scenario_laws.specs.Gains.{holding}
+use Rattle.pair_laws.specs.bt_base.specs.Objects.{Object}
+use Rattle.pair_laws.specs.push_script.specs.declared.scenario.Scenario.{Scenario}
+use Rattle.pair_laws.specs.capture.specs.Entries.{Entry}
+use Rattle.pair_laws.specs.host_laws.specs.Calls.{HostsAsk}
+use Rattle.pair_laws.specs.scenario_laws.specs.Captures.{Ran}
+use Rattle.pair_laws.specs.scenario_laws.specs.Gains.{holding}
 use Rattle.pair_laws.specs.InTurn.{PairsInTurn}
 use Rattle.request_laws.specs.BothFed.{over_stored}
 use Rattle.request_laws.specs.ObjectPipes.{OpensOn, LinkedWith}

@@ -1,30 +1,30 @@
 -- Both hosts over all their links, whose clients push over RFCOMM (Object Push Profile 1.2, 4.3; RFCOMM 1.2, 2.1; IrOBEX 1.5, 3.2).
 use Rattle.std.specs.Prelude.{◌≡◌, List, [], ◌∷◌, Option, Some}
 use Rattle.std.specs.List.{AllByRecursion, flat_map}
-use Rattle.bt_base.specs.declared.settings.Settings.{Settings}
-use Rattle.bt_base.specs.declared.settings.Transport.TheVariants.{Rfcomm}
-use Rattle.bt_base.specs.Objects.{Contents, Object}
-use Rattle.push_model.specs.Client.{Client}
-use Rattle.push_model.specs.Payloads.{IsSaid}
-use Rattle.push_model.specs.Server.{Lent, lends, lent_sdu, rfcomm_psm}
-use Rattle.push_laws.specs.Carriage.{frames_by}
-use Rattle.push_laws.specs.Dialogs.{NameServer, NoPacket}
-use Rattle.push_laws.specs.Laws.{new_over}
-use Rattle.push_laws.specs.Opening.{targets_by}
-use Rattle.push_laws.specs.Premises.{AllMayCome}
-use Rattle.world_model.specs.Talks.{Talk}
-use Rattle.host_model.specs.Clients.{ClientProfile, client_profile}
-use Rattle.host_model.specs.Hosts.{Host}
-use Rattle.host_model.specs.Pdus.{sdu_of}
-use Rattle.host_model.specs.Servers.{ServerProfile, server_profile}
-use Rattle.shelf_model.specs.Held.{longest_octets}
-use Rattle.host_laws.specs.Answered.{BeginsAtMost}
-use Rattle.host_laws.specs.Calls.{HostsAsk}
-use Rattle.host_laws.specs.Fed.{TalksFed}
-use Rattle.host_laws.specs.Feeds.{Feed, Gifts, Learns, Receives, Happens, Sent, Steps, fed}
-use Rattle.host_laws.specs.Pushing.{Affair, Begins, Does, pushed_from, AllAsked}
-use Rattle.host_laws.specs.Serving.{served_from}
-use Rattle.host_laws.specs.Woven.{Strand}
+use Rattle.pair_laws.specs.bt_base.specs.declared.settings.Settings.{Settings}
+use Rattle.pair_laws.specs.bt_base.specs.declared.settings.Transport.TheVariants.{Rfcomm}
+use Rattle.pair_laws.specs.bt_base.specs.Objects.{Contents, Object}
+use Rattle.pair_laws.specs.push_model.specs.Client.{Client}
+use Rattle.pair_laws.specs.push_model.specs.Payloads.{IsSaid}
+use Rattle.pair_laws.specs.push_model.specs.Server.{Lent, lends, lent_sdu, rfcomm_psm}
+use Rattle.pair_laws.specs.push_laws.specs.Carriage.{frames_by}
+use Rattle.pair_laws.specs.push_laws.specs.Dialogs.{NameServer, NoPacket}
+use Rattle.pair_laws.specs.push_laws.specs.Laws.{new_over}
+use Rattle.pair_laws.specs.push_laws.specs.Opening.{targets_by}
+use Rattle.pair_laws.specs.push_laws.specs.Premises.{AllMayCome}
+use Rattle.pair_laws.specs.world_model.specs.Talks.{Talk}
+use Rattle.pair_laws.specs.host_model.specs.Clients.{ClientProfile, client_profile}
+use Rattle.pair_laws.specs.host_model.specs.Hosts.{Host}
+use Rattle.pair_laws.specs.host_model.specs.Pdus.{sdu_of}
+use Rattle.pair_laws.specs.host_model.specs.Servers.{ServerProfile, server_profile}
+use Rattle.pair_laws.specs.shelf_model.specs.Held.{longest_octets}
+use Rattle.pair_laws.specs.host_laws.specs.Answered.{BeginsAtMost}
+use Rattle.pair_laws.specs.host_laws.specs.Calls.{HostsAsk}
+use Rattle.pair_laws.specs.host_laws.specs.Fed.{TalksFed}
+use Rattle.pair_laws.specs.host_laws.specs.Feeds.{Feed, Gifts, Learns, Receives, Happens, Sent, Steps, fed}
+use Rattle.pair_laws.specs.host_laws.specs.Pushing.{Affair, Begins, Does, pushed_from, AllAsked}
+use Rattle.pair_laws.specs.host_laws.specs.Serving.{served_from}
+use Rattle.pair_laws.specs.host_laws.specs.Woven.{Strand}
 use Rattle.request_laws.specs.BothFed.{GrantsAll, OfLink, AreLinked, over_stored}
 use Rattle.request_laws.specs.Carried.{IsReadSo, NoneComesBehind}
 use Rattle.request_laws.specs.Streams.{no_streams, AllStayStreams}

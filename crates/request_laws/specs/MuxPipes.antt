@@ -1,17 +1,17 @@
 -- The channels of the multiplexers are pipes of what both hosts' profiles sent, on each link of each run that keeps its order (Core 5.1,
 -- Volume 3 Part A, 3.1; RFCOMM 1.2, 2.1).
 use Rattle.std.specs.Prelude.{ℕ, ◌≡◌, List, []}
-use Rattle.bt_base.specs.declared.settings.Transport.TheVariants.{Rfcomm}
-use Rattle.bt_base.specs.Objects.{Object}
-use Rattle.push_script.specs.declared.scenario.Scenario.{Scenario}
-use Rattle.capture.specs.Entries.{Entry}
-use Rattle.channel_laws.specs.Pairs.{Turn, new_pair}
-use Rattle.push_model.specs.Server.{rfcomm_psm}
-use Rattle.host_model.specs.Clients.{ClientProfile, client_profile}
-use Rattle.host_model.specs.Servers.{ServerProfile, server_profile}
-use Rattle.host_laws.specs.Calls.{HostsAsk}
-use Rattle.scenario_laws.specs.Captures.{Ran}
-use Rattle.scenario_laws.specs.Gains.{holding}
+use Rattle.pair_laws.specs.bt_base.specs.declared.settings.Transport.TheVariants.{Rfcomm}
+use Rattle.pair_laws.specs.bt_base.specs.Objects.{Object}
+use Rattle.pair_laws.specs.push_script.specs.declared.scenario.Scenario.{Scenario}
+use Rattle.pair_laws.specs.capture.specs.Entries.{Entry}
+use Rattle.pair_laws.specs.channel_laws.specs.Pairs.{Turn, new_pair}
+use Rattle.pair_laws.specs.push_model.specs.Server.{rfcomm_psm}
+use Rattle.pair_laws.specs.host_model.specs.Clients.{ClientProfile, client_profile}
+use Rattle.pair_laws.specs.host_model.specs.Servers.{ServerProfile, server_profile}
+use Rattle.pair_laws.specs.host_laws.specs.Calls.{HostsAsk}
+use Rattle.pair_laws.specs.scenario_laws.specs.Captures.{Ran}
+use Rattle.pair_laws.specs.scenario_laws.specs.Gains.{holding}
 use Rattle.pair_laws.specs.Keeping.{PairsKeepOrder}
 use Rattle.pair_laws.specs.Orders.{joints_from}
 use Rattle.request_laws.specs.BothFed.{over_stored}

@@ -1,22 +1,22 @@
 -- No request is ignored in the runs of a scenario over L2CAP, along the pairs of both hosts' channels (Object Push Profile 1.2, 4.3).
 use Rattle.std.specs.Prelude.{ℕ, ◌≡◌, List}
 use Rattle.std.specs.List.{AllByRecursion}
-use Rattle.bt_base.specs.declared.settings.Transport.TheVariants.{L2cap}
-use Rattle.bt_base.specs.Objects.{Object}
-use Rattle.push_script.specs.declared.scenario.Scenario.{Scenario}
-use Rattle.push_terms.specs.declared.word.Side.TheVariants as sides
-use Rattle.capture.specs.Entries.{Entry}
-use Rattle.channel_laws.specs.Pairs.{new_pair}
-use Rattle.channel_laws.specs.Runs as channels
-use Rattle.push_laws.specs.Parties.{no_pipes}
-use Rattle.host_model.specs.Clients.{ClientProfile, client_profile}
-use Rattle.host_model.specs.Servers.{ServerProfile, server_profile}
-use Rattle.host_laws.specs.Answered.{BeginsAtMost}
-use Rattle.host_laws.specs.Calls.{HostsAsk}
-use Rattle.host_laws.specs.InOrder.{AsksNoChannels}
-use Rattle.host_laws.specs.Woven.{Strand}
-use Rattle.scenario_laws.specs.Captures.{Ran}
-use Rattle.scenario_laws.specs.Gains.{holding, serving, asked_by, OrderlyServer}
+use Rattle.pair_laws.specs.bt_base.specs.declared.settings.Transport.TheVariants.{L2cap}
+use Rattle.pair_laws.specs.bt_base.specs.Objects.{Object}
+use Rattle.pair_laws.specs.push_script.specs.declared.scenario.Scenario.{Scenario}
+use Rattle.pair_laws.specs.push_terms.specs.declared.word.Side.TheVariants as sides
+use Rattle.pair_laws.specs.capture.specs.Entries.{Entry}
+use Rattle.pair_laws.specs.channel_laws.specs.Pairs.{new_pair}
+use Rattle.pair_laws.specs.channel_laws.specs.Runs as channels
+use Rattle.pair_laws.specs.push_laws.specs.Parties.{no_pipes}
+use Rattle.pair_laws.specs.host_model.specs.Clients.{ClientProfile, client_profile}
+use Rattle.pair_laws.specs.host_model.specs.Servers.{ServerProfile, server_profile}
+use Rattle.pair_laws.specs.host_laws.specs.Answered.{BeginsAtMost}
+use Rattle.pair_laws.specs.host_laws.specs.Calls.{HostsAsk}
+use Rattle.pair_laws.specs.host_laws.specs.InOrder.{AsksNoChannels}
+use Rattle.pair_laws.specs.host_laws.specs.Woven.{Strand}
+use Rattle.pair_laws.specs.scenario_laws.specs.Captures.{Ran}
+use Rattle.pair_laws.specs.scenario_laws.specs.Gains.{holding, serving, asked_by, OrderlyServer}
 use Rattle.pair_laws.specs.OnLinks.{happened_on, ArePairs}
 use Rattle.pair_laws.specs.Orders.{joints_from}
 use Rattle.pair_laws.specs.Pairs.{PairOnLink}

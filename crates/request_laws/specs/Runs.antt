@@ -1,25 +1,25 @@
 -- No request is ignored in the runs of a scenario over L2CAP (Object Push Profile 1.2, 4.3).
 use Rattle.std.specs.Prelude.{◌≡◌, true, List, Option}
 use Rattle.std.specs.List.{AllByRecursion, flat_map}
-use Rattle.bt_base.specs.declared.settings.Transport.TheVariants.{L2cap}
-use Rattle.bt_base.specs.Objects.{Object, Contents}
-use Rattle.push_script.specs.declared.scenario.Scenario.{Scenario}
-use Rattle.push_terms.specs.declared.word.Side.{Side}
-use Rattle.push_terms.specs.declared.word.Side.TheVariants as sides
-use Rattle.capture.specs.Entries.{Entry}
-use Rattle.channel_model.specs.Policies.{policy}
-use Rattle.host_model.specs.Clients.{client_profile}
-use Rattle.host_model.specs.Hosts.{Host}
-use Rattle.host_model.specs.Profiles.{Profile}
-use Rattle.host_model.specs.Servers.{server_profile}
-use Rattle.host_laws.specs.Calls.{Asks, HostsAsk}
-use Rattle.host_laws.specs.Fed.{TalksFed}
-use Rattle.host_laws.specs.InOrder.{AsksNoChannels, IsWhole}
-use Rattle.host_laws.specs.Lives.{on_links}
-use Rattle.host_laws.specs.OverLinks.{talk_marks}
-use Rattle.scenario_laws.specs.Captures.{Ran}
-use Rattle.scenario_laws.specs.Coming.{CameOver}
-use Rattle.scenario_laws.specs.Gains.{holding, serving, asked_by, OrderlyServer}
+use Rattle.pair_laws.specs.bt_base.specs.declared.settings.Transport.TheVariants.{L2cap}
+use Rattle.pair_laws.specs.bt_base.specs.Objects.{Object, Contents}
+use Rattle.pair_laws.specs.push_script.specs.declared.scenario.Scenario.{Scenario}
+use Rattle.pair_laws.specs.push_terms.specs.declared.word.Side.{Side}
+use Rattle.pair_laws.specs.push_terms.specs.declared.word.Side.TheVariants as sides
+use Rattle.pair_laws.specs.capture.specs.Entries.{Entry}
+use Rattle.pair_laws.specs.channel_model.specs.Policies.{policy}
+use Rattle.pair_laws.specs.host_model.specs.Clients.{client_profile}
+use Rattle.pair_laws.specs.host_model.specs.Hosts.{Host}
+use Rattle.pair_laws.specs.host_model.specs.Profiles.{Profile}
+use Rattle.pair_laws.specs.host_model.specs.Servers.{server_profile}
+use Rattle.pair_laws.specs.host_laws.specs.Calls.{Asks, HostsAsk}
+use Rattle.pair_laws.specs.host_laws.specs.Fed.{TalksFed}
+use Rattle.pair_laws.specs.host_laws.specs.InOrder.{AsksNoChannels, IsWhole}
+use Rattle.pair_laws.specs.host_laws.specs.Lives.{on_links}
+use Rattle.pair_laws.specs.host_laws.specs.OverLinks.{talk_marks}
+use Rattle.pair_laws.specs.scenario_laws.specs.Captures.{Ran}
+use Rattle.pair_laws.specs.scenario_laws.specs.Coming.{CameOver}
+use Rattle.pair_laws.specs.scenario_laws.specs.Gains.{holding, serving, asked_by, OrderlyServer}
 use Rattle.request_laws.specs.BothFed.{over_stored, BothAreHeard}
 
 -- ---- both hosts of a run

@@ -1,14 +1,14 @@
 -- What a multiplexer says can be spelled, so it is read as it was sent (TS 07.10, 5.2.1; RFCOMM 1.2, 5.1 and 6.5.2).
 use Rattle.std.specs.Prelude.{ℕ, ◌<◌, ◌^◌, List, length, Option, Some, None}
 use Rattle.std.specs.List.{AllByRecursion}
-use Rattle.bt_base.specs.Octets.{IsOctets}
-use Rattle.rfcomm_frames.specs.declared.connection.Role.{Role}
-use Rattle.rfcomm_frames.specs.Frames.{PlainFrame, IsFrame}
-use Rattle.rfcomm_model.specs.Machine.{Mux, new_mux, reset, sends, leaves}
-use Rattle.rfcomm_model.specs.Hearing.{hears}
-use Rattle.rfcomm_model.specs.Saying.{Said, next}
-use Rattle.push_model.specs.Payloads.{IsShortest}
-use Rattle.host_model.specs.Pdus.{mux_octets}
+use Rattle.pair_laws.specs.bt_base.specs.Octets.{IsOctets}
+use Rattle.pair_laws.specs.rfcomm_frames.specs.declared.connection.Role.{Role}
+use Rattle.pair_laws.specs.rfcomm_frames.specs.Frames.{PlainFrame, IsFrame}
+use Rattle.pair_laws.specs.rfcomm_model.specs.Machine.{Mux, new_mux, reset, sends, leaves}
+use Rattle.pair_laws.specs.rfcomm_model.specs.Hearing.{hears}
+use Rattle.pair_laws.specs.rfcomm_model.specs.Saying.{Said, next}
+use Rattle.pair_laws.specs.push_model.specs.Payloads.{IsShortest}
+use Rattle.pair_laws.specs.host_model.specs.Pdus.{mux_octets}
 use Rattle.request_laws.specs.Carried.{IsReadSo}
 
 -- the numbers of a frame fit their fields, and its length field has room: there are octets that spell it

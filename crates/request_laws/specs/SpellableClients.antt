@@ -1,15 +1,15 @@
 -- What a client over RFCOMM says can be spelled, so it is read as it was sent (Object Push Profile 1.2, 4.3; RFCOMM 1.2, 5.1).
 use Rattle.std.specs.Prelude.{ℕ, ◌≤◌, List, length, Result}
 use Rattle.std.specs.List.{AllByRecursion}
-use Rattle.bt_base.specs.declared.ports.PortFault.{PortFault}
-use Rattle.bt_base.specs.declared.settings.Settings.{Settings}
-use Rattle.bt_base.specs.Octets.{IsOctets}
-use Rattle.push_model.specs.Client.{Client, new_client, begins}
-use Rattle.push_model.specs.Events.{News, LinkUp, LinkFailed, ChannelOpen, ChannelClosed, Sdu, FeaturesTold, FeaturesLost, Timer}
-use Rattle.push_model.specs.Events as news
-use Rattle.push_model.specs.Laws.{Deed, Hears, Asks, Finishes, Cancels, done}
-use Rattle.shelf_model.specs.Held.{IsPartOctets}
-use Rattle.push_laws.specs.Carriage.{frames_by}
+use Rattle.pair_laws.specs.bt_base.specs.declared.ports.PortFault.{PortFault}
+use Rattle.pair_laws.specs.bt_base.specs.declared.settings.Settings.{Settings}
+use Rattle.pair_laws.specs.bt_base.specs.Octets.{IsOctets}
+use Rattle.pair_laws.specs.push_model.specs.Client.{Client, new_client, begins}
+use Rattle.pair_laws.specs.push_model.specs.Events.{News, LinkUp, LinkFailed, ChannelOpen, ChannelClosed, Sdu, FeaturesTold, FeaturesLost, Timer}
+use Rattle.pair_laws.specs.push_model.specs.Events as news
+use Rattle.pair_laws.specs.push_model.specs.Laws.{Deed, Hears, Asks, Finishes, Cancels, done}
+use Rattle.pair_laws.specs.shelf_model.specs.Held.{IsPartOctets}
+use Rattle.pair_laws.specs.push_laws.specs.Carriage.{frames_by}
 use Rattle.request_laws.specs.Carried.{IsReadSo}
 use Rattle.request_laws.specs.Spellable.{SaysSpellable}
 

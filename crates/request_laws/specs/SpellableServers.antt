@@ -1,13 +1,13 @@
 -- What a server over RFCOMM lends can be spelled (Object Push Profile 1.2, 4.3; RFCOMM 1.2, 5.1).
 use Rattle.std.specs.Prelude.{◌≡◌, Option, Some, None}
-use Rattle.bt_base.specs.declared.settings.Settings.{Settings}
-use Rattle.bt_base.specs.Objects.{Contents}
-use Rattle.bt_base.specs.Octets.{IsOctets}
-use Rattle.rfcomm_frames.specs.Frames.{PlainFrame}
-use Rattle.push_model.specs.Payloads.{IsSaid}
-use Rattle.push_model.specs.Server.{Server, Reacted, Lent, lends, lent_sdu}
-use Rattle.push_laws.specs.Occurrences.{Occurrence, Came, Went, Closed, LinkDown, Asked, Answering, begun, done}
-use Rattle.host_model.specs.Pdus.{sdu_of}
+use Rattle.pair_laws.specs.bt_base.specs.declared.settings.Settings.{Settings}
+use Rattle.pair_laws.specs.bt_base.specs.Objects.{Contents}
+use Rattle.pair_laws.specs.bt_base.specs.Octets.{IsOctets}
+use Rattle.pair_laws.specs.rfcomm_frames.specs.Frames.{PlainFrame}
+use Rattle.pair_laws.specs.push_model.specs.Payloads.{IsSaid}
+use Rattle.pair_laws.specs.push_model.specs.Server.{Server, Reacted, Lent, lends, lent_sdu}
+use Rattle.pair_laws.specs.push_laws.specs.Occurrences.{Occurrence, Came, Went, Closed, LinkDown, Asked, Answering, begun, done}
+use Rattle.pair_laws.specs.host_model.specs.Pdus.{sdu_of}
 use Rattle.request_laws.specs.Spellable.{IsSpellable, SaysSpellable}
 
 -- an SDU that comes are octets

@@ -1,17 +1,17 @@
 -- What the capture of a run spells to host b is what host a pushes: objects of its shelf, each whole and once at most, in the order of the pushes (Object Push
 -- Profile 1.2, 4.3; IrOBEX 1.5, 3.4).
 use Rattle.std.specs.Prelude.{◌≡◌, List, Some}
-use Rattle.bt_base.specs.declared.settings.Transport.TheVariants.{Rfcomm}
-use Rattle.bt_base.specs.Objects.{Object}
-use Rattle.push_script.specs.declared.scenario.Scenario.{Scenario}
-use Rattle.push_terms.specs.declared.word.Side.TheVariants as sides
-use Rattle.capture.specs.Entries.{Entry}
-use Rattle.link_talk.specs.Captures.{objects_heard}
-use Rattle.push_laws.specs.Spelled.{ArePushed}
-use Rattle.world_model.specs.Worlds.{all_words}
-use Rattle.scenario_laws.specs.Captures.{Ran}
-use Rattle.scenario_laws.specs.Gains.{holding}
-use Rattle.scenario_laws.specs.Parties.{party_of}
+use Rattle.pair_laws.specs.bt_base.specs.declared.settings.Transport.TheVariants.{Rfcomm}
+use Rattle.pair_laws.specs.bt_base.specs.Objects.{Object}
+use Rattle.pair_laws.specs.push_script.specs.declared.scenario.Scenario.{Scenario}
+use Rattle.pair_laws.specs.push_terms.specs.declared.word.Side.TheVariants as sides
+use Rattle.pair_laws.specs.capture.specs.Entries.{Entry}
+use Rattle.pair_laws.specs.link_talk.specs.Captures.{objects_heard}
+use Rattle.pair_laws.specs.push_laws.specs.Spelled.{ArePushed}
+use Rattle.pair_laws.specs.world_model.specs.Worlds.{all_words}
+use Rattle.pair_laws.specs.scenario_laws.specs.Captures.{Ran}
+use Rattle.pair_laws.specs.scenario_laws.specs.Gains.{holding}
+use Rattle.pair_laws.specs.scenario_laws.specs.Parties.{party_of}
 use Rattle.pair_laws.specs.Enough.{HappenedEnough}
 use Rattle.pair_laws.specs.Keeping.{LosesNothing}
 

@@ -1,20 +1,20 @@
 -- What the channels of a PSM carry on a link, as both hosts go through it (this project's own).
 use Rattle.std.specs.Prelude.{ℕ, ◌==◌, List, [], ◌∷◌, ◌++◌, if◌then◌else◌}
 use Rattle.std.specs.List.{flat_map}
-use Rattle.channel_model.specs.Value.{Channels}
-use Rattle.push_model.specs.Events.{News, LinkUp, LinkFailed, ChannelOpen, ChannelClosed, Sdu, FeaturesTold, FeaturesLost, Timer}
-use Rattle.push_model.specs.Events as news
-use Rattle.push_model.specs.Laws.{Deed, Hears, Asks, Finishes, Cancels}
-use Rattle.push_model.specs.Steps.{Step, Wait, MakeLink, AskFeatures, OpenChannel, SendSdu, CloseChannel, BreakLink, Ended, NoMemory, steps}
-use Rattle.push_laws.specs.Occurrences.{Occurrence, Came, Went, Closed, LinkDown, Asked, Answering}
-use Rattle.push_laws.specs.Parties.{sdu_if, IsFrontOf}
-use Rattle.host_model.specs.Clients.{ClientProfile, fitted}
-use Rattle.host_model.specs.Endpoints.{Endpoint, endpoint_of}
-use Rattle.host_model.specs.Pdus.{sdu_of}
-use Rattle.host_laws.specs.Fed.{strand_feeds}
-use Rattle.host_laws.specs.Pushing.{pushed_from}
-use Rattle.host_laws.specs.Serving.{served_from}
-use Rattle.host_laws.specs.Woven.{Strand, Hearing, Giving, Firing, Telling, Gifting, Learning, Checking, Stepping}
+use Rattle.pair_laws.specs.channel_model.specs.Value.{Channels}
+use Rattle.pair_laws.specs.push_model.specs.Events.{News, LinkUp, LinkFailed, ChannelOpen, ChannelClosed, Sdu, FeaturesTold, FeaturesLost, Timer}
+use Rattle.pair_laws.specs.push_model.specs.Events as news
+use Rattle.pair_laws.specs.push_model.specs.Laws.{Deed, Hears, Asks, Finishes, Cancels}
+use Rattle.pair_laws.specs.push_model.specs.Steps.{Step, Wait, MakeLink, AskFeatures, OpenChannel, SendSdu, CloseChannel, BreakLink, Ended, NoMemory, steps}
+use Rattle.pair_laws.specs.push_laws.specs.Occurrences.{Occurrence, Came, Went, Closed, LinkDown, Asked, Answering}
+use Rattle.pair_laws.specs.push_laws.specs.Parties.{sdu_if, IsFrontOf}
+use Rattle.pair_laws.specs.host_model.specs.Clients.{ClientProfile, fitted}
+use Rattle.pair_laws.specs.host_model.specs.Endpoints.{Endpoint, endpoint_of}
+use Rattle.pair_laws.specs.host_model.specs.Pdus.{sdu_of}
+use Rattle.pair_laws.specs.host_laws.specs.Fed.{strand_feeds}
+use Rattle.pair_laws.specs.host_laws.specs.Pushing.{pushed_from}
+use Rattle.pair_laws.specs.host_laws.specs.Serving.{served_from}
+use Rattle.pair_laws.specs.host_laws.specs.Woven.{Strand, Hearing, Giving, Firing, Telling, Gifting, Learning, Checking, Stepping}
 use Rattle.request_laws.specs.Twists.{Twist, AtClient, AtServer, Both, Set, both_after, all_deeds, taken_on}
 
 -- ---- SDUs of a PSM

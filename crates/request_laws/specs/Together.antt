@@ -2,18 +2,18 @@
 -- 1.2, 4.3).
 use Rattle.std.specs.Prelude.{◌≡◌, List, ◌++◌, Some}
 use Rattle.std.specs.List.{AllByRecursion}
-use Rattle.bt_base.specs.declared.settings.Transport.TheVariants.{L2cap}
-use Rattle.bt_base.specs.Objects.{Object}
-use Rattle.push_script.specs.declared.scenario.Scenario.{Scenario}
-use Rattle.push_terms.specs.declared.word.Side.TheVariants as sides
-use Rattle.capture.specs.Entries.{Entry}
-use Rattle.link_talk.specs.Captures.{objects_heard}
-use Rattle.push_laws.specs.Laws.{stored_in}
-use Rattle.host_laws.specs.Answered.{BeginsAtMost}
-use Rattle.host_laws.specs.Calls.{HostsAsk}
-use Rattle.scenario_laws.specs.Captures.{Ran}
-use Rattle.scenario_laws.specs.Gains.{holding, OrderlyServer}
-use Rattle.scenario_laws.specs.Parties.{party_of}
+use Rattle.pair_laws.specs.bt_base.specs.declared.settings.Transport.TheVariants.{L2cap}
+use Rattle.pair_laws.specs.bt_base.specs.Objects.{Object}
+use Rattle.pair_laws.specs.push_script.specs.declared.scenario.Scenario.{Scenario}
+use Rattle.pair_laws.specs.push_terms.specs.declared.word.Side.TheVariants as sides
+use Rattle.pair_laws.specs.capture.specs.Entries.{Entry}
+use Rattle.pair_laws.specs.link_talk.specs.Captures.{objects_heard}
+use Rattle.pair_laws.specs.push_laws.specs.Laws.{stored_in}
+use Rattle.pair_laws.specs.host_laws.specs.Answered.{BeginsAtMost}
+use Rattle.pair_laws.specs.host_laws.specs.Calls.{HostsAsk}
+use Rattle.pair_laws.specs.scenario_laws.specs.Captures.{Ran}
+use Rattle.pair_laws.specs.scenario_laws.specs.Gains.{holding, OrderlyServer}
+use Rattle.pair_laws.specs.scenario_laws.specs.Parties.{party_of}
 use Rattle.pair_laws.specs.InTurn.{PairsInTurn}
 use Rattle.pair_laws.specs.OnLinks.{ArePairs}
 use Rattle.request_laws.specs.BothFed.{most_octets, GrantsAll}

@@ -2,23 +2,23 @@
 -- Profile 1.2, 4.3; RFCOMM 1.2, 2.1 and 5.1; Core 5.1, Volume 3 Part B, 4.7).
 use Rattle.std.specs.Prelude.{◌≡◌, List, ◌++◌, Some, None}
 use Rattle.std.specs.List.{AllByRecursion}
-use Rattle.bt_base.specs.declared.settings.Transport.TheVariants.{Rfcomm}
-use Rattle.bt_base.specs.Objects.{Object}
-use Rattle.bt_base.specs.Octets.{IsOctets}
-use Rattle.push_script.specs.declared.scenario.Scenario.{Scenario}
-use Rattle.push_terms.specs.declared.word.Side.TheVariants as sides
-use Rattle.capture.specs.Entries.{Entry}
-use Rattle.link_talk.specs.Captures.{objects_heard}
-use Rattle.push_laws.specs.Laws.{stored_in}
-use Rattle.world_model.specs.Worlds.{all_words}
-use Rattle.host_model.specs.Circumstances.{parts_in}
-use Rattle.shelf_model.specs.Held.{longest_octets, IsHeld}
-use Rattle.host_laws.specs.Answered.{BeginsAtMost}
-use Rattle.host_laws.specs.Calls.{HostsAsk}
-use Rattle.host_laws.specs.Feeds.{Feed, Gifts, Learns, Receives, Happens, Sent, Steps}
-use Rattle.scenario_laws.specs.Captures.{Ran}
-use Rattle.scenario_laws.specs.Gains.{holding}
-use Rattle.scenario_laws.specs.Parties.{party_of}
+use Rattle.pair_laws.specs.bt_base.specs.declared.settings.Transport.TheVariants.{Rfcomm}
+use Rattle.pair_laws.specs.bt_base.specs.Objects.{Object}
+use Rattle.pair_laws.specs.bt_base.specs.Octets.{IsOctets}
+use Rattle.pair_laws.specs.push_script.specs.declared.scenario.Scenario.{Scenario}
+use Rattle.pair_laws.specs.push_terms.specs.declared.word.Side.TheVariants as sides
+use Rattle.pair_laws.specs.capture.specs.Entries.{Entry}
+use Rattle.pair_laws.specs.link_talk.specs.Captures.{objects_heard}
+use Rattle.pair_laws.specs.push_laws.specs.Laws.{stored_in}
+use Rattle.pair_laws.specs.world_model.specs.Worlds.{all_words}
+use Rattle.pair_laws.specs.host_model.specs.Circumstances.{parts_in}
+use Rattle.pair_laws.specs.shelf_model.specs.Held.{longest_octets, IsHeld}
+use Rattle.pair_laws.specs.host_laws.specs.Answered.{BeginsAtMost}
+use Rattle.pair_laws.specs.host_laws.specs.Calls.{HostsAsk}
+use Rattle.pair_laws.specs.host_laws.specs.Feeds.{Feed, Gifts, Learns, Receives, Happens, Sent, Steps}
+use Rattle.pair_laws.specs.scenario_laws.specs.Captures.{Ran}
+use Rattle.pair_laws.specs.scenario_laws.specs.Gains.{holding}
+use Rattle.pair_laws.specs.scenario_laws.specs.Parties.{party_of}
 use Rattle.pair_laws.specs.Granted.{HappenedGranted}
 use Rattle.pair_laws.specs.Keeping.{LosesNothing, PairsKeepOrder}
 use Rattle.request_laws.specs.BothFed.{GrantsAll}

@@ -1,26 +1,26 @@
 -- Both hosts on one link, one thing after the other, and what their channels of the object carry (this project's own).
 use Rattle.std.specs.Prelude.{ℕ, ◌≡◌, ◌==◌, true, List, [], ◌∷◌, ◌++◌, map, Option, Some, None, if◌then◌else◌}
 use Rattle.std.specs.List.{AllByRecursion, flat_map}
-use Rattle.bt_base.specs.declared.settings.Settings.{Settings}
-use Rattle.bt_base.specs.Objects.{Contents}
-use Rattle.channel_model.specs.Value.{Channels, no_channels}
-use Rattle.push_model.specs.Client.{Client}
-use Rattle.push_model.specs.Laws.{Deed}
-use Rattle.push_model.specs.Server.{object_psm}
-use Rattle.push_model.specs.Steps.{Step, Wait, MakeLink, AskFeatures, OpenChannel, SendSdu, CloseChannel, BreakLink, Ended, NoMemory, steps}
-use Rattle.push_laws.specs.Occurrences.{Occurrence}
-use Rattle.push_laws.specs.Readings.{closes}
-use Rattle.push_laws.specs.Parties.{Move, OfServer, OfClient, client_after, Pipes, no_pipes, pipes_after, ArePipes, come_by}
-use Rattle.host_model.specs.Clients.{ClientProfile, client_profile, fitted}
-use Rattle.host_model.specs.Endpoints.{Endpoint, endpoint_of, takes_sdu}
-use Rattle.host_model.specs.Pdus.{sdu_of}
-use Rattle.host_model.specs.Servers.{ServerProfile, server_profile}
-use Rattle.host_laws.specs.Asked.{BeginsNone}
-use Rattle.host_laws.specs.Calls.{HostsAsk, values_after}
-use Rattle.host_laws.specs.Fed.{strand_feeds, woven_feeds}
-use Rattle.host_laws.specs.Pushing.{Affair, Begins, Does, pushed_from}
-use Rattle.host_laws.specs.Serving.{served_from}
-use Rattle.host_laws.specs.Woven.{Strand, Hearing, Giving, Firing, Telling, Gifting, Learning, Checking, Stepping, strand_list, strand_profile}
+use Rattle.pair_laws.specs.bt_base.specs.declared.settings.Settings.{Settings}
+use Rattle.pair_laws.specs.bt_base.specs.Objects.{Contents}
+use Rattle.pair_laws.specs.channel_model.specs.Value.{Channels, no_channels}
+use Rattle.pair_laws.specs.push_model.specs.Client.{Client}
+use Rattle.pair_laws.specs.push_model.specs.Laws.{Deed}
+use Rattle.pair_laws.specs.push_model.specs.Server.{object_psm}
+use Rattle.pair_laws.specs.push_model.specs.Steps.{Step, Wait, MakeLink, AskFeatures, OpenChannel, SendSdu, CloseChannel, BreakLink, Ended, NoMemory, steps}
+use Rattle.pair_laws.specs.push_laws.specs.Occurrences.{Occurrence}
+use Rattle.pair_laws.specs.push_laws.specs.Readings.{closes}
+use Rattle.pair_laws.specs.push_laws.specs.Parties.{Move, OfServer, OfClient, client_after, Pipes, no_pipes, pipes_after, ArePipes, come_by}
+use Rattle.pair_laws.specs.host_model.specs.Clients.{ClientProfile, client_profile, fitted}
+use Rattle.pair_laws.specs.host_model.specs.Endpoints.{Endpoint, endpoint_of, takes_sdu}
+use Rattle.pair_laws.specs.host_model.specs.Pdus.{sdu_of}
+use Rattle.pair_laws.specs.host_model.specs.Servers.{ServerProfile, server_profile}
+use Rattle.pair_laws.specs.host_laws.specs.Asked.{BeginsNone}
+use Rattle.pair_laws.specs.host_laws.specs.Calls.{HostsAsk, values_after}
+use Rattle.pair_laws.specs.host_laws.specs.Fed.{strand_feeds, woven_feeds}
+use Rattle.pair_laws.specs.host_laws.specs.Pushing.{Affair, Begins, Does, pushed_from}
+use Rattle.pair_laws.specs.host_laws.specs.Serving.{served_from}
+use Rattle.pair_laws.specs.host_laws.specs.Woven.{Strand, Hearing, Giving, Firing, Telling, Gifting, Learning, Checking, Stepping, strand_list, strand_profile}
 
 -- ---- what happens to both
 

@@ -3,19 +3,19 @@ use Rattle.std.proofs.Common.{◌≡◌, ◌⊎◌, ℕ, ◌+◌, ◌-◌, ◌==
 use Rattle.std.specs.List.{list_any, AllByRecursion}
 use Rattle.std.proofs.lemmas.Bool.{eq-eqb, eqb-true, le-leb}
 use Rattle.byteorder.specs.Endian.{little_number}
-use Rattle.bt_base.specs.Octets.{le16}
-use Rattle.bt_base.proofs.OctetLemmas.{le16-number}
-use Rattle.acl_fragments.specs.Pieces.{Piece}
-use Rattle.push_terms.specs.declared.word.Side.{Side}
-use Rattle.push_terms.specs.declared.word.Side.TheVariants.{A, B}
-use Rattle.radio_air.specs.Controllers.{Answer, Returned, Stated, Called, LinkMade, LinkGone, GivenBack, Controller, after_telling}
-use Rattle.world_model.specs.Machines.{Heard, Upper}
-use Rattle.world_model.specs.Stations.{Order, Accept, opcode, asks, Station, longest_pdu, gives, holds, is_handle, hears_each, hears_piece, answered, learns, may_accept, hears_answer}
-use Rattle.turn_laws.proofs.Leading.{Tiding, Came, Went, tidings, made, Led}
-use Rattle.turn_laws.proofs.Wiring.{count}
-use Rattle.turn_laws.proofs.Stationing.{linked_handle, Steady}
-use Rattle.turn_laws.proofs.Hearing.{with_owed, rest_tidings}
-use Rattle.turn_laws.proofs.Answering.{made_by, gone_by}
+use Rattle.station_laws.specs.bt_base.specs.Octets.{le16}
+use Rattle.station_laws.specs.bt_base.proofs.OctetLemmas.{le16-number}
+use Rattle.station_laws.specs.acl_fragments.specs.Pieces.{Piece}
+use Rattle.station_laws.specs.push_terms.specs.declared.word.Side.{Side}
+use Rattle.station_laws.specs.push_terms.specs.declared.word.Side.TheVariants.{A, B}
+use Rattle.station_laws.specs.radio_air.specs.Controllers.{Answer, Returned, Stated, Called, LinkMade, LinkGone, GivenBack, Controller, after_telling}
+use Rattle.station_laws.specs.world_model.specs.Machines.{Heard, Upper}
+use Rattle.station_laws.specs.world_model.specs.Stations.{Order, Accept, opcode, asks, Station, longest_pdu, gives, holds, is_handle, hears_each, hears_piece, answered, learns, may_accept, hears_answer}
+use Rattle.station_laws.specs.turn_laws.proofs.Leading.{Tiding, Came, Went, tidings, made, Led}
+use Rattle.station_laws.specs.turn_laws.proofs.Wiring.{count}
+use Rattle.station_laws.specs.turn_laws.proofs.Stationing.{linked_handle, Steady}
+use Rattle.station_laws.specs.turn_laws.proofs.Hearing.{with_owed, rest_tidings}
+use Rattle.station_laws.specs.turn_laws.proofs.Answering.{made_by, gone_by}
 use Rattle.station_laws.specs.Coming.{IsReturned, AreBuffers}
 use Rattle.station_laws.proofs.Owing.{numbers_in, numbers_of, IsRight, IsRightOne}
 use Rattle.station_laws.proofs.Pending.{Pending, number_awaited, it_is}

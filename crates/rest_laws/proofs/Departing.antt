@@ -1,20 +1,20 @@
 -- An order that moves from a host to its controller leaves it so.
 use Rattle.std.proofs.Common.{◌≡◌, ◌⊎◌, ℕ, ◌+◌, ◌≤◌, ◌==◌, ◌&&◌, not, nat_lt, nat_le, Bool, true, false, List, [], ◌∷◌, ◌++◌, Option, Some, None, if◌then◌else◌, inl, inr, refl, sym, ap, ◌∙◌, subst, arith}
 use Rattle.std.proofs.lemmas.Bool.{cases_Bool, eq-eqb, eqb-true, lt-ltb}
-use Rattle.bt_base.specs.Octets.{le16}
-use Rattle.acl_fragments.specs.Pieces.{Piece}
-use Rattle.push_terms.specs.declared.word.Side.TheVariants.{A, B}
-use Rattle.radio_air.specs.Controllers.{Answer, Returned, Stated, Called, address, Controller, owing, after_giving_back, is_empty}
-use Rattle.radio_air.specs.Radio.{Radio, Phase, Apart, Paging, Requested, Together, is_apart, is_paging, is_requested, is_together, owes, may_page, after_reaching, joined, parted, knows_link, with_piece, after_taking}
-use Rattle.world_model.specs.Machines.{Upper}
-use Rattle.world_model.specs.Pushes.{Pushes}
-use Rattle.world_model.specs.Stations.{Order, Reset, ReadBuffers, ReadAddress, Scan, Page, Accept, End, Data, Station}
-use Rattle.world_model.specs.Worlds.{piece_on, after_order}
-use Rattle.turn_laws.specs.Premises.{Idles}
-use Rattle.turn_laws.proofs.Leading.{Tiding, tiding_in, tidings, plain_tidings, Led, knows}
-use Rattle.turn_laws.proofs.Wiring.{end_at, asking, count}
-use Rattle.turn_laws.proofs.Departing.{gives_back_tidings}
-use Rattle.turn_laws.proofs.Keeping.{calling, Rests, Kept}
+use Rattle.station_laws.specs.bt_base.specs.Octets.{le16}
+use Rattle.station_laws.specs.acl_fragments.specs.Pieces.{Piece}
+use Rattle.station_laws.specs.push_terms.specs.declared.word.Side.TheVariants.{A, B}
+use Rattle.station_laws.specs.radio_air.specs.Controllers.{Answer, Returned, Stated, Called, address, Controller, owing, after_giving_back, is_empty}
+use Rattle.station_laws.specs.radio_air.specs.Radio.{Radio, Phase, Apart, Paging, Requested, Together, is_apart, is_paging, is_requested, is_together, owes, may_page, after_reaching, joined, parted, knows_link, with_piece, after_taking}
+use Rattle.station_laws.specs.world_model.specs.Machines.{Upper}
+use Rattle.station_laws.specs.world_model.specs.Pushes.{Pushes}
+use Rattle.station_laws.specs.world_model.specs.Stations.{Order, Reset, ReadBuffers, ReadAddress, Scan, Page, Accept, End, Data, Station}
+use Rattle.station_laws.specs.world_model.specs.Worlds.{piece_on, after_order}
+use Rattle.station_laws.specs.turn_laws.specs.Premises.{Idles}
+use Rattle.station_laws.specs.turn_laws.proofs.Leading.{Tiding, tiding_in, tidings, plain_tidings, Led, knows}
+use Rattle.station_laws.specs.turn_laws.proofs.Wiring.{end_at, asking, count}
+use Rattle.station_laws.specs.turn_laws.proofs.Departing.{gives_back_tidings}
+use Rattle.station_laws.specs.turn_laws.proofs.Keeping.{calling, Rests, Kept}
 use Rattle.rest_laws.proofs.Living.{lives_as, lives_pops, own_first}
 use Rattle.rest_laws.proofs.Calling.{scanning_by, called_by, called-append, called_same, called_back, requesting, requested_is}
 use Rattle.rest_laws.proofs.Lively.{IsFresh, Lively, Alike, alike_refl, lively_alike, lively_pops_a, lively_pops_b, lively_parted, lively_joined, some_gone, fresh_of}

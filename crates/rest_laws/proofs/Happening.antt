@@ -3,26 +3,26 @@ use Rattle.std.proofs.Common.{◌≡◌, ℕ, ◌+◌, ◌≤◌, Bool, true, fa
 use Rattle.std.specs.Prelude.{slice_get}
 use Rattle.std.proofs.lemmas.Bool.{eq-eqb}
 use Rattle.std.proofs.lemmas.Option.{slice_get_within}
-use Rattle.push_terms.specs.declared.word.Side.TheVariants.{A, B}
-use Rattle.push_terms.specs.declared.word.Way.TheVariants.{Ab, Ba}
-use Rattle.radio_air.specs.declared.fate.Fate.{Fate}
-use Rattle.radio_air.specs.declared.deed.Deed.{Deed}
-use Rattle.radio_air.specs.declared.deed.Deed.TheVariants.{Nothing, Meets, Fires, FiresBoth, Breaks, Cancels}
-use Rattle.radio_air.specs.Controllers.{Answer, Returned, Stated, Called, LinkMade, LinkGone, GivenBack, Controller, after_telling}
-use Rattle.radio_air.specs.Radio.{Radio, Phase, is_together, with_controller, after_meeting, found}
-use Rattle.world_model.specs.Machines.{Linked, Down, TimerFired, Cancelled, Opening, Upper}
-use Rattle.world_model.specs.Pushes.{Pushes, one_begun, next_name}
-use Rattle.world_model.specs.Stations.{Order, Accept, Station, Effort, Taking, Putting, Asking, Leaving, Commanding, MakesEffort, is_handle, hears_piece, hears_answer, told}
-use Rattle.world_model.specs.Worlds.{World, Happening, Tries, Departure, GivingBack, Piecemeal, Answering, Turns, Misses, Opens, Closes, checks, fired, Acts, Does}
-use Rattle.turn_laws.specs.Premises.{Idles}
-use Rattle.turn_laws.proofs.Advancing.{breaks_linked}
-use Rattle.turn_laws.proofs.Leading.{Tiding, Came, Went, tidings, made, Led}
-use Rattle.turn_laws.proofs.Wiring.{count, count-append}
-use Rattle.turn_laws.proofs.Stationing.{linked_handle, Steady}
-use Rattle.turn_laws.proofs.Hearing.{with_owed, rest_tidings}
-use Rattle.turn_laws.proofs.Answering.{made_by, gone_by}
-use Rattle.turn_laws.proofs.Coming.{handed_piece, handed_answer}
-use Rattle.turn_laws.proofs.Keeping.{calling, Kept}
+use Rattle.station_laws.specs.push_terms.specs.declared.word.Side.TheVariants.{A, B}
+use Rattle.station_laws.specs.push_terms.specs.declared.word.Way.TheVariants.{Ab, Ba}
+use Rattle.station_laws.specs.radio_air.specs.declared.fate.Fate.{Fate}
+use Rattle.station_laws.specs.radio_air.specs.declared.deed.Deed.{Deed}
+use Rattle.station_laws.specs.radio_air.specs.declared.deed.Deed.TheVariants.{Nothing, Meets, Fires, FiresBoth, Breaks, Cancels}
+use Rattle.station_laws.specs.radio_air.specs.Controllers.{Answer, Returned, Stated, Called, LinkMade, LinkGone, GivenBack, Controller, after_telling}
+use Rattle.station_laws.specs.radio_air.specs.Radio.{Radio, Phase, is_together, with_controller, after_meeting, found}
+use Rattle.station_laws.specs.world_model.specs.Machines.{Linked, Down, TimerFired, Cancelled, Opening, Upper}
+use Rattle.station_laws.specs.world_model.specs.Pushes.{Pushes, one_begun, next_name}
+use Rattle.station_laws.specs.world_model.specs.Stations.{Order, Accept, Station, Effort, Taking, Putting, Asking, Leaving, Commanding, MakesEffort, is_handle, hears_piece, hears_answer, told}
+use Rattle.station_laws.specs.world_model.specs.Worlds.{World, Happening, Tries, Departure, GivingBack, Piecemeal, Answering, Turns, Misses, Opens, Closes, checks, fired, Acts, Does}
+use Rattle.station_laws.specs.turn_laws.specs.Premises.{Idles}
+use Rattle.station_laws.specs.turn_laws.proofs.Advancing.{breaks_linked}
+use Rattle.station_laws.specs.turn_laws.proofs.Leading.{Tiding, Came, Went, tidings, made, Led}
+use Rattle.station_laws.specs.turn_laws.proofs.Wiring.{count, count-append}
+use Rattle.station_laws.specs.turn_laws.proofs.Stationing.{linked_handle, Steady}
+use Rattle.station_laws.specs.turn_laws.proofs.Hearing.{with_owed, rest_tidings}
+use Rattle.station_laws.specs.turn_laws.proofs.Answering.{made_by, gone_by}
+use Rattle.station_laws.specs.turn_laws.proofs.Coming.{handed_piece, handed_answer}
+use Rattle.station_laws.specs.turn_laws.proofs.Keeping.{calling, Kept}
 use Rattle.air_laws.proofs.Resting.{next_going}
 use Rattle.station_laws.proofs.Running.{Kept as Answered}
 use Rattle.rest_laws.specs.Premises.{AsksOnce}

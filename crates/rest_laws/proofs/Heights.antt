@@ -1,19 +1,19 @@
 -- What falls with each thing that happens without a word.
 use Rattle.std.proofs.Common.{◌≡◌, ℕ, suc, ◌+◌, ◌-◌, ◌*◌, ◌<◌, ◌≤◌, ◌==◌, ◌&&◌, nat_lt, nat_le, min, Bool, true, false, List, [], ◌∷◌, ◌++◌, drop, length, Option, Some, None, is_none, if◌then◌else◌, inl, inr, refl, ap, length-append, arith}
 use Rattle.byteorder.specs.Endian.{little_number}
-use Rattle.acl_fragments.specs.Pieces.{Piece}
-use Rattle.push_terms.specs.declared.word.Side.{Side}
-use Rattle.push_terms.specs.declared.word.Side.TheVariants.{A, B}
-use Rattle.radio_air.specs.Controllers.{Answer, Returned, Stated, Called, LinkMade, LinkGone, GivenBack, Controller, after_giving_back}
-use Rattle.radio_air.specs.Radio.{Radio, Phase, Apart, Paging, Requested, Together, with_piece, after_taking}
-use Rattle.world_model.specs.Machines.{Upper}
-use Rattle.world_model.specs.Pushes.{Pushes}
-use Rattle.world_model.specs.Stations.{Order, Page, Accept, End, Data, Station, Effort, Taking, Putting, Asking, Leaving, Commanding, MakesEffort, is_handle, answered, learns, may_accept, hears_answer}
-use Rattle.world_model.specs.Worlds.{World}
-use Rattle.turn_laws.proofs.Leading.{tidings}
-use Rattle.turn_laws.proofs.Wiring.{asking, count, count-append}
-use Rattle.turn_laws.proofs.Stationing.{none_asked}
-use Rattle.turn_laws.proofs.Departing.{gives_back_tidings}
+use Rattle.station_laws.specs.acl_fragments.specs.Pieces.{Piece}
+use Rattle.station_laws.specs.push_terms.specs.declared.word.Side.{Side}
+use Rattle.station_laws.specs.push_terms.specs.declared.word.Side.TheVariants.{A, B}
+use Rattle.station_laws.specs.radio_air.specs.Controllers.{Answer, Returned, Stated, Called, LinkMade, LinkGone, GivenBack, Controller, after_giving_back}
+use Rattle.station_laws.specs.radio_air.specs.Radio.{Radio, Phase, Apart, Paging, Requested, Together, with_piece, after_taking}
+use Rattle.station_laws.specs.world_model.specs.Machines.{Upper}
+use Rattle.station_laws.specs.world_model.specs.Pushes.{Pushes}
+use Rattle.station_laws.specs.world_model.specs.Stations.{Order, Page, Accept, End, Data, Station, Effort, Taking, Putting, Asking, Leaving, Commanding, MakesEffort, is_handle, answered, learns, may_accept, hears_answer}
+use Rattle.station_laws.specs.world_model.specs.Worlds.{World}
+use Rattle.station_laws.specs.turn_laws.proofs.Leading.{tidings}
+use Rattle.station_laws.specs.turn_laws.proofs.Wiring.{asking, count, count-append}
+use Rattle.station_laws.specs.turn_laws.proofs.Stationing.{none_asked}
+use Rattle.station_laws.specs.turn_laws.proofs.Departing.{gives_back_tidings}
 use Rattle.rest_laws.proofs.Falling.{IsBelow}
 use Rattle.rest_laws.proofs.Calling.{called_by, called, called_same, called_back}
 

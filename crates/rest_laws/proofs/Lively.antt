@@ -1,15 +1,15 @@
 -- What is true of both hosts at each moment, so that the world comes to rest: each push has one link, and nothing of an earlier one is
 -- left where it is asked for.
 use Rattle.std.proofs.Common.{◌≡◌, ◌⊎◌, ℕ, ◌+◌, ◌≤◌, not, Bool, true, false, List, [], ◌∷◌, ◌++◌, length, inl, inr, refl, sym, ap, ◌∙◌, subst, arith}
-use Rattle.push_terms.specs.declared.word.Side.TheVariants.{A, B}
-use Rattle.radio_air.specs.Controllers.{Answer, LinkMade, LinkGone, Controller, is_empty}
-use Rattle.radio_air.specs.Radio.{Radio, Phase, Apart, Paging, Requested, Together, is_together, joined, parted}
-use Rattle.world_model.specs.Machines.{Upper}
-use Rattle.world_model.specs.Pushes.{Pushes}
-use Rattle.world_model.specs.Stations.{Order, Accept, Station}
-use Rattle.turn_laws.proofs.Leading.{Tiding, Came, Went, tiding_in, tidings, made, Led, led_off}
-use Rattle.turn_laws.proofs.Wiring.{end_at, asking, count}
-use Rattle.turn_laws.proofs.Keeping.{calling, Parts}
+use Rattle.station_laws.specs.push_terms.specs.declared.word.Side.TheVariants.{A, B}
+use Rattle.station_laws.specs.radio_air.specs.Controllers.{Answer, LinkMade, LinkGone, Controller, is_empty}
+use Rattle.station_laws.specs.radio_air.specs.Radio.{Radio, Phase, Apart, Paging, Requested, Together, is_together, joined, parted}
+use Rattle.station_laws.specs.world_model.specs.Machines.{Upper}
+use Rattle.station_laws.specs.world_model.specs.Pushes.{Pushes}
+use Rattle.station_laws.specs.world_model.specs.Stations.{Order, Accept, Station}
+use Rattle.station_laws.specs.turn_laws.proofs.Leading.{Tiding, Came, Went, tiding_in, tidings, made, Led, led_off}
+use Rattle.station_laws.specs.turn_laws.proofs.Wiring.{end_at, asking, count}
+use Rattle.station_laws.specs.turn_laws.proofs.Keeping.{calling, Parts}
 use Rattle.std.proofs.lemmas.List.Concat.{flat_map-append}
 use Rattle.rest_laws.proofs.Living.{LivesAt, LivesOf, lives_as, lives_rests, lives_pops}
 use Rattle.rest_laws.proofs.Calling.{scanning_by, scans, called, called_same, requesting, Calls, calls_as, calls_move}

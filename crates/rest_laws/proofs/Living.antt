@@ -4,14 +4,14 @@ use Rattle.std.proofs.Common.{◌≡◌, ◌⊎◌, ℕ, ◌+◌, ◌≤◌, ◌
 use Rattle.std.specs.List.{AllByRecursion}
 use Rattle.std.proofs.lemmas.Bool.{eq-eqb}
 use Rattle.std.proofs.lemmas.List.{map-append}
-use Rattle.push_terms.specs.declared.word.Side.{Side}
-use Rattle.push_terms.specs.declared.word.Side.TheVariants.{A, B}
-use Rattle.radio_air.specs.Controllers.{Controller, is_empty}
-use Rattle.world_model.specs.Machines.{Upper}
-use Rattle.world_model.specs.Stations.{Order, Reset, ReadBuffers, ReadAddress, Scan, Page, Accept, End, Data, opcode, asks, Station, Commands, Effort, Taking, Putting, Asking, Leaving, Commanding, MakesEffort}
-use Rattle.turn_laws.proofs.Leading.{Tiding, tidings, made}
-use Rattle.turn_laws.proofs.Wiring.{end_at, has_end, has_end-append, asking, count, count-append}
-use Rattle.turn_laws.proofs.Stationing.{Steady, on_link}
+use Rattle.station_laws.specs.push_terms.specs.declared.word.Side.{Side}
+use Rattle.station_laws.specs.push_terms.specs.declared.word.Side.TheVariants.{A, B}
+use Rattle.station_laws.specs.radio_air.specs.Controllers.{Controller, is_empty}
+use Rattle.station_laws.specs.world_model.specs.Machines.{Upper}
+use Rattle.station_laws.specs.world_model.specs.Stations.{Order, Reset, ReadBuffers, ReadAddress, Scan, Page, Accept, End, Data, opcode, asks, Station, Commands, Effort, Taking, Putting, Asking, Leaving, Commanding, MakesEffort}
+use Rattle.station_laws.specs.turn_laws.proofs.Leading.{Tiding, tidings, made}
+use Rattle.station_laws.specs.turn_laws.proofs.Wiring.{end_at, has_end, has_end-append, asking, count, count-append}
+use Rattle.station_laws.specs.turn_laws.proofs.Stationing.{Steady, on_link}
 use Rattle.station_laws.proofs.Pending.{number_awaited}
 
 -- ---- orders

@@ -1,21 +1,21 @@
 -- A world that is settled is at rest.
 use Rattle.std.proofs.Common.{◌≡◌, ℕ, ◌+◌, ◌<◌, ◌≤◌, ◌==◌, ◌||◌, not, Bool, true, false, List, [], ◌∷◌, ◌++◌, length, map, Option, Some, None, if◌then◌else◌, inl, inr, refl, sym, ap, ◌∙◌, arith}
 use Rattle.std.specs.List.{list_any}
-use Rattle.acl_fragments.specs.Pieces.{Piece}
-use Rattle.push_terms.specs.declared.word.Side.{Side}
-use Rattle.push_terms.specs.declared.word.Side.TheVariants.{A, B}
-use Rattle.capture.specs.Entries.{Entry}
-use Rattle.radio_air.specs.Controllers.{Answer, Controller, is_empty}
-use Rattle.radio_air.specs.Owed.{back}
-use Rattle.radio_air.specs.Radio.{Phase, Apart, Paging, Requested, Together, is_apart, is_paging, is_requested, is_together}
-use Rattle.world_model.specs.Machines.{Upper}
-use Rattle.world_model.specs.Stations.{Order, Station, opcode, asks, is_end, IsStopped, Taking, Putting, Asking, Leaving, Commanding}
-use Rattle.world_model.specs.Worlds.{World, Happening, IsSettled, IsStill, IsAtRest, first_world, all_entries}
-use Rattle.turn_laws.specs.WorldLaws.{Fits}
-use Rattle.turn_laws.proofs.Leading.{Tiding, tidings, made}
-use Rattle.turn_laws.proofs.Wiring.{sent, has_end, count}
-use Rattle.turn_laws.proofs.Stationing.{linked_handle, Steady}
-use Rattle.turn_laws.proofs.Keeping.{calling, Kept}
+use Rattle.station_laws.specs.acl_fragments.specs.Pieces.{Piece}
+use Rattle.station_laws.specs.push_terms.specs.declared.word.Side.{Side}
+use Rattle.station_laws.specs.push_terms.specs.declared.word.Side.TheVariants.{A, B}
+use Rattle.station_laws.specs.capture.specs.Entries.{Entry}
+use Rattle.station_laws.specs.radio_air.specs.Controllers.{Answer, Controller, is_empty}
+use Rattle.station_laws.specs.radio_air.specs.Owed.{back}
+use Rattle.station_laws.specs.radio_air.specs.Radio.{Phase, Apart, Paging, Requested, Together, is_apart, is_paging, is_requested, is_together}
+use Rattle.station_laws.specs.world_model.specs.Machines.{Upper}
+use Rattle.station_laws.specs.world_model.specs.Stations.{Order, Station, opcode, asks, is_end, IsStopped, Taking, Putting, Asking, Leaving, Commanding}
+use Rattle.station_laws.specs.world_model.specs.Worlds.{World, Happening, IsSettled, IsStill, IsAtRest, first_world, all_entries}
+use Rattle.station_laws.specs.turn_laws.specs.WorldLaws.{Fits}
+use Rattle.station_laws.specs.turn_laws.proofs.Leading.{Tiding, tidings, made}
+use Rattle.station_laws.specs.turn_laws.proofs.Wiring.{sent, has_end, count}
+use Rattle.station_laws.specs.turn_laws.proofs.Stationing.{linked_handle, Steady}
+use Rattle.station_laws.specs.turn_laws.proofs.Keeping.{calling, Kept}
 use Rattle.air_laws.proofs.Owing.{zero_held}
 use Rattle.air_laws.proofs.Booking.{AccountOf}
 use Rattle.air_laws.proofs.Balancing.{booked_all}

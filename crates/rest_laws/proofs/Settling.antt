@@ -2,23 +2,23 @@
 use Rattle.std.proofs.Common.{◌≡◌, ℕ, zero, suc, ◌+◌, ◌-◌, ◌*◌, ◌<◌, ◌≤◌, ◌==◌, ◌&&◌, nat_le, Bool, true, false, List, [], ◌∷◌, ◌++◌, length, Some, None, if◌then◌else◌, inl, inr, refl, sym, ap, ap₂, subst, arith}
 use Rattle.std.specs.Prelude.{slice_get}
 use Rattle.std.proofs.lemmas.Option.{slice_get_within}
-use Rattle.bt_base.specs.Octets.{le16}
-use Rattle.acl_fragments.specs.Pieces.{Piece}
-use Rattle.push_terms.specs.declared.word.Side.TheVariants.{A, B}
-use Rattle.radio_air.specs.Controllers.{Answer, Returned, Stated, Called, LinkMade, LinkGone, GivenBack, address, Controller, owing, after_giving_back, after_telling}
-use Rattle.radio_air.specs.Radio.{Radio, Phase, Apart, Paging, Requested, is_paging, is_requested, is_together, owes, after_reaching, joined, parted, knows_link, with_controller}
-use Rattle.world_model.specs.Machines.{Upper}
-use Rattle.world_model.specs.Pushes.{Pushes}
-use Rattle.world_model.specs.Stations.{Order, Reset, ReadBuffers, ReadAddress, Scan, Page, Accept, End, Data, Station, hears_piece, hears_answer}
-use Rattle.world_model.specs.Worlds.{World, Happening, Tries, Departure, GivingBack, Piecemeal, Answering, Turns, Misses, Opens, Closes, piece_on, after_order, Does, Runs, first_world}
-use Rattle.turn_laws.specs.Premises.{Idles}
-use Rattle.turn_laws.specs.WorldLaws.{Fits}
-use Rattle.turn_laws.proofs.Leading.{Tiding, tiding_in, tidings, plain_tidings, made}
-use Rattle.turn_laws.proofs.Wiring.{asking, count}
-use Rattle.turn_laws.proofs.Departing.{gives_back_tidings}
-use Rattle.turn_laws.proofs.Hearing.{with_owed, rest_tidings}
-use Rattle.turn_laws.proofs.Coming.{handed_piece, handed_answer}
-use Rattle.turn_laws.proofs.Keeping.{calling, Kept}
+use Rattle.station_laws.specs.bt_base.specs.Octets.{le16}
+use Rattle.station_laws.specs.acl_fragments.specs.Pieces.{Piece}
+use Rattle.station_laws.specs.push_terms.specs.declared.word.Side.TheVariants.{A, B}
+use Rattle.station_laws.specs.radio_air.specs.Controllers.{Answer, Returned, Stated, Called, LinkMade, LinkGone, GivenBack, address, Controller, owing, after_giving_back, after_telling}
+use Rattle.station_laws.specs.radio_air.specs.Radio.{Radio, Phase, Apart, Paging, Requested, is_paging, is_requested, is_together, owes, after_reaching, joined, parted, knows_link, with_controller}
+use Rattle.station_laws.specs.world_model.specs.Machines.{Upper}
+use Rattle.station_laws.specs.world_model.specs.Pushes.{Pushes}
+use Rattle.station_laws.specs.world_model.specs.Stations.{Order, Reset, ReadBuffers, ReadAddress, Scan, Page, Accept, End, Data, Station, hears_piece, hears_answer}
+use Rattle.station_laws.specs.world_model.specs.Worlds.{World, Happening, Tries, Departure, GivingBack, Piecemeal, Answering, Turns, Misses, Opens, Closes, piece_on, after_order, Does, Runs, first_world}
+use Rattle.station_laws.specs.turn_laws.specs.Premises.{Idles}
+use Rattle.station_laws.specs.turn_laws.specs.WorldLaws.{Fits}
+use Rattle.station_laws.specs.turn_laws.proofs.Leading.{Tiding, tiding_in, tidings, plain_tidings, made}
+use Rattle.station_laws.specs.turn_laws.proofs.Wiring.{asking, count}
+use Rattle.station_laws.specs.turn_laws.proofs.Departing.{gives_back_tidings}
+use Rattle.station_laws.specs.turn_laws.proofs.Hearing.{with_owed, rest_tidings}
+use Rattle.station_laws.specs.turn_laws.proofs.Coming.{handed_piece, handed_answer}
+use Rattle.station_laws.specs.turn_laws.proofs.Keeping.{calling, Kept}
 use Rattle.air_laws.proofs.Following.{runs_then, reached_first, along}
 use Rattle.air_laws.proofs.Resting.{next_going}
 use Rattle.station_laws.specs.WorldLaws.{AreSizes}

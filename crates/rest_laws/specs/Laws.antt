@@ -1,7 +1,7 @@
 -- A world that is settled is at rest, for every two machines and whatever their ports answer.
 use Rattle.std.specs.Prelude.{ℕ, ◌≤◌, List, length}
-use Rattle.world_model.specs.Machines.{Upper}
-use Rattle.world_model.specs.Worlds.{World, Happening, Runs, IsSettled, IsAtRest, first_world}
+use Rattle.station_laws.specs.world_model.specs.Machines.{Upper}
+use Rattle.station_laws.specs.world_model.specs.Worlds.{World, Happening, Runs, IsSettled, IsAtRest, first_world}
 use Rattle.station_laws.specs.WorldLaws.{AreSizes}
 use Rattle.rest_laws.specs.Premises.{AreOrderly}
 

@@ -1,3 +1,16 @@
+pub use Rattle.station_laws.specs.acl_credits
+pub use Rattle.station_laws.specs.acl_fragments
+pub use Rattle.air_laws
+pub use Rattle.station_laws.specs.bt_base
+pub use Rattle.station_laws.specs.capture
+pub use Rattle.station_laws.specs.h4_framing
+pub use Rattle.station_laws.specs.hci_packets
+pub use Rattle.station_laws.specs.host_link
+pub use Rattle.station_laws.specs.push_terms
+pub use Rattle.station_laws.specs.radio_air
+pub use Rattle.station_laws
+pub use Rattle.station_laws.specs.turn_laws
+pub use Rattle.station_laws.specs.world_model
 pub mod Premises
 pub mod Laws
 pub mod Settling

@@ -1,7 +1,7 @@
 -- What a world asks of its two machines, so that it comes to rest (this project's own).
 use Rattle.std.specs.Prelude.{ℕ, ◌≡◌, false, List, Some}
-use Rattle.world_model.specs.Machines.{News, Linked, Up, Upper}
-use Rattle.turn_laws.specs.Premises.{SaysFrames, IsAside, Idles}
+use Rattle.station_laws.specs.world_model.specs.Machines.{News, Linked, Up, Upper}
+use Rattle.station_laws.specs.turn_laws.specs.Premises.{SaysFrames, IsAside, Idles}
 
 -- A client asks for one link in a push: once that came up it asks for none, and it begins to ask only as it begins to push.
 pub record AsksOnce {S G : Type 0} (U : Upper S G) : Type 0 where

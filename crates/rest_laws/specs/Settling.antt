@@ -1,8 +1,8 @@
 -- How the world settles (this project's own).
 use Rattle.std.specs.Prelude.{ℕ, ◌≤◌, List, length}
-use Rattle.radio_air.specs.Radio.{controller}
-use Rattle.world_model.specs.Machines.{Upper}
-use Rattle.world_model.specs.Worlds.{World, Happening, GivingBack, Turns, Misses, Does, Runs, first_world}
+use Rattle.station_laws.specs.radio_air.specs.Radio.{controller}
+use Rattle.station_laws.specs.world_model.specs.Machines.{Upper}
+use Rattle.station_laws.specs.world_model.specs.Worlds.{World, Happening, GivingBack, Turns, Misses, Does, Runs, first_world}
 use Rattle.station_laws.specs.WorldLaws.{AreSizes}
 use Rattle.rest_laws.specs.Premises.{AreOrderly}
 

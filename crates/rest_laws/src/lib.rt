@@ -3,7 +3,7 @@
 
 ghost use Rattle.rest_laws.specs.Laws.{SettledRests};
 ghost use Rattle.rest_laws.specs.Settling.{SettlingEnds};
-ghost use Rattle.world_model.specs.Machines.{Upper};
+ghost use Rattle.station_laws.specs.world_model.specs.Machines.{Upper};
 
 /// Where nothing moves without a word, the world is at rest: so a word may act.
 #[tactic(auto, using(crate::proofs::Resting::settled_rests))]

@@ -1,3 +1,4 @@
+pub use Rattle.check_words
 pub mod Lengths
 pub mod Frames
 pub mod Answers

@@ -1,3 +1,4 @@
+pub use Rattle.rfcomm_credits
 pub mod Written
 pub mod Machine
 pub mod Hearing

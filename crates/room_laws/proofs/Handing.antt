@@ -1,25 +1,25 @@
 -- While a frame is handed over to a host, nothing else goes on: all is as it was at rest.
 use Rattle.std.proofs.Common.{◌≡◌, ◌⊎◌, ℕ, ◌+◌, Bool, true, false, List, [], ◌∷◌, if◌then◌else◌, inl, inr, refl, sym, ap, ◌∙◌, subst}
-use Rattle.push_terms.specs.declared.word.Side.TheVariants.{A, B}
-use Rattle.push_terms.specs.declared.word.Way.{Way}
-use Rattle.push_terms.specs.declared.word.Way.TheVariants.{Ab, Ba}
-use Rattle.acl_fragments.specs.Pieces.{Piece}
-use Rattle.radio_air.specs.declared.fate.Fate.{Fate}
-use Rattle.radio_air.specs.declared.deed.Deed.{Deed}
-use Rattle.radio_air.specs.declared.deed.Deed.TheVariants.{Nothing, Meets, Fires, FiresBoth, Breaks, Cancels}
-use Rattle.radio_air.specs.Controllers.{Answer, Returned, Stated, Called, LinkMade, LinkGone, GivenBack, Controller, after_telling, after_handing}
-use Rattle.radio_air.specs.Radio.{Radio, is_together, found, after_meeting}
-use Rattle.world_model.specs.Machines.{Upper}
-use Rattle.world_model.specs.Turns.{IsCalm}
-use Rattle.world_model.specs.Stations.{Station, longest_pdu, gives, holds, is_handle, hears_each, hears_piece}
-use Rattle.world_model.specs.Worlds.{World, Happening, Tries, Departure, GivingBack, Piecemeal, Answering, Turns, Misses, Opens, Closes, IsStill, IsAtRest, checks, Acts, Does}
-use Rattle.turn_laws.specs.Premises.{Idles}
-use Rattle.turn_laws.proofs.Joining.{EndsOnce}
-use Rattle.turn_laws.proofs.Stationing.{Steady}
-use Rattle.turn_laws.proofs.Hearing.{with_coming, with_owed}
-use Rattle.turn_laws.proofs.Coming.{handed_piece, handed_answer}
-use Rattle.turn_laws.proofs.Keeping.{calling, Kept}
-use Rattle.air_laws.proofs.Resting.{rest_stops, back_rests}
+use Rattle.rest_laws.specs.push_terms.specs.declared.word.Side.TheVariants.{A, B}
+use Rattle.rest_laws.specs.push_terms.specs.declared.word.Way.{Way}
+use Rattle.rest_laws.specs.push_terms.specs.declared.word.Way.TheVariants.{Ab, Ba}
+use Rattle.rest_laws.specs.acl_fragments.specs.Pieces.{Piece}
+use Rattle.rest_laws.specs.radio_air.specs.declared.fate.Fate.{Fate}
+use Rattle.rest_laws.specs.radio_air.specs.declared.deed.Deed.{Deed}
+use Rattle.rest_laws.specs.radio_air.specs.declared.deed.Deed.TheVariants.{Nothing, Meets, Fires, FiresBoth, Breaks, Cancels}
+use Rattle.rest_laws.specs.radio_air.specs.Controllers.{Answer, Returned, Stated, Called, LinkMade, LinkGone, GivenBack, Controller, after_telling, after_handing}
+use Rattle.rest_laws.specs.radio_air.specs.Radio.{Radio, is_together, found, after_meeting}
+use Rattle.rest_laws.specs.world_model.specs.Machines.{Upper}
+use Rattle.rest_laws.specs.world_model.specs.Turns.{IsCalm}
+use Rattle.rest_laws.specs.world_model.specs.Stations.{Station, longest_pdu, gives, holds, is_handle, hears_each, hears_piece}
+use Rattle.rest_laws.specs.world_model.specs.Worlds.{World, Happening, Tries, Departure, GivingBack, Piecemeal, Answering, Turns, Misses, Opens, Closes, IsStill, IsAtRest, checks, Acts, Does}
+use Rattle.rest_laws.specs.turn_laws.specs.Premises.{Idles}
+use Rattle.rest_laws.specs.turn_laws.proofs.Joining.{EndsOnce}
+use Rattle.rest_laws.specs.turn_laws.proofs.Stationing.{Steady}
+use Rattle.rest_laws.specs.turn_laws.proofs.Hearing.{with_coming, with_owed}
+use Rattle.rest_laws.specs.turn_laws.proofs.Coming.{handed_piece, handed_answer}
+use Rattle.rest_laws.specs.turn_laws.proofs.Keeping.{calling, Kept}
+use Rattle.rest_laws.specs.air_laws.proofs.Resting.{rest_stops, back_rests}
 
 -- what is handed over put aside
 abbrev pub emptied : Radio → Radio

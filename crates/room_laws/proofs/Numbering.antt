@@ -1,15 +1,15 @@
 -- How many answers a controller owes its host: one to a command, the tidings of a link, a call, and what is stray.
 use Rattle.std.proofs.Common.{◌≡◌, ℕ, ◌+◌, ◌*◌, ◌≤◌, ◌||◌, nat_le, Bool, true, false, List, [], ◌∷◌, length, Option, Some, None, if◌then◌else◌, refl, ap, arith, length-append}
 use Rattle.std.proofs.lemmas.Bool.{lt-leb}
-use Rattle.push_terms.specs.declared.word.Side.TheVariants.{A, B}
-use Rattle.radio_air.specs.Controllers.{Answer, Returned, Stated, Called, LinkMade, LinkGone, GivenBack, Controller}
-use Rattle.radio_air.specs.Radio.{Phase, Apart, Paging, Requested, Together}
-use Rattle.world_model.specs.Machines.{Upper}
-use Rattle.world_model.specs.Stations.{Station}
-use Rattle.turn_laws.proofs.Leading.{Tiding, Came, Went, tidings, made, Led}
-use Rattle.turn_laws.proofs.Stationing.{Steady}
-use Rattle.station_laws.proofs.Owing.{numbers_of, numbers_in}
-use Rattle.station_laws.proofs.Pending.{Pending, number_awaited}
+use Rattle.rest_laws.specs.push_terms.specs.declared.word.Side.TheVariants.{A, B}
+use Rattle.rest_laws.specs.radio_air.specs.Controllers.{Answer, Returned, Stated, Called, LinkMade, LinkGone, GivenBack, Controller}
+use Rattle.rest_laws.specs.radio_air.specs.Radio.{Phase, Apart, Paging, Requested, Together}
+use Rattle.rest_laws.specs.world_model.specs.Machines.{Upper}
+use Rattle.rest_laws.specs.world_model.specs.Stations.{Station}
+use Rattle.rest_laws.specs.turn_laws.proofs.Leading.{Tiding, Came, Went, tidings, made, Led}
+use Rattle.rest_laws.specs.turn_laws.proofs.Stationing.{Steady}
+use Rattle.rest_laws.specs.station_laws.proofs.Owing.{numbers_of, numbers_in}
+use Rattle.rest_laws.specs.station_laws.proofs.Pending.{Pending, number_awaited}
 use Rattle.rest_laws.proofs.Calling.{called, requesting}
 use Rattle.room_laws.specs.Rooms.{strays}
 

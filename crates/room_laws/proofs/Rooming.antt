@@ -1,24 +1,24 @@
 -- At each moment of a run the radio has room.
 use Rattle.std.proofs.Common.{◌≡◌, ℕ, ◌+◌, ◌≤◌, Bool, List, [], ◌∷◌, length, refl, sym, ◌∙◌, subst, arith, inl}
-use Rattle.push_terms.specs.declared.word.Side.TheVariants.{A, B}
-use Rattle.push_terms.specs.declared.word.Way.{Way}
-use Rattle.push_terms.specs.declared.word.Way.TheVariants.{Ab, Ba}
-use Rattle.capture.specs.Entries.{Entry}
-use Rattle.radio_air.specs.declared.fate.Fate.{Fate}
-use Rattle.radio_air.specs.declared.deed.Deed.{Deed}
-use Rattle.radio_air.specs.declared.deed.Deed.TheVariants.{Nothing, Meets, Fires, FiresBoth, Breaks, Cancels}
-use Rattle.radio_air.specs.Radio.{found, is_together, knows_link, after_meeting}
-use Rattle.world_model.specs.Machines.{Upper}
-use Rattle.world_model.specs.Stations.{Order, Data}
-use Rattle.world_model.specs.Worlds.{World, Happening, Tries, Departure, GivingBack, Piecemeal, Answering, Turns, Misses, Opens, Closes, piece_on, checks, Acts, Does, Runs, first_world, all_entries, after_order}
-use Rattle.turn_laws.specs.WorldLaws.{Fits}
-use Rattle.turn_laws.proofs.Coming.{handed_piece, handed_answer}
-use Rattle.turn_laws.proofs.Keeping.{calling, Kept}
-use Rattle.air_laws.proofs.Owing.{parted_else, order_else}
-use Rattle.air_laws.proofs.Balancing.{Books, booked_all}
-use Rattle.air_laws.proofs.Following.{Keeps, Arrived, reached_first, along}
-use Rattle.station_laws.specs.WorldLaws.{AreSizes}
-use Rattle.station_laws.proofs.Running.{runs_keep, first_keeps}
+use Rattle.rest_laws.specs.push_terms.specs.declared.word.Side.TheVariants.{A, B}
+use Rattle.rest_laws.specs.push_terms.specs.declared.word.Way.{Way}
+use Rattle.rest_laws.specs.push_terms.specs.declared.word.Way.TheVariants.{Ab, Ba}
+use Rattle.rest_laws.specs.capture.specs.Entries.{Entry}
+use Rattle.rest_laws.specs.radio_air.specs.declared.fate.Fate.{Fate}
+use Rattle.rest_laws.specs.radio_air.specs.declared.deed.Deed.{Deed}
+use Rattle.rest_laws.specs.radio_air.specs.declared.deed.Deed.TheVariants.{Nothing, Meets, Fires, FiresBoth, Breaks, Cancels}
+use Rattle.rest_laws.specs.radio_air.specs.Radio.{found, is_together, knows_link, after_meeting}
+use Rattle.rest_laws.specs.world_model.specs.Machines.{Upper}
+use Rattle.rest_laws.specs.world_model.specs.Stations.{Order, Data}
+use Rattle.rest_laws.specs.world_model.specs.Worlds.{World, Happening, Tries, Departure, GivingBack, Piecemeal, Answering, Turns, Misses, Opens, Closes, piece_on, checks, Acts, Does, Runs, first_world, all_entries, after_order}
+use Rattle.rest_laws.specs.turn_laws.specs.WorldLaws.{Fits}
+use Rattle.rest_laws.specs.turn_laws.proofs.Coming.{handed_piece, handed_answer}
+use Rattle.rest_laws.specs.turn_laws.proofs.Keeping.{calling, Kept}
+use Rattle.rest_laws.specs.air_laws.proofs.Owing.{parted_else, order_else}
+use Rattle.rest_laws.specs.air_laws.proofs.Balancing.{Books, booked_all}
+use Rattle.rest_laws.specs.air_laws.proofs.Following.{Keeps, Arrived, reached_first, along}
+use Rattle.rest_laws.specs.station_laws.specs.WorldLaws.{AreSizes}
+use Rattle.rest_laws.specs.station_laws.proofs.Running.{runs_keep, first_keeps}
 use Rattle.rest_laws.specs.Premises.{AreOrderly}
 use Rattle.rest_laws.proofs.Happening.{LivelyIn}
 use Rattle.rest_laws.proofs.Resting.{first_lively, keeps_lively}

@@ -4,22 +4,22 @@ use Rattle.std.proofs.lemmas.Bool.{eq-eqb}
 use Rattle.std.proofs.lemmas.List.{append-nil}
 use Rattle.std.proofs.lemmas.List.Concat.{flat_map-append}
 use Rattle.byteorder.specs.Endian.{little_number}
-use Rattle.acl_fragments.specs.Pieces.{Piece}
-use Rattle.push_terms.specs.declared.word.Side.{Side}
-use Rattle.push_terms.specs.declared.word.Side.TheVariants.{A, B}
-use Rattle.capture.specs.Entries.{Entry}
-use Rattle.radio_air.specs.Controllers.{Answer, Returned, Stated, Called, LinkMade, LinkGone, GivenBack, Controller, after_giving_back, after_telling}
-use Rattle.radio_air.specs.Radio.{with_piece, after_taking}
-use Rattle.world_model.specs.Machines.{Upper, TimerFired}
-use Rattle.world_model.specs.Stations.{Order, Accept, Data, Station, Effort, Taking, Putting, Asking, Leaving, Commanding, MakesEffort, answered, learns, is_handle, may_accept, hears_answer, hears_each, hears_piece, gives, holds, longest_pdu, told}
-use Rattle.turn_laws.proofs.Leading.{Went, tidings, Led}
-use Rattle.turn_laws.proofs.Wiring.{piece_at, sent}
-use Rattle.turn_laws.proofs.Stationing.{Steady, on_link}
-use Rattle.turn_laws.proofs.Hearing.{with_owed}
-use Rattle.turn_laws.proofs.Coming.{owed_first}
-use Rattle.air_laws.proofs.Owing.{Else, held_at}
-use Rattle.air_laws.proofs.Accounting.{Account}
-use Rattle.air_laws.proofs.Booking.{AccountOf}
+use Rattle.rest_laws.specs.acl_fragments.specs.Pieces.{Piece}
+use Rattle.rest_laws.specs.push_terms.specs.declared.word.Side.{Side}
+use Rattle.rest_laws.specs.push_terms.specs.declared.word.Side.TheVariants.{A, B}
+use Rattle.rest_laws.specs.capture.specs.Entries.{Entry}
+use Rattle.rest_laws.specs.radio_air.specs.Controllers.{Answer, Returned, Stated, Called, LinkMade, LinkGone, GivenBack, Controller, after_giving_back, after_telling}
+use Rattle.rest_laws.specs.radio_air.specs.Radio.{with_piece, after_taking}
+use Rattle.rest_laws.specs.world_model.specs.Machines.{Upper, TimerFired}
+use Rattle.rest_laws.specs.world_model.specs.Stations.{Order, Accept, Data, Station, Effort, Taking, Putting, Asking, Leaving, Commanding, MakesEffort, answered, learns, is_handle, may_accept, hears_answer, hears_each, hears_piece, gives, holds, longest_pdu, told}
+use Rattle.rest_laws.specs.turn_laws.proofs.Leading.{Went, tidings, Led}
+use Rattle.rest_laws.specs.turn_laws.proofs.Wiring.{piece_at, sent}
+use Rattle.rest_laws.specs.turn_laws.proofs.Stationing.{Steady, on_link}
+use Rattle.rest_laws.specs.turn_laws.proofs.Hearing.{with_owed}
+use Rattle.rest_laws.specs.turn_laws.proofs.Coming.{owed_first}
+use Rattle.rest_laws.specs.air_laws.proofs.Owing.{Else, held_at}
+use Rattle.rest_laws.specs.air_laws.proofs.Accounting.{Account}
+use Rattle.rest_laws.specs.air_laws.proofs.Booking.{AccountOf}
 
 -- where no link is up, packets of the last one are as many as a host may send
 abbrev pub Spent : Controller → List Order → Type 0

@@ -1,1 +1,9 @@
+pub use Rattle.rest_laws.specs.acl_credits
+pub use Rattle.rest_laws.specs.acl_fragments
+pub use Rattle.rest_laws.specs.air_laws
+pub use Rattle.rest_laws.specs.hci_packets
+pub use Rattle.rest_laws.specs.host_link
+pub use Rattle.rest_laws
+pub use Rattle.rest_laws.specs.turn_laws
+pub use Rattle.rest_laws.specs.world_model
 pub mod Rooms

@@ -1,14 +1,14 @@
 -- Where the radio has room for what comes out of a host (this project's own).
 use Rattle.std.specs.Prelude.{ℕ, ◌≡◌, ◌≤◌, ◌+◌, false, List, [], ◌∷◌, length}
-use Rattle.push_terms.specs.declared.word.Side.{Side}
-use Rattle.push_terms.specs.declared.word.Side.TheVariants.{A, B}
-use Rattle.radio_air.specs.Controllers.{Answer, Returned, Stated, Called, LinkMade, LinkGone, GivenBack}
-use Rattle.radio_air.specs.Owed.{owes_many}
-use Rattle.radio_air.specs.Radio.{Radio}
-use Rattle.world_model.specs.Machines.{Upper}
-use Rattle.world_model.specs.Stations.{Order}
-use Rattle.world_model.specs.Worlds.{after_order, World, Happening, Runs, first_world}
-use Rattle.station_laws.specs.WorldLaws.{AreSizes}
+use Rattle.rest_laws.specs.push_terms.specs.declared.word.Side.{Side}
+use Rattle.rest_laws.specs.push_terms.specs.declared.word.Side.TheVariants.{A, B}
+use Rattle.rest_laws.specs.radio_air.specs.Controllers.{Answer, Returned, Stated, Called, LinkMade, LinkGone, GivenBack}
+use Rattle.rest_laws.specs.radio_air.specs.Owed.{owes_many}
+use Rattle.rest_laws.specs.radio_air.specs.Radio.{Radio}
+use Rattle.rest_laws.specs.world_model.specs.Machines.{Upper}
+use Rattle.rest_laws.specs.world_model.specs.Stations.{Order}
+use Rattle.rest_laws.specs.world_model.specs.Worlds.{after_order, World, Happening, Runs, first_world}
+use Rattle.rest_laws.specs.station_laws.specs.WorldLaws.{AreSizes}
 use Rattle.rest_laws.specs.Premises.{AreOrderly}
 
 -- Answers to commands come one at a time, and tidings of links are few. Packets may be given back time and again while their host

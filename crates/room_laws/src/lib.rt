@@ -3,7 +3,7 @@
 #![tactic(auto)]
 
 ghost use Rattle.room_laws.specs.Rooms.{FewAreOwed, RoomIsLeft};
-ghost use Rattle.world_model.specs.Machines.{Upper};
+ghost use Rattle.rest_laws.specs.world_model.specs.Machines.{Upper};
 
 /// Where every packet was given back, and its host heard so, few answers are owed. That stays so when an order moves out of a host,
 /// and nothing is handed over then.

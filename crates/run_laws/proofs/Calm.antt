@@ -2,17 +2,17 @@
 use Rattle.std.proofs.Common.{◌≡◌, ℕ, zero, suc, ◌≤◌, ◌&&◌, min, Bool, true, false, List, [], ◌∷◌, ◌++◌, Option, Some, None, is_none, take, drop, refl, sym, ap, subst, ◌∙◌, append-nil, arith}
 use Rattle.std.proofs.Math.Nat.{le-min}
 use Rattle.std.proofs.lemmas.List.{take-append-drop}
-use Rattle.push_terms.specs.declared.word.Side.TheVariants.{A, B}
-use Rattle.push_terms.specs.declared.word.Way.{Way}
-use Rattle.radio_air.specs.Controllers.{is_empty}
-use Rattle.radio_air.specs.Radio.{Phase, Apart, Together}
-use Rattle.world_model.specs.Machines.{Upper, Spoken, drain, all_said, Breath, Whole, Short}
-use Rattle.world_model.specs.Pushes.{Pushes}
-use Rattle.world_model.specs.Turns.{Party, Pair, breathes, speaks}
-use Rattle.world_model.specs.Worlds.{World}
-use Rattle.turn_laws.specs.Premises.{SaysFrames}
-use Rattle.turn_laws.proofs.Wiring.{AllFrames}
-use Rattle.turn_laws.proofs.Saying.{drain_none, drain_some, all_said_none, all_said_some}
+use Rattle.station_laws.specs.push_terms.specs.declared.word.Side.TheVariants.{A, B}
+use Rattle.station_laws.specs.push_terms.specs.declared.word.Way.{Way}
+use Rattle.station_laws.specs.radio_air.specs.Controllers.{is_empty}
+use Rattle.station_laws.specs.radio_air.specs.Radio.{Phase, Apart, Together}
+use Rattle.station_laws.specs.world_model.specs.Machines.{Upper, Spoken, drain, all_said, Breath, Whole, Short}
+use Rattle.station_laws.specs.world_model.specs.Pushes.{Pushes}
+use Rattle.station_laws.specs.world_model.specs.Turns.{Party, Pair, breathes, speaks}
+use Rattle.station_laws.specs.world_model.specs.Worlds.{World}
+use Rattle.station_laws.specs.turn_laws.specs.Premises.{SaysFrames}
+use Rattle.station_laws.specs.turn_laws.proofs.Wiring.{AllFrames}
+use Rattle.station_laws.specs.turn_laws.proofs.Saying.{drain_none, drain_some, all_said_none, all_said_some}
 use Rattle.station_laws.specs.WorldLaws.{AreSizes}
 use Rattle.run_laws.proofs.Owning.{Own, own, Goes, goes_none, goes_a, goes_b}
 use Rattle.run_laws.proofs.Speaking.{one_of, station_of, Place, speaks_all}

@@ -1,21 +1,21 @@
 -- Runs of machines that keep more are runs of the machines that they are.
 use Rattle.std.proofs.Common.{◌≡◌, ℕ, ◌+◌, ◌-◌, ◌==◌, ◌&&◌, ◌||◌, not, Bool, true, false, List, [], ◌∷◌, ◌++◌, drop, Option, Some, None, is_none, nat_le, min, option_map, refl, sym, ap, ap₂, subst, ◌∙◌, if◌then◌else◌}
-use Rattle.push_terms.specs.declared.word.Side.{Side}
-use Rattle.push_terms.specs.declared.word.Side.TheVariants.{A, B}
-use Rattle.push_terms.specs.declared.word.Way.TheVariants.{Ab, Ba}
-use Rattle.acl_fragments.specs.Pieces.{Piece, channel_of}
-use Rattle.acl_fragments.specs.Cuts.{cut}
-use Rattle.hci_packets.specs.declared.acl.Boundary.TheVariants.{First}
+use Rattle.station_laws.specs.push_terms.specs.declared.word.Side.{Side}
+use Rattle.station_laws.specs.push_terms.specs.declared.word.Side.TheVariants.{A, B}
+use Rattle.station_laws.specs.push_terms.specs.declared.word.Way.TheVariants.{Ab, Ba}
+use Rattle.station_laws.specs.acl_fragments.specs.Pieces.{Piece, channel_of}
+use Rattle.station_laws.specs.acl_fragments.specs.Cuts.{cut}
+use Rattle.station_laws.specs.hci_packets.specs.declared.acl.Boundary.TheVariants.{First}
 use Rattle.byteorder.specs.Endian.{little_number}
-use Rattle.radio_air.specs.declared.deed.Deed.{Deed}
-use Rattle.radio_air.specs.declared.deed.Deed.TheVariants.{Nothing, Meets, Fires, FiresBoth, Breaks, Cancels}
-use Rattle.radio_air.specs.Controllers.{Controller, Answer, Returned, Stated, Called, LinkMade, LinkGone, GivenBack, after_handing}
-use Rattle.radio_air.specs.Radio.{Radio, controller, with_controller, after_meeting, after_offer, parted, found, is_together}
-use Rattle.world_model.specs.Machines.{LinkEvent, Up, Down, News, Linked, Heard, TimerFired, Cancelled, Opening, Upper}
-use Rattle.world_model.specs.Pushes.{Pushes, one_begun, one_ended}
-use Rattle.world_model.specs.Turns.{IsCalm, FindsNothing}
-use Rattle.world_model.specs.Stations.{Order, Page, Accept, End, Data, Station, opcode, asks, longest_pdu, Takes, Puts, Asks, Leaves, Commands, Effort, Taking, Putting, Asking, Leaving, Commanding, MakesEffort, gives, holds, hears_each, is_handle, hears_piece, answered, learns, may_accept, after_answer, event_in, upper_told, hears_answer, told}
-use Rattle.world_model.specs.Worlds.{World, Happening, Tries, Departure, GivingBack, Piecemeal, Answering, Turns, Misses, Opens, Closes, after_order, IsStill, IsAtRest, fired, checks, Acts, one_turned, Does, Runs}
+use Rattle.station_laws.specs.radio_air.specs.declared.deed.Deed.{Deed}
+use Rattle.station_laws.specs.radio_air.specs.declared.deed.Deed.TheVariants.{Nothing, Meets, Fires, FiresBoth, Breaks, Cancels}
+use Rattle.station_laws.specs.radio_air.specs.Controllers.{Controller, Answer, Returned, Stated, Called, LinkMade, LinkGone, GivenBack, after_handing}
+use Rattle.station_laws.specs.radio_air.specs.Radio.{Radio, controller, with_controller, after_meeting, after_offer, parted, found, is_together}
+use Rattle.station_laws.specs.world_model.specs.Machines.{LinkEvent, Up, Down, News, Linked, Heard, TimerFired, Cancelled, Opening, Upper}
+use Rattle.station_laws.specs.world_model.specs.Pushes.{Pushes, one_begun, one_ended}
+use Rattle.station_laws.specs.world_model.specs.Turns.{IsCalm, FindsNothing}
+use Rattle.station_laws.specs.world_model.specs.Stations.{Order, Page, Accept, End, Data, Station, opcode, asks, longest_pdu, Takes, Puts, Asks, Leaves, Commands, Effort, Taking, Putting, Asking, Leaving, Commanding, MakesEffort, gives, holds, hears_each, is_handle, hears_piece, answered, learns, may_accept, after_answer, event_in, upper_told, hears_answer, told}
+use Rattle.station_laws.specs.world_model.specs.Worlds.{World, Happening, Tries, Departure, GivingBack, Piecemeal, Answering, Turns, Misses, Opens, Closes, after_order, IsStill, IsAtRest, fired, checks, Acts, one_turned, Does, Runs}
 use Rattle.run_laws.specs.Embedding.{said_as, Embeds, station_as, world_as, RunsAreOfLess, RestIsOfLess}
 
 -- ---- what it says

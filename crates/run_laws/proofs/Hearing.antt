@@ -1,11 +1,11 @@
 -- A host on its link hears the pieces of a frame, one after the other.
 use Rattle.std.proofs.Common.{◌≡◌, ℕ, Bool, true, List, [], ◌∷◌, ◌++◌, Some, if◌then◌else◌, refl, sym, ap, subst}
 use Rattle.std.proofs.lemmas.Bool.{eq-eqb}
-use Rattle.acl_fragments.specs.Pieces.{Piece}
-use Rattle.push_terms.specs.declared.word.Side.{Side}
-use Rattle.world_model.specs.Machines.{Upper}
-use Rattle.world_model.specs.Stations.{Station, longest_pdu, gives, holds, hears_each, hears_piece}
-use Rattle.turn_laws.proofs.Joining.{completions, held_behind}
+use Rattle.station_laws.specs.acl_fragments.specs.Pieces.{Piece}
+use Rattle.station_laws.specs.push_terms.specs.declared.word.Side.{Side}
+use Rattle.station_laws.specs.world_model.specs.Machines.{Upper}
+use Rattle.station_laws.specs.world_model.specs.Stations.{Station, longest_pdu, gives, holds, hears_each, hears_piece}
+use Rattle.station_laws.specs.turn_laws.proofs.Joining.{completions, held_behind}
 use Rattle.run_laws.proofs.Owning.{Own, own, Piecing, Comes, stays, comes_then}
 use Rattle.run_laws.proofs.Speaking.{one_of, station_of, Place}
 

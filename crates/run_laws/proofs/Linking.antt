@@ -1,15 +1,15 @@
 -- A link comes up, and goes down.
 use Rattle.std.proofs.Common.{◌≡◌, ℕ, ◌+◌, ◌<◌, ◌&&◌, Bool, true, false, List, [], ◌∷◌, Option, Some, None, if◌then◌else◌, refl, sym, ap, ap₂}
 use Rattle.std.proofs.lemmas.Bool.{eq-eqb, lt-ltb}
-use Rattle.push_terms.specs.declared.word.Side.{Side}
-use Rattle.push_terms.specs.declared.word.Side.TheVariants.{A, B}
-use Rattle.push_terms.specs.declared.word.Way.{Way}
-use Rattle.radio_air.specs.Controllers.{Stated, Called, LinkMade, LinkGone, Controller}
-use Rattle.radio_air.specs.Radio.{Radio, Apart, Paging, Requested, Together, owes, may_page, after_reaching, parted_by}
-use Rattle.world_model.specs.Machines.{Up, Down, Linked, Upper}
-use Rattle.world_model.specs.Pushes.{Pushes}
-use Rattle.world_model.specs.Stations.{Page, Accept, End, opcode, Station, Asking, Leaving, Commanding, hears_answer, upper_told}
-use Rattle.world_model.specs.Worlds.{World, Tries, Departure, Answering}
+use Rattle.station_laws.specs.push_terms.specs.declared.word.Side.{Side}
+use Rattle.station_laws.specs.push_terms.specs.declared.word.Side.TheVariants.{A, B}
+use Rattle.station_laws.specs.push_terms.specs.declared.word.Way.{Way}
+use Rattle.station_laws.specs.radio_air.specs.Controllers.{Stated, Called, LinkMade, LinkGone, Controller}
+use Rattle.station_laws.specs.radio_air.specs.Radio.{Radio, Apart, Paging, Requested, Together, owes, may_page, after_reaching, parted_by}
+use Rattle.station_laws.specs.world_model.specs.Machines.{Up, Down, Linked, Upper}
+use Rattle.station_laws.specs.world_model.specs.Pushes.{Pushes}
+use Rattle.station_laws.specs.world_model.specs.Stations.{Page, Accept, End, opcode, Station, Asking, Leaving, Commanding, hears_answer, upper_told}
+use Rattle.station_laws.specs.world_model.specs.Worlds.{World, Tries, Departure, Answering}
 use Rattle.run_laws.proofs.Owning.{Own, own, Hearing, Comes, Goes, goes_none, goes_then, goes_on, goes_a, goes_b}
 use Rattle.run_laws.proofs.Speaking.{one_of, station_of, Place}
 use Rattle.run_laws.proofs.Calm.{Shape, room, buffers, at_a, at_b, put, calm}

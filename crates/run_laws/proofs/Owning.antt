@@ -2,15 +2,15 @@
 use Rattle.std.proofs.Common.{◌≡◌, ℕ, ◌&&◌, ◌==◌, Bool, true, false, List, [], ◌∷◌, ◌++◌, Option, Some, None, if◌then◌else◌, refl, sym, ap, ap₂, subst, ◌∙◌}
 use Rattle.std.proofs.lemmas.Bool.{eq-eqb}
 use Rattle.std.proofs.lemmas.Grind.{flat_map-append}
-use Rattle.acl_fragments.specs.Pieces.{Piece}
-use Rattle.push_terms.specs.declared.word.Side.{Side}
-use Rattle.push_terms.specs.declared.word.Side.TheVariants.{A, B}
-use Rattle.push_terms.specs.declared.word.Word.{Word}
-use Rattle.radio_air.specs.Controllers.{Answer, Controller, after_giving_back, after_handing}
-use Rattle.radio_air.specs.Radio.{with_controller, knows_link, is_together, with_piece, after_taking}
-use Rattle.world_model.specs.Machines.{Upper}
-use Rattle.world_model.specs.Stations.{Order, Data, Station, Effort, MakesEffort, hears_piece, hears_answer}
-use Rattle.world_model.specs.Worlds.{World, Happening, Tries, Departure, GivingBack, Piecemeal, Answering, Does, Runs, piece_on, words_in, all_words}
+use Rattle.station_laws.specs.acl_fragments.specs.Pieces.{Piece}
+use Rattle.station_laws.specs.push_terms.specs.declared.word.Side.{Side}
+use Rattle.station_laws.specs.push_terms.specs.declared.word.Side.TheVariants.{A, B}
+use Rattle.station_laws.specs.push_terms.specs.declared.word.Word.{Word}
+use Rattle.station_laws.specs.radio_air.specs.Controllers.{Answer, Controller, after_giving_back, after_handing}
+use Rattle.station_laws.specs.radio_air.specs.Radio.{with_controller, knows_link, is_together, with_piece, after_taking}
+use Rattle.station_laws.specs.world_model.specs.Machines.{Upper}
+use Rattle.station_laws.specs.world_model.specs.Stations.{Order, Data, Station, Effort, MakesEffort, hears_piece, hears_answer}
+use Rattle.station_laws.specs.world_model.specs.Worlds.{World, Happening, Tries, Departure, GivingBack, Piecemeal, Answering, Does, Runs, piece_on, words_in, all_words}
 
 pub record Own (S : Type 0) : Type 0 where
   pub one : Controller

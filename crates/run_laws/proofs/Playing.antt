@@ -1,25 +1,25 @@
 -- Each turn is a stretch of a run of the world, and so is each run of turns.
 use Rattle.std.proofs.Common.{◌≡◌, ℕ, ◌+◌, ◌≤◌, Bool, true, false, List, [], ◌∷◌, ◌++◌, Option, if◌then◌else◌, refl, sym, ap, subst, ◌∙◌, arith}
 use Rattle.std.specs.List.{AllByRecursion}
-use Rattle.push_script.specs.Runs.{IsWord}
-use Rattle.push_terms.specs.declared.word.Side.TheVariants.{A, B}
-use Rattle.push_terms.specs.declared.word.Way.{Way}
-use Rattle.push_terms.specs.declared.word.Way.TheVariants.{Ab, Ba}
-use Rattle.push_terms.specs.declared.word.Word.{Word}
-use Rattle.radio_air.specs.declared.fate.Fate.{Fate}
-use Rattle.radio_air.specs.declared.deed.Deed.{Deed}
-use Rattle.radio_air.specs.declared.deed.Deed.TheVariants.{Nothing, Meets, Fires, FiresBoth, Breaks, Cancels}
-use Rattle.radio_air.specs.Fates.{meets, comes_of}
-use Rattle.radio_air.specs.Words.{deed_of, served_by}
-use Rattle.radio_air.specs.Radio.{is_apart}
-use Rattle.world_model.specs.Machines.{Up, Down, Linked, TimerFired, Cancelled, Opening, Upper, Reaction}
-use Rattle.world_model.specs.Pushes.{Pushes, one_begun, one_ended}
-use Rattle.world_model.specs.Turns.{Party, Pair, Step, Turn, Idle, Rise, Fall, Began, Ended, IsCalmPair, FindsNothing, Acts, Moves, found, fires, hears, notes, receives, event_heard, with_event, words_in, words_of, first_pair}
-use Rattle.world_model.specs.Stations.{told}
-use Rattle.world_model.specs.Worlds.{World, Misses, Opens, Closes, IsAtRest, first_world}
-use Rattle.turn_laws.specs.Premises.{SaysFrames}
-use Rattle.turn_laws.proofs.Wiring.{AllFrames}
-use Rattle.turn_laws.proofs.Wording.{finds_frame}
+use Rattle.station_laws.specs.push_script.specs.Runs.{IsWord}
+use Rattle.station_laws.specs.push_terms.specs.declared.word.Side.TheVariants.{A, B}
+use Rattle.station_laws.specs.push_terms.specs.declared.word.Way.{Way}
+use Rattle.station_laws.specs.push_terms.specs.declared.word.Way.TheVariants.{Ab, Ba}
+use Rattle.station_laws.specs.push_terms.specs.declared.word.Word.{Word}
+use Rattle.station_laws.specs.radio_air.specs.declared.fate.Fate.{Fate}
+use Rattle.station_laws.specs.radio_air.specs.declared.deed.Deed.{Deed}
+use Rattle.station_laws.specs.radio_air.specs.declared.deed.Deed.TheVariants.{Nothing, Meets, Fires, FiresBoth, Breaks, Cancels}
+use Rattle.station_laws.specs.radio_air.specs.Fates.{meets, comes_of}
+use Rattle.station_laws.specs.radio_air.specs.Words.{deed_of, served_by}
+use Rattle.station_laws.specs.radio_air.specs.Radio.{is_apart}
+use Rattle.station_laws.specs.world_model.specs.Machines.{Up, Down, Linked, TimerFired, Cancelled, Opening, Upper, Reaction}
+use Rattle.station_laws.specs.world_model.specs.Pushes.{Pushes, one_begun, one_ended}
+use Rattle.station_laws.specs.world_model.specs.Turns.{Party, Pair, Step, Turn, Idle, Rise, Fall, Began, Ended, IsCalmPair, FindsNothing, Acts, Moves, found, fires, hears, notes, receives, event_heard, with_event, words_in, words_of, first_pair}
+use Rattle.station_laws.specs.world_model.specs.Stations.{told}
+use Rattle.station_laws.specs.world_model.specs.Worlds.{World, Misses, Opens, Closes, IsAtRest, first_world}
+use Rattle.station_laws.specs.turn_laws.specs.Premises.{SaysFrames}
+use Rattle.station_laws.specs.turn_laws.proofs.Wiring.{AllFrames}
+use Rattle.station_laws.specs.turn_laws.proofs.Wording.{finds_frame}
 use Rattle.station_laws.specs.WorldLaws.{AreSizes}
 use Rattle.run_laws.specs.Laws.{PassesWhole, rises_in, rises, TurnsArePlayed}
 use Rattle.run_laws.proofs.Owning.{Goes, goes_none, goes_then}
@@ -116,7 +116,7 @@ at_queue : {S T G H : Type 0} (U : Upper S G) (V : Upper T H) (link : Bool) (qs 
 at_queue U V true qs frame_list off is frame rest some = refl
 at_queue U V false qs frame_list off is frame rest some = let none : [] ≡ frame ∷ rest = sym (off refl) ∙ is ∙ some in absurd cc
 
-keeps_by : (word : Word) (served : Option Way) (qa qb : List (List ℕ)) (link : Bool) (way : Way) (fate : Fate) → IsWord word → deed_of word served qa qb link ≡ Meets way fate → Rattle.turn_laws.proofs.Joining.KeepsHeader fate
+keeps_by : (word : Word) (served : Option Way) (qa qb : List (List ℕ)) (link : Bool) (way : Way) (fate : Fate) → IsWord word → deed_of word served qa qb link ≡ Meets way fate → Rattle.station_laws.specs.turn_laws.proofs.Joining.KeepsHeader fate
 keeps_by word served qa qb link way fate is found_is = (finds_frame word served qa qb link way fate is found_is).keeps
 
 turn_made :

@@ -1,18 +1,18 @@
 -- A host on its link says all that it has to say: each PDU moves, piece by piece, and each buffer is given back at once.
 use Rattle.std.proofs.Common.{◌≡◌, ℕ, zero, suc, ◌-◌, ◌≤◌, ◌==◌, ◌&&◌, nat_le, Bool, true, false, List, [], ◌∷◌, ◌++◌, Option, Some, None, if◌then◌else◌, refl, sym, ap, ap₂, subst, ◌∙◌, append_assoc, append-nil, arith}
 use Rattle.std.proofs.lemmas.Bool.{eq-eqb, le-leb}
-use Rattle.hci_packets.specs.declared.acl.Boundary.TheVariants.{First}
-use Rattle.acl_fragments.specs.Pieces.{Piece}
-use Rattle.acl_fragments.specs.Cuts.{cut}
-use Rattle.push_terms.specs.declared.word.Side.{Side}
-use Rattle.radio_air.specs.Controllers.{GivenBack, Controller}
-use Rattle.radio_air.specs.Radio.{frame_limit, with_piece, after_taking}
-use Rattle.world_model.specs.Machines.{Upper, all_said}
-use Rattle.world_model.specs.Stations.{Data, Station, Taking, Putting, gives, holds, longest_pdu}
-use Rattle.turn_laws.specs.Premises.{IsFrame, SaysFrames}
-use Rattle.turn_laws.proofs.Joining.{completions, held_behind, cut_comes}
-use Rattle.turn_laws.proofs.Departing.{with_piece_is}
-use Rattle.turn_laws.proofs.Saying.{all_said_none, all_said_some}
+use Rattle.station_laws.specs.hci_packets.specs.declared.acl.Boundary.TheVariants.{First}
+use Rattle.station_laws.specs.acl_fragments.specs.Pieces.{Piece}
+use Rattle.station_laws.specs.acl_fragments.specs.Cuts.{cut}
+use Rattle.station_laws.specs.push_terms.specs.declared.word.Side.{Side}
+use Rattle.station_laws.specs.radio_air.specs.Controllers.{GivenBack, Controller}
+use Rattle.station_laws.specs.radio_air.specs.Radio.{frame_limit, with_piece, after_taking}
+use Rattle.station_laws.specs.world_model.specs.Machines.{Upper, all_said}
+use Rattle.station_laws.specs.world_model.specs.Stations.{Data, Station, Taking, Putting, gives, holds, longest_pdu}
+use Rattle.station_laws.specs.turn_laws.specs.Premises.{IsFrame, SaysFrames}
+use Rattle.station_laws.specs.turn_laws.proofs.Joining.{completions, held_behind, cut_comes}
+use Rattle.station_laws.specs.turn_laws.proofs.Departing.{with_piece_is}
+use Rattle.station_laws.specs.turn_laws.proofs.Saying.{all_said_none, all_said_some}
 use Rattle.run_laws.proofs.Owning.{Own, own, Trying, Sending, Returning, Hearing, Comes, stays, comes_then}
 
 -- ---- where nothing is under way but these pieces

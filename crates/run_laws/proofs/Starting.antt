@@ -2,16 +2,16 @@
 use Rattle.std.proofs.Common.{◌≡◌, ℕ, ◌<◌, ◌^◌, nat_le, min, Bool, false, List, [], ◌∷◌, ◌++◌, drop, Some, None, if◌then◌else◌, refl, sym, ap, ap₂, ◌∙◌}
 use Rattle.std.proofs.lemmas.Bool.{le-leb}
 use Rattle.byteorder.specs.Endian.{little_number}
-use Rattle.bt_base.specs.Octets.{le16}
-use Rattle.bt_base.proofs.OctetLemmas.{le16-number}
-use Rattle.push_terms.specs.declared.word.Side.TheVariants.{A, B}
-use Rattle.radio_air.specs.Controllers.{Returned, address}
-use Rattle.radio_air.specs.Radio.{Apart}
-use Rattle.world_model.specs.Machines.{Upper}
-use Rattle.world_model.specs.Pushes.{Pushes, no_pushes}
-use Rattle.world_model.specs.Stations.{Order, ReadBuffers, ReadAddress, Scan, opcode, Station, Commanding, learns}
-use Rattle.world_model.specs.Stations as orders
-use Rattle.world_model.specs.Worlds.{World, Tries, Departure, Answering, first_world}
+use Rattle.station_laws.specs.bt_base.specs.Octets.{le16}
+use Rattle.station_laws.specs.bt_base.proofs.OctetLemmas.{le16-number}
+use Rattle.station_laws.specs.push_terms.specs.declared.word.Side.TheVariants.{A, B}
+use Rattle.station_laws.specs.radio_air.specs.Controllers.{Returned, address}
+use Rattle.station_laws.specs.radio_air.specs.Radio.{Apart}
+use Rattle.station_laws.specs.world_model.specs.Machines.{Upper}
+use Rattle.station_laws.specs.world_model.specs.Pushes.{Pushes, no_pushes}
+use Rattle.station_laws.specs.world_model.specs.Stations.{Order, ReadBuffers, ReadAddress, Scan, opcode, Station, Commanding, learns}
+use Rattle.station_laws.specs.world_model.specs.Stations as orders
+use Rattle.station_laws.specs.world_model.specs.Worlds.{World, Tries, Departure, Answering, first_world}
 use Rattle.station_laws.specs.WorldLaws.{AreSizes}
 use Rattle.run_laws.proofs.Owning.{Own, own, Goes, goes_none, goes_then, goes_on}
 use Rattle.run_laws.proofs.Speaking.{one_of, station_of}

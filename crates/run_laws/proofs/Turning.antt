@@ -1,28 +1,28 @@
 -- A word is turned: what it finds is done in the world as it is in a turn.
 use Rattle.std.proofs.Common.{◌≡◌, ◌⊎◌, ℕ, ◌+◌, ◌≤◌, ◌||◌, Bool, true, false, List, [], ◌∷◌, ◌++◌, length, nat_lt, Option, Some, None, if◌then◌else◌, inl, inr, refl, sym, ap, subst, ◌∙◌}
-use Rattle.acl_fragments.specs.Pieces.{Piece, channel_of}
-use Rattle.capture.specs.Frames.{frame_pieces, way_served}
-use Rattle.push_script.specs.Runs.{IsWord}
-use Rattle.push_terms.specs.declared.word.Side.TheVariants.{A, B}
-use Rattle.push_terms.specs.declared.word.Way.{Way}
-use Rattle.push_terms.specs.declared.word.Way.TheVariants.{Ab, Ba}
-use Rattle.push_terms.specs.declared.word.Word.{Word}
-use Rattle.push_terms.specs.declared.word.Word.TheVariants.{Pass, Lose, Repeat, Damage, Cut, Timer, Drop, Cancel}
-use Rattle.radio_air.specs.declared.fate.Fate.{Fate}
-use Rattle.radio_air.specs.declared.fate.Fate.TheVariants.{Delivered, Lost, Repeated, CutOff, Changed}
-use Rattle.radio_air.specs.declared.deed.Deed.{Deed}
-use Rattle.radio_air.specs.declared.deed.Deed.TheVariants.{Nothing, Meets, Breaks}
-use Rattle.radio_air.specs.Fates.{meets, comes_of, can_meet}
-use Rattle.radio_air.specs.Words.{first_meets, meets_on, passing, deed_of, served_by}
-use Rattle.radio_air.specs.Radio.{is_together, is_paging, is_requested, after_meeting, parted}
-use Rattle.world_model.specs.Machines.{Down, Linked, Heard, Upper, Reaction}
-use Rattle.world_model.specs.Pushes.{Pushes}
-use Rattle.world_model.specs.Turns.{Party, IsCalm, notes, receives}
-use Rattle.world_model.specs.Stations.{longest_pdu, hears_each}
-use Rattle.world_model.specs.Worlds.{World, Turns, IsAtRest, Acts, one_turned}
-use Rattle.turn_laws.specs.Premises.{IsFrame, SaysFrames}
-use Rattle.turn_laws.proofs.Joining.{held_behind, KeepsHeader, meets_as}
-use Rattle.turn_laws.proofs.Wiring.{AllFrames}
+use Rattle.station_laws.specs.acl_fragments.specs.Pieces.{Piece, channel_of}
+use Rattle.station_laws.specs.capture.specs.Frames.{frame_pieces, way_served}
+use Rattle.station_laws.specs.push_script.specs.Runs.{IsWord}
+use Rattle.station_laws.specs.push_terms.specs.declared.word.Side.TheVariants.{A, B}
+use Rattle.station_laws.specs.push_terms.specs.declared.word.Way.{Way}
+use Rattle.station_laws.specs.push_terms.specs.declared.word.Way.TheVariants.{Ab, Ba}
+use Rattle.station_laws.specs.push_terms.specs.declared.word.Word.{Word}
+use Rattle.station_laws.specs.push_terms.specs.declared.word.Word.TheVariants.{Pass, Lose, Repeat, Damage, Cut, Timer, Drop, Cancel}
+use Rattle.station_laws.specs.radio_air.specs.declared.fate.Fate.{Fate}
+use Rattle.station_laws.specs.radio_air.specs.declared.fate.Fate.TheVariants.{Delivered, Lost, Repeated, CutOff, Changed}
+use Rattle.station_laws.specs.radio_air.specs.declared.deed.Deed.{Deed}
+use Rattle.station_laws.specs.radio_air.specs.declared.deed.Deed.TheVariants.{Nothing, Meets, Breaks}
+use Rattle.station_laws.specs.radio_air.specs.Fates.{meets, comes_of, can_meet}
+use Rattle.station_laws.specs.radio_air.specs.Words.{first_meets, meets_on, passing, deed_of, served_by}
+use Rattle.station_laws.specs.radio_air.specs.Radio.{is_together, is_paging, is_requested, after_meeting, parted}
+use Rattle.station_laws.specs.world_model.specs.Machines.{Down, Linked, Heard, Upper, Reaction}
+use Rattle.station_laws.specs.world_model.specs.Pushes.{Pushes}
+use Rattle.station_laws.specs.world_model.specs.Turns.{Party, IsCalm, notes, receives}
+use Rattle.station_laws.specs.world_model.specs.Stations.{longest_pdu, hears_each}
+use Rattle.station_laws.specs.world_model.specs.Worlds.{World, Turns, IsAtRest, Acts, one_turned}
+use Rattle.station_laws.specs.turn_laws.specs.Premises.{IsFrame, SaysFrames}
+use Rattle.station_laws.specs.turn_laws.proofs.Joining.{held_behind, KeepsHeader, meets_as}
+use Rattle.station_laws.specs.turn_laws.proofs.Wiring.{AllFrames}
 use Rattle.run_laws.proofs.Owning.{Goes, goes_none, goes_then, goes_a, goes_b}
 use Rattle.run_laws.proofs.Hearing.{hears_all}
 use Rattle.run_laws.proofs.Linking.{cleared, both_told}

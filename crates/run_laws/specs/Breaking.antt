@@ -1,20 +1,20 @@
 -- A run that broke off, with an entry that was written and nothing more, or with a front of its capture, is a run as well (this project's
 -- own).
 use Rattle.std.specs.Prelude.{ℕ, ◌≡◌, ◌+◌, ◌||◌, true, List, [], ◌∷◌, ◌++◌, Some}
-use Rattle.acl_fragments.specs.Pieces.{Piece}
-use Rattle.push_terms.specs.declared.word.Side.TheVariants.{A, B}
-use Rattle.push_script.specs.Runs.{IsWord}
-use Rattle.capture.specs.Entries.{Entry}
-use Rattle.radio_air.specs.declared.deed.Deed.{Deed}
-use Rattle.radio_air.specs.declared.deed.Deed.TheVariants.{Nothing, Meets, Fires, FiresBoth, Breaks, Cancels}
-use Rattle.radio_air.specs.Controllers.{Answer}
-use Rattle.radio_air.specs.Radio.{found}
-use Rattle.world_model.specs.Machines.{Upper}
-use Rattle.world_model.specs.Pushes.{next_name}
-use Rattle.world_model.specs.Turns.{may_be_cancelled}
-use Rattle.world_model.specs.Stations.{Order}
-use Rattle.world_model.specs.Worlds.{World, Happening, Departure, Piecemeal, Answering, Turns, Opens, IsAtRest, Does, Runs, entries_of, all_entries, first_world}
-use Rattle.turn_laws.specs.Laws.{IsFront}
+use Rattle.station_laws.specs.acl_fragments.specs.Pieces.{Piece}
+use Rattle.station_laws.specs.push_terms.specs.declared.word.Side.TheVariants.{A, B}
+use Rattle.station_laws.specs.push_script.specs.Runs.{IsWord}
+use Rattle.station_laws.specs.capture.specs.Entries.{Entry}
+use Rattle.station_laws.specs.radio_air.specs.declared.deed.Deed.{Deed}
+use Rattle.station_laws.specs.radio_air.specs.declared.deed.Deed.TheVariants.{Nothing, Meets, Fires, FiresBoth, Breaks, Cancels}
+use Rattle.station_laws.specs.radio_air.specs.Controllers.{Answer}
+use Rattle.station_laws.specs.radio_air.specs.Radio.{found}
+use Rattle.station_laws.specs.world_model.specs.Machines.{Upper}
+use Rattle.station_laws.specs.world_model.specs.Pushes.{next_name}
+use Rattle.station_laws.specs.world_model.specs.Turns.{may_be_cancelled}
+use Rattle.station_laws.specs.world_model.specs.Stations.{Order}
+use Rattle.station_laws.specs.world_model.specs.Worlds.{World, Happening, Departure, Piecemeal, Answering, Turns, Opens, IsAtRest, Does, Runs, entries_of, all_entries, first_world}
+use Rattle.station_laws.specs.turn_laws.specs.Laws.{IsFront}
 
 -- a word finds what can be done
 abbrev pub MayAct : {S T G H : Type 0} → Upper S G → Upper T H → Deed → World S T → Type 0

@@ -1,10 +1,10 @@
 -- A machine that is another one seen as more than it is: beside what the other is it keeps something that never changes, as settings
 -- (this project's own).
 use Rattle.std.specs.Prelude.{ℕ, ◌≡◌, Bool, List, Option, option_map}
-use Rattle.push_terms.specs.declared.outcome.Outcome.{Outcome}
-use Rattle.world_model.specs.Machines.{News, Upper}
-use Rattle.world_model.specs.Stations.{Station}
-use Rattle.world_model.specs.Worlds.{World, Happening, Runs, IsAtRest}
+use Rattle.station_laws.specs.push_terms.specs.declared.outcome.Outcome.{Outcome}
+use Rattle.station_laws.specs.world_model.specs.Machines.{News, Upper}
+use Rattle.station_laws.specs.world_model.specs.Stations.{Station}
+use Rattle.station_laws.specs.world_model.specs.Worlds.{World, Happening, Runs, IsAtRest}
 
 -- what a machine says next, and what it is then, seen as more
 abbrev pub said_as : {S T : Type 0} → (S → T) → Option (List ℕ × S) → Option (List ℕ × T)

@@ -1,12 +1,12 @@
 -- Each run of turns is the run of some world, for every two machines and whatever their ports answer.
 use Rattle.std.specs.Prelude.{ℕ, ◌≡◌, ◌≤◌, ◌+◌, true, List, [], ◌∷◌}
 use Rattle.std.specs.List.{AllByRecursion}
-use Rattle.push_script.specs.Runs.{IsWord}
-use Rattle.world_model.specs.Machines.{Upper}
-use Rattle.world_model.specs.Turns.{Step, Rise, Pair, IsCalmPair, Moves, words_of, first_pair}
-use Rattle.world_model.specs.Worlds.{World, Happening, Runs, IsAtRest, all_words, first_world}
-use Rattle.turn_laws.specs.Premises.{SaysFrames}
-use Rattle.turn_laws.specs.WorldLaws.{Reflects}
+use Rattle.station_laws.specs.push_script.specs.Runs.{IsWord}
+use Rattle.station_laws.specs.world_model.specs.Machines.{Upper}
+use Rattle.station_laws.specs.world_model.specs.Turns.{Step, Rise, Pair, IsCalmPair, Moves, words_of, first_pair}
+use Rattle.station_laws.specs.world_model.specs.Worlds.{World, Happening, Runs, IsAtRest, all_words, first_world}
+use Rattle.station_laws.specs.turn_laws.specs.Premises.{SaysFrames}
+use Rattle.station_laws.specs.turn_laws.specs.WorldLaws.{Reflects}
 use Rattle.station_laws.specs.WorldLaws.{AreSizes}
 
 -- Turns, one after the other, in which both hosts say all that they have to say. Where a host stops short, how many PDUs it was asked

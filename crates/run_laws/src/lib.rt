@@ -4,7 +4,7 @@
 ghost use Rattle.run_laws.specs.Embedding.{RestIsOfLess, RunsAreOfLess};
 ghost use Rattle.run_laws.specs.Breaking.{FrontsAreRuns, WrittenIsHappened};
 ghost use Rattle.run_laws.specs.Laws.{TurnsArePlayed};
-ghost use Rattle.world_model.specs.Machines.{Upper};
+ghost use Rattle.station_laws.specs.world_model.specs.Machines.{Upper};
 
 /// Whatever the machines, a run of turns in which both hosts say all that they have to say is the run of some world, with the same
 /// words, machines and frames in the air.

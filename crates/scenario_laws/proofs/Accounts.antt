@@ -1,21 +1,21 @@
 -- The accounts of both hosts, over the capture alone.
 use Rattle.std.proofs.Common.{◌≡◌, ℕ, ◌≤◌, min, List, [], ◌∷◌, ◌++◌, Some, length, sum_by, option_to_list, sym, ap, subst}
 use Rattle.std.specs.List.{flat_map}
-use Rattle.push_terms.specs.declared.outcome.Outcome.{Outcome}
-use Rattle.push_terms.specs.declared.word.Side.{Side}
-use Rattle.push_terms.specs.declared.word.Side.TheVariants.{A, B}
-use Rattle.capture.specs.Buffers.{buffer_events, all_outstanding, outstanding_of, KeepsWithin}
-use Rattle.capture.specs.Entries.{Entry, Ended}
-use Rattle.capture.specs.Histories.{AtEach}
-use Rattle.capture.specs.Links.{Link, Linking, linking}
-use Rattle.capture.specs.Moves.{Move, moves}
-use Rattle.capture.proofs.HistoryLaws.{each_after-more, at_each-more, at_each-whole}
-use Rattle.radio_air.specs.Course.{PushesInTurn}
-use Rattle.radio_air.specs.Honest.{sent_on, completed_on, IsHonest, IsNumbered, IsOnItsLink, AreHonest}
-use Rattle.world_model.specs.Worlds.{all_entries}
-use Rattle.air_laws.proofs.Addressing.{captures_are_honest}
-use Rattle.air_laws.proofs.Balancing.{buffers_are_kept}
-use Rattle.air_laws.proofs.Marking.{pushes_are_marked}
+use Rattle.radio_world.specs.push_terms.specs.declared.outcome.Outcome.{Outcome}
+use Rattle.radio_world.specs.push_terms.specs.declared.word.Side.{Side}
+use Rattle.radio_world.specs.push_terms.specs.declared.word.Side.TheVariants.{A, B}
+use Rattle.radio_world.specs.capture.specs.Buffers.{buffer_events, all_outstanding, outstanding_of, KeepsWithin}
+use Rattle.radio_world.specs.capture.specs.Entries.{Entry, Ended}
+use Rattle.radio_world.specs.capture.specs.Histories.{AtEach}
+use Rattle.radio_world.specs.capture.specs.Links.{Link, Linking, linking}
+use Rattle.radio_world.specs.capture.specs.Moves.{Move, moves}
+use Rattle.radio_world.specs.capture.proofs.HistoryLaws.{each_after-more, at_each-more, at_each-whole}
+use Rattle.radio_world.specs.radio_air.specs.Course.{PushesInTurn}
+use Rattle.radio_world.specs.radio_air.specs.Honest.{sent_on, completed_on, IsHonest, IsNumbered, IsOnItsLink, AreHonest}
+use Rattle.host_laws.specs.world_model.specs.Worlds.{all_entries}
+use Rattle.host_laws.specs.air_laws.proofs.Addressing.{captures_are_honest}
+use Rattle.host_laws.specs.air_laws.proofs.Balancing.{buffers_are_kept}
+use Rattle.host_laws.specs.air_laws.proofs.Marking.{pushes_are_marked}
 use Rattle.scenario_laws.specs.Captures.{client_of, server_of}
 use Rattle.scenario_laws.specs.Accounts as laws
 use Rattle.scenario_laws.proofs.Fronts.{fits, ended_moves, ended_links, with_ends}

@@ -1,23 +1,23 @@
 -- The air obeys the script, over the capture alone.
 use Rattle.std.proofs.Common.{true, false, List, [], ◌++◌, Option, sym, ap, subst}
-use Rattle.bt_base.specs.declared.settings.Settings.{Settings}
-use Rattle.bt_base.specs.Objects.{Contents}
-use Rattle.push_terms.specs.declared.word.Side.TheVariants.{A, B}
-use Rattle.push_terms.specs.declared.word.Word.{Word}
-use Rattle.push_script.specs.declared.scenario.Scenario.{Scenario}
-use Rattle.capture.specs.Air.{words_of}
-use Rattle.capture.specs.Entries.{Entry, Ended}
-use Rattle.capture.specs.Histories.{EachAfter}
-use Rattle.capture.proofs.HistoryLaws.{each_after-more}
-use Rattle.link_talk.specs.Waits.{waits, has_check_word}
-use Rattle.radio_air.specs.Air.{KeepsTo, Obeys}
-use Rattle.world_model.specs.Worlds.{Happening, IsAtRest, all_entries, all_words}
-use Rattle.turn_laws.specs.Laws.{IsFront}
-use Rattle.air_laws.specs.AirLaws.{Agrees, PassesEnds, TellsHosts}
-use Rattle.air_laws.proofs.Ending.{air_is_obeyed}
-use Rattle.air_laws.proofs.Obeying.{air_is_kept}
-use Rattle.host_model.specs.Clients.{client_profile}
-use Rattle.host_model.specs.Servers.{server_profile}
+use Rattle.radio_world.specs.bt_base.specs.declared.settings.Settings.{Settings}
+use Rattle.radio_world.specs.bt_base.specs.Objects.{Contents}
+use Rattle.radio_world.specs.push_terms.specs.declared.word.Side.TheVariants.{A, B}
+use Rattle.radio_world.specs.push_terms.specs.declared.word.Word.{Word}
+use Rattle.radio_world.specs.push_script.specs.declared.scenario.Scenario.{Scenario}
+use Rattle.radio_world.specs.capture.specs.Air.{words_of}
+use Rattle.radio_world.specs.capture.specs.Entries.{Entry, Ended}
+use Rattle.radio_world.specs.capture.specs.Histories.{EachAfter}
+use Rattle.radio_world.specs.capture.proofs.HistoryLaws.{each_after-more}
+use Rattle.host_laws.specs.link_talk.specs.Waits.{waits, has_check_word}
+use Rattle.radio_world.specs.radio_air.specs.Air.{KeepsTo, Obeys}
+use Rattle.host_laws.specs.world_model.specs.Worlds.{Happening, IsAtRest, all_entries, all_words}
+use Rattle.host_laws.specs.turn_laws.specs.Laws.{IsFront}
+use Rattle.host_laws.specs.air_laws.specs.AirLaws.{Agrees, PassesEnds, TellsHosts}
+use Rattle.host_laws.specs.air_laws.proofs.Ending.{air_is_obeyed}
+use Rattle.host_laws.specs.air_laws.proofs.Obeying.{air_is_kept}
+use Rattle.host_laws.specs.host_model.specs.Clients.{client_profile}
+use Rattle.host_laws.specs.host_model.specs.Servers.{server_profile}
 use Rattle.scenario_laws.specs.Captures.{client_of, server_of, beginning, BothHosts, Happened}
 use Rattle.scenario_laws.specs.Parties.{party_of}
 use Rattle.scenario_laws.specs.Air as laws

@@ -1,13 +1,13 @@
 -- Scenarios that broke off, in one place.
 use Rattle.std.proofs.Common.{List, [], ◌++◌, refl, sym, subst}
-use Rattle.push_terms.specs.declared.word.Side.TheVariants.{A, B}
-use Rattle.push_terms.specs.declared.word.Word.{Word}
-use Rattle.capture.specs.Entries.{Entry}
-use Rattle.capture.specs.Histories.{EachAfter}
-use Rattle.air_laws.proofs.Crowding as air
-use Rattle.link_talk.specs.Captures.{objects_heard}
-use Rattle.radio_air.specs.Air.{KeepsTo}
-use Rattle.world_model.specs.Worlds.{all_entries}
+use Rattle.radio_world.specs.push_terms.specs.declared.word.Side.TheVariants.{A, B}
+use Rattle.radio_world.specs.push_terms.specs.declared.word.Word.{Word}
+use Rattle.radio_world.specs.capture.specs.Entries.{Entry}
+use Rattle.radio_world.specs.capture.specs.Histories.{EachAfter}
+use Rattle.host_laws.specs.air_laws.proofs.Crowding as air
+use Rattle.host_laws.specs.link_talk.specs.Captures.{objects_heard}
+use Rattle.radio_world.specs.radio_air.specs.Air.{KeepsTo}
+use Rattle.host_laws.specs.world_model.specs.Worlds.{all_entries}
 use Rattle.scenario_laws.specs.Air.{hosts_of}
 use Rattle.scenario_laws.specs.Broken.{ScenariosBreakOff, CrowdsAreTold}
 use Rattle.scenario_laws.specs.Captures.{client_of, server_of, Ran}

@@ -2,24 +2,24 @@
 use Rattle.std.proofs.Common.{◌≡◌, ℕ, Bool, true, false, List, Option, Some, None, refl, ap, sym}
 use Rattle.std.specs.List.{AllByRecursion}
 use Rattle.std.specs.Option.{option_map}
-use Rattle.push_terms.specs.declared.word.Side.{Side}
-use Rattle.push_terms.specs.declared.word.Side.TheVariants.{A, B}
-use Rattle.capture.specs.Entries.{Entry}
-use Rattle.capture.specs.Links.{Link, linking}
-use Rattle.capture.specs.Moves.{moves}
-use Rattle.capture.specs.Pdus.{Pdu, pdus}
-use Rattle.world_model.specs.Machines.{Upper}
-use Rattle.world_model.specs.Talks.{Talk}
-use Rattle.world_model.specs.PerLink.{Linkage, linkage, captured}
-use Rattle.world_model.specs.Carriages.{Carriage, Doing, Carries, first_carriage}
-use Rattle.world_model.specs.Carriages as carriages
-use Rattle.world_model.specs.Worlds.{World, Happening, IsAtRest, Runs, all_entries, first_world}
-use Rattle.turn_laws.specs.WorldLaws.{Fits}
-use Rattle.turn_laws.proofs.Capturing.{View, ShownAt}
-use Rattle.turn_laws.proofs.Ordering.{at}
-use Rattle.turn_laws.proofs.Recounting.{IsOfScript, CarriesSo, HoldsAtRests, played_so}
-use Rattle.turn_laws.proofs.Showing.{ShownUp}
-use Rattle.turn_laws.proofs.Wording.{rests_alike}
+use Rattle.radio_world.specs.push_terms.specs.declared.word.Side.{Side}
+use Rattle.radio_world.specs.push_terms.specs.declared.word.Side.TheVariants.{A, B}
+use Rattle.radio_world.specs.capture.specs.Entries.{Entry}
+use Rattle.radio_world.specs.capture.specs.Links.{Link, linking}
+use Rattle.radio_world.specs.capture.specs.Moves.{moves}
+use Rattle.radio_world.specs.capture.specs.Pdus.{Pdu, pdus}
+use Rattle.host_laws.specs.world_model.specs.Machines.{Upper}
+use Rattle.host_laws.specs.world_model.specs.Talks.{Talk}
+use Rattle.host_laws.specs.world_model.specs.PerLink.{Linkage, linkage, captured}
+use Rattle.host_laws.specs.world_model.specs.Carriages.{Carriage, Doing, Carries, first_carriage}
+use Rattle.host_laws.specs.world_model.specs.Carriages as carriages
+use Rattle.host_laws.specs.world_model.specs.Worlds.{World, Happening, IsAtRest, Runs, all_entries, first_world}
+use Rattle.host_laws.specs.turn_laws.specs.WorldLaws.{Fits}
+use Rattle.host_laws.specs.turn_laws.proofs.Capturing.{View, ShownAt}
+use Rattle.host_laws.specs.turn_laws.proofs.Ordering.{at}
+use Rattle.host_laws.specs.turn_laws.proofs.Recounting.{IsOfScript, CarriesSo, HoldsAtRests, played_so}
+use Rattle.host_laws.specs.turn_laws.proofs.Showing.{ShownUp}
+use Rattle.host_laws.specs.turn_laws.proofs.Wording.{rests_alike}
 use Rattle.scenario_laws.proofs.Acting.{Anyhow}
 use Rattle.scenario_laws.proofs.Both.{AreReady}
 

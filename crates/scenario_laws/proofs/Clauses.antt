@@ -1,13 +1,13 @@
 -- What is so of a scenario that ran to its end, in one place.
 use Rattle.std.proofs.Common.{◌≡◌, List, ◌++◌, Option, sym, ap, ◌∙◌}
-use Rattle.bt_base.specs.declared.settings.Transport.TheVariants.{L2cap}
-use Rattle.bt_base.specs.Objects.{Object}
-use Rattle.push_script.specs.declared.scenario.Scenario.{Scenario}
-use Rattle.push_terms.specs.declared.outcome.Outcome.{Outcome}
-use Rattle.push_terms.specs.declared.word.Side.TheVariants.{A, B}
-use Rattle.capture.specs.Entries.{Entry}
-use Rattle.world_model.specs.Worlds.{all_entries}
-use Rattle.push_laws.specs.Laws.{stored_in}
+use Rattle.radio_world.specs.bt_base.specs.declared.settings.Transport.TheVariants.{L2cap}
+use Rattle.radio_world.specs.bt_base.specs.Objects.{Object}
+use Rattle.radio_world.specs.push_script.specs.declared.scenario.Scenario.{Scenario}
+use Rattle.radio_world.specs.push_terms.specs.declared.outcome.Outcome.{Outcome}
+use Rattle.radio_world.specs.push_terms.specs.declared.word.Side.TheVariants.{A, B}
+use Rattle.radio_world.specs.capture.specs.Entries.{Entry}
+use Rattle.host_laws.specs.world_model.specs.Worlds.{all_entries}
+use Rattle.host_laws.specs.push_laws.specs.Laws.{stored_in}
 use Rattle.radio_world.specs.Standing.{last_ended, last_entries, all_outcomes}
 use Rattle.host_laws.proofs.Asking.{hosts_ask}
 use Rattle.scenario_laws.specs.Captures.{Finished}

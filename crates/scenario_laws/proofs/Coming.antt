@@ -3,22 +3,22 @@ use Rattle.std.proofs.Common.{◌≡◌, ℕ, Bool, true, false, List, [], ◌++
 use Rattle.std.specs.List.{flat_map}
 use Rattle.std.specs.Option.{option_map}
 use Rattle.std.proofs.lemmas.List.{map-append}
-use Rattle.push_terms.specs.declared.word.Side.{Side}
-use Rattle.push_terms.specs.declared.word.Side.TheVariants as sides
-use Rattle.capture.specs.Entries.{Entry}
-use Rattle.capture.specs.Links.{Link, Linking, linking, links, link_up}
-use Rattle.capture.specs.Moves.{moves}
-use Rattle.capture.specs.Pdus.{Pdu, pdus}
-use Rattle.world_model.specs.Talks.{Talk, Unsent}
-use Rattle.world_model.specs.PerLink.{Linkage, linkage, captured}
-use Rattle.world_model.specs.Pushes.{Pushes}
-use Rattle.world_model.specs.Worlds.{all_entries}
-use Rattle.air_laws.specs.AirLaws.{IsLastEnd}
-use Rattle.host_model.specs.Hosts.{Host}
-use Rattle.host_model.specs.Profiles.{Profile}
-use Rattle.host_model.specs.Clients.{client_profile}
-use Rattle.host_model.specs.Servers.{server_profile}
-use Rattle.host_model.specs.Machines.{upper}
+use Rattle.radio_world.specs.push_terms.specs.declared.word.Side.{Side}
+use Rattle.radio_world.specs.push_terms.specs.declared.word.Side.TheVariants as sides
+use Rattle.radio_world.specs.capture.specs.Entries.{Entry}
+use Rattle.radio_world.specs.capture.specs.Links.{Link, Linking, linking, links, link_up}
+use Rattle.radio_world.specs.capture.specs.Moves.{moves}
+use Rattle.radio_world.specs.capture.specs.Pdus.{Pdu, pdus}
+use Rattle.host_laws.specs.world_model.specs.Talks.{Talk, Unsent}
+use Rattle.host_laws.specs.world_model.specs.PerLink.{Linkage, linkage, captured}
+use Rattle.host_laws.specs.world_model.specs.Pushes.{Pushes}
+use Rattle.host_laws.specs.world_model.specs.Worlds.{all_entries}
+use Rattle.host_laws.specs.air_laws.specs.AirLaws.{IsLastEnd}
+use Rattle.host_laws.specs.host_model.specs.Hosts.{Host}
+use Rattle.host_laws.specs.host_model.specs.Profiles.{Profile}
+use Rattle.host_laws.specs.host_model.specs.Clients.{client_profile}
+use Rattle.host_laws.specs.host_model.specs.Servers.{server_profile}
+use Rattle.host_laws.specs.host_model.specs.Machines.{upper}
 use Rattle.host_laws.specs.Calm.{pdus_in}
 use Rattle.host_laws.specs.OverLinks.{parts}
 use Rattle.scenario_laws.specs.Captures.{client_of, server_of}

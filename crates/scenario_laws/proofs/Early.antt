@@ -1,16 +1,16 @@
 -- Runs that broke off, over the capture alone.
 use Rattle.std.proofs.Common.{List, [], ◌∷◌, ◌++◌, refl, sym, ap, ◌∙◌, append_assoc}
 use Rattle.std.proofs.lemmas.List.{append-nil}
-use Rattle.bt_base.specs.Objects.{Object}
-use Rattle.push_terms.specs.declared.word.Side.{Side}
-use Rattle.push_terms.specs.declared.word.Side.TheVariants.{B}
-use Rattle.capture.specs.Entries.{Entry}
-use Rattle.link_talk.specs.Captures.{objects_heard}
-use Rattle.link_talk.specs.declared.party.Party.{Party}
-use Rattle.talk_laws.proofs.Captures.{captures-grow}
-use Rattle.turn_laws.specs.Laws.{IsFront}
-use Rattle.world_model.specs.Worlds.{entries_of, all_entries}
-use Rattle.run_laws.proofs.Breaking.{written_is_happened}
+use Rattle.radio_world.specs.bt_base.specs.Objects.{Object}
+use Rattle.radio_world.specs.push_terms.specs.declared.word.Side.{Side}
+use Rattle.radio_world.specs.push_terms.specs.declared.word.Side.TheVariants.{B}
+use Rattle.radio_world.specs.capture.specs.Entries.{Entry}
+use Rattle.host_laws.specs.link_talk.specs.Captures.{objects_heard}
+use Rattle.host_laws.specs.link_talk.specs.declared.party.Party.{Party}
+use Rattle.host_laws.specs.talk_laws.proofs.Captures.{captures-grow}
+use Rattle.host_laws.specs.turn_laws.specs.Laws.{IsFront}
+use Rattle.host_laws.specs.world_model.specs.Worlds.{entries_of, all_entries}
+use Rattle.radio_world.specs.run_laws.proofs.Breaking.{written_is_happened}
 use Rattle.scenario_laws.specs.Captures.{client_of, server_of, Ran}
 use Rattle.scenario_laws.specs.Early.{FrontsSpellFronts, BrokenGoesOn, EarlyEndsGain}
 use Rattle.scenario_laws.specs.Gains.{holding}

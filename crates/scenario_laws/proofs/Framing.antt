@@ -1,36 +1,36 @@
 -- The windows of both hosts, over the capture alone, wherever all is at rest.
 use Rattle.std.proofs.Common.{◌≡◌, ℕ, ◌≤◌, true, false, List, [], ◌∷◌, ◌++◌, Option, Some, None, refl, sym, ap, subst, ◌∙◌, append-nil}
-use Rattle.bt_base.specs.declared.settings.Settings.{Settings}
-use Rattle.push_terms.specs.declared.outcome.Outcome.{Outcome}
-use Rattle.push_terms.specs.declared.word.Side.{Side}
-use Rattle.push_terms.specs.declared.word.Side.TheVariants as sides
-use Rattle.capture.specs.Entries.{Entry, Ended}
-use Rattle.capture.specs.Links.{Link, link_up}
-use Rattle.capture.specs.Pdus.{pdus}
-use Rattle.link_talk.specs.Accounts.{window_used}
-use Rattle.link_talk.specs.Captures.{talk_on}
-use Rattle.link_talk.specs.Channels.{Entry as Known, is_alive, reading}
-use Rattle.link_talk.specs.declared.channel.Channel.{Channel}
-use Rattle.link_talk.specs.declared.life.Life.{Life}
-use Rattle.link_talk.specs.declared.party.Party.{Party}
-use Rattle.link_talk.specs.Sayings.{Saying}
-use Rattle.channel_model.specs.Policies.{Policy}
-use Rattle.channel_model.specs.Value.{Setup, Stage, Requested, Connected, Leaving, Closing, Crossed, Held, Channels}
-use Rattle.channel_model.specs.Changing.{held_at, setup_of}
-use Rattle.channel_model.specs.Calls.{setup_on}
-use Rattle.channel_model.proofs.Lookups.{own_of, found-has}
-use Rattle.channel_laws.specs.Frames.{AreUttered}
-use Rattle.channel_laws.specs.Runs.{Occurrence, run_of}
-use Rattle.channel_laws.specs.Sdus.{StatesFrame}
-use Rattle.channel_laws.specs.Views.{peer_of, life_of, IsReadBy, IsRead, read_at}
-use Rattle.channel_laws.proofs.Frames.{frames-are_held}
-use Rattle.channel_laws.proofs.Running.{channels-are_read}
-use Rattle.world_model.specs.Worlds.{all_entries}
-use Rattle.turn_laws.specs.Laws.{IsFront}
-use Rattle.host_model.specs.Hosts.{Host}
-use Rattle.host_model.specs.Profiles.{Profile}
-use Rattle.host_model.specs.Clients.{client_profile}
-use Rattle.host_model.specs.Servers.{server_profile}
+use Rattle.radio_world.specs.bt_base.specs.declared.settings.Settings.{Settings}
+use Rattle.radio_world.specs.push_terms.specs.declared.outcome.Outcome.{Outcome}
+use Rattle.radio_world.specs.push_terms.specs.declared.word.Side.{Side}
+use Rattle.radio_world.specs.push_terms.specs.declared.word.Side.TheVariants as sides
+use Rattle.radio_world.specs.capture.specs.Entries.{Entry, Ended}
+use Rattle.radio_world.specs.capture.specs.Links.{Link, link_up}
+use Rattle.radio_world.specs.capture.specs.Pdus.{pdus}
+use Rattle.host_laws.specs.link_talk.specs.Accounts.{window_used}
+use Rattle.host_laws.specs.link_talk.specs.Captures.{talk_on}
+use Rattle.host_laws.specs.link_talk.specs.Channels.{Entry as Known, is_alive, reading}
+use Rattle.host_laws.specs.link_talk.specs.declared.channel.Channel.{Channel}
+use Rattle.host_laws.specs.link_talk.specs.declared.life.Life.{Life}
+use Rattle.host_laws.specs.link_talk.specs.declared.party.Party.{Party}
+use Rattle.host_laws.specs.link_talk.specs.Sayings.{Saying}
+use Rattle.host_laws.specs.channel_model.specs.Policies.{Policy}
+use Rattle.host_laws.specs.channel_model.specs.Value.{Setup, Stage, Requested, Connected, Leaving, Closing, Crossed, Held, Channels}
+use Rattle.host_laws.specs.channel_model.specs.Changing.{held_at, setup_of}
+use Rattle.host_laws.specs.channel_model.specs.Calls.{setup_on}
+use Rattle.host_laws.specs.channel_model.proofs.Lookups.{own_of, found-has}
+use Rattle.host_laws.specs.channel_laws.specs.Frames.{AreUttered}
+use Rattle.host_laws.specs.channel_laws.specs.Runs.{Occurrence, run_of}
+use Rattle.host_laws.specs.channel_laws.specs.Sdus.{StatesFrame}
+use Rattle.host_laws.specs.channel_laws.specs.Views.{peer_of, life_of, IsReadBy, IsRead, read_at}
+use Rattle.host_laws.specs.channel_laws.proofs.Frames.{frames-are_held}
+use Rattle.host_laws.specs.channel_laws.proofs.Running.{channels-are_read}
+use Rattle.host_laws.specs.world_model.specs.Worlds.{all_entries}
+use Rattle.host_laws.specs.turn_laws.specs.Laws.{IsFront}
+use Rattle.host_laws.specs.host_model.specs.Hosts.{Host}
+use Rattle.host_laws.specs.host_model.specs.Profiles.{Profile}
+use Rattle.host_laws.specs.host_model.specs.Clients.{client_profile}
+use Rattle.host_laws.specs.host_model.specs.Servers.{server_profile}
 use Rattle.host_laws.specs.Calls.{Asks}
 use Rattle.scenario_laws.specs.Accounts.{KeepsWindow, WindowsAreKept}
 use Rattle.scenario_laws.specs.Parties.{party_of}

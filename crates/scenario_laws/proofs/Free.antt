@@ -3,25 +3,25 @@ use Rattle.std.proofs.Common.{◌≡◌, Bool, true, false, List, [], ◌∷◌,
 use Rattle.std.specs.List.{flat_map}
 use Rattle.std.specs.Option.{option_map}
 use Rattle.std.proofs.lemmas.List.{append-nil}
-use Rattle.bt_base.specs.Objects.{Contents}
-use Rattle.push_script.specs.declared.scenario.Scenario.{Scenario}
-use Rattle.push_terms.specs.declared.word.Side.{Side}
-use Rattle.push_terms.specs.declared.word.Side.TheVariants as sides
-use Rattle.capture.specs.Entries.{Entry}
-use Rattle.capture.specs.Links.{Link, linking, link_up}
-use Rattle.capture.specs.Moves.{moves}
-use Rattle.capture.specs.Pdus.{Pdu, pdus}
-use Rattle.link_talk.specs.declared.party.Party.{Party}
-use Rattle.world_model.specs.Machines.{Linked, Failed, Heard, TimerFired, Cancelled, Opening}
-use Rattle.world_model.specs.Talks.{Talk}
-use Rattle.world_model.specs.PerLink.{Linkage, linkage, captured}
-use Rattle.world_model.specs.Worlds.{Happening, all_entries}
-use Rattle.host_model.specs.Circumstances.{Circumstance}
-use Rattle.host_model.specs.Hosts.{Host, first_host}
-use Rattle.host_model.specs.Clients.{client_profile}
-use Rattle.host_model.specs.Profiles.{Profile}
-use Rattle.host_model.specs.Servers.{server_profile}
-use Rattle.host_model.specs.Machines.{upper}
+use Rattle.radio_world.specs.bt_base.specs.Objects.{Contents}
+use Rattle.radio_world.specs.push_script.specs.declared.scenario.Scenario.{Scenario}
+use Rattle.radio_world.specs.push_terms.specs.declared.word.Side.{Side}
+use Rattle.radio_world.specs.push_terms.specs.declared.word.Side.TheVariants as sides
+use Rattle.radio_world.specs.capture.specs.Entries.{Entry}
+use Rattle.radio_world.specs.capture.specs.Links.{Link, linking, link_up}
+use Rattle.radio_world.specs.capture.specs.Moves.{moves}
+use Rattle.radio_world.specs.capture.specs.Pdus.{Pdu, pdus}
+use Rattle.host_laws.specs.link_talk.specs.declared.party.Party.{Party}
+use Rattle.host_laws.specs.world_model.specs.Machines.{Linked, Failed, Heard, TimerFired, Cancelled, Opening}
+use Rattle.host_laws.specs.world_model.specs.Talks.{Talk}
+use Rattle.host_laws.specs.world_model.specs.PerLink.{Linkage, linkage, captured}
+use Rattle.host_laws.specs.world_model.specs.Worlds.{Happening, all_entries}
+use Rattle.host_laws.specs.host_model.specs.Circumstances.{Circumstance}
+use Rattle.host_laws.specs.host_model.specs.Hosts.{Host, first_host}
+use Rattle.host_laws.specs.host_model.specs.Clients.{client_profile}
+use Rattle.host_laws.specs.host_model.specs.Profiles.{Profile}
+use Rattle.host_laws.specs.host_model.specs.Servers.{server_profile}
+use Rattle.host_laws.specs.host_model.specs.Machines.{upper}
 use Rattle.host_laws.specs.Acts.{Act, Hears, Says}
 use Rattle.host_laws.specs.Calls.{Asks}
 use Rattle.host_laws.specs.Calm.{HoldsNothingBack, pdus_in}
@@ -39,7 +39,7 @@ use Rattle.scenario_laws.proofs.Coming.{ended_all, CameOverSo, came_over}
 use Rattle.scenario_laws.proofs.Freeing.{runs_are_free}
 use Rattle.scenario_laws.proofs.Fronts.{fits}
 use Rattle.scenario_laws.proofs.Gentle.{hosts_are_gentle, rests_are_lived}
-use Rattle.turn_laws.proofs.Recounting.{HoldsAtRests}
+use Rattle.host_laws.specs.turn_laws.proofs.Recounting.{HoldsAtRests}
 
 -- where a PDU comes in, and where the timer fires
 abbrev pub free_where : {P : Type 0} → Profile P → Bool → Host P → Type 0

@@ -1,6 +1,6 @@
 -- The client of a run is free, however it came to its links; so it lives through its talk.
-use Rattle.push_terms.specs.declared.word.Side.TheVariants as sides
-use Rattle.host_model.specs.Clients.{client_profile}
+use Rattle.radio_world.specs.push_terms.specs.declared.word.Side.TheVariants as sides
+use Rattle.host_laws.specs.host_model.specs.Clients.{client_profile}
 use Rattle.host_laws.proofs.Freeing.{hosts_hold_back_nothing, clients_fire_plainly}
 use Rattle.scenario_laws.specs.FreeClients.{ClientsAreFree, ClientsLiveOverLinks}
 use Rattle.scenario_laws.proofs.FreeServers.{always-free}

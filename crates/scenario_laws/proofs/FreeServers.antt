@@ -1,23 +1,23 @@
 -- The server of a run is free, however it came to its links; so it lives through its talk.
 use Rattle.std.proofs.Common.{Bool, false, List, [], ◌∷◌, ◌++◌, Option, refl}
 use Rattle.std.specs.List.{AllByRecursion}
-use Rattle.bt_base.specs.Objects.{Contents}
-use Rattle.world_model.specs.Machines.{Linked, Failed, Heard, TimerFired, Cancelled, Opening}
-use Rattle.host_model.specs.Circumstances.{Circumstance}
-use Rattle.host_model.specs.Hosts.{Host, first_host}
-use Rattle.host_model.specs.Machines.{upper}
-use Rattle.host_model.specs.Profiles.{Profile}
-use Rattle.host_model.specs.Servers.{server_profile}
+use Rattle.radio_world.specs.bt_base.specs.Objects.{Contents}
+use Rattle.host_laws.specs.world_model.specs.Machines.{Linked, Failed, Heard, TimerFired, Cancelled, Opening}
+use Rattle.host_laws.specs.host_model.specs.Circumstances.{Circumstance}
+use Rattle.host_laws.specs.host_model.specs.Hosts.{Host, first_host}
+use Rattle.host_laws.specs.host_model.specs.Machines.{upper}
+use Rattle.host_laws.specs.host_model.specs.Profiles.{Profile}
+use Rattle.host_laws.specs.host_model.specs.Servers.{server_profile}
 use Rattle.host_laws.specs.Acts.{Act, Hears, Says, Acting}
 use Rattle.host_laws.specs.OverLinks.{is_up_behind}
 use Rattle.host_laws.specs.Free.{HoldsBackNothing}
 use Rattle.host_laws.specs.Read.{IsActSo}
 use Rattle.host_laws.specs.Seen.{IsOneCommand, FiresPlainly}
 use Rattle.host_laws.proofs.Freeing.{acting-more, hosts_hold_back_nothing, servers_fire_plainly}
-use Rattle.push_script.specs.declared.scenario.Scenario.{Scenario}
-use Rattle.push_terms.specs.declared.word.Side.TheVariants as sides
-use Rattle.turn_laws.proofs.Recounting.{HoldsAtRests}
-use Rattle.world_model.specs.Worlds.{Happening, all_entries}
+use Rattle.radio_world.specs.push_script.specs.declared.scenario.Scenario.{Scenario}
+use Rattle.radio_world.specs.push_terms.specs.declared.word.Side.TheVariants as sides
+use Rattle.host_laws.specs.turn_laws.proofs.Recounting.{HoldsAtRests}
+use Rattle.host_laws.specs.world_model.specs.Worlds.{Happening, all_entries}
 use Rattle.scenario_laws.specs.Captures.{client_of, server_of, beginning}
 use Rattle.scenario_laws.specs.FreeServers.{ServersAreFree, ServersLiveOverLinks, ServersRestSo, ServersServeSo}
 use Rattle.scenario_laws.specs.Gains.{holding}

@@ -2,21 +2,21 @@
 use Rattle.std.proofs.Common.{◌≡◌, true, List, [], ◌∷◌, map, Option, Some, None, sym, arith}
 use Rattle.std.specs.List.{AllByRecursion}
 use Rattle.std.proofs.lemmas.List.{append-nil}
-use Rattle.bt_base.specs.Objects.{Contents}
-use Rattle.push_script.specs.declared.scenario.Scenario.{Scenario}
-use Rattle.push_terms.specs.declared.word.Side.{Side}
-use Rattle.push_terms.specs.declared.word.Side.TheVariants as sides
-use Rattle.capture.specs.Entries.{Entry}
-use Rattle.capture.specs.Links.{Link, links, link_up}
-use Rattle.capture.specs.Pdus.{pdus}
-use Rattle.world_model.specs.Machines.{Linked, Failed, Heard, TimerFired, Cancelled, Opening}
-use Rattle.world_model.specs.Worlds.{Happening, all_entries}
-use Rattle.host_model.specs.Circumstances.{Circumstance}
-use Rattle.host_model.specs.Clients.{ClientProfile, client_profile}
-use Rattle.host_model.specs.Hosts.{Host}
-use Rattle.host_model.specs.Machines.{upper}
-use Rattle.host_model.specs.Profiles.{Profile}
-use Rattle.host_model.specs.Servers.{ServerProfile, server_profile}
+use Rattle.radio_world.specs.bt_base.specs.Objects.{Contents}
+use Rattle.radio_world.specs.push_script.specs.declared.scenario.Scenario.{Scenario}
+use Rattle.radio_world.specs.push_terms.specs.declared.word.Side.{Side}
+use Rattle.radio_world.specs.push_terms.specs.declared.word.Side.TheVariants as sides
+use Rattle.radio_world.specs.capture.specs.Entries.{Entry}
+use Rattle.radio_world.specs.capture.specs.Links.{Link, links, link_up}
+use Rattle.radio_world.specs.capture.specs.Pdus.{pdus}
+use Rattle.host_laws.specs.world_model.specs.Machines.{Linked, Failed, Heard, TimerFired, Cancelled, Opening}
+use Rattle.host_laws.specs.world_model.specs.Worlds.{Happening, all_entries}
+use Rattle.host_laws.specs.host_model.specs.Circumstances.{Circumstance}
+use Rattle.host_laws.specs.host_model.specs.Clients.{ClientProfile, client_profile}
+use Rattle.host_laws.specs.host_model.specs.Hosts.{Host}
+use Rattle.host_laws.specs.host_model.specs.Machines.{upper}
+use Rattle.host_laws.specs.host_model.specs.Profiles.{Profile}
+use Rattle.host_laws.specs.host_model.specs.Servers.{ServerProfile, server_profile}
 use Rattle.host_laws.specs.Acts.{Act, Hears, Says}
 use Rattle.host_laws.specs.Calm.{HoldsNothingBack}
 use Rattle.host_laws.specs.Free.{HoldsBackNothing}

@@ -2,23 +2,23 @@
 use Rattle.std.proofs.Common.{◌≡◌, ℕ, ◌⊎◌, inl, inr, List, [], ◌∷◌, ◌++◌, Option, refl, sym, ap, ap₂, subst, ◌∙◌}
 use Rattle.std.proofs.lemmas.List.{append-nil}
 use Rattle.std.proofs.lemmas.List.Elements.{filter_map-append}
-use Rattle.bt_base.specs.Objects.{Contents}
-use Rattle.push_terms.specs.declared.outcome.Outcome.{Outcome}
-use Rattle.push_terms.specs.declared.word.Side.{Side}
-use Rattle.push_terms.specs.declared.word.Side.TheVariants.{A, B}
-use Rattle.push_script.specs.declared.scenario.Scenario.{Scenario}
-use Rattle.capture.specs.Entries.{Entry, Moved, Acted, Begun, Ended}
-use Rattle.capture.specs.Links.{Linking, linking}
-use Rattle.capture.specs.Moves.{move_of, moves}
-use Rattle.link_talk.specs.Captures.{talk_on, talk_now}
-use Rattle.world_model.specs.Pushes.{Pushes}
-use Rattle.world_model.specs.Worlds.{all_entries}
-use Rattle.turn_laws.specs.Laws.{IsFront}
-use Rattle.turn_laws.specs.WorldLaws.{Fits}
-use Rattle.air_laws.specs.AirLaws.{IsLastEnd}
-use Rattle.run_laws.specs.Breaking.{IsRunOf}
-use Rattle.run_laws.proofs.Breaking.{fronts_are_runs}
-use Rattle.host_model.proofs.Orderly.{hosts_are_orderly}
+use Rattle.radio_world.specs.bt_base.specs.Objects.{Contents}
+use Rattle.radio_world.specs.push_terms.specs.declared.outcome.Outcome.{Outcome}
+use Rattle.radio_world.specs.push_terms.specs.declared.word.Side.{Side}
+use Rattle.radio_world.specs.push_terms.specs.declared.word.Side.TheVariants.{A, B}
+use Rattle.radio_world.specs.push_script.specs.declared.scenario.Scenario.{Scenario}
+use Rattle.radio_world.specs.capture.specs.Entries.{Entry, Moved, Acted, Begun, Ended}
+use Rattle.radio_world.specs.capture.specs.Links.{Linking, linking}
+use Rattle.radio_world.specs.capture.specs.Moves.{move_of, moves}
+use Rattle.host_laws.specs.link_talk.specs.Captures.{talk_on, talk_now}
+use Rattle.host_laws.specs.world_model.specs.Pushes.{Pushes}
+use Rattle.host_laws.specs.world_model.specs.Worlds.{all_entries}
+use Rattle.host_laws.specs.turn_laws.specs.Laws.{IsFront}
+use Rattle.host_laws.specs.turn_laws.specs.WorldLaws.{Fits}
+use Rattle.host_laws.specs.air_laws.specs.AirLaws.{IsLastEnd}
+use Rattle.radio_world.specs.run_laws.specs.Breaking.{IsRunOf}
+use Rattle.radio_world.specs.run_laws.proofs.Breaking.{fronts_are_runs}
+use Rattle.host_laws.specs.host_model.proofs.Orderly.{hosts_are_orderly}
 use Rattle.scenario_laws.specs.Captures.{client_of, server_of, Ran, FrontsRan}
 
 -- both hosts say PDUs that hosts take, and controllers take packets of 27 octets at least

@@ -4,23 +4,23 @@ use Rattle.std.specs.List.{AllByRecursion, flat_map}
 use Rattle.std.proofs.lemmas.List.{append-nil}
 use Rattle.std.proofs.lemmas.List.Concat.{flat_map-append}
 use Rattle.std.proofs.lemmas.List.Elements.{filter-append}
-use Rattle.bt_base.specs.declared.settings.Settings.{Settings}
-use Rattle.bt_base.specs.declared.settings.Transport.{Transport}
-use Rattle.bt_base.specs.Objects.{Object}
-use Rattle.push_terms.specs.declared.word.Side.TheVariants as sides
-use Rattle.acl_fragments.specs.Pieces.{channel_of}
-use Rattle.capture.specs.declared.flow.Flow.{Flow}
-use Rattle.capture.specs.declared.flow.Flow.TheVariants.{Out}
-use Rattle.capture.specs.Histories.{EachAfter}
-use Rattle.capture.specs.Links.{Link, links, link_up}
-use Rattle.capture.specs.Pdus.{Pdu, pdus}
-use Rattle.l2cap_signal.specs.Reading.{Answer, answers}
-use Rattle.link_talk.specs.Captures.{talks}
-use Rattle.link_talk.specs.declared.party.Party.{Party}
-use Rattle.link_talk.specs.ObjectsHeard.{objects}
-use Rattle.link_talk.specs.Sayings.{Saying, Command, Carried, said_by, talk}
-use Rattle.push_model.specs.Client.{own_maximum}
-use Rattle.world_model.specs.Talks.{Talk}
+use Rattle.radio_world.specs.bt_base.specs.declared.settings.Settings.{Settings}
+use Rattle.radio_world.specs.bt_base.specs.declared.settings.Transport.{Transport}
+use Rattle.radio_world.specs.bt_base.specs.Objects.{Object}
+use Rattle.radio_world.specs.push_terms.specs.declared.word.Side.TheVariants as sides
+use Rattle.host_laws.specs.acl_fragments.specs.Pieces.{channel_of}
+use Rattle.radio_world.specs.capture.specs.declared.flow.Flow.{Flow}
+use Rattle.radio_world.specs.capture.specs.declared.flow.Flow.TheVariants.{Out}
+use Rattle.radio_world.specs.capture.specs.Histories.{EachAfter}
+use Rattle.radio_world.specs.capture.specs.Links.{Link, links, link_up}
+use Rattle.radio_world.specs.capture.specs.Pdus.{Pdu, pdus}
+use Rattle.host_laws.specs.l2cap_signal.specs.Reading.{Answer, answers}
+use Rattle.host_laws.specs.link_talk.specs.Captures.{talks}
+use Rattle.host_laws.specs.link_talk.specs.declared.party.Party.{Party}
+use Rattle.host_laws.specs.link_talk.specs.ObjectsHeard.{objects}
+use Rattle.host_laws.specs.link_talk.specs.Sayings.{Saying, Command, Carried, said_by, talk}
+use Rattle.host_laws.specs.push_model.specs.Client.{own_maximum}
+use Rattle.host_laws.specs.world_model.specs.Talks.{Talk}
 use Rattle.host_laws.specs.Calm.{pdus_in}
 use Rattle.host_laws.specs.Carriers.{objects_moved}
 use Rattle.host_laws.specs.OverLinks.{GoesOut, parts, moved_in, talk_marks}

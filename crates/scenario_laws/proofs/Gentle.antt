@@ -4,40 +4,40 @@ use Rattle.std.specs.List.{AllByRecursion, flat_map}
 use Rattle.std.specs.Option.{option_map}
 use Rattle.std.proofs.lemmas.List.{length-map, append-nil, append_assoc}
 use Rattle.std.proofs.lemmas.List.Concat.{flat_map-append}
-use Rattle.acl_fragments.specs.Pieces.{channel_of}
-use Rattle.bt_base.specs.Objects.{Contents}
-use Rattle.bt_base.specs.declared.settings.Settings.{Settings}
-use Rattle.push_script.specs.declared.scenario.Scenario.{Scenario}
-use Rattle.push_terms.specs.declared.word.Side.{Side}
-use Rattle.push_terms.specs.declared.word.Side.TheVariants as sides
-use Rattle.capture.specs.declared.flow.Flow.{Flow}
-use Rattle.capture.specs.declared.flow.Flow.TheVariants.{Out, Into}
-use Rattle.capture.specs.Entries.{Entry}
-use Rattle.capture.specs.Links.{Link, Linking, linking, links, link_up}
-use Rattle.capture.specs.Moves.{moves}
-use Rattle.capture.specs.Pdus.{Pdu, pdus}
-use Rattle.l2cap_signal.specs.Reading.{answers}
-use Rattle.link_talk.specs.Sayings.{Saying, Carried, said_by}
-use Rattle.link_talk.specs.Sayings as sayings
-use Rattle.channel_model.specs.Value.{Held, Channels, no_channels}
-use Rattle.channel_model.specs.Calls.{has_fcs, has_fcs_on}
-use Rattle.channel_model.specs.Changing.{has_own, held_at}
-use Rattle.channel_model.specs.Policies.{Policy, policy}
-use Rattle.channel_model.specs.Giving.{next_given}
-use Rattle.channel_model.proofs.Lookups.{own_of, found-has}
-use Rattle.channel_laws.proofs.Fitting.{FitsFound, fits-found}
-use Rattle.channel_laws.proofs.Fitted.{IsLowPsm, FittedLow}
-use Rattle.world_model.specs.Machines.{Up, Down, News, Linked, Failed, Heard, TimerFired, Cancelled, Opening}
-use Rattle.world_model.specs.Talks.{Talk, Told, Said, Unsent, Met, Done}
-use Rattle.world_model.specs.PerLink.{Linkage, no_linkage, pdus_of, linkage_after, linkage_from, linkage, captured}
-use Rattle.world_model.specs.Worlds.{all_entries}
-use Rattle.host_model.specs.Circumstances.{Circumstance}
-use Rattle.host_model.specs.Hosts.{Host, first_host, hear, next}
-use Rattle.host_model.specs.Profiles.{Profile}
-use Rattle.host_model.specs.Clients.{client_profile}
-use Rattle.host_model.specs.Servers.{server_profile}
-use Rattle.host_model.specs.Machines.{upper}
-use Rattle.host_model.proofs.Orderly.{says_octets}
+use Rattle.host_laws.specs.acl_fragments.specs.Pieces.{channel_of}
+use Rattle.radio_world.specs.bt_base.specs.Objects.{Contents}
+use Rattle.radio_world.specs.bt_base.specs.declared.settings.Settings.{Settings}
+use Rattle.radio_world.specs.push_script.specs.declared.scenario.Scenario.{Scenario}
+use Rattle.radio_world.specs.push_terms.specs.declared.word.Side.{Side}
+use Rattle.radio_world.specs.push_terms.specs.declared.word.Side.TheVariants as sides
+use Rattle.radio_world.specs.capture.specs.declared.flow.Flow.{Flow}
+use Rattle.radio_world.specs.capture.specs.declared.flow.Flow.TheVariants.{Out, Into}
+use Rattle.radio_world.specs.capture.specs.Entries.{Entry}
+use Rattle.radio_world.specs.capture.specs.Links.{Link, Linking, linking, links, link_up}
+use Rattle.radio_world.specs.capture.specs.Moves.{moves}
+use Rattle.radio_world.specs.capture.specs.Pdus.{Pdu, pdus}
+use Rattle.host_laws.specs.l2cap_signal.specs.Reading.{answers}
+use Rattle.host_laws.specs.link_talk.specs.Sayings.{Saying, Carried, said_by}
+use Rattle.host_laws.specs.link_talk.specs.Sayings as sayings
+use Rattle.host_laws.specs.channel_model.specs.Value.{Held, Channels, no_channels}
+use Rattle.host_laws.specs.channel_model.specs.Calls.{has_fcs, has_fcs_on}
+use Rattle.host_laws.specs.channel_model.specs.Changing.{has_own, held_at}
+use Rattle.host_laws.specs.channel_model.specs.Policies.{Policy, policy}
+use Rattle.host_laws.specs.channel_model.specs.Giving.{next_given}
+use Rattle.host_laws.specs.channel_model.proofs.Lookups.{own_of, found-has}
+use Rattle.host_laws.specs.channel_laws.proofs.Fitting.{FitsFound, fits-found}
+use Rattle.host_laws.specs.channel_laws.proofs.Fitted.{IsLowPsm, FittedLow}
+use Rattle.host_laws.specs.world_model.specs.Machines.{Up, Down, News, Linked, Failed, Heard, TimerFired, Cancelled, Opening}
+use Rattle.host_laws.specs.world_model.specs.Talks.{Talk, Told, Said, Unsent, Met, Done}
+use Rattle.host_laws.specs.world_model.specs.PerLink.{Linkage, no_linkage, pdus_of, linkage_after, linkage_from, linkage, captured}
+use Rattle.host_laws.specs.world_model.specs.Worlds.{all_entries}
+use Rattle.host_laws.specs.host_model.specs.Circumstances.{Circumstance}
+use Rattle.host_laws.specs.host_model.specs.Hosts.{Host, first_host, hear, next}
+use Rattle.host_laws.specs.host_model.specs.Profiles.{Profile}
+use Rattle.host_laws.specs.host_model.specs.Clients.{client_profile}
+use Rattle.host_laws.specs.host_model.specs.Servers.{server_profile}
+use Rattle.host_laws.specs.host_model.specs.Machines.{upper}
+use Rattle.host_laws.specs.host_model.proofs.Orderly.{says_octets}
 use Rattle.host_laws.specs.Acts.{Act, Hears, Says, Does, Acting, StaysOnLink}
 use Rattle.host_laws.specs.Calls.{Asks}
 use Rattle.host_laws.specs.Calm.{AreGentle, pdus_in, TalksSo}

@@ -2,22 +2,22 @@
 use Rattle.std.proofs.Common.{◌≡◌, Bool, true, false, List, [], Option, Some, None, refl, sym, ap, subst, ◌∙◌, not, ◌&&◌}
 use Rattle.std.specs.Prelude.{is_some, nat_lt}
 use Rattle.std.specs.Option.{option_map}
-use Rattle.bt_base.specs.Objects.{Contents}
-use Rattle.bt_base.specs.declared.settings.Settings.{Settings}
-use Rattle.push_script.specs.declared.scenario.Scenario.{Scenario}
-use Rattle.push_terms.specs.declared.word.Side.TheVariants as sides
-use Rattle.capture.specs.Entries.{Entry}
-use Rattle.capture.specs.Links.{Link, link_up}
-use Rattle.capture.specs.Pdus.{pdus}
-use Rattle.channel_model.specs.Giving.{next_given}
-use Rattle.channel_model.proofs.Lookups.{and_off}
-use Rattle.world_model.specs.Talks.{Talk}
-use Rattle.world_model.specs.PerLink.{Linkage, linkage, captured}
-use Rattle.world_model.specs.Worlds.{Happening, IsAtRest, all_entries}
-use Rattle.turn_laws.proofs.Standing.{idle_linked}
-use Rattle.host_model.specs.Hosts.{Host, next}
-use Rattle.host_model.specs.Machines.{upper, server_host}
-use Rattle.host_model.specs.Servers.{ServerProfile, server_profile}
+use Rattle.radio_world.specs.bt_base.specs.Objects.{Contents}
+use Rattle.radio_world.specs.bt_base.specs.declared.settings.Settings.{Settings}
+use Rattle.radio_world.specs.push_script.specs.declared.scenario.Scenario.{Scenario}
+use Rattle.radio_world.specs.push_terms.specs.declared.word.Side.TheVariants as sides
+use Rattle.radio_world.specs.capture.specs.Entries.{Entry}
+use Rattle.radio_world.specs.capture.specs.Links.{Link, link_up}
+use Rattle.radio_world.specs.capture.specs.Pdus.{pdus}
+use Rattle.host_laws.specs.channel_model.specs.Giving.{next_given}
+use Rattle.host_laws.specs.channel_model.proofs.Lookups.{and_off}
+use Rattle.host_laws.specs.world_model.specs.Talks.{Talk}
+use Rattle.host_laws.specs.world_model.specs.PerLink.{Linkage, linkage, captured}
+use Rattle.host_laws.specs.world_model.specs.Worlds.{Happening, IsAtRest, all_entries}
+use Rattle.host_laws.specs.turn_laws.proofs.Standing.{idle_linked}
+use Rattle.host_laws.specs.host_model.specs.Hosts.{Host, next}
+use Rattle.host_laws.specs.host_model.specs.Machines.{upper, server_host}
+use Rattle.host_laws.specs.host_model.specs.Servers.{ServerProfile, server_profile}
 use Rattle.host_laws.specs.Calls.{Asks, HostsAsk}
 use Rattle.host_laws.specs.Keeping.{SendsAsItLends}
 use Rattle.host_laws.proofs.Keeping.{servers_keep_on}

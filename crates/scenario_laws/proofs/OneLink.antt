@@ -3,41 +3,41 @@ use Rattle.std.proofs.Common.{◌≡◌, ◌⊎◌, ℕ, ◌+◌, ◌≤◌, ◌
 use Rattle.std.specs.Prelude.{slice_get}
 use Rattle.std.proofs.lemmas.Bool.{cases_lt}
 use Rattle.std.proofs.lemmas.List.{append-nil, take-append-drop}
-use Rattle.bt_base.specs.Objects.{Contents}
-use Rattle.push_script.specs.declared.scenario.Scenario.{Scenario}
-use Rattle.push_terms.specs.declared.outcome.Outcome.{Outcome}
-use Rattle.push_terms.specs.declared.word.Side.{Side}
-use Rattle.push_terms.specs.declared.word.Side.TheVariants.{A, B}
-use Rattle.push_terms.specs.declared.word.Way.TheVariants.{Ab, Ba}
-use Rattle.push_terms.specs.declared.word.Word.{Word}
-use Rattle.capture.specs.declared.flow.Flow.TheVariants.{Out, Into}
-use Rattle.capture.specs.Entries.{Entry, Moved, Acted, Begun, Ended}
-use Rattle.capture.specs.Histories.{AtEach}
-use Rattle.capture.specs.Links.{Linking}
-use Rattle.capture.proofs.HistoryLaws.{led_by-append}
+use Rattle.radio_world.specs.bt_base.specs.Objects.{Contents}
+use Rattle.radio_world.specs.push_script.specs.declared.scenario.Scenario.{Scenario}
+use Rattle.radio_world.specs.push_terms.specs.declared.outcome.Outcome.{Outcome}
+use Rattle.radio_world.specs.push_terms.specs.declared.word.Side.{Side}
+use Rattle.radio_world.specs.push_terms.specs.declared.word.Side.TheVariants.{A, B}
+use Rattle.radio_world.specs.push_terms.specs.declared.word.Way.TheVariants.{Ab, Ba}
+use Rattle.radio_world.specs.push_terms.specs.declared.word.Word.{Word}
+use Rattle.radio_world.specs.capture.specs.declared.flow.Flow.TheVariants.{Out, Into}
+use Rattle.radio_world.specs.capture.specs.Entries.{Entry, Moved, Acted, Begun, Ended}
+use Rattle.radio_world.specs.capture.specs.Histories.{AtEach}
+use Rattle.radio_world.specs.capture.specs.Links.{Linking}
+use Rattle.radio_world.specs.capture.proofs.HistoryLaws.{led_by-append}
 use Rattle.std.specs.Prelude.{option_to_list}
-use Rattle.radio_air.specs.declared.fate.Fate.{Fate}
-use Rattle.radio_air.specs.declared.deed.Deed.{Deed}
-use Rattle.radio_air.specs.declared.deed.Deed.TheVariants.{Nothing, Meets, Fires, FiresBoth, Breaks, Cancels}
-use Rattle.radio_air.specs.Controllers.{Answer, Returned, Stated, Called, LinkMade, LinkGone, GivenBack, Controller, owing, after_telling, answer_packet, piece_packet}
-use Rattle.radio_air.specs.Radio.{Radio, Phase, Apart, Paging, Requested, Together, is_together, is_requested, is_reached, after_reaching, may_page, knows_link, joined, parted, owes, scanning, with_controller, after_meeting, found}
-use Rattle.world_model.specs.Machines.{LinkEvent, Up, Down, News, Linked, Heard, TimerFired, Cancelled, Upper}
-use Rattle.world_model.specs.Stations.{Order, Reset, ReadBuffers, ReadAddress, Scan, Page, Accept, End, Data, Station, Effort, Taking, Putting, Asking, Leaving, Commanding, MakesEffort, order_packet, event_in, upper_told, hears_answer, hears_piece, told}
-use Rattle.world_model.specs.Worlds.{World, Happening, Tries, Departure, GivingBack, Piecemeal, Answering, Turns, Misses, Opens, Closes, entries_of, all_entries, all_words, checks, fired, after_order, Acts, Does, Runs, first_world}
-use Rattle.turn_laws.specs.WorldLaws.{Fits}
-use Rattle.turn_laws.proofs.Leading.{Tiding, Came, tidings, made, Led, led_low}
-use Rattle.turn_laws.proofs.Wiring.{count}
-use Rattle.turn_laws.proofs.Stationing.{linked_handle, Steady}
-use Rattle.turn_laws.proofs.Hearing.{with_owed}
-use Rattle.turn_laws.proofs.Answering.{made_by}
-use Rattle.turn_laws.proofs.Coming.{handed_piece, handed_answer}
-use Rattle.turn_laws.proofs.Keeping.{calling, Kept}
-use Rattle.air_laws.specs.AirLaws.{IsLastEnd}
-use Rattle.air_laws.proofs.Following.{Reached, known_a, known_b, order_told, Keeps, reached_first, along}
-use Rattle.air_laws.proofs.Resting.{next_going}
-use Rattle.rest_laws.specs.Premises.{AsksOnce}
-use Rattle.rest_laws.proofs.Answering.{if_upper, piece_wants}
-use Rattle.host_model.proofs.Orderly.{hosts_are_orderly}
+use Rattle.radio_world.specs.radio_air.specs.declared.fate.Fate.{Fate}
+use Rattle.radio_world.specs.radio_air.specs.declared.deed.Deed.{Deed}
+use Rattle.radio_world.specs.radio_air.specs.declared.deed.Deed.TheVariants.{Nothing, Meets, Fires, FiresBoth, Breaks, Cancels}
+use Rattle.radio_world.specs.radio_air.specs.Controllers.{Answer, Returned, Stated, Called, LinkMade, LinkGone, GivenBack, Controller, owing, after_telling, answer_packet, piece_packet}
+use Rattle.radio_world.specs.radio_air.specs.Radio.{Radio, Phase, Apart, Paging, Requested, Together, is_together, is_requested, is_reached, after_reaching, may_page, knows_link, joined, parted, owes, scanning, with_controller, after_meeting, found}
+use Rattle.host_laws.specs.world_model.specs.Machines.{LinkEvent, Up, Down, News, Linked, Heard, TimerFired, Cancelled, Upper}
+use Rattle.host_laws.specs.world_model.specs.Stations.{Order, Reset, ReadBuffers, ReadAddress, Scan, Page, Accept, End, Data, Station, Effort, Taking, Putting, Asking, Leaving, Commanding, MakesEffort, order_packet, event_in, upper_told, hears_answer, hears_piece, told}
+use Rattle.host_laws.specs.world_model.specs.Worlds.{World, Happening, Tries, Departure, GivingBack, Piecemeal, Answering, Turns, Misses, Opens, Closes, entries_of, all_entries, all_words, checks, fired, after_order, Acts, Does, Runs, first_world}
+use Rattle.host_laws.specs.turn_laws.specs.WorldLaws.{Fits}
+use Rattle.host_laws.specs.turn_laws.proofs.Leading.{Tiding, Came, tidings, made, Led, led_low}
+use Rattle.host_laws.specs.turn_laws.proofs.Wiring.{count}
+use Rattle.host_laws.specs.turn_laws.proofs.Stationing.{linked_handle, Steady}
+use Rattle.host_laws.specs.turn_laws.proofs.Hearing.{with_owed}
+use Rattle.host_laws.specs.turn_laws.proofs.Answering.{made_by}
+use Rattle.host_laws.specs.turn_laws.proofs.Coming.{handed_piece, handed_answer}
+use Rattle.host_laws.specs.turn_laws.proofs.Keeping.{calling, Kept}
+use Rattle.host_laws.specs.air_laws.specs.AirLaws.{IsLastEnd}
+use Rattle.host_laws.specs.air_laws.proofs.Following.{Reached, known_a, known_b, order_told, Keeps, reached_first, along}
+use Rattle.host_laws.specs.air_laws.proofs.Resting.{next_going}
+use Rattle.host_laws.specs.rest_laws.specs.Premises.{AsksOnce}
+use Rattle.host_laws.specs.rest_laws.proofs.Answering.{if_upper, piece_wants}
+use Rattle.host_laws.specs.host_model.proofs.Orderly.{hosts_are_orderly}
 use Rattle.scenario_laws.specs.Captures.{client_of, server_of, Ran}
 use Rattle.scenario_laws.specs.OneLink.{links_told, begun_with, links_at_begin, HasOneLink, PushesHaveOneLink}
 use Rattle.scenario_laws.proofs.Fronts.{fits, ended_links, with_ends, fronts_ran}

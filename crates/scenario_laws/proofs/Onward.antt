@@ -2,42 +2,42 @@
 use Rattle.std.proofs.Common.{◌≡◌, ℕ, Bool, true, false, cond, not, ◌&&◌, List, [], ◌∷◌, ◌++◌, Some, None, Result, Ok, Err, refl, sym, ap, subst, ◌∙◌, if◌then◌else◌}
 use Rattle.std.specs.Prelude.{is_some, nat_lt}
 use Rattle.std.specs.Option.{option_map}
-use Rattle.bt_base.specs.declared.ports.PortFault.{PortFault}
-use Rattle.bt_base.specs.declared.ports.PortFault.TheVariants as faults
-use Rattle.bt_base.specs.declared.settings.Settings.{Settings}
-use Rattle.push_terms.specs.declared.word.Side.TheVariants as sides
-use Rattle.push_terms.specs.declared.word.Side.TheVariants.{A, B}
-use Rattle.push_terms.specs.declared.word.Way.TheVariants.{Ab, Ba}
-use Rattle.capture.specs.Entries.{Entry}
-use Rattle.capture.specs.Links.{Link, link_up}
-use Rattle.capture.specs.Pdus.{pdus}
-use Rattle.radio_air.specs.declared.deed.Deed.{Deed}
-use Rattle.radio_air.specs.declared.deed.Deed.TheVariants.{Nothing, Meets, Fires, FiresBoth, Breaks, Cancels}
-use Rattle.channel_model.specs.Calls.{link_down}
-use Rattle.channel_model.specs.Giving.{next_given}
-use Rattle.channel_model.proofs.Lookups.{and_off}
-use Rattle.push_model.specs.declared.course.Point.TheVariants.{Due, Asked}
-use Rattle.push_model.specs.declared.course.Stage.{Stage}
-use Rattle.push_model.specs.declared.course.Stage.TheVariants.{Rest, Link as Paged, SearchChannel, Search, SearchEnd, Features, ObjectChannel, Object, ObjectEnd, LinkEnd, Over}
-use Rattle.push_model.specs.Client.{Client, is_idle, is_rest, begins, begun_by}
-use Rattle.push_model.specs.Events.{is_linked, linked_at}
-use Rattle.push_model.specs.Steps.{Step, Wait, MakeLink, AskFeatures, OpenChannel, SendSdu, CloseChannel, BreakLink, Ended, NoMemory, steps}
-use Rattle.turn_laws.proofs.Advancing.{Both, advances}
-use Rattle.turn_laws.proofs.Finishing.{nothing_more}
-use Rattle.turn_laws.proofs.Running.{first_both}
-use Rattle.turn_laws.proofs.Standing.{Sound, Chain, idle_linked}
-use Rattle.world_model.specs.Machines.{LinkEvent, Up, Down, News, Linked, Heard, TimerFired, Cancelled, Opening, Upper}
-use Rattle.world_model.specs.Talks.{Talk}
-use Rattle.world_model.specs.PerLink.{Linkage, linkage, captured}
-use Rattle.world_model.specs.Carriages.{End, Carriage, Motion, Saying, Departure, Arrival, Telling, DoesMotion, IsIdle, linked_by, Doing, Moved, Deeds, Misses, Rises, Falls, Opens, Closes, ActsOn, finds, told, owing, IsDone, Carries, first_carriage}
-use Rattle.world_model.specs.Worlds.{all_entries}
-use Rattle.host_model.specs.Circumstances.{Circumstance}
-use Rattle.host_model.specs.Hosts.{Host, most_steps, hears_news as host_hears, ready, hear, tells_events, with_channels, next}
-use Rattle.host_model.specs.Clients as clients
-use Rattle.host_model.specs.Clients.{Bid, NoBid, Paging, is_paging, is_at_end, ClientProfile, client_profile, after_call, calls, ended}
-use Rattle.host_model.specs.Machines.{client_host}
-use Rattle.host_model.specs.Shelves.{size_for, name_for}
-use Rattle.host_model.proofs.Keeping.{drives_on, hears_on, goes_next}
+use Rattle.radio_world.specs.bt_base.specs.declared.ports.PortFault.{PortFault}
+use Rattle.radio_world.specs.bt_base.specs.declared.ports.PortFault.TheVariants as faults
+use Rattle.radio_world.specs.bt_base.specs.declared.settings.Settings.{Settings}
+use Rattle.radio_world.specs.push_terms.specs.declared.word.Side.TheVariants as sides
+use Rattle.radio_world.specs.push_terms.specs.declared.word.Side.TheVariants.{A, B}
+use Rattle.radio_world.specs.push_terms.specs.declared.word.Way.TheVariants.{Ab, Ba}
+use Rattle.radio_world.specs.capture.specs.Entries.{Entry}
+use Rattle.radio_world.specs.capture.specs.Links.{Link, link_up}
+use Rattle.radio_world.specs.capture.specs.Pdus.{pdus}
+use Rattle.radio_world.specs.radio_air.specs.declared.deed.Deed.{Deed}
+use Rattle.radio_world.specs.radio_air.specs.declared.deed.Deed.TheVariants.{Nothing, Meets, Fires, FiresBoth, Breaks, Cancels}
+use Rattle.host_laws.specs.channel_model.specs.Calls.{link_down}
+use Rattle.host_laws.specs.channel_model.specs.Giving.{next_given}
+use Rattle.host_laws.specs.channel_model.proofs.Lookups.{and_off}
+use Rattle.host_laws.specs.push_model.specs.declared.course.Point.TheVariants.{Due, Asked}
+use Rattle.host_laws.specs.push_model.specs.declared.course.Stage.{Stage}
+use Rattle.host_laws.specs.push_model.specs.declared.course.Stage.TheVariants.{Rest, Link as Paged, SearchChannel, Search, SearchEnd, Features, ObjectChannel, Object, ObjectEnd, LinkEnd, Over}
+use Rattle.host_laws.specs.push_model.specs.Client.{Client, is_idle, is_rest, begins, begun_by}
+use Rattle.host_laws.specs.push_model.specs.Events.{is_linked, linked_at}
+use Rattle.host_laws.specs.push_model.specs.Steps.{Step, Wait, MakeLink, AskFeatures, OpenChannel, SendSdu, CloseChannel, BreakLink, Ended, NoMemory, steps}
+use Rattle.host_laws.specs.turn_laws.proofs.Advancing.{Both, advances}
+use Rattle.host_laws.specs.turn_laws.proofs.Finishing.{nothing_more}
+use Rattle.host_laws.specs.turn_laws.proofs.Running.{first_both}
+use Rattle.host_laws.specs.turn_laws.proofs.Standing.{Sound, Chain, idle_linked}
+use Rattle.host_laws.specs.world_model.specs.Machines.{LinkEvent, Up, Down, News, Linked, Heard, TimerFired, Cancelled, Opening, Upper}
+use Rattle.host_laws.specs.world_model.specs.Talks.{Talk}
+use Rattle.host_laws.specs.world_model.specs.PerLink.{Linkage, linkage, captured}
+use Rattle.host_laws.specs.world_model.specs.Carriages.{End, Carriage, Motion, Saying, Departure, Arrival, Telling, DoesMotion, IsIdle, linked_by, Doing, Moved, Deeds, Misses, Rises, Falls, Opens, Closes, ActsOn, finds, told, owing, IsDone, Carries, first_carriage}
+use Rattle.host_laws.specs.world_model.specs.Worlds.{all_entries}
+use Rattle.host_laws.specs.host_model.specs.Circumstances.{Circumstance}
+use Rattle.host_laws.specs.host_model.specs.Hosts.{Host, most_steps, hears_news as host_hears, ready, hear, tells_events, with_channels, next}
+use Rattle.host_laws.specs.host_model.specs.Clients as clients
+use Rattle.host_laws.specs.host_model.specs.Clients.{Bid, NoBid, Paging, is_paging, is_at_end, ClientProfile, client_profile, after_call, calls, ended}
+use Rattle.host_laws.specs.host_model.specs.Machines.{client_host}
+use Rattle.host_laws.specs.host_model.specs.Shelves.{size_for, name_for}
+use Rattle.host_laws.specs.host_model.proofs.Keeping.{drives_on, hears_on, goes_next}
 use Rattle.host_laws.specs.Leaving.{is_off}
 use Rattle.host_laws.specs.Onward.{Befits, IsOfPush}
 use Rattle.host_laws.proofs.OnwardSteps.{StepSo, steps_so, IsSo, ended_stays, keeps_so, learns_so}

@@ -6,38 +6,38 @@ use Rattle.std.proofs.lemmas.Bool.{eqb-true, eq-eqb, ltb-false, ltb-true}
 use Rattle.std.proofs.lemmas.List.{map-append}
 use Rattle.std.proofs.lemmas.List.Concat.{flat_map-append}
 use Rattle.std.proofs.lemmas.List.Folds.{list_any-append}
-use Rattle.acl_fragments.specs.Pieces.{channel_of}
-use Rattle.bt_base.specs.Objects.{Object, Contents}
-use Rattle.bt_base.specs.declared.settings.Transport.{Transport}
-use Rattle.bt_base.specs.declared.settings.Transport.TheVariants.{L2cap}
-use Rattle.push_script.specs.declared.scenario.Scenario.{Scenario}
-use Rattle.capture.specs.declared.flow.Flow.{Flow}
-use Rattle.capture.specs.declared.flow.Flow.TheVariants.{Out, Into}
-use Rattle.capture.specs.Entries.{Entry}
-use Rattle.capture.specs.Links.{Link, linking, links}
-use Rattle.capture.specs.Moves.{moves}
-use Rattle.capture.specs.Pdus.{Pdu, pdus, same_flow}
-use Rattle.push_terms.specs.declared.word.Side.{Side}
-use Rattle.push_terms.specs.declared.word.Side.TheVariants as sides
-use Rattle.world_model.specs.Worlds.{all_entries}
-use Rattle.l2cap_signal.specs.Commands.{Content, reject, connection_request, connection_response, configuration_request, configuration_response, disconnection_request, disconnection_response, echo_request, echo_response, information_request, information_response}
-use Rattle.l2cap_signal.specs.Reading.{Answer, answers}
-use Rattle.l2cap_signal.specs.declared.refusal.SignalRefusal.TheVariants.{ZeroIdentifier, BadLength, UnknownCode, AboveMtu}
-use Rattle.link_talk.specs.declared.call.Call.{Call}
-use Rattle.link_talk.specs.Sayings.{Saying, Command, Carried, said_by, talk}
-use Rattle.link_talk.specs.Senses.{Asks, Quiet, Unread}
-use Rattle.link_talk.specs.Requests.{call, went}
-use Rattle.channel_model.specs.Policies.{policy}
-use Rattle.channel_laws.specs.Arrivals.{Arrives}
-use Rattle.channel_laws.specs.OwnTalk.{command_with}
-use Rattle.channel_laws.specs.Singly.{calls_that_went, names, IsAgain, IsFresh, AreOneByOne}
-use Rattle.channel_laws.proofs.OneByOne.{other-way}
-use Rattle.channel_laws.proofs.Singling.{calls-more, tail-single}
-use Rattle.world_model.specs.Machines.{Linked, Failed, Heard, TimerFired, Cancelled, Opening}
-use Rattle.world_model.specs.Talks.{Talk, Told, Said, Unsent, Met, Done}
-use Rattle.host_model.specs.Hosts.{first_host}
-use Rattle.host_model.specs.Clients.{client_profile}
-use Rattle.host_model.specs.Servers.{server_profile}
+use Rattle.host_laws.specs.acl_fragments.specs.Pieces.{channel_of}
+use Rattle.radio_world.specs.bt_base.specs.Objects.{Object, Contents}
+use Rattle.radio_world.specs.bt_base.specs.declared.settings.Transport.{Transport}
+use Rattle.radio_world.specs.bt_base.specs.declared.settings.Transport.TheVariants.{L2cap}
+use Rattle.radio_world.specs.push_script.specs.declared.scenario.Scenario.{Scenario}
+use Rattle.radio_world.specs.capture.specs.declared.flow.Flow.{Flow}
+use Rattle.radio_world.specs.capture.specs.declared.flow.Flow.TheVariants.{Out, Into}
+use Rattle.radio_world.specs.capture.specs.Entries.{Entry}
+use Rattle.radio_world.specs.capture.specs.Links.{Link, linking, links}
+use Rattle.radio_world.specs.capture.specs.Moves.{moves}
+use Rattle.radio_world.specs.capture.specs.Pdus.{Pdu, pdus, same_flow}
+use Rattle.radio_world.specs.push_terms.specs.declared.word.Side.{Side}
+use Rattle.radio_world.specs.push_terms.specs.declared.word.Side.TheVariants as sides
+use Rattle.host_laws.specs.world_model.specs.Worlds.{all_entries}
+use Rattle.host_laws.specs.l2cap_signal.specs.Commands.{Content, reject, connection_request, connection_response, configuration_request, configuration_response, disconnection_request, disconnection_response, echo_request, echo_response, information_request, information_response}
+use Rattle.host_laws.specs.l2cap_signal.specs.Reading.{Answer, answers}
+use Rattle.host_laws.specs.l2cap_signal.specs.declared.refusal.SignalRefusal.TheVariants.{ZeroIdentifier, BadLength, UnknownCode, AboveMtu}
+use Rattle.host_laws.specs.link_talk.specs.declared.call.Call.{Call}
+use Rattle.host_laws.specs.link_talk.specs.Sayings.{Saying, Command, Carried, said_by, talk}
+use Rattle.host_laws.specs.link_talk.specs.Senses.{Asks, Quiet, Unread}
+use Rattle.host_laws.specs.link_talk.specs.Requests.{call, went}
+use Rattle.host_laws.specs.channel_model.specs.Policies.{policy}
+use Rattle.host_laws.specs.channel_laws.specs.Arrivals.{Arrives}
+use Rattle.host_laws.specs.channel_laws.specs.OwnTalk.{command_with}
+use Rattle.host_laws.specs.channel_laws.specs.Singly.{calls_that_went, names, IsAgain, IsFresh, AreOneByOne}
+use Rattle.host_laws.specs.channel_laws.proofs.OneByOne.{other-way}
+use Rattle.host_laws.specs.channel_laws.proofs.Singling.{calls-more, tail-single}
+use Rattle.host_laws.specs.world_model.specs.Machines.{Linked, Failed, Heard, TimerFired, Cancelled, Opening}
+use Rattle.host_laws.specs.world_model.specs.Talks.{Talk, Told, Said, Unsent, Met, Done}
+use Rattle.host_laws.specs.host_model.specs.Hosts.{first_host}
+use Rattle.host_laws.specs.host_model.specs.Clients.{client_profile}
+use Rattle.host_laws.specs.host_model.specs.Servers.{server_profile}
 use Rattle.host_laws.specs.Calm.{pdus_in}
 use Rattle.host_laws.specs.InOrder.{seeks_object, may_carry, may_ask, AsksForOneObject}
 use Rattle.host_laws.specs.OverLinks.{turns_link, parts_from, parts, moved_in}
@@ -61,7 +61,7 @@ use Rattle.scenario_laws.proofs.Fronts.{fits}
 use Rattle.scenario_laws.proofs.Gaining.{all-out}
 use Rattle.scenario_laws.proofs.Gentle.{host-tames, client-keeps, server-keeps, hosts_are_gentle}
 use Rattle.scenario_laws.proofs.Reaching.{heard_at, said_at, queue_calls, all-still, all-reach}
-use Rattle.turn_laws.proofs.Ordering.{at}
+use Rattle.host_laws.specs.turn_laws.proofs.Ordering.{at}
 
 -- ---- of requests that come one by one, some are left out and some come again
 

@@ -4,19 +4,19 @@ use Rattle.std.specs.List.{flat_map, slice_get}
 use Rattle.std.proofs.lemmas.List.{append-nil}
 use Rattle.std.proofs.lemmas.List.Concat.{flat_map-append}
 use Rattle.std.proofs.lemmas.Option.{slice_get_within}
-use Rattle.push_terms.specs.declared.outcome.Outcome.{Outcome}
-use Rattle.push_terms.specs.declared.outcome.Outcome.TheVariants.{ScriptEnded}
-use Rattle.push_terms.specs.declared.word.Side.TheVariants.{A, B}
-use Rattle.push_terms.specs.declared.word.Way.TheVariants.{Ab, Ba}
-use Rattle.capture.specs.Entries.{Entry, Ended}
-use Rattle.radio_air.specs.declared.deed.Deed.{Deed}
-use Rattle.radio_air.specs.declared.deed.Deed.TheVariants.{Nothing, Meets, Fires, FiresBoth, Breaks, Cancels}
-use Rattle.radio_air.specs.Course.{push_begun, pushes_begun}
-use Rattle.radio_air.specs.Radio.{found}
-use Rattle.world_model.specs.Machines.{Upper}
-use Rattle.world_model.specs.Pushes.{Pushes, next_name, one_ended}
-use Rattle.world_model.specs.Worlds.{World, Happening, Tries, Departure, GivingBack, Piecemeal, Answering, Turns, Misses, Opens, Closes, Acts, Does, Runs, entries_of, all_entries}
-use Rattle.air_laws.proofs.Resting.{next_going}
+use Rattle.radio_world.specs.push_terms.specs.declared.outcome.Outcome.{Outcome}
+use Rattle.radio_world.specs.push_terms.specs.declared.outcome.Outcome.TheVariants.{ScriptEnded}
+use Rattle.radio_world.specs.push_terms.specs.declared.word.Side.TheVariants.{A, B}
+use Rattle.radio_world.specs.push_terms.specs.declared.word.Way.TheVariants.{Ab, Ba}
+use Rattle.radio_world.specs.capture.specs.Entries.{Entry, Ended}
+use Rattle.radio_world.specs.radio_air.specs.declared.deed.Deed.{Deed}
+use Rattle.radio_world.specs.radio_air.specs.declared.deed.Deed.TheVariants.{Nothing, Meets, Fires, FiresBoth, Breaks, Cancels}
+use Rattle.radio_world.specs.radio_air.specs.Course.{push_begun, pushes_begun}
+use Rattle.radio_world.specs.radio_air.specs.Radio.{found}
+use Rattle.host_laws.specs.world_model.specs.Machines.{Upper}
+use Rattle.host_laws.specs.world_model.specs.Pushes.{Pushes, next_name, one_ended}
+use Rattle.host_laws.specs.world_model.specs.Worlds.{World, Happening, Tries, Departure, GivingBack, Piecemeal, Answering, Turns, Misses, Opens, Closes, Acts, Does, Runs, entries_of, all_entries}
+use Rattle.host_laws.specs.air_laws.proofs.Resting.{next_going}
 use Rattle.radio_world.specs.Standing.{last_ended, last_entries}
 use Rattle.scenario_laws.specs.Captures.{client_of, server_of, beginning}
 use Rattle.scenario_laws.specs.Outcomes.{outcome_of, outcomes_in, OutcomesAreStated}

@@ -3,11 +3,11 @@ use Rattle.std.proofs.Common.{◌≡◌, ℕ, inl, inr, Bool, true, false, cond,
 use Rattle.std.specs.List.{AllByRecursion, flat_map}
 use Rattle.std.proofs.lemmas.List.{append-nil}
 use Rattle.std.proofs.lemmas.List.Concat.{flat_map-append}
-use Rattle.capture.specs.Pdus.{Pdu}
-use Rattle.world_model.specs.Machines.{LinkEvent, Up, Down, Linked}
-use Rattle.world_model.specs.Talks.{Talk, Told, Unsent}
-use Rattle.world_model.specs.PerLink.{Linkage, no_linkage, linkage_after, linkage_from, linkage}
-use Rattle.turn_laws.proofs.Linkages.{linkage_ended}
+use Rattle.radio_world.specs.capture.specs.Pdus.{Pdu}
+use Rattle.host_laws.specs.world_model.specs.Machines.{LinkEvent, Up, Down, Linked}
+use Rattle.host_laws.specs.world_model.specs.Talks.{Talk, Told, Unsent}
+use Rattle.host_laws.specs.world_model.specs.PerLink.{Linkage, no_linkage, linkage_after, linkage_from, linkage}
+use Rattle.host_laws.specs.turn_laws.proofs.Linkages.{linkage_ended}
 use Rattle.host_laws.specs.Calm.{pdus_in}
 use Rattle.host_laws.specs.OverLinks.{turns_link, parts_from, parts}
 use Rattle.scenario_laws.specs.Coming.{out_of, FallTo, LastHas}

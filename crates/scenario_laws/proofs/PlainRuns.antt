@@ -1,18 +1,18 @@
 -- Both hosts of every run are plain wherever it is at rest.
 use Rattle.std.proofs.Common.{◌≡◌, List, [], Option, Some, None, refl, sym, ap, subst, ◌∙◌, append-nil}
-use Rattle.bt_base.specs.Objects.{Contents}
-use Rattle.push_script.specs.declared.scenario.Scenario.{Scenario}
-use Rattle.push_terms.specs.declared.word.Side.TheVariants as sides
-use Rattle.capture.specs.Links.{Link, link_up}
-use Rattle.capture.specs.Pdus.{pdus}
-use Rattle.channel_model.specs.Calls.{armed}
-use Rattle.channel_model.specs.Value.{Channels}
-use Rattle.channel_laws.specs.Runs.{run_of}
-use Rattle.push_model.specs.declared.course.Stage.{Stage}
-use Rattle.world_model.specs.Worlds.{Happening, IsAtRest, all_entries}
-use Rattle.host_model.specs.Profiles.{Profile}
-use Rattle.host_model.specs.Clients.{ClientProfile, client_profile}
-use Rattle.host_model.specs.Servers.{server_profile}
+use Rattle.radio_world.specs.bt_base.specs.Objects.{Contents}
+use Rattle.radio_world.specs.push_script.specs.declared.scenario.Scenario.{Scenario}
+use Rattle.radio_world.specs.push_terms.specs.declared.word.Side.TheVariants as sides
+use Rattle.radio_world.specs.capture.specs.Links.{Link, link_up}
+use Rattle.radio_world.specs.capture.specs.Pdus.{pdus}
+use Rattle.host_laws.specs.channel_model.specs.Calls.{armed}
+use Rattle.host_laws.specs.channel_model.specs.Value.{Channels}
+use Rattle.host_laws.specs.channel_laws.specs.Runs.{run_of}
+use Rattle.host_laws.specs.push_model.specs.declared.course.Stage.{Stage}
+use Rattle.host_laws.specs.world_model.specs.Worlds.{Happening, IsAtRest, all_entries}
+use Rattle.host_laws.specs.host_model.specs.Profiles.{Profile}
+use Rattle.host_laws.specs.host_model.specs.Clients.{ClientProfile, client_profile}
+use Rattle.host_laws.specs.host_model.specs.Servers.{server_profile}
 use Rattle.host_laws.specs.Calls.{Asks, HostsAsk}
 use Rattle.host_laws.specs.Searching.{AsksAsItSteps}
 use Rattle.host_laws.specs.SearchOrder.{AsksInOrder}

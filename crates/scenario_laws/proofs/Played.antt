@@ -1,19 +1,19 @@
 -- A world in code that plays a scenario runs as both hosts of the scenario do.
 use Rattle.std.proofs.Common.{◌≡◌, Bool, true, false, cond, [], ◌∷◌, Option, unwrap_or, refl, ap, subst}
-use Rattle.push_terms.specs.declared.outcome.Outcome.{Outcome}
-use Rattle.push_terms.specs.declared.outcome.Outcome.TheVariants.{ScriptEnded}
-use Rattle.capture.specs.Entries.{Ended}
-use Rattle.world_model.specs.Machines.{Upper}
-use Rattle.world_model.specs.Pushes.{Pushes}
-use Rattle.world_model.specs.Worlds.{World, Runs, IsAtRest}
-use Rattle.air_laws.specs.AirLaws.{IsLastEnd}
-use Rattle.run_laws.specs.Embedding.{world_as}
-use Rattle.run_laws.proofs.Embedding.{runs_are_of_less, rest_is_of_less}
+use Rattle.radio_world.specs.push_terms.specs.declared.outcome.Outcome.{Outcome}
+use Rattle.radio_world.specs.push_terms.specs.declared.outcome.Outcome.TheVariants.{ScriptEnded}
+use Rattle.radio_world.specs.capture.specs.Entries.{Ended}
+use Rattle.host_laws.specs.world_model.specs.Machines.{Upper}
+use Rattle.host_laws.specs.world_model.specs.Pushes.{Pushes}
+use Rattle.host_laws.specs.world_model.specs.Worlds.{World, Runs, IsAtRest}
+use Rattle.host_laws.specs.air_laws.specs.AirLaws.{IsLastEnd}
+use Rattle.radio_world.specs.run_laws.specs.Embedding.{world_as}
+use Rattle.radio_world.specs.run_laws.proofs.Embedding.{runs_are_of_less, rest_is_of_less}
 use Rattle.radio_world.specs.Hosts.{answering}
 use Rattle.radio_world.specs.Scenes.{moment, world_at}
 use Rattle.radio_world.specs.Standing.{last_entries}
 use Rattle.radio_world.proofs.Standing.{runs_of, at_rest}
-use Rattle.host_model.specs.Circumstances.{Circumstance}
+use Rattle.host_laws.specs.host_model.specs.Circumstances.{Circumstance}
 use Rattle.scenario_laws.specs.Captures.{client_of, server_of, beginning}
 use Rattle.scenario_laws.specs.Played.{fresh_moment, CallsArePlayed, PlaysAreFinished}
 

@@ -3,15 +3,15 @@ use Rattle.std.proofs.Common.{◌≡◌, ℕ, ◌+◌, ◌≤◌, ◌-◌, Bool,
 use Rattle.std.specs.List.{flat_map}
 use Rattle.std.proofs.lemmas.List.{append-nil, length-replicate}
 use Rattle.std.proofs.lemmas.List.Concat.{flat_map-append}
-use Rattle.bt_base.specs.Objects.{Contents}
-use Rattle.push_script.specs.declared.scenario.Scenario.{Scenario}
-use Rattle.push_terms.specs.declared.outcome.Outcome.{Outcome}
-use Rattle.push_terms.specs.declared.outcome.Outcome.TheVariants.{ScriptEnded}
-use Rattle.capture.specs.Entries.{Entry, Moved, Acted, Begun, Ended}
-use Rattle.radio_air.specs.Course.{push_begun, pushes_begun}
-use Rattle.world_model.specs.Pushes.{Pushes}
-use Rattle.world_model.specs.Worlds.{all_entries}
-use Rattle.air_laws.specs.AirLaws.{IsLastEnd}
+use Rattle.radio_world.specs.bt_base.specs.Objects.{Contents}
+use Rattle.radio_world.specs.push_script.specs.declared.scenario.Scenario.{Scenario}
+use Rattle.radio_world.specs.push_terms.specs.declared.outcome.Outcome.{Outcome}
+use Rattle.radio_world.specs.push_terms.specs.declared.outcome.Outcome.TheVariants.{ScriptEnded}
+use Rattle.radio_world.specs.capture.specs.Entries.{Entry, Moved, Acted, Begun, Ended}
+use Rattle.radio_world.specs.radio_air.specs.Course.{push_begun, pushes_begun}
+use Rattle.host_laws.specs.world_model.specs.Pushes.{Pushes}
+use Rattle.host_laws.specs.world_model.specs.Worlds.{all_entries}
+use Rattle.host_laws.specs.air_laws.specs.AirLaws.{IsLastEnd}
 use Rattle.radio_world.specs.Standing.{last_entries}
 use Rattle.scenario_laws.specs.Captures.{client_of, server_of, beginning, Ran}
 use Rattle.scenario_laws.specs.Outcomes.{outcome_of, outcomes_in, outcomes_of}

@@ -3,32 +3,32 @@ use Rattle.std.proofs.Common.{◌≡◌, ℕ, suc, ◌+◌, List, [], ◌∷◌,
 use Rattle.std.specs.Prelude.{nat_lt, drop, option_to_list}
 use Rattle.std.specs.List.{AllByRecursion}
 use Rattle.std.proofs.lemmas.Bool.{eqb-true, eq-eqb}
-use Rattle.l2cap_signal.specs.Reading.{Answer, answers}
-use Rattle.push_terms.specs.declared.word.Side.TheVariants.{A, B}
-use Rattle.push_terms.specs.declared.word.Way.TheVariants.{Ab, Ba}
-use Rattle.acl_fragments.specs.Pieces.{channel_of}
-use Rattle.capture.specs.declared.flow.Flow.TheVariants.{Into}
-use Rattle.link_talk.specs.declared.call.Call.{Call}
-use Rattle.link_talk.specs.Sayings.{Command, Carried}
-use Rattle.link_talk.specs.Senses.{sense}
-use Rattle.link_talk.specs.Requests.{call, went}
-use Rattle.radio_air.specs.declared.deed.Deed.{Deed}
-use Rattle.radio_air.specs.declared.deed.Deed.TheVariants.{Nothing, Meets, Fires, FiresBoth, Breaks, Cancels}
-use Rattle.radio_air.specs.declared.fate.Fate.{Fate}
-use Rattle.radio_air.specs.declared.fate.Fate.TheVariants.{Delivered, Lost, Repeated, CutOff, Changed}
-use Rattle.radio_air.specs.Controllers.{is_empty}
-use Rattle.radio_air.specs.Fates.{changed, meets, comes_of}
-use Rattle.capture.specs.Frames.{frame_pieces}
-use Rattle.world_model.specs.Machines.{LinkEvent, Up, Down, News, Linked, Heard, TimerFired, Cancelled, Opening, Upper}
-use Rattle.world_model.specs.Talks.{Talk, Told, Said, Unsent, Met, Done}
-use Rattle.world_model.specs.Carriages.{End, Carriage, Motion, Saying, Departure, Arrival, Telling, landed, DoesMotion, MeetsFate, Doing, Moved, Deeds, Misses, Rises, Falls, Opens, Closes, linked_by, IsAtRest, ActsOn, finds, told, owing, IsDone, Carries, first_carriage}
-use Rattle.turn_laws.proofs.Advancing.{Both, advances}
-use Rattle.turn_laws.proofs.Finishing.{nothing_more}
-use Rattle.turn_laws.proofs.Recounting.{IsOfScript}
-use Rattle.turn_laws.proofs.Running.{first_both}
-use Rattle.turn_laws.proofs.Standing.{Sound}
-use Rattle.channel_laws.specs.Arrivals.{Arrives}
-use Rattle.channel_laws.specs.Singly.{calls_that_went}
+use Rattle.host_laws.specs.l2cap_signal.specs.Reading.{Answer, answers}
+use Rattle.radio_world.specs.push_terms.specs.declared.word.Side.TheVariants.{A, B}
+use Rattle.radio_world.specs.push_terms.specs.declared.word.Way.TheVariants.{Ab, Ba}
+use Rattle.host_laws.specs.acl_fragments.specs.Pieces.{channel_of}
+use Rattle.radio_world.specs.capture.specs.declared.flow.Flow.TheVariants.{Into}
+use Rattle.host_laws.specs.link_talk.specs.declared.call.Call.{Call}
+use Rattle.host_laws.specs.link_talk.specs.Sayings.{Command, Carried}
+use Rattle.host_laws.specs.link_talk.specs.Senses.{sense}
+use Rattle.host_laws.specs.link_talk.specs.Requests.{call, went}
+use Rattle.radio_world.specs.radio_air.specs.declared.deed.Deed.{Deed}
+use Rattle.radio_world.specs.radio_air.specs.declared.deed.Deed.TheVariants.{Nothing, Meets, Fires, FiresBoth, Breaks, Cancels}
+use Rattle.radio_world.specs.radio_air.specs.declared.fate.Fate.{Fate}
+use Rattle.radio_world.specs.radio_air.specs.declared.fate.Fate.TheVariants.{Delivered, Lost, Repeated, CutOff, Changed}
+use Rattle.radio_world.specs.radio_air.specs.Controllers.{is_empty}
+use Rattle.radio_world.specs.radio_air.specs.Fates.{changed, meets, comes_of}
+use Rattle.radio_world.specs.capture.specs.Frames.{frame_pieces}
+use Rattle.host_laws.specs.world_model.specs.Machines.{LinkEvent, Up, Down, News, Linked, Heard, TimerFired, Cancelled, Opening, Upper}
+use Rattle.host_laws.specs.world_model.specs.Talks.{Talk, Told, Said, Unsent, Met, Done}
+use Rattle.host_laws.specs.world_model.specs.Carriages.{End, Carriage, Motion, Saying, Departure, Arrival, Telling, landed, DoesMotion, MeetsFate, Doing, Moved, Deeds, Misses, Rises, Falls, Opens, Closes, linked_by, IsAtRest, ActsOn, finds, told, owing, IsDone, Carries, first_carriage}
+use Rattle.host_laws.specs.turn_laws.proofs.Advancing.{Both, advances}
+use Rattle.host_laws.specs.turn_laws.proofs.Finishing.{nothing_more}
+use Rattle.host_laws.specs.turn_laws.proofs.Recounting.{IsOfScript}
+use Rattle.host_laws.specs.turn_laws.proofs.Running.{first_both}
+use Rattle.host_laws.specs.turn_laws.proofs.Standing.{Sound}
+use Rattle.host_laws.specs.channel_laws.specs.Arrivals.{Arrives}
+use Rattle.host_laws.specs.channel_laws.specs.Singly.{calls_that_went}
 use Rattle.scenario_laws.proofs.Taming.{IsTame, Tames, TameEnd, TameBoth, IsBehind, IsBehindDeed, changed-channel, word-behind, done-tame}
 use Rattle.scenario_laws.specs.Reaching.{calls_by, IsOnePdu, heard_of, said_of, turn_of, turns, at_turn}
 

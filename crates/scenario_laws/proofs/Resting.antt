@@ -1,14 +1,14 @@
 -- A host where a run is at rest: what it did is what the capture has.
 use Rattle.std.proofs.Common.{◌≡◌, Bool, List, [], Option}
-use Rattle.bt_base.specs.Objects.{Contents}
-use Rattle.push_terms.specs.declared.word.Side.{Side}
-use Rattle.push_terms.specs.declared.word.Side.TheVariants.{A, B}
-use Rattle.push_script.specs.declared.scenario.Scenario.{Scenario}
-use Rattle.capture.specs.Entries.{Entry}
-use Rattle.world_model.specs.Machines.{Upper}
-use Rattle.world_model.specs.Talks.{Talk}
-use Rattle.world_model.specs.PerLink.{linkage, captured}
-use Rattle.world_model.specs.Worlds.{Happening, IsAtRest, all_entries}
+use Rattle.radio_world.specs.bt_base.specs.Objects.{Contents}
+use Rattle.radio_world.specs.push_terms.specs.declared.word.Side.{Side}
+use Rattle.radio_world.specs.push_terms.specs.declared.word.Side.TheVariants.{A, B}
+use Rattle.radio_world.specs.push_script.specs.declared.scenario.Scenario.{Scenario}
+use Rattle.radio_world.specs.capture.specs.Entries.{Entry}
+use Rattle.host_laws.specs.world_model.specs.Machines.{Upper}
+use Rattle.host_laws.specs.world_model.specs.Talks.{Talk}
+use Rattle.host_laws.specs.world_model.specs.PerLink.{linkage, captured}
+use Rattle.host_laws.specs.world_model.specs.Worlds.{Happening, IsAtRest, all_entries}
 use Rattle.scenario_laws.specs.Captures.{client_of, server_of, BothHosts, Happened}
 use Rattle.scenario_laws.proofs.Acting.{Anyhow, Acted}
 use Rattle.scenario_laws.proofs.Both.{idle_acted, both_acted}

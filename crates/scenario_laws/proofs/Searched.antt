@@ -2,40 +2,40 @@
 use Rattle.std.proofs.Common.{◌≡◌, ℕ, inl, Bool, true, false, List, [], ◌∷◌, Option, Some, None, refl, sym, ap, subst, ◌∙◌, if◌then◌else◌}
 use Rattle.std.specs.List.{AllByRecursion, flat_map}
 use Rattle.std.specs.Option.{option_map}
-use Rattle.bt_base.specs.Objects.{Contents}
-use Rattle.bt_base.specs.Octets.{IsOctets}
-use Rattle.bt_base.specs.declared.settings.Settings.{Settings}
-use Rattle.push_terms.specs.declared.word.Side.TheVariants as sides
-use Rattle.push_terms.specs.declared.word.Side.TheVariants.{A, B}
-use Rattle.push_terms.specs.declared.word.Way.TheVariants.{Ab, Ba}
-use Rattle.push_terms.specs.declared.word.Word.{Word}
-use Rattle.capture.specs.Entries.{Entry}
-use Rattle.capture.specs.Links.{Link, link_up}
-use Rattle.capture.specs.Pdus.{Pdu, pdus}
-use Rattle.radio_air.specs.declared.deed.Deed.{Deed}
-use Rattle.radio_air.specs.declared.deed.Deed.TheVariants.{Nothing, Meets, Fires, FiresBoth, Breaks, Cancels}
-use Rattle.channel_model.specs.Giving.{next_given}
-use Rattle.channel_model.specs.Policies.{policy}
-use Rattle.channel_model.specs.Value.{Channels}
-use Rattle.channel_laws.specs.Runs.{run_of}
-use Rattle.push_model.specs.declared.course.Point.TheVariants.{Asked}
-use Rattle.push_model.specs.declared.course.Stage.TheVariants.{Link as Paged}
-use Rattle.push_model.specs.Events.{is_linked}
-use Rattle.turn_laws.proofs.Advancing.{Both, advances}
-use Rattle.turn_laws.proofs.Finishing.{nothing_more}
-use Rattle.turn_laws.proofs.Recounting.{IsOfScript, RestsIn, CarriesSo}
-use Rattle.turn_laws.proofs.Running.{first_both}
-use Rattle.world_model.specs.Machines.{LinkEvent, Up, Linked, Failed, Heard, TimerFired, Cancelled, Opening, Upper}
-use Rattle.world_model.specs.Talks.{Talk}
-use Rattle.world_model.specs.PerLink.{Linkage, linkage, captured}
-use Rattle.world_model.specs.Carriages.{End, Carriage, Motion, Saying, Departure, Arrival, Telling, DoesMotion, IsIdle, Doing, Moved, Deeds, Misses, Rises, Falls, Opens, Closes, ActsOn, finds, told, IsDone, first_carriage}
-use Rattle.world_model.specs.Worlds.{all_entries}
-use Rattle.host_model.specs.Circumstances.{Circumstance}
-use Rattle.host_model.specs.Hosts.{Host, hear, next}
-use Rattle.host_model.specs.Profiles.{Profile}
-use Rattle.host_model.specs.Clients.{ClientProfile, client_profile}
-use Rattle.host_model.specs.Servers.{ServerProfile, server_profile}
-use Rattle.host_model.specs.Machines.{client_host, server_host}
+use Rattle.radio_world.specs.bt_base.specs.Objects.{Contents}
+use Rattle.radio_world.specs.bt_base.specs.Octets.{IsOctets}
+use Rattle.radio_world.specs.bt_base.specs.declared.settings.Settings.{Settings}
+use Rattle.radio_world.specs.push_terms.specs.declared.word.Side.TheVariants as sides
+use Rattle.radio_world.specs.push_terms.specs.declared.word.Side.TheVariants.{A, B}
+use Rattle.radio_world.specs.push_terms.specs.declared.word.Way.TheVariants.{Ab, Ba}
+use Rattle.radio_world.specs.push_terms.specs.declared.word.Word.{Word}
+use Rattle.radio_world.specs.capture.specs.Entries.{Entry}
+use Rattle.radio_world.specs.capture.specs.Links.{Link, link_up}
+use Rattle.radio_world.specs.capture.specs.Pdus.{Pdu, pdus}
+use Rattle.radio_world.specs.radio_air.specs.declared.deed.Deed.{Deed}
+use Rattle.radio_world.specs.radio_air.specs.declared.deed.Deed.TheVariants.{Nothing, Meets, Fires, FiresBoth, Breaks, Cancels}
+use Rattle.host_laws.specs.channel_model.specs.Giving.{next_given}
+use Rattle.host_laws.specs.channel_model.specs.Policies.{policy}
+use Rattle.host_laws.specs.channel_model.specs.Value.{Channels}
+use Rattle.host_laws.specs.channel_laws.specs.Runs.{run_of}
+use Rattle.host_laws.specs.push_model.specs.declared.course.Point.TheVariants.{Asked}
+use Rattle.host_laws.specs.push_model.specs.declared.course.Stage.TheVariants.{Link as Paged}
+use Rattle.host_laws.specs.push_model.specs.Events.{is_linked}
+use Rattle.host_laws.specs.turn_laws.proofs.Advancing.{Both, advances}
+use Rattle.host_laws.specs.turn_laws.proofs.Finishing.{nothing_more}
+use Rattle.host_laws.specs.turn_laws.proofs.Recounting.{IsOfScript, RestsIn, CarriesSo}
+use Rattle.host_laws.specs.turn_laws.proofs.Running.{first_both}
+use Rattle.host_laws.specs.world_model.specs.Machines.{LinkEvent, Up, Linked, Failed, Heard, TimerFired, Cancelled, Opening, Upper}
+use Rattle.host_laws.specs.world_model.specs.Talks.{Talk}
+use Rattle.host_laws.specs.world_model.specs.PerLink.{Linkage, linkage, captured}
+use Rattle.host_laws.specs.world_model.specs.Carriages.{End, Carriage, Motion, Saying, Departure, Arrival, Telling, DoesMotion, IsIdle, Doing, Moved, Deeds, Misses, Rises, Falls, Opens, Closes, ActsOn, finds, told, IsDone, first_carriage}
+use Rattle.host_laws.specs.world_model.specs.Worlds.{all_entries}
+use Rattle.host_laws.specs.host_model.specs.Circumstances.{Circumstance}
+use Rattle.host_laws.specs.host_model.specs.Hosts.{Host, hear, next}
+use Rattle.host_laws.specs.host_model.specs.Profiles.{Profile}
+use Rattle.host_laws.specs.host_model.specs.Clients.{ClientProfile, client_profile}
+use Rattle.host_laws.specs.host_model.specs.Servers.{ServerProfile, server_profile}
+use Rattle.host_laws.specs.host_model.specs.Machines.{client_host, server_host}
 use Rattle.host_laws.specs.Acts.{Act, Hears, Says}
 use Rattle.host_laws.specs.Calls.{Asks}
 use Rattle.host_laws.specs.Calm.{HoldsNothingBack, pdus_in}

@@ -1,26 +1,26 @@
 -- Both hosts in code, beside their settings, are the hosts of a scenario: what the inbox holds at first is no matter of the machine. And what a
 -- profile is at first, and what it keeps of the answers of its ports, is no matter of all else that its host does.
 use Rattle.std.proofs.Common.{◌≡◌, ℕ, zero, suc, Bool, true, false, List, [], ◌∷◌, Option, Some, None, is_some, refl, ap, ◌∙◌, if◌then◌else◌}
-use Rattle.bt_base.specs.Objects.{Contents}
-use Rattle.bt_base.specs.declared.settings.Settings.{Settings}
-use Rattle.channel_model.specs.declared.event.ChannelEvent.{ChannelEvent}
-use Rattle.channel_model.specs.Calls.{link_down}
-use Rattle.channel_model.specs.Hearing as channels
-use Rattle.channel_model.specs.Timing.{timed_out}
-use Rattle.channel_model.specs.Value.{Channels}
-use Rattle.channel_model.specs.Giving.{Given, next_given, after_given}
-use Rattle.acl_fragments.specs.Pieces.{channel_of}
-use Rattle.world_model.specs.Machines.{Up, Down, News, Linked, Failed, Heard, TimerFired, Cancelled, Opening}
-use Rattle.run_laws.specs.Embedding.{Embeds, said_as}
-use Rattle.host_model.specs.Circumstances.{Circumstance}
-use Rattle.host_model.specs.Pdus.{pdu_of}
-use Rattle.host_model.specs.Profiles.{Stride, Profile}
-use Rattle.host_model.specs.Hosts.{Host, drives, most_steps, steps_behind, driven, goes_by, strides, settles, tells_each, tells_events, handed, hears_news, told, ready, hear, says_frame, says, with_channels}
-use Rattle.host_model.specs.Machines.{upper}
-use Rattle.host_model.specs.Clients.{client_profile}
-use Rattle.host_model.specs.Servers.{server_profile}
-use Rattle.host_model.specs.Settings.{set_to, server_machine}
-use Rattle.host_model.proofs.Setting.{settings_stay, set_hosts_are_orderly}
+use Rattle.radio_world.specs.bt_base.specs.Objects.{Contents}
+use Rattle.radio_world.specs.bt_base.specs.declared.settings.Settings.{Settings}
+use Rattle.host_laws.specs.channel_model.specs.declared.event.ChannelEvent.{ChannelEvent}
+use Rattle.host_laws.specs.channel_model.specs.Calls.{link_down}
+use Rattle.host_laws.specs.channel_model.specs.Hearing as channels
+use Rattle.host_laws.specs.channel_model.specs.Timing.{timed_out}
+use Rattle.host_laws.specs.channel_model.specs.Value.{Channels}
+use Rattle.host_laws.specs.channel_model.specs.Giving.{Given, next_given, after_given}
+use Rattle.host_laws.specs.acl_fragments.specs.Pieces.{channel_of}
+use Rattle.host_laws.specs.world_model.specs.Machines.{Up, Down, News, Linked, Failed, Heard, TimerFired, Cancelled, Opening}
+use Rattle.radio_world.specs.run_laws.specs.Embedding.{Embeds, said_as}
+use Rattle.host_laws.specs.host_model.specs.Circumstances.{Circumstance}
+use Rattle.host_laws.specs.host_model.specs.Pdus.{pdu_of}
+use Rattle.host_laws.specs.host_model.specs.Profiles.{Stride, Profile}
+use Rattle.host_laws.specs.host_model.specs.Hosts.{Host, drives, most_steps, steps_behind, driven, goes_by, strides, settles, tells_each, tells_events, handed, hears_news, told, ready, hear, says_frame, says, with_channels}
+use Rattle.host_laws.specs.host_model.specs.Machines.{upper}
+use Rattle.host_laws.specs.host_model.specs.Clients.{client_profile}
+use Rattle.host_laws.specs.host_model.specs.Servers.{server_profile}
+use Rattle.host_laws.specs.host_model.specs.Settings.{set_to, server_machine}
+use Rattle.host_laws.specs.host_model.proofs.Setting.{settings_stay, set_hosts_are_orderly}
 use Rattle.scenario_laws.specs.Played.{SetHostsAreHosts}
 
 module _ {P : Type 0} (A : Profile P) (first : P) (given : List Circumstance → P → P) where

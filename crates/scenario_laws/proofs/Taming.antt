@@ -3,27 +3,27 @@ use Rattle.std.proofs.Common.{◌≡◌, ◌≢◌, ℕ, zero, suc, ◌+◌, ◌
 use Rattle.std.specs.Prelude.{nat_lt, ◌/◌, ◌%◌, bit_xor, slice_set, slice_index}
 use Rattle.std.specs.List.{AllByRecursion}
 use Rattle.std.proofs.lemmas.Nat.{xor_of_8, div_below, mod_below}
-use Rattle.acl_fragments.specs.Pieces.{channel_of}
-use Rattle.bt_base.specs.Octets.{IsOctets}
-use Rattle.l2cap_signal.specs.Reading.{answers}
-use Rattle.push_script.specs.Runs.{IsWord}
-use Rattle.push_terms.specs.declared.word.Side.TheVariants.{A, B}
-use Rattle.push_terms.specs.declared.word.Way.{Way}
-use Rattle.push_terms.specs.declared.word.Way.TheVariants.{Ab, Ba}
-use Rattle.push_terms.specs.declared.word.Word.{Word}
-use Rattle.push_terms.specs.declared.word.Word.TheVariants.{Pass, Lose, Repeat, Damage, Cut, Timer, Drop, Cancel}
-use Rattle.capture.specs.Frames.{frame_pieces, way_served}
-use Rattle.radio_air.specs.declared.deed.Deed.{Deed}
-use Rattle.radio_air.specs.declared.deed.Deed.TheVariants.{Nothing, Meets, Fires, FiresBoth, Breaks, Cancels}
-use Rattle.radio_air.specs.declared.fate.Fate.{Fate}
-use Rattle.radio_air.specs.declared.fate.Fate.TheVariants.{Delivered, Lost, Repeated, CutOff, Changed}
-use Rattle.radio_air.specs.Fates.{changed, meets, comes_of, first_can_meet}
-use Rattle.radio_air.specs.Words.{first_meets, meets_on, passing, deed_of}
-use Rattle.capture.specs.Pdus.{Pdu}
-use Rattle.world_model.specs.Machines.{LinkEvent, Up, Down, News, Linked, Failed, Heard, TimerFired, Cancelled, Opening, Upper}
-use Rattle.world_model.specs.Talks.{Talk, Told, Said, Unsent, Met, Done}
-use Rattle.world_model.specs.Carriages.{End, Carriage, Motion, Saying, Departure, Arrival, Telling, DoesMotion, landed, MeetsFate, Doing, Moved, Deeds, Misses, Rises, Falls, Opens, Closes, ActsOn, finds, told, owing, IsDone, Carries, first_carriage}
-use Rattle.turn_laws.proofs.Recounting.{IsOfScript}
+use Rattle.host_laws.specs.acl_fragments.specs.Pieces.{channel_of}
+use Rattle.radio_world.specs.bt_base.specs.Octets.{IsOctets}
+use Rattle.host_laws.specs.l2cap_signal.specs.Reading.{answers}
+use Rattle.radio_world.specs.push_script.specs.Runs.{IsWord}
+use Rattle.radio_world.specs.push_terms.specs.declared.word.Side.TheVariants.{A, B}
+use Rattle.radio_world.specs.push_terms.specs.declared.word.Way.{Way}
+use Rattle.radio_world.specs.push_terms.specs.declared.word.Way.TheVariants.{Ab, Ba}
+use Rattle.radio_world.specs.push_terms.specs.declared.word.Word.{Word}
+use Rattle.radio_world.specs.push_terms.specs.declared.word.Word.TheVariants.{Pass, Lose, Repeat, Damage, Cut, Timer, Drop, Cancel}
+use Rattle.radio_world.specs.capture.specs.Frames.{frame_pieces, way_served}
+use Rattle.radio_world.specs.radio_air.specs.declared.deed.Deed.{Deed}
+use Rattle.radio_world.specs.radio_air.specs.declared.deed.Deed.TheVariants.{Nothing, Meets, Fires, FiresBoth, Breaks, Cancels}
+use Rattle.radio_world.specs.radio_air.specs.declared.fate.Fate.{Fate}
+use Rattle.radio_world.specs.radio_air.specs.declared.fate.Fate.TheVariants.{Delivered, Lost, Repeated, CutOff, Changed}
+use Rattle.radio_world.specs.radio_air.specs.Fates.{changed, meets, comes_of, first_can_meet}
+use Rattle.radio_world.specs.radio_air.specs.Words.{first_meets, meets_on, passing, deed_of}
+use Rattle.radio_world.specs.capture.specs.Pdus.{Pdu}
+use Rattle.host_laws.specs.world_model.specs.Machines.{LinkEvent, Up, Down, News, Linked, Failed, Heard, TimerFired, Cancelled, Opening, Upper}
+use Rattle.host_laws.specs.world_model.specs.Talks.{Talk, Told, Said, Unsent, Met, Done}
+use Rattle.host_laws.specs.world_model.specs.Carriages.{End, Carriage, Motion, Saying, Departure, Arrival, Telling, DoesMotion, landed, MeetsFate, Doing, Moved, Deeds, Misses, Rises, Falls, Opens, Closes, ActsOn, finds, told, owing, IsDone, Carries, first_carriage}
+use Rattle.host_laws.specs.turn_laws.proofs.Recounting.{IsOfScript}
 use Rattle.host_laws.specs.Calm.{pdus_in}
 
 -- ---- a PDU

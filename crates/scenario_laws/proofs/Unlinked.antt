@@ -1,16 +1,16 @@
 -- A host without a link waits for nothing: it has no channels, and its profile asks for none.
 use Rattle.std.proofs.Common.{◌≡◌, ℕ, zero, suc, ◌||◌, Bool, true, false, List, [], ◌∷◌, Some, is_some, refl, sym, ap, ap₂, subst, ◌∙◌, if◌then◌else◌}
-use Rattle.channel_model.specs.Value.{Channels, no_channels}
-use Rattle.channel_model.specs.Calls.{armed, has_fcs}
-use Rattle.channel_model.specs.Giving.{next_given}
-use Rattle.channel_model.specs.Timing.{timed_out}
-use Rattle.link_talk.specs.declared.party.Party.{Party}
-use Rattle.world_model.specs.Machines.{Up, Down, News, Linked, Failed, Heard, TimerFired, Cancelled, Opening}
-use Rattle.world_model.specs.Talks.{Talk}
-use Rattle.host_model.specs.Circumstances.{Circumstance}
-use Rattle.host_model.specs.Hosts.{Host, settles, strides, goes_by, drives, most_steps, tells_events, tells_each, ready, hears_news, hear, says}
-use Rattle.host_model.specs.Profiles.{Profile}
-use Rattle.host_model.specs.Machines.{upper}
+use Rattle.host_laws.specs.channel_model.specs.Value.{Channels, no_channels}
+use Rattle.host_laws.specs.channel_model.specs.Calls.{armed, has_fcs}
+use Rattle.host_laws.specs.channel_model.specs.Giving.{next_given}
+use Rattle.host_laws.specs.channel_model.specs.Timing.{timed_out}
+use Rattle.host_laws.specs.link_talk.specs.declared.party.Party.{Party}
+use Rattle.host_laws.specs.world_model.specs.Machines.{Up, Down, News, Linked, Failed, Heard, TimerFired, Cancelled, Opening}
+use Rattle.host_laws.specs.world_model.specs.Talks.{Talk}
+use Rattle.host_laws.specs.host_model.specs.Circumstances.{Circumstance}
+use Rattle.host_laws.specs.host_model.specs.Hosts.{Host, settles, strides, goes_by, drives, most_steps, tells_events, tells_each, ready, hears_news, hear, says}
+use Rattle.host_laws.specs.host_model.specs.Profiles.{Profile}
+use Rattle.host_laws.specs.host_model.specs.Machines.{upper}
 use Rattle.host_laws.specs.Acts.{Act, Hears, Says, Does, Acting}
 use Rattle.host_laws.specs.OverLinks.{is_up_behind, IsTimely, AreInTurn}
 use Rattle.host_laws.proofs.Turning.{up_behind}

@@ -1,24 +1,24 @@
 -- A client without a link: it rests, a link is to be made for its push, or its push is over.
 use Rattle.std.proofs.Common.{◌≡◌, ◌&&◌, ℕ, Bool, true, false, List, [], Option, Some, None, Result, Ok, Err, refl, if◌then◌else◌}
-use Rattle.bt_base.specs.declared.ports.PortFault.{PortFault}
-use Rattle.bt_base.specs.declared.ports.PortFault.TheVariants as faults
-use Rattle.bt_base.specs.declared.settings.Settings.{Settings}
-use Rattle.push_terms.specs.declared.outcome.Outcome.{Outcome}
-use Rattle.push_terms.specs.declared.outcome.Outcome.TheVariants as outcomes
-use Rattle.push_model.specs.declared.course.Point.TheVariants.{Due, Asked}
-use Rattle.push_model.specs.declared.course.Stage.{Stage}
-use Rattle.push_model.specs.declared.course.Stage.TheVariants.{Rest, Link, SearchChannel, Search, SearchEnd, Features, ObjectChannel, Object, ObjectEnd, LinkEnd, Over}
-use Rattle.push_model.specs.Causes.{Ending, InOrder, AtOnce, ending_of, cause_of_link, cause_of_page}
-use Rattle.push_model.specs.Client.{Client, stage_after, ends, ends_by, cancelled, may_cancel, begins, begun_by}
-use Rattle.push_model.specs.Events as events
-use Rattle.push_model.specs.Events.{hears_news, is_linked, is_paging, over, over_by, fires, armed}
-use Rattle.push_model.specs.Steps.{Part, Step, Wait, MakeLink, AskFeatures, OpenChannel, SendSdu, CloseChannel, BreakLink, Ended, NoMemory, Stepped, steps, steps_at, tells_end, rests}
-use Rattle.channel_model.specs.Value.{no_channels}
-use Rattle.world_model.specs.Machines.{News, Linked, Failed, Heard, TimerFired, Cancelled, Opening}
-use Rattle.host_model.specs.Circumstances.{Circumstance}
-use Rattle.host_model.specs.Profiles.{Stride}
-use Rattle.host_model.specs.Clients.{ClientProfile, client_profile, after_end, ended, after_call, calls, told, takes, next_stride, sent_on, NoBid, fitted}
-use Rattle.host_model.specs.Shelves.{size_for, name_for, unused}
+use Rattle.radio_world.specs.bt_base.specs.declared.ports.PortFault.{PortFault}
+use Rattle.radio_world.specs.bt_base.specs.declared.ports.PortFault.TheVariants as faults
+use Rattle.radio_world.specs.bt_base.specs.declared.settings.Settings.{Settings}
+use Rattle.radio_world.specs.push_terms.specs.declared.outcome.Outcome.{Outcome}
+use Rattle.radio_world.specs.push_terms.specs.declared.outcome.Outcome.TheVariants as outcomes
+use Rattle.host_laws.specs.push_model.specs.declared.course.Point.TheVariants.{Due, Asked}
+use Rattle.host_laws.specs.push_model.specs.declared.course.Stage.{Stage}
+use Rattle.host_laws.specs.push_model.specs.declared.course.Stage.TheVariants.{Rest, Link, SearchChannel, Search, SearchEnd, Features, ObjectChannel, Object, ObjectEnd, LinkEnd, Over}
+use Rattle.host_laws.specs.push_model.specs.Causes.{Ending, InOrder, AtOnce, ending_of, cause_of_link, cause_of_page}
+use Rattle.host_laws.specs.push_model.specs.Client.{Client, stage_after, ends, ends_by, cancelled, may_cancel, begins, begun_by}
+use Rattle.host_laws.specs.push_model.specs.Events as events
+use Rattle.host_laws.specs.push_model.specs.Events.{hears_news, is_linked, is_paging, over, over_by, fires, armed}
+use Rattle.host_laws.specs.push_model.specs.Steps.{Part, Step, Wait, MakeLink, AskFeatures, OpenChannel, SendSdu, CloseChannel, BreakLink, Ended, NoMemory, Stepped, steps, steps_at, tells_end, rests}
+use Rattle.host_laws.specs.channel_model.specs.Value.{no_channels}
+use Rattle.host_laws.specs.world_model.specs.Machines.{News, Linked, Failed, Heard, TimerFired, Cancelled, Opening}
+use Rattle.host_laws.specs.host_model.specs.Circumstances.{Circumstance}
+use Rattle.host_laws.specs.host_model.specs.Profiles.{Stride}
+use Rattle.host_laws.specs.host_model.specs.Clients.{ClientProfile, client_profile, after_end, ended, after_call, calls, told, takes, next_stride, sent_on, NoBid, fitted}
+use Rattle.host_laws.specs.host_model.specs.Shelves.{size_for, name_for, unused}
 use Rattle.scenario_laws.proofs.Acting.{IsAside}
 use Rattle.scenario_laws.proofs.Unlinked.{Keeps}
 

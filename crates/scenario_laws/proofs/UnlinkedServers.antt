@@ -1,14 +1,14 @@
 -- A server without a link: it knows no channel in which an SDU could go.
 use Rattle.std.proofs.Common.{◌≡◌, List, [], Option, Some, None, refl, subst, sym}
-use Rattle.bt_base.specs.declared.settings.Settings.{Settings}
-use Rattle.bt_base.specs.Objects.{Contents}
-use Rattle.push_model.specs.Server.{Server, Lent, lends, lent_sdu}
-use Rattle.channel_model.specs.Value.{no_channels}
-use Rattle.world_model.specs.Machines.{News, Linked, Failed, Heard, TimerFired, Cancelled, Opening}
-use Rattle.host_model.specs.Circumstances.{Circumstance}
-use Rattle.host_model.specs.Endpoints.{Endpoint, endpoint_of}
-use Rattle.host_model.specs.Profiles.{Stride}
-use Rattle.host_model.specs.Servers.{ServerProfile, server_profile, submits, takes, told, next_stride}
+use Rattle.radio_world.specs.bt_base.specs.declared.settings.Settings.{Settings}
+use Rattle.radio_world.specs.bt_base.specs.Objects.{Contents}
+use Rattle.host_laws.specs.push_model.specs.Server.{Server, Lent, lends, lent_sdu}
+use Rattle.host_laws.specs.channel_model.specs.Value.{no_channels}
+use Rattle.host_laws.specs.world_model.specs.Machines.{News, Linked, Failed, Heard, TimerFired, Cancelled, Opening}
+use Rattle.host_laws.specs.host_model.specs.Circumstances.{Circumstance}
+use Rattle.host_laws.specs.host_model.specs.Endpoints.{Endpoint, endpoint_of}
+use Rattle.host_laws.specs.host_model.specs.Profiles.{Stride}
+use Rattle.host_laws.specs.host_model.specs.Servers.{ServerProfile, server_profile, submits, takes, told, next_stride}
 use Rattle.scenario_laws.proofs.Acting.{IsAside}
 use Rattle.scenario_laws.proofs.Unlinked.{Keeps}
 

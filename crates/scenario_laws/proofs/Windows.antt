@@ -2,32 +2,32 @@
 use Rattle.std.proofs.Common.{◌≡◌, ℕ, ◌≤◌, ◌<◌, inl, inr, List, [], ◌∷◌, ◌++◌, length, drop, Bool, true, false, cond, Option, Some, None, Ok, Err, refl, sym, ap, subst, arith, append_assoc, append-nil, length-append, length-drop}
 use Rattle.std.specs.Prelude.{nat_le}
 use Rattle.std.proofs.lemmas.List.Sums.{fold-append}
-use Rattle.ertm_frames.specs.Answers.{Answer}
-use Rattle.ertm_frames.specs.Frames.{PlainFrame}
-use Rattle.ertm_frames.specs.declared.refusal.FrameRefusal.{FrameRefusal}
-use Rattle.ertm_model.specs.declared.reason.ErtmReason.{ErtmReason}
-use Rattle.ertm_model.specs.declared.reason.ErtmReason.TheVariants.{RetryLimit}
-use Rattle.ertm_model.specs.Value.{Kept, Poll, NoPoll, Due, Waits, Ertm}
-use Rattle.ertm_model.specs.Giving.{Giving, PollAnswer, Acknowledgement, Rejection, Polling, Again, New, giving, after_by, first_poll, poll_timed, open_timed, timed, closing, polling}
-use Rattle.ertm_model.specs.Hearing.{acknowledged, fault, heard_by, open_heard, heard, closed_by, refusal_fault, refused}
-use Rattle.ertm_model.specs.Submitting.{is_busy, submitted, taking}
-use Rattle.ertm_model.proofs.Inverting.{Gives, gives}
-use Rattle.ertm_model.proofs.Lists.{again-length}
-use Rattle.l2cap_config.specs.declared.wish.Mode.{Mode}
-use Rattle.l2cap_config.specs.declared.wish.Mode.TheVariants.{Basic, Enhanced}
-use Rattle.l2cap_config.specs.declared.wish.Wish.{Wish}
-use Rattle.l2cap_config.specs.Agreement.{asked_mode, sent_window, agreed_on}
-use Rattle.channel_model.specs.Configuring.{bounded_agreement, carrier_by}
-use Rattle.channel_model.specs.Changing.{held_at, setup_of}
-use Rattle.channel_model.specs.Value.{Carrier, Plain, Retransmitting, Setup, Stage, Requested, Connected, Leaving, Closing, Crossed, Held, Channels}
-use Rattle.channel_model.specs.Policies.{Policy}
-use Rattle.channel_model.specs.Calls.{setup_on, carrier_with, carrier_window}
-use Rattle.channel_model.specs.Carrying.{read_by, machine_heard}
-use Rattle.channel_model.specs.Giving.{carrier_given}
-use Rattle.channel_model.proofs.Going.{IsAccepted, CarrierGoes}
-use Rattle.channel_laws.specs.Runs.{Occurrence, Run, new_link, run_on, run_of}
-use Rattle.channel_laws.proofs.Keeping.{OfCarrier, StageKeeps, HeldKeeps, AllKeep, Keeps, Carries, keeps-all}
-use Rattle.channel_laws.proofs.Running.{all-sound}
+use Rattle.host_laws.specs.ertm_frames.specs.Answers.{Answer}
+use Rattle.host_laws.specs.ertm_frames.specs.Frames.{PlainFrame}
+use Rattle.host_laws.specs.ertm_frames.specs.declared.refusal.FrameRefusal.{FrameRefusal}
+use Rattle.host_laws.specs.ertm_model.specs.declared.reason.ErtmReason.{ErtmReason}
+use Rattle.host_laws.specs.ertm_model.specs.declared.reason.ErtmReason.TheVariants.{RetryLimit}
+use Rattle.host_laws.specs.ertm_model.specs.Value.{Kept, Poll, NoPoll, Due, Waits, Ertm}
+use Rattle.host_laws.specs.ertm_model.specs.Giving.{Giving, PollAnswer, Acknowledgement, Rejection, Polling, Again, New, giving, after_by, first_poll, poll_timed, open_timed, timed, closing, polling}
+use Rattle.host_laws.specs.ertm_model.specs.Hearing.{acknowledged, fault, heard_by, open_heard, heard, closed_by, refusal_fault, refused}
+use Rattle.host_laws.specs.ertm_model.specs.Submitting.{is_busy, submitted, taking}
+use Rattle.host_laws.specs.ertm_model.proofs.Inverting.{Gives, gives}
+use Rattle.host_laws.specs.ertm_model.proofs.Lists.{again-length}
+use Rattle.host_laws.specs.l2cap_config.specs.declared.wish.Mode.{Mode}
+use Rattle.host_laws.specs.l2cap_config.specs.declared.wish.Mode.TheVariants.{Basic, Enhanced}
+use Rattle.host_laws.specs.l2cap_config.specs.declared.wish.Wish.{Wish}
+use Rattle.host_laws.specs.l2cap_config.specs.Agreement.{asked_mode, sent_window, agreed_on}
+use Rattle.host_laws.specs.channel_model.specs.Configuring.{bounded_agreement, carrier_by}
+use Rattle.host_laws.specs.channel_model.specs.Changing.{held_at, setup_of}
+use Rattle.host_laws.specs.channel_model.specs.Value.{Carrier, Plain, Retransmitting, Setup, Stage, Requested, Connected, Leaving, Closing, Crossed, Held, Channels}
+use Rattle.host_laws.specs.channel_model.specs.Policies.{Policy}
+use Rattle.host_laws.specs.channel_model.specs.Calls.{setup_on, carrier_with, carrier_window}
+use Rattle.host_laws.specs.channel_model.specs.Carrying.{read_by, machine_heard}
+use Rattle.host_laws.specs.channel_model.specs.Giving.{carrier_given}
+use Rattle.host_laws.specs.channel_model.proofs.Going.{IsAccepted, CarrierGoes}
+use Rattle.host_laws.specs.channel_laws.specs.Runs.{Occurrence, Run, new_link, run_on, run_of}
+use Rattle.host_laws.specs.channel_laws.proofs.Keeping.{OfCarrier, StageKeeps, HeldKeeps, AllKeep, Keeps, Carries, keeps-all}
+use Rattle.host_laws.specs.channel_laws.proofs.Running.{all-sound}
 
 -- ---- a machine
 

@@ -1,11 +1,11 @@
 -- What a scenario wishes of each channel.
 use Rattle.std.proofs.Common.{◌≡◌, ℕ, ◌==◌, Bool, true, false, cond, refl}
-use Rattle.bt_base.specs.declared.settings.Settings.{Settings}
-use Rattle.push_terms.specs.declared.word.Side.{Side}
-use Rattle.l2cap_config.specs.declared.wish.Mode.TheVariants.{Basic}
-use Rattle.l2cap_config.specs.declared.wish.Wish.{Wish}
-use Rattle.channel_model.specs.Policies.{enhanced_wish, wished, policy}
-use Rattle.channel_laws.specs.Sdus.{StatesFrame}
+use Rattle.radio_world.specs.bt_base.specs.declared.settings.Settings.{Settings}
+use Rattle.radio_world.specs.push_terms.specs.declared.word.Side.{Side}
+use Rattle.host_laws.specs.l2cap_config.specs.declared.wish.Mode.TheVariants.{Basic}
+use Rattle.host_laws.specs.l2cap_config.specs.declared.wish.Wish.{Wish}
+use Rattle.host_laws.specs.channel_model.specs.Policies.{enhanced_wish, wished, policy}
+use Rattle.host_laws.specs.channel_laws.specs.Sdus.{StatesFrame}
 use Rattle.scenario_laws.specs.Parties.{party_of}
 
 wish_by : (settings : Settings) (sdp rfcomm : Bool) → (let wish : Wish = cond sdp (record (enhanced_wish settings) { mode = Basic; mtu = 672 }) (cond rfcomm (record (enhanced_wish settings) { mode = Basic }) (enhanced_wish settings)) in

@@ -1,18 +1,18 @@
 -- The accounts of both hosts, over the capture alone (Core 5.1, Volume 2 Part E, 4.1.1 and 7.7.19).
 use Rattle.std.specs.Prelude.{ℕ, ◌≡◌, ◌≤◌, true, List, Option, Some}
-use Rattle.bt_base.specs.declared.settings.Settings.{Settings}
-use Rattle.bt_base.specs.Objects.{Contents}
-use Rattle.push_script.specs.declared.scenario.Scenario.{Scenario}
-use Rattle.push_terms.specs.declared.word.Side.{Side}
-use Rattle.capture.specs.Buffers.{KeepsWithin}
-use Rattle.capture.specs.Entries.{Entry}
-use Rattle.link_talk.specs.Accounts.{window_used}
-use Rattle.link_talk.specs.Captures.{talk_now}
-use Rattle.link_talk.specs.Channels.{Entry as Known, is_alive, reading}
-use Rattle.channel_laws.specs.Views.{read_at}
-use Rattle.radio_air.specs.Course.{PushesInTurn}
-use Rattle.radio_air.specs.Honest.{AreHonest}
-use Rattle.world_model.specs.Worlds.{IsAtRest}
+use Rattle.radio_world.specs.bt_base.specs.declared.settings.Settings.{Settings}
+use Rattle.radio_world.specs.bt_base.specs.Objects.{Contents}
+use Rattle.radio_world.specs.push_script.specs.declared.scenario.Scenario.{Scenario}
+use Rattle.radio_world.specs.push_terms.specs.declared.word.Side.{Side}
+use Rattle.radio_world.specs.capture.specs.Buffers.{KeepsWithin}
+use Rattle.radio_world.specs.capture.specs.Entries.{Entry}
+use Rattle.host_laws.specs.link_talk.specs.Accounts.{window_used}
+use Rattle.host_laws.specs.link_talk.specs.Captures.{talk_now}
+use Rattle.host_laws.specs.link_talk.specs.Channels.{Entry as Known, is_alive, reading}
+use Rattle.host_laws.specs.channel_laws.specs.Views.{read_at}
+use Rattle.radio_world.specs.radio_air.specs.Course.{PushesInTurn}
+use Rattle.radio_world.specs.radio_air.specs.Honest.{AreHonest}
+use Rattle.host_laws.specs.world_model.specs.Worlds.{IsAtRest}
 use Rattle.scenario_laws.specs.Captures.{client_of, server_of, Ran}
 use Rattle.scenario_laws.specs.Parties.{party_of}
 

@@ -1,15 +1,15 @@
 -- The air obeys the script, over the capture alone (this project's own).
 use Rattle.std.specs.Prelude.{List, [], ◌++◌, Option}
-use Rattle.bt_base.specs.declared.settings.Settings.{Settings}
-use Rattle.bt_base.specs.Objects.{Contents}
-use Rattle.push_script.specs.declared.scenario.Scenario.{Scenario}
-use Rattle.push_terms.specs.declared.word.Word.{Word}
-use Rattle.capture.specs.Air.{words_of}
-use Rattle.capture.specs.Entries.{Entry}
-use Rattle.capture.specs.Histories.{EachAfter}
-use Rattle.link_talk.specs.Captures.{is_armed, is_checked_at}
-use Rattle.radio_air.specs.Air.{Hosts, KeepsTo, Obeys}
-use Rattle.world_model.specs.Worlds.{all_words}
+use Rattle.radio_world.specs.bt_base.specs.declared.settings.Settings.{Settings}
+use Rattle.radio_world.specs.bt_base.specs.Objects.{Contents}
+use Rattle.radio_world.specs.push_script.specs.declared.scenario.Scenario.{Scenario}
+use Rattle.radio_world.specs.push_terms.specs.declared.word.Word.{Word}
+use Rattle.radio_world.specs.capture.specs.Air.{words_of}
+use Rattle.radio_world.specs.capture.specs.Entries.{Entry}
+use Rattle.radio_world.specs.capture.specs.Histories.{EachAfter}
+use Rattle.host_laws.specs.link_talk.specs.Captures.{is_armed, is_checked_at}
+use Rattle.radio_world.specs.radio_air.specs.Air.{Hosts, KeepsTo, Obeys}
+use Rattle.host_laws.specs.world_model.specs.Worlds.{all_words}
 use Rattle.scenario_laws.specs.Captures.{Ran, Finished}
 use Rattle.scenario_laws.specs.Parties.{party_of}
 

@@ -1,12 +1,12 @@
 -- On each link of a run one channel alone carries packets at host b (Object Push Profile 1.2, 4.3; RFCOMM 1.2, 2.1).
 use Rattle.std.specs.Prelude.{true, List, Option}
 use Rattle.std.specs.List.{AllByRecursion, flat_map}
-use Rattle.bt_base.specs.Objects.{Contents}
-use Rattle.push_terms.specs.declared.word.Side.TheVariants as sides
-use Rattle.push_script.specs.declared.scenario.Scenario.{Scenario}
-use Rattle.capture.specs.Entries.{Entry}
-use Rattle.channel_model.specs.Policies.{policy}
-use Rattle.host_model.specs.Servers.{server_profile}
+use Rattle.radio_world.specs.bt_base.specs.Objects.{Contents}
+use Rattle.radio_world.specs.push_terms.specs.declared.word.Side.TheVariants as sides
+use Rattle.radio_world.specs.push_script.specs.declared.scenario.Scenario.{Scenario}
+use Rattle.radio_world.specs.capture.specs.Entries.{Entry}
+use Rattle.host_laws.specs.channel_model.specs.Policies.{policy}
+use Rattle.host_laws.specs.host_model.specs.Servers.{server_profile}
 use Rattle.host_laws.specs.Calls.{Asks}
 use Rattle.host_laws.specs.InOrder.{AsksNoChannels}
 use Rattle.host_laws.specs.Lives.{on_links}

@@ -1,23 +1,23 @@
 -- What is so of a scenario that broke off, over its capture so far alone (this project's own).
 use Rattle.std.specs.Prelude.{◌≡◌, ◌||◌, true, List, [], ◌++◌, Option, Some}
-use Rattle.bt_base.specs.declared.settings.Transport.TheVariants.{L2cap}
-use Rattle.bt_base.specs.Objects.{Object, Contents}
-use Rattle.push_script.specs.declared.scenario.Scenario.{Scenario}
-use Rattle.push_terms.specs.declared.word.Side.TheVariants.{A, B}
-use Rattle.push_terms.specs.declared.word.Word.{Word}
-use Rattle.capture.specs.Air.{words_of}
-use Rattle.capture.specs.Buffers.{KeepsWithin}
-use Rattle.capture.specs.Entries.{Entry}
-use Rattle.capture.specs.Histories.{EachAfter}
-use Rattle.link_talk.specs.Captures.{objects_heard}
-use Rattle.radio_air.specs.Air.{KeepsTo}
-use Rattle.radio_air.specs.Course.{PushesInTurn}
-use Rattle.radio_air.specs.Honest.{AreHonest}
-use Rattle.radio_air.specs.Queues.{is_crowded}
-use Rattle.air_laws.specs.Crowded.{IsCrowded}
-use Rattle.push_laws.specs.Laws.{stored_in}
-use Rattle.turn_laws.specs.Laws.{IsFront}
-use Rattle.world_model.specs.Worlds.{Happening, all_entries, all_words}
+use Rattle.radio_world.specs.bt_base.specs.declared.settings.Transport.TheVariants.{L2cap}
+use Rattle.radio_world.specs.bt_base.specs.Objects.{Object, Contents}
+use Rattle.radio_world.specs.push_script.specs.declared.scenario.Scenario.{Scenario}
+use Rattle.radio_world.specs.push_terms.specs.declared.word.Side.TheVariants.{A, B}
+use Rattle.radio_world.specs.push_terms.specs.declared.word.Word.{Word}
+use Rattle.radio_world.specs.capture.specs.Air.{words_of}
+use Rattle.radio_world.specs.capture.specs.Buffers.{KeepsWithin}
+use Rattle.radio_world.specs.capture.specs.Entries.{Entry}
+use Rattle.radio_world.specs.capture.specs.Histories.{EachAfter}
+use Rattle.host_laws.specs.link_talk.specs.Captures.{objects_heard}
+use Rattle.radio_world.specs.radio_air.specs.Air.{KeepsTo}
+use Rattle.radio_world.specs.radio_air.specs.Course.{PushesInTurn}
+use Rattle.radio_world.specs.radio_air.specs.Honest.{AreHonest}
+use Rattle.radio_world.specs.radio_air.specs.Queues.{is_crowded}
+use Rattle.host_laws.specs.air_laws.specs.Crowded.{IsCrowded}
+use Rattle.host_laws.specs.push_laws.specs.Laws.{stored_in}
+use Rattle.host_laws.specs.turn_laws.specs.Laws.{IsFront}
+use Rattle.host_laws.specs.world_model.specs.Worlds.{Happening, all_entries, all_words}
 use Rattle.host_laws.specs.Calls.{HostsAsk}
 use Rattle.scenario_laws.specs.Air.{hosts_of}
 use Rattle.scenario_laws.specs.Captures.{BothHosts, Happened, Ran}

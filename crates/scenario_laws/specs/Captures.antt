@@ -1,18 +1,18 @@
 -- A run of the world of both hosts of a scenario, and its capture (this project's own).
 use Rattle.std.specs.Prelude.{◌≡◌, List, ◌++◌, Option}
-use Rattle.bt_base.specs.Objects.{Contents}
-use Rattle.push_script.specs.declared.scenario.Scenario.{Scenario}
-use Rattle.capture.specs.Air.{words_of}
-use Rattle.capture.specs.Entries.{Entry}
-use Rattle.world_model.specs.Machines.{Upper}
-use Rattle.world_model.specs.Worlds.{World, Happening, IsAtRest, Runs, all_entries, all_words, first_world}
-use Rattle.turn_laws.specs.Laws.{IsFront}
-use Rattle.air_laws.specs.AirLaws.{IsLastEnd}
-use Rattle.host_model.specs.Circumstances.{Circumstance}
-use Rattle.host_model.specs.Hosts.{Host}
-use Rattle.host_model.specs.Clients.{ClientProfile}
-use Rattle.host_model.specs.Servers.{ServerProfile}
-use Rattle.host_model.specs.Machines.{client_host, server_host}
+use Rattle.radio_world.specs.bt_base.specs.Objects.{Contents}
+use Rattle.radio_world.specs.push_script.specs.declared.scenario.Scenario.{Scenario}
+use Rattle.radio_world.specs.capture.specs.Air.{words_of}
+use Rattle.radio_world.specs.capture.specs.Entries.{Entry}
+use Rattle.host_laws.specs.world_model.specs.Machines.{Upper}
+use Rattle.host_laws.specs.world_model.specs.Worlds.{World, Happening, IsAtRest, Runs, all_entries, all_words, first_world}
+use Rattle.host_laws.specs.turn_laws.specs.Laws.{IsFront}
+use Rattle.host_laws.specs.air_laws.specs.AirLaws.{IsLastEnd}
+use Rattle.host_laws.specs.host_model.specs.Circumstances.{Circumstance}
+use Rattle.host_laws.specs.host_model.specs.Hosts.{Host}
+use Rattle.host_laws.specs.host_model.specs.Clients.{ClientProfile}
+use Rattle.host_laws.specs.host_model.specs.Servers.{ServerProfile}
+use Rattle.host_laws.specs.host_model.specs.Machines.{client_host, server_host}
 
 -- both hosts as a scenario sets them; the inbox holds that at first, where it tells what it holds
 abbrev pub client_of : Scenario → Upper (Host ClientProfile) Circumstance

@@ -1,18 +1,18 @@
 -- What is so of a scenario that ran to its end, over its capture alone (this project's own).
 use Rattle.std.specs.Prelude.{◌≡◌, List, ◌++◌, Option, Some}
-use Rattle.bt_base.specs.declared.settings.Transport.TheVariants.{L2cap}
-use Rattle.bt_base.specs.Objects.{Object}
-use Rattle.push_script.specs.declared.scenario.Scenario.{Scenario}
-use Rattle.push_terms.specs.declared.outcome.Outcome.{Outcome}
-use Rattle.push_terms.specs.declared.word.Side.TheVariants.{A, B}
-use Rattle.capture.specs.Air.{words_of}
-use Rattle.capture.specs.Buffers.{KeepsWithin}
-use Rattle.capture.specs.Entries.{Entry}
-use Rattle.link_talk.specs.Captures.{objects_heard}
-use Rattle.radio_air.specs.Air.{Obeys}
-use Rattle.radio_air.specs.Course.{PushesInTurn}
-use Rattle.radio_air.specs.Honest.{AreHonest}
-use Rattle.push_laws.specs.Laws.{stored_in}
+use Rattle.radio_world.specs.bt_base.specs.declared.settings.Transport.TheVariants.{L2cap}
+use Rattle.radio_world.specs.bt_base.specs.Objects.{Object}
+use Rattle.radio_world.specs.push_script.specs.declared.scenario.Scenario.{Scenario}
+use Rattle.radio_world.specs.push_terms.specs.declared.outcome.Outcome.{Outcome}
+use Rattle.radio_world.specs.push_terms.specs.declared.word.Side.TheVariants.{A, B}
+use Rattle.radio_world.specs.capture.specs.Air.{words_of}
+use Rattle.radio_world.specs.capture.specs.Buffers.{KeepsWithin}
+use Rattle.radio_world.specs.capture.specs.Entries.{Entry}
+use Rattle.host_laws.specs.link_talk.specs.Captures.{objects_heard}
+use Rattle.radio_world.specs.radio_air.specs.Air.{Obeys}
+use Rattle.radio_world.specs.radio_air.specs.Course.{PushesInTurn}
+use Rattle.radio_world.specs.radio_air.specs.Honest.{AreHonest}
+use Rattle.host_laws.specs.push_laws.specs.Laws.{stored_in}
 use Rattle.radio_world.specs.Standing.{last_ended, last_entries, all_outcomes}
 use Rattle.host_laws.specs.Calls.{HostsAsk}
 use Rattle.scenario_laws.specs.Accounts.{KeepsWindow}

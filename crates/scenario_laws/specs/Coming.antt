@@ -1,21 +1,21 @@
 -- How a host came to what a capture has: what it was told and said, over all its links and on the one that is up (this project's own).
 use Rattle.std.specs.Prelude.{ℕ, ◌≡◌, ◌⊎◌, List, [], ◌∷◌, ◌++◌, map, Option, Some, None}
 use Rattle.std.specs.List.{flat_map}
-use Rattle.bt_base.specs.Objects.{Contents}
-use Rattle.push_script.specs.declared.scenario.Scenario.{Scenario}
-use Rattle.push_terms.specs.declared.word.Side.{Side}
-use Rattle.push_terms.specs.declared.word.Side.TheVariants as sides
-use Rattle.capture.specs.declared.flow.Flow.TheVariants.{Out}
-use Rattle.capture.specs.Entries.{Entry}
-use Rattle.capture.specs.Links.{Link, links, link_up}
-use Rattle.capture.specs.Pdus.{Pdu, pdus}
-use Rattle.world_model.specs.Talks.{Talk}
-use Rattle.world_model.specs.Worlds.{Happening, IsAtRest, all_entries}
-use Rattle.host_model.specs.Hosts.{Host}
-use Rattle.host_model.specs.Profiles.{Profile}
-use Rattle.host_model.specs.Clients.{client_profile}
-use Rattle.host_model.specs.Servers.{server_profile}
-use Rattle.host_model.specs.Machines.{upper}
+use Rattle.radio_world.specs.bt_base.specs.Objects.{Contents}
+use Rattle.radio_world.specs.push_script.specs.declared.scenario.Scenario.{Scenario}
+use Rattle.radio_world.specs.push_terms.specs.declared.word.Side.{Side}
+use Rattle.radio_world.specs.push_terms.specs.declared.word.Side.TheVariants as sides
+use Rattle.radio_world.specs.capture.specs.declared.flow.Flow.TheVariants.{Out}
+use Rattle.radio_world.specs.capture.specs.Entries.{Entry}
+use Rattle.radio_world.specs.capture.specs.Links.{Link, links, link_up}
+use Rattle.radio_world.specs.capture.specs.Pdus.{Pdu, pdus}
+use Rattle.host_laws.specs.world_model.specs.Talks.{Talk}
+use Rattle.host_laws.specs.world_model.specs.Worlds.{Happening, IsAtRest, all_entries}
+use Rattle.host_laws.specs.host_model.specs.Hosts.{Host}
+use Rattle.host_laws.specs.host_model.specs.Profiles.{Profile}
+use Rattle.host_laws.specs.host_model.specs.Clients.{client_profile}
+use Rattle.host_laws.specs.host_model.specs.Servers.{server_profile}
+use Rattle.host_laws.specs.host_model.specs.Machines.{upper}
 use Rattle.host_laws.specs.Calm.{pdus_in}
 use Rattle.host_laws.specs.OverLinks.{OverLinks, parts}
 use Rattle.host_laws.specs.Turning.{OnLink}

@@ -1,18 +1,18 @@
 -- Runs that broke off, over the capture alone (this project's own).
 use Rattle.std.specs.Prelude.{◌≡◌, List, [], ◌∷◌, ◌++◌, Option, Some}
-use Rattle.bt_base.specs.declared.settings.Transport.TheVariants.{L2cap}
-use Rattle.bt_base.specs.Objects.{Object, Contents}
-use Rattle.push_script.specs.declared.scenario.Scenario.{Scenario}
-use Rattle.push_terms.specs.declared.word.Side.{Side}
-use Rattle.push_terms.specs.declared.word.Side.TheVariants.{B}
-use Rattle.capture.specs.Entries.{Entry}
-use Rattle.link_talk.specs.Captures.{objects_heard}
-use Rattle.link_talk.specs.declared.party.Party.{Party}
-use Rattle.push_laws.specs.Laws.{stored_in}
+use Rattle.radio_world.specs.bt_base.specs.declared.settings.Transport.TheVariants.{L2cap}
+use Rattle.radio_world.specs.bt_base.specs.Objects.{Object, Contents}
+use Rattle.radio_world.specs.push_script.specs.declared.scenario.Scenario.{Scenario}
+use Rattle.radio_world.specs.push_terms.specs.declared.word.Side.{Side}
+use Rattle.radio_world.specs.push_terms.specs.declared.word.Side.TheVariants.{B}
+use Rattle.radio_world.specs.capture.specs.Entries.{Entry}
+use Rattle.host_laws.specs.link_talk.specs.Captures.{objects_heard}
+use Rattle.host_laws.specs.link_talk.specs.declared.party.Party.{Party}
+use Rattle.host_laws.specs.push_laws.specs.Laws.{stored_in}
 use Rattle.host_laws.specs.Calls.{HostsAsk}
-use Rattle.run_laws.specs.Breaking.{IsWritten}
-use Rattle.turn_laws.specs.Laws.{IsFront}
-use Rattle.world_model.specs.Worlds.{Happening, Does, entries_of, all_entries}
+use Rattle.radio_world.specs.run_laws.specs.Breaking.{IsWritten}
+use Rattle.host_laws.specs.turn_laws.specs.Laws.{IsFront}
+use Rattle.host_laws.specs.world_model.specs.Worlds.{Happening, Does, entries_of, all_entries}
 use Rattle.scenario_laws.specs.Captures.{client_of, server_of, BothHosts, Happened, Ran}
 use Rattle.scenario_laws.specs.Gains.{holding, OrderlyServer}
 use Rattle.scenario_laws.specs.Parties.{party_of}

@@ -1,11 +1,11 @@
 -- The client of a run is free too, however it came to its links, and lives through its talk, with no premise (this project's own).
 use Rattle.std.specs.Prelude.{false, List, Option}
-use Rattle.bt_base.specs.Objects.{Contents}
-use Rattle.push_script.specs.declared.scenario.Scenario.{Scenario}
-use Rattle.push_terms.specs.declared.word.Side.TheVariants as sides
-use Rattle.capture.specs.Entries.{Entry}
-use Rattle.host_model.specs.Clients.{client_profile}
-use Rattle.host_model.specs.Hosts.{first_host}
+use Rattle.radio_world.specs.bt_base.specs.Objects.{Contents}
+use Rattle.radio_world.specs.push_script.specs.declared.scenario.Scenario.{Scenario}
+use Rattle.radio_world.specs.push_terms.specs.declared.word.Side.TheVariants as sides
+use Rattle.radio_world.specs.capture.specs.Entries.{Entry}
+use Rattle.host_laws.specs.host_model.specs.Clients.{client_profile}
+use Rattle.host_laws.specs.host_model.specs.Hosts.{first_host}
 use Rattle.host_laws.specs.Calls.{HostsAsk}
 use Rattle.host_laws.specs.OverLinks.{TalksOverLinks}
 use Rattle.scenario_laws.specs.Captures.{Ran}

@@ -1,18 +1,18 @@
 -- The server of a run is free, however it came to its links, and lives through its talk, with no premise (this project's own).
 use Rattle.std.specs.Prelude.{true, false, List, [], Option}
 use Rattle.std.specs.List.{AllByRecursion, flat_map}
-use Rattle.bt_base.specs.Objects.{Object, Contents}
-use Rattle.bt_base.specs.declared.settings.Settings.{Settings}
-use Rattle.push_script.specs.declared.scenario.Scenario.{Scenario}
-use Rattle.push_terms.specs.declared.word.Side.TheVariants as sides
-use Rattle.capture.specs.Entries.{Entry}
-use Rattle.capture.specs.Links.{link_up}
-use Rattle.channel_model.specs.Policies.{policy}
-use Rattle.push_laws.specs.Occurrences.{begun}
-use Rattle.push_laws.specs.Premises.{AllMayCome}
-use Rattle.world_model.specs.Worlds.{Happening, IsAtRest, all_entries}
-use Rattle.host_model.specs.Hosts.{Host, first_host}
-use Rattle.host_model.specs.Servers.{ServerProfile, server_profile}
+use Rattle.radio_world.specs.bt_base.specs.Objects.{Object, Contents}
+use Rattle.radio_world.specs.bt_base.specs.declared.settings.Settings.{Settings}
+use Rattle.radio_world.specs.push_script.specs.declared.scenario.Scenario.{Scenario}
+use Rattle.radio_world.specs.push_terms.specs.declared.word.Side.TheVariants as sides
+use Rattle.radio_world.specs.capture.specs.Entries.{Entry}
+use Rattle.radio_world.specs.capture.specs.Links.{link_up}
+use Rattle.host_laws.specs.channel_model.specs.Policies.{policy}
+use Rattle.host_laws.specs.push_laws.specs.Occurrences.{begun}
+use Rattle.host_laws.specs.push_laws.specs.Premises.{AllMayCome}
+use Rattle.host_laws.specs.world_model.specs.Worlds.{Happening, IsAtRest, all_entries}
+use Rattle.host_laws.specs.host_model.specs.Hosts.{Host, first_host}
+use Rattle.host_laws.specs.host_model.specs.Servers.{ServerProfile, server_profile}
 use Rattle.host_laws.specs.Calls.{HostsAsk}
 use Rattle.host_laws.specs.InOrder.{IsWhole}
 use Rattle.host_laws.specs.Lives.{on_links}

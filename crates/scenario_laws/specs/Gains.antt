@@ -1,24 +1,24 @@
 -- What the inbox gains, over the capture alone (IrOBEX 1.5, 3.4.3; Object Push Profile 1.2, 4.3).
 use Rattle.std.specs.Prelude.{◌≡◌, true, List, [], ◌∷◌, ◌++◌, map, Option, Some, None}
 use Rattle.std.specs.List.{AllByRecursion, AllZip, flat_map}
-use Rattle.bt_base.specs.declared.settings.Settings.{Settings}
-use Rattle.bt_base.specs.declared.settings.Transport.TheVariants.{L2cap}
-use Rattle.bt_base.specs.Objects.{Object, Contents}
-use Rattle.push_terms.specs.declared.word.Side.TheVariants as sides
-use Rattle.push_script.specs.declared.scenario.Scenario.{Scenario}
-use Rattle.capture.specs.Entries.{Entry}
-use Rattle.capture.specs.Links.{Link, link_up}
-use Rattle.link_talk.specs.Captures.{talks, objects_heard}
-use Rattle.link_talk.specs.Sayings.{Saying}
-use Rattle.channel_model.specs.Policies.{policy}
-use Rattle.push_laws.specs.Occurrences.{Occurrence, begun}
-use Rattle.push_laws.specs.Gains.{objects as spelled_by}
-use Rattle.push_laws.specs.Premises.{AllMayCome}
-use Rattle.push_laws.specs.Laws.{stored_in}
-use Rattle.world_model.specs.Talks.{Talk}
-use Rattle.host_model.specs.Hosts.{Host, first_host}
-use Rattle.host_model.specs.Profiles.{Profile}
-use Rattle.host_model.specs.Servers.{ServerProfile, server_profile}
+use Rattle.radio_world.specs.bt_base.specs.declared.settings.Settings.{Settings}
+use Rattle.radio_world.specs.bt_base.specs.declared.settings.Transport.TheVariants.{L2cap}
+use Rattle.radio_world.specs.bt_base.specs.Objects.{Object, Contents}
+use Rattle.radio_world.specs.push_terms.specs.declared.word.Side.TheVariants as sides
+use Rattle.radio_world.specs.push_script.specs.declared.scenario.Scenario.{Scenario}
+use Rattle.radio_world.specs.capture.specs.Entries.{Entry}
+use Rattle.radio_world.specs.capture.specs.Links.{Link, link_up}
+use Rattle.host_laws.specs.link_talk.specs.Captures.{talks, objects_heard}
+use Rattle.host_laws.specs.link_talk.specs.Sayings.{Saying}
+use Rattle.host_laws.specs.channel_model.specs.Policies.{policy}
+use Rattle.host_laws.specs.push_laws.specs.Occurrences.{Occurrence, begun}
+use Rattle.host_laws.specs.push_laws.specs.Gains.{objects as spelled_by}
+use Rattle.host_laws.specs.push_laws.specs.Premises.{AllMayCome}
+use Rattle.host_laws.specs.push_laws.specs.Laws.{stored_in}
+use Rattle.host_laws.specs.world_model.specs.Talks.{Talk}
+use Rattle.host_laws.specs.host_model.specs.Hosts.{Host, first_host}
+use Rattle.host_laws.specs.host_model.specs.Profiles.{Profile}
+use Rattle.host_laws.specs.host_model.specs.Servers.{ServerProfile, server_profile}
 use Rattle.host_laws.specs.Calls.{Asks, HostsAsk}
 use Rattle.host_laws.specs.Carriers.{CarriedLink, IsReadOn, links_of}
 use Rattle.host_laws.specs.Gaining.{IsDirect}

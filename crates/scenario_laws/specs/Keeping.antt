@@ -1,13 +1,13 @@
 -- Both hosts of a run give up no request while their link goes on, and the server waits for no services (Core 5.1, Volume 3 Part A, 4.6 and 6.2;
 -- Part B, 4.2).
 use Rattle.std.specs.Prelude.{◌≡◌, false, List, Option, Some}
-use Rattle.bt_base.specs.Objects.{Contents}
-use Rattle.push_script.specs.declared.scenario.Scenario.{Scenario}
-use Rattle.push_terms.specs.declared.word.Side.TheVariants as sides
-use Rattle.capture.specs.Links.{Link, link_up}
-use Rattle.turn_laws.specs.Laws.{IsFront}
-use Rattle.world_model.specs.Worlds.{Happening, IsAtRest, all_entries}
-use Rattle.host_model.specs.Clients.{client_profile}
+use Rattle.radio_world.specs.bt_base.specs.Objects.{Contents}
+use Rattle.radio_world.specs.push_script.specs.declared.scenario.Scenario.{Scenario}
+use Rattle.radio_world.specs.push_terms.specs.declared.word.Side.TheVariants as sides
+use Rattle.radio_world.specs.capture.specs.Links.{Link, link_up}
+use Rattle.host_laws.specs.turn_laws.specs.Laws.{IsFront}
+use Rattle.host_laws.specs.world_model.specs.Worlds.{Happening, IsAtRest, all_entries}
+use Rattle.host_laws.specs.host_model.specs.Clients.{client_profile}
 use Rattle.host_laws.specs.Calls.{HostsAsk}
 use Rattle.host_laws.specs.Keeping.{SendsAsItLends}
 use Rattle.host_laws.specs.Leaving.{is_off}

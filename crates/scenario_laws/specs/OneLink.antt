@@ -1,11 +1,11 @@
 -- That a push has one link at most, over the capture alone (this project's own).
 use Rattle.std.specs.Prelude.{ℕ, ◌+◌, ◌≤◌, List, [], length, Option}
-use Rattle.bt_base.specs.Objects.{Contents}
-use Rattle.push_script.specs.declared.scenario.Scenario.{Scenario}
-use Rattle.push_terms.specs.declared.word.Side.{Side}
-use Rattle.capture.specs.Entries.{Entry, Begun}
-use Rattle.capture.specs.Histories.{led_by, AtEach}
-use Rattle.capture.specs.Links.{links}
+use Rattle.radio_world.specs.bt_base.specs.Objects.{Contents}
+use Rattle.radio_world.specs.push_script.specs.declared.scenario.Scenario.{Scenario}
+use Rattle.radio_world.specs.push_terms.specs.declared.word.Side.{Side}
+use Rattle.radio_world.specs.capture.specs.Entries.{Entry, Begun}
+use Rattle.radio_world.specs.capture.specs.Histories.{led_by, AtEach}
+use Rattle.radio_world.specs.capture.specs.Links.{links}
 use Rattle.scenario_laws.specs.Captures.{Ran}
 
 -- how many links a host was told of so far, and how many of them as the push began that began last; none before the first

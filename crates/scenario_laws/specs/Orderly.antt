@@ -1,25 +1,25 @@
 -- The server of a run is orderly (Object Push Profile 1.2, 4.3; Core 5.1, Volume 3 Part A, 4.2 and 4.3).
 use Rattle.std.specs.Prelude.{◌≡◌, true, false, List, [], Option}
 use Rattle.std.specs.List.{AllByRecursion, flat_map}
-use Rattle.bt_base.specs.declared.settings.Settings.{Settings}
-use Rattle.bt_base.specs.declared.settings.Transport.{Transport}
-use Rattle.bt_base.specs.declared.settings.Transport.TheVariants.{L2cap}
-use Rattle.bt_base.specs.Objects.{Object, Contents}
-use Rattle.push_terms.specs.declared.word.Side.{Side}
-use Rattle.push_terms.specs.declared.word.Side.TheVariants as sides
-use Rattle.push_script.specs.declared.scenario.Scenario.{Scenario}
-use Rattle.capture.specs.Entries.{Entry}
-use Rattle.capture.specs.declared.flow.Flow.TheVariants.{Out}
-use Rattle.channel_model.specs.Policies.{policy}
-use Rattle.channel_laws.specs.Singly.{calls_that_went, AreOneByOne}
-use Rattle.link_talk.specs.Captures.{talks}
-use Rattle.push_laws.specs.Occurrences.{begun}
-use Rattle.push_laws.specs.Premises.{AllMayCome}
-use Rattle.world_model.specs.Talks.{Talk}
-use Rattle.host_model.specs.Hosts.{Host, first_host}
-use Rattle.host_model.specs.Profiles.{Profile}
-use Rattle.host_model.specs.Clients.{client_profile}
-use Rattle.host_model.specs.Servers.{ServerProfile, server_profile}
+use Rattle.radio_world.specs.bt_base.specs.declared.settings.Settings.{Settings}
+use Rattle.radio_world.specs.bt_base.specs.declared.settings.Transport.{Transport}
+use Rattle.radio_world.specs.bt_base.specs.declared.settings.Transport.TheVariants.{L2cap}
+use Rattle.radio_world.specs.bt_base.specs.Objects.{Object, Contents}
+use Rattle.radio_world.specs.push_terms.specs.declared.word.Side.{Side}
+use Rattle.radio_world.specs.push_terms.specs.declared.word.Side.TheVariants as sides
+use Rattle.radio_world.specs.push_script.specs.declared.scenario.Scenario.{Scenario}
+use Rattle.radio_world.specs.capture.specs.Entries.{Entry}
+use Rattle.radio_world.specs.capture.specs.declared.flow.Flow.TheVariants.{Out}
+use Rattle.host_laws.specs.channel_model.specs.Policies.{policy}
+use Rattle.host_laws.specs.channel_laws.specs.Singly.{calls_that_went, AreOneByOne}
+use Rattle.host_laws.specs.link_talk.specs.Captures.{talks}
+use Rattle.host_laws.specs.push_laws.specs.Occurrences.{begun}
+use Rattle.host_laws.specs.push_laws.specs.Premises.{AllMayCome}
+use Rattle.host_laws.specs.world_model.specs.Talks.{Talk}
+use Rattle.host_laws.specs.host_model.specs.Hosts.{Host, first_host}
+use Rattle.host_laws.specs.host_model.specs.Profiles.{Profile}
+use Rattle.host_laws.specs.host_model.specs.Clients.{client_profile}
+use Rattle.host_laws.specs.host_model.specs.Servers.{ServerProfile, server_profile}
 use Rattle.host_laws.specs.Calls.{Asks, HostsAsk}
 use Rattle.host_laws.specs.InOrder.{may_ask, AsksForOneObject, IsWhole}
 use Rattle.host_laws.specs.Lives.{on_links}

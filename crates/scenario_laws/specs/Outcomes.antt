@@ -1,13 +1,13 @@
 -- What the capture says of how pushes ended (this project's own).
 use Rattle.std.specs.Prelude.{◌≡◌, ◌≤◌, ◌-◌, List, [], ◌∷◌, ◌++◌, length, replicate, Option}
 use Rattle.std.specs.List.{flat_map}
-use Rattle.bt_base.specs.Objects.{Contents}
-use Rattle.push_script.specs.declared.scenario.Scenario.{Scenario}
-use Rattle.push_terms.specs.declared.outcome.Outcome.{Outcome}
-use Rattle.push_terms.specs.declared.outcome.Outcome.TheVariants.{ScriptEnded}
-use Rattle.capture.specs.Entries.{Entry, Ended}
-use Rattle.radio_air.specs.Course.{pushes_begun}
-use Rattle.world_model.specs.Worlds.{all_entries}
+use Rattle.radio_world.specs.bt_base.specs.Objects.{Contents}
+use Rattle.radio_world.specs.push_script.specs.declared.scenario.Scenario.{Scenario}
+use Rattle.radio_world.specs.push_terms.specs.declared.outcome.Outcome.{Outcome}
+use Rattle.radio_world.specs.push_terms.specs.declared.outcome.Outcome.TheVariants.{ScriptEnded}
+use Rattle.radio_world.specs.capture.specs.Entries.{Entry, Ended}
+use Rattle.radio_world.specs.radio_air.specs.Course.{pushes_begun}
+use Rattle.host_laws.specs.world_model.specs.Worlds.{all_entries}
 use Rattle.radio_world.specs.Standing.{last_ended, last_entries, all_outcomes}
 use Rattle.scenario_laws.specs.Captures.{Ran}
 

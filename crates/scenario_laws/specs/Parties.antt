@@ -1,11 +1,11 @@
 -- What both hosts of a scenario take, and their places on RFCOMM.
-use Rattle.bt_base.specs.declared.settings.Settings.{Settings}
-use Rattle.push_terms.specs.declared.word.Side.{Side}
-use Rattle.push_terms.specs.declared.word.Side.TheVariants.{A, B}
-use Rattle.rfcomm_frames.specs.declared.connection.Role.{Role}
-use Rattle.rfcomm_frames.specs.declared.connection.Role.TheVariants.{Initiator, Responder}
-use Rattle.link_talk.specs.declared.party.Party.{Party}
-use Rattle.push_model.specs.Client.{own_maximum}
+use Rattle.radio_world.specs.bt_base.specs.declared.settings.Settings.{Settings}
+use Rattle.radio_world.specs.push_terms.specs.declared.word.Side.{Side}
+use Rattle.radio_world.specs.push_terms.specs.declared.word.Side.TheVariants.{A, B}
+use Rattle.host_laws.specs.rfcomm_frames.specs.declared.connection.Role.{Role}
+use Rattle.host_laws.specs.rfcomm_frames.specs.declared.connection.Role.TheVariants.{Initiator, Responder}
+use Rattle.host_laws.specs.link_talk.specs.declared.party.Party.{Party}
+use Rattle.host_laws.specs.push_model.specs.Client.{own_maximum}
 
 -- host a opens the multiplexer (TS 07.10, 5.1.1)
 abbrev pub role_of : Side → Role

@@ -1,22 +1,22 @@
 -- What is asked of a host in a run, so that what moved on its link is all that it said and heard there. Each of these is a premise of laws
 -- on talk; that hosts are so is no matter of the laws here (this project's own).
 use Rattle.std.specs.Prelude.{ℕ, ◌≡◌, List, Option, Some, None}
-use Rattle.bt_base.specs.Objects.{Contents}
-use Rattle.push_script.specs.declared.scenario.Scenario.{Scenario}
-use Rattle.push_terms.specs.declared.word.Side.TheVariants as sides
-use Rattle.capture.specs.Links.{Link, link_up}
-use Rattle.capture.specs.Pdus.{Pdu, pdus}
-use Rattle.link_talk.specs.declared.party.Party.{Party}
-use Rattle.link_talk.specs.Sayings.{Saying}
-use Rattle.link_talk.specs.Waits.{waits, has_check_word}
-use Rattle.channel_laws.specs.Runs.{run_of}
-use Rattle.world_model.specs.Worlds.{Happening, IsAtRest, all_entries}
-use Rattle.turn_laws.specs.Laws.{IsFront}
-use Rattle.host_model.specs.Hosts.{Host}
-use Rattle.host_model.specs.Profiles.{Profile}
-use Rattle.host_model.specs.Clients.{client_profile}
-use Rattle.host_model.specs.Servers.{server_profile}
-use Rattle.host_model.specs.Machines.{upper}
+use Rattle.radio_world.specs.bt_base.specs.Objects.{Contents}
+use Rattle.radio_world.specs.push_script.specs.declared.scenario.Scenario.{Scenario}
+use Rattle.radio_world.specs.push_terms.specs.declared.word.Side.TheVariants as sides
+use Rattle.radio_world.specs.capture.specs.Links.{Link, link_up}
+use Rattle.radio_world.specs.capture.specs.Pdus.{Pdu, pdus}
+use Rattle.host_laws.specs.link_talk.specs.declared.party.Party.{Party}
+use Rattle.host_laws.specs.link_talk.specs.Sayings.{Saying}
+use Rattle.host_laws.specs.link_talk.specs.Waits.{waits, has_check_word}
+use Rattle.host_laws.specs.channel_laws.specs.Runs.{run_of}
+use Rattle.host_laws.specs.world_model.specs.Worlds.{Happening, IsAtRest, all_entries}
+use Rattle.host_laws.specs.turn_laws.specs.Laws.{IsFront}
+use Rattle.host_laws.specs.host_model.specs.Hosts.{Host}
+use Rattle.host_laws.specs.host_model.specs.Profiles.{Profile}
+use Rattle.host_laws.specs.host_model.specs.Clients.{client_profile}
+use Rattle.host_laws.specs.host_model.specs.Servers.{server_profile}
+use Rattle.host_laws.specs.host_model.specs.Machines.{upper}
 use Rattle.host_laws.specs.Armed.{AwaitsServices}
 use Rattle.host_laws.specs.Calls.{Asks, HostsAsk}
 use Rattle.host_laws.specs.Calm.{TalksSo}

@@ -1,8 +1,8 @@
 -- Both hosts of every run are plain (Core 5.1, Volume 3 Part A, 4.6 and 6.2; Part B, 4.2).
 use Rattle.std.specs.Prelude.{List, Option}
-use Rattle.bt_base.specs.Objects.{Contents}
-use Rattle.push_script.specs.declared.scenario.Scenario.{Scenario}
-use Rattle.world_model.specs.Worlds.{Happening}
+use Rattle.radio_world.specs.bt_base.specs.Objects.{Contents}
+use Rattle.radio_world.specs.push_script.specs.declared.scenario.Scenario.{Scenario}
+use Rattle.host_laws.specs.world_model.specs.Worlds.{Happening}
 use Rattle.host_laws.specs.Calls.{HostsAsk}
 use Rattle.host_laws.specs.Keeping.{SendsAsItLends}
 use Rattle.host_laws.specs.Searching.{AsksAsItSteps}

@@ -1,21 +1,21 @@
 -- A world in code that plays a scenario: what it does is a run of both hosts of the scenario (this project's own).
 use Rattle.std.specs.Prelude.{◌≡◌, List, ◌++◌, Option}
-use Rattle.bt_base.specs.Objects.{Contents}
-use Rattle.push_script.specs.declared.scenario.Scenario.{Scenario}
-use Rattle.push_terms.specs.declared.outcome.Outcome.{Outcome}
-use Rattle.capture.specs.Air.{words_of}
-use Rattle.world_model.specs.Machines.{Upper}
-use Rattle.world_model.specs.Worlds.{Happening, all_entries, all_words}
-use Rattle.rest_laws.specs.Premises.{AreOrderly}
-use Rattle.run_laws.specs.Embedding.{Embeds, world_as}
+use Rattle.radio_world.specs.bt_base.specs.Objects.{Contents}
+use Rattle.radio_world.specs.push_script.specs.declared.scenario.Scenario.{Scenario}
+use Rattle.radio_world.specs.push_terms.specs.declared.outcome.Outcome.{Outcome}
+use Rattle.radio_world.specs.capture.specs.Air.{words_of}
+use Rattle.host_laws.specs.world_model.specs.Machines.{Upper}
+use Rattle.host_laws.specs.world_model.specs.Worlds.{Happening, all_entries, all_words}
+use Rattle.host_laws.specs.rest_laws.specs.Premises.{AreOrderly}
+use Rattle.radio_world.specs.run_laws.specs.Embedding.{Embeds, world_as}
 use Rattle.radio_world.specs.Hosts.{Asking, answering}
 use Rattle.radio_world.specs.Scenes.{Scene, Moment, moment, world_at, Plays}
 use Rattle.radio_world.specs.Standing.{starting, first_moment, Stands, last_entries}
-use Rattle.host_model.specs.Circumstances.{Circumstance}
-use Rattle.host_model.specs.Hosts.{Host}
-use Rattle.host_model.specs.Settings.{set_to, client_machine, server_machine}
-use Rattle.host_model.specs.Clients.{ClientProfile}
-use Rattle.host_model.specs.Servers.{ServerProfile}
+use Rattle.host_laws.specs.host_model.specs.Circumstances.{Circumstance}
+use Rattle.host_laws.specs.host_model.specs.Hosts.{Host}
+use Rattle.host_laws.specs.host_model.specs.Settings.{set_to, client_machine, server_machine}
+use Rattle.host_laws.specs.host_model.specs.Clients.{ClientProfile}
+use Rattle.host_laws.specs.host_model.specs.Servers.{ServerProfile}
 use Rattle.scenario_laws.specs.Captures.{client_of, server_of, BothHosts, Happened, Finished}
 
 -- the two machines of a world in code are those of both hosts, beside what they keep and never change, as their settings

@@ -1,10 +1,10 @@
 -- That each push has its end, and that there are no more pushes than objects, over the capture alone (this project's own).
 use Rattle.std.specs.Prelude.{ℕ, ◌≡◌, ◌≤◌, List, length, Option}
-use Rattle.bt_base.specs.Objects.{Contents}
-use Rattle.push_script.specs.declared.scenario.Scenario.{Scenario}
-use Rattle.push_terms.specs.declared.outcome.Outcome.{Outcome}
-use Rattle.capture.specs.Entries.{Entry}
-use Rattle.radio_air.specs.Course.{pushes_begun}
+use Rattle.radio_world.specs.bt_base.specs.Objects.{Contents}
+use Rattle.radio_world.specs.push_script.specs.declared.scenario.Scenario.{Scenario}
+use Rattle.radio_world.specs.push_terms.specs.declared.outcome.Outcome.{Outcome}
+use Rattle.radio_world.specs.capture.specs.Entries.{Entry}
+use Rattle.radio_world.specs.radio_air.specs.Course.{pushes_begun}
 use Rattle.radio_world.specs.Standing.{last_entries}
 use Rattle.scenario_laws.specs.Captures.{Ran}
 use Rattle.scenario_laws.specs.Outcomes.{outcomes_in, outcomes_of}

@@ -1,13 +1,13 @@
 -- Which requests for channels reach a host of those that the other one said (Core 5.1, Volume 3 Part A, 4.2): between two turns of its
 -- link they come in their order, some of them left out and some again.
 use Rattle.std.specs.Prelude.{ℕ, ◌≡◌, ◌+◌, ◌==◌, ◌⊎◌, List, [], ◌∷◌, ◌++◌, if◌then◌else◌}
-use Rattle.capture.specs.declared.flow.Flow.TheVariants.{Into}
-use Rattle.capture.specs.Pdus.{Pdu}
-use Rattle.link_talk.specs.declared.call.Call.{Call}
-use Rattle.link_talk.specs.Sayings.{said_by}
-use Rattle.channel_laws.specs.Singly.{calls_that_went}
-use Rattle.world_model.specs.Machines.{Linked, Failed, Heard, TimerFired, Cancelled, Opening}
-use Rattle.world_model.specs.Talks.{Talk, Told, Said, Unsent, Met, Done}
+use Rattle.radio_world.specs.capture.specs.declared.flow.Flow.TheVariants.{Into}
+use Rattle.radio_world.specs.capture.specs.Pdus.{Pdu}
+use Rattle.host_laws.specs.link_talk.specs.declared.call.Call.{Call}
+use Rattle.host_laws.specs.link_talk.specs.Sayings.{said_by}
+use Rattle.host_laws.specs.channel_laws.specs.Singly.{calls_that_went}
+use Rattle.host_laws.specs.world_model.specs.Machines.{Linked, Failed, Heard, TimerFired, Cancelled, Opening}
+use Rattle.host_laws.specs.world_model.specs.Talks.{Talk, Told, Said, Unsent, Met, Done}
 use Rattle.host_laws.specs.OverLinks.{turns_link}
 
 -- the requests of a PDU, as its hearer has them

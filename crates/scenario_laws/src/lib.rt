@@ -24,8 +24,8 @@ ghost use Rattle.scenario_laws.specs.PlainRuns.{RunsArePlain};
 ghost use Rattle.scenario_laws.specs.Played.{CallsArePlayed, PlaysAreFinished, SetHostsAreHosts};
 ghost use Rattle.scenario_laws.specs.PushEnds.{PushesAreOfScenarios, PushesEnd};
 ghost use Rattle.scenario_laws.specs.Searched.{RunsSearch};
-ghost use Rattle.host_model.specs.Circumstances.{Circumstance};
-ghost use Rattle.world_model.specs.Machines.{Upper};
+ghost use Rattle.host_laws.specs.host_model.specs.Circumstances.{Circumstance};
+ghost use Rattle.host_laws.specs.world_model.specs.Machines.{Upper};
 
 /// Each front of a capture is the capture of a run. So what is so of captures of runs is so at each moment of them.
 pub fn fronts_are_of_runs()

@@ -1,12 +1,12 @@
 -- A client in code finds its memory at each moment of a run.
 use Rattle.std.proofs.Common.{◌≡◌, ℕ, Bool, false, List, Some, sym, subst}
-use Rattle.world_model.specs.Worlds.{Happening, Runs}
-use Rattle.host_model.specs.Hosts.{next}
-use Rattle.host_model.specs.Servers.{ServerProfile}
-use Rattle.host_model.specs.Settings.{SetHost}
-use Rattle.host_model.proofs.Setting.{said_by}
-use Rattle.inbox_laws.specs.Owned.{own_machine}
-use Rattle.inbox_laws.proofs.Keeping.{hear_kept, next_kept}
+use Rattle.noting_laws.specs.world_model.specs.Worlds.{Happening, Runs}
+use Rattle.bt_host.specs.host_model.specs.Hosts.{next}
+use Rattle.bt_host.specs.host_model.specs.Servers.{ServerProfile}
+use Rattle.bt_host.specs.host_model.specs.Settings.{SetHost}
+use Rattle.bt_host.specs.host_model.proofs.Setting.{said_by}
+use Rattle.noting_laws.specs.inbox_laws.specs.Owned.{own_machine}
+use Rattle.noting_laws.specs.inbox_laws.proofs.Keeping.{hear_kept, next_kept}
 use Rattle.bt_host.specs.NotedHosts.{noted_client_machine, noted_server_machine}
 use Rattle.bt_host.specs.Shelving.{Shelved, shelf_profile}
 use Rattle.noting_laws.specs.Noting.{plain_set}

@@ -3,35 +3,35 @@ use Rattle.std.proofs.Common.{◌≡◌, ◌⊎◌, List, [], ◌∷◌, ◌++�
 use Rattle.std.proofs.Math.Path.{fun_ext}
 use Rattle.bt_base.specs.Objects.{Object, Contents}
 use Rattle.capture.specs.Entries.{Entry}
-use Rattle.obex_session.specs.InboxCalls.{Answer}
+use Rattle.noting_laws.specs.obex_session.specs.InboxCalls.{Answer}
 use Rattle.push_script.specs.declared.scenario.Scenario.{Scenario}
 use Rattle.push_terms.specs.declared.outcome.Outcome.{Outcome}
 use Rattle.capture.specs.Air.{words_of}
-use Rattle.world_model.specs.Machines.{News, Upper}
-use Rattle.world_model.specs.Pushes.{Pushes}
-use Rattle.world_model.specs.Worlds.{World, Happening, Runs, IsAtRest, all_entries, all_words}
-use Rattle.air_laws.specs.AirLaws.{IsLastEnd}
-use Rattle.run_laws.specs.Embedding.{Embeds, world_as}
-use Rattle.run_laws.proofs.Embedding.{runs_are_of_less, rest_is_of_less}
-use Rattle.alike_laws.specs.Twins.{AreTwins, IsOther, WorldsAlike}
-use Rattle.alike_laws.proofs.Alike.{runs_on}
-use Rattle.alike_laws.proofs.Twins.{alike as twins_alike, runs_are_of_twins, rest_is_of_twins}
+use Rattle.noting_laws.specs.world_model.specs.Machines.{News, Upper}
+use Rattle.noting_laws.specs.world_model.specs.Pushes.{Pushes}
+use Rattle.noting_laws.specs.world_model.specs.Worlds.{World, Happening, Runs, IsAtRest, all_entries, all_words}
+use Rattle.noting_laws.specs.air_laws.specs.AirLaws.{IsLastEnd}
+use Rattle.radio_world.specs.run_laws.specs.Embedding.{Embeds, world_as}
+use Rattle.radio_world.specs.run_laws.proofs.Embedding.{runs_are_of_less, rest_is_of_less}
+use Rattle.noting_laws.specs.alike_laws.specs.Twins.{AreTwins, IsOther, WorldsAlike}
+use Rattle.noting_laws.specs.alike_laws.proofs.Alike.{runs_on}
+use Rattle.noting_laws.specs.alike_laws.proofs.Twins.{alike as twins_alike, runs_are_of_twins, rest_is_of_twins}
 use Rattle.radio_world.specs.Scenes.{world_at}
 use Rattle.radio_world.specs.Standing.{starting, first_moment, last_ended, last_entries, all_outcomes}
-use Rattle.host_model.specs.Circumstances.{Circumstance, Size, Part, Stored}
-use Rattle.shelf_model.specs.Held.{held_by}
-use Rattle.host_model.specs.Hosts.{Host}
-use Rattle.host_model.specs.Clients.{ClientProfile}
-use Rattle.host_model.specs.Servers.{ServerProfile}
-use Rattle.scenario_laws.specs.Captures.{client_of, server_of, beginning, BothHosts, Happened, Ran, Finished}
-use Rattle.scenario_laws.specs.Outcomes.{outcomes_of}
-use Rattle.scenario_laws.specs.Played.{AreHostsOf}
-use Rattle.scenario_laws.proofs.Outcomes.{outcomes_stated}
-use Rattle.scenario_laws.proofs.Played.{last_is}
-use Rattle.pair_laws.specs.Enough.{remembered, remembering, HappenedEnough}
-use Rattle.pair_laws.specs.Granted.{answered_by, granted, granting}
-use Rattle.pair_laws.specs.Served.{holding_on, HappenedHeld, HappenedServed}
-use Rattle.pair_laws.proofs.Answered.{IsSame, same_alike, runs-so}
+use Rattle.bt_host.specs.host_model.specs.Circumstances.{Circumstance, Size, Part, Stored}
+use Rattle.bt_host.specs.shelf_model.specs.Held.{held_by}
+use Rattle.bt_host.specs.host_model.specs.Hosts.{Host}
+use Rattle.bt_host.specs.host_model.specs.Clients.{ClientProfile}
+use Rattle.bt_host.specs.host_model.specs.Servers.{ServerProfile}
+use Rattle.noting_laws.specs.scenario_laws.specs.Captures.{client_of, server_of, beginning, BothHosts, Happened, Ran, Finished}
+use Rattle.noting_laws.specs.scenario_laws.specs.Outcomes.{outcomes_of}
+use Rattle.noting_laws.specs.scenario_laws.specs.Played.{AreHostsOf}
+use Rattle.noting_laws.specs.scenario_laws.proofs.Outcomes.{outcomes_stated}
+use Rattle.noting_laws.specs.scenario_laws.proofs.Played.{last_is}
+use Rattle.noting_laws.specs.pair_laws.specs.Enough.{remembered, remembering, HappenedEnough}
+use Rattle.noting_laws.specs.pair_laws.specs.Granted.{answered_by, granted, granting}
+use Rattle.noting_laws.specs.pair_laws.specs.Served.{holding_on, HappenedHeld, HappenedServed}
+use Rattle.noting_laws.specs.pair_laws.proofs.Answered.{IsSame, same_alike, runs-so}
 use Rattle.tape_laws.specs.OwnPairs.{own_of, own_beginning, RanOwn}
 
 -- what is told of both of two is told of each of them

@@ -1,9 +1,9 @@
 -- What is so of a machine at first, and of it after whatever it hears and says, is so along each run.
 use Rattle.std.proofs.Common.{◌≡◌, ℕ, List, [], ◌∷◌, ◌++◌, Some, refl, ap, ◌∙◌}
-use Rattle.world_model.specs.Machines.{News, Upper}
-use Rattle.world_model.specs.Worlds.{World, Happening, Runs}
+use Rattle.noting_laws.specs.world_model.specs.Machines.{News, Upper}
+use Rattle.noting_laws.specs.world_model.specs.Worlds.{World, Happening, Runs}
 use Rattle.radio_world.specs.Scenes.{Moment, Plays}
-use Rattle.alike_laws.proofs.Alike.{AreAlike, runs_on}
+use Rattle.noting_laws.specs.alike_laws.proofs.Alike.{AreAlike, runs_on}
 
 pub record Stays {S G : Type 0} (U : Upper S G) (P : S → Type 0) : Type 0 where
   pub hears : (answers : List G) (news : News) (s : S) → P s → P (U.hear answers news s)

@@ -2,32 +2,32 @@
 use Rattle.std.proofs.Common.{◌≡◌, ℕ, zero, suc, Bool, true, false, List, [], ◌∷◌, map, Option, Some, None, is_some, refl, sym, ap, subst, ◌∙◌, if◌then◌else◌}
 use Rattle.bt_base.specs.declared.settings.Settings.{Settings}
 use Rattle.bt_base.specs.Objects.{Object}
-use Rattle.acl_fragments.specs.Pieces.{channel_of}
-use Rattle.channel_model.specs.declared.event.ChannelEvent.{ChannelEvent}
-use Rattle.channel_model.specs.Value.{Channels}
-use Rattle.channel_model.specs.Calls.{link_down}
-use Rattle.channel_model.specs.Carrying.{Up as Handed, Nothing, Received}
-use Rattle.channel_model.specs.Hearing.{hears, up}
-use Rattle.channel_model.specs.Timing.{timed_out}
-use Rattle.channel_model.specs.Giving.{Given, next_given, after_given}
-use Rattle.world_model.specs.Machines.{Upper, News, Linked, Up, Down, Failed, Heard, TimerFired, Cancelled, Opening}
-use Rattle.turn_laws.specs.Premises.{Idles}
-use Rattle.rest_laws.specs.Premises.{AsksOnce, AreOrderly}
-use Rattle.run_laws.specs.Embedding.{said_as}
-use Rattle.alike_laws.proofs.Alike.{AreAlike}
-use Rattle.host_model.specs.Circumstances.{Circumstance, Excerpt}
-use Rattle.host_model.specs.Clients.{ClientProfile, client_profile}
-use Rattle.host_model.specs.Hosts.{Host, with_channels, tells_each, tells_events, settles, strides, drives, driven, handed, told, hears_news, ready, hear, most_steps, most_said, steps_behind, after_said, says, next}
-use Rattle.host_model.specs.Pdus.{pdu_of, is_frame}
-use Rattle.host_model.specs.Profiles.{Profile}
-use Rattle.host_model.specs.Settings.{SetHost, set_to, said_with, with_settings, client_machine}
-use Rattle.host_model.proofs.Setting.{said_by}
-use Rattle.shelf_model.specs.Held.{given_by, held_by}
-use Rattle.shelf_model.proofs.Sizes.{parts_held}
-use Rattle.inbox_laws.specs.Owned.{own_machine}
-use Rattle.inbox_laws.proofs.Keeping.{KeepsSo, hear_kept, next_kept}
-use Rattle.inbox_laws.proofs.Owning.{own_orderly}
-use Rattle.pair_laws.specs.Served.{holding_on}
+use Rattle.bt_host.specs.acl_fragments.specs.Pieces.{channel_of}
+use Rattle.bt_host.specs.channel_model.specs.declared.event.ChannelEvent.{ChannelEvent}
+use Rattle.bt_host.specs.channel_model.specs.Value.{Channels}
+use Rattle.bt_host.specs.channel_model.specs.Calls.{link_down}
+use Rattle.bt_host.specs.channel_model.specs.Carrying.{Up as Handed, Nothing, Received}
+use Rattle.bt_host.specs.channel_model.specs.Hearing.{hears, up}
+use Rattle.bt_host.specs.channel_model.specs.Timing.{timed_out}
+use Rattle.bt_host.specs.channel_model.specs.Giving.{Given, next_given, after_given}
+use Rattle.noting_laws.specs.world_model.specs.Machines.{Upper, News, Linked, Up, Down, Failed, Heard, TimerFired, Cancelled, Opening}
+use Rattle.noting_laws.specs.turn_laws.specs.Premises.{Idles}
+use Rattle.noting_laws.specs.rest_laws.specs.Premises.{AsksOnce, AreOrderly}
+use Rattle.radio_world.specs.run_laws.specs.Embedding.{said_as}
+use Rattle.noting_laws.specs.alike_laws.proofs.Alike.{AreAlike}
+use Rattle.bt_host.specs.host_model.specs.Circumstances.{Circumstance, Excerpt}
+use Rattle.bt_host.specs.host_model.specs.Clients.{ClientProfile, client_profile}
+use Rattle.bt_host.specs.host_model.specs.Hosts.{Host, with_channels, tells_each, tells_events, settles, strides, drives, driven, handed, told, hears_news, ready, hear, most_steps, most_said, steps_behind, after_said, says, next}
+use Rattle.bt_host.specs.host_model.specs.Pdus.{pdu_of, is_frame}
+use Rattle.bt_host.specs.host_model.specs.Profiles.{Profile}
+use Rattle.bt_host.specs.host_model.specs.Settings.{SetHost, set_to, said_with, with_settings, client_machine}
+use Rattle.bt_host.specs.host_model.proofs.Setting.{said_by}
+use Rattle.bt_host.specs.shelf_model.specs.Held.{given_by, held_by}
+use Rattle.bt_host.specs.shelf_model.proofs.Sizes.{parts_held}
+use Rattle.noting_laws.specs.inbox_laws.specs.Owned.{own_machine}
+use Rattle.noting_laws.specs.inbox_laws.proofs.Keeping.{KeepsSo, hear_kept, next_kept}
+use Rattle.noting_laws.specs.inbox_laws.proofs.Owning.{own_orderly}
+use Rattle.noting_laws.specs.pair_laws.specs.Served.{holding_on}
 use Rattle.bt_host.specs.Shelving.{Shelved, in_memory, shelf_profile}
 use Rattle.scenario_play.specs.Shelving.{bare_host, bare_set}
 

@@ -6,19 +6,19 @@ use Rattle.bt_base.specs.Counts.{HasRisen}
 use Rattle.bt_base.specs.Objects.{Object, Contents}
 use Rattle.bt_base.specs.Streams.{gained, GainedFront}
 use Rattle.bt_base.proofs.PortLaws.{front_none, gained-nil}
-use Rattle.obex_session.specs.Counting.{Counts, counts_of}
+use Rattle.noting_laws.specs.obex_session.specs.Counting.{Counts, counts_of}
 use Rattle.push_script.specs.declared.scenario.Scenario.{Scenario}
 use Rattle.push_terms.specs.declared.outcome.Outcome.{Outcome}
 use Rattle.push_terms.specs.declared.outcome.Outcome.TheVariants.{ScriptEnded}
 use Rattle.push_terms.specs.declared.word.Word.{Word}
 use Rattle.capture.specs.Air.{words_of}
 use Rattle.capture.specs.Entries.{Ended, capture_octets}
-use Rattle.radio_air.specs.Queues.{is_crowded}
-use Rattle.radio_air.specs.Radio.{Radio}
-use Rattle.world_model.specs.Machines.{Upper}
-use Rattle.world_model.specs.Pushes.{Pushes}
-use Rattle.world_model.specs.Worlds.{Happening, all_entries, all_words, entries_of, words_in}
-use Rattle.air_laws.specs.AirLaws.{IsLastEnd}
+use Rattle.radio_world.specs.radio_air.specs.Queues.{is_crowded}
+use Rattle.radio_world.specs.radio_air.specs.Radio.{Radio}
+use Rattle.noting_laws.specs.world_model.specs.Machines.{Upper}
+use Rattle.noting_laws.specs.world_model.specs.Pushes.{Pushes}
+use Rattle.noting_laws.specs.world_model.specs.Worlds.{Happening, all_entries, all_words, entries_of, words_in}
+use Rattle.noting_laws.specs.air_laws.specs.AirLaws.{IsLastEnd}
 use Rattle.radio_world.specs.Breaking.{IsLeft}
 use Rattle.radio_world.specs.Hosts.{Asking}
 use Rattle.radio_world.specs.Scenes.{Moment, world_at, Plays, Stage, stage, moment_of, Advances}
@@ -27,10 +27,10 @@ use Rattle.radio_world.specs.Shortages.{ShelfLacked, InboxLacked, AirCrowded, Wo
 use Rattle.radio_world.proofs.Advancing.{plays_then}
 use Rattle.radio_world.proofs.Spelled.{AreEntries, each_of_both}
 use Rattle.radio_world.proofs.Standing.{runs_of}
-use Rattle.host_model.specs.Circumstances.{Circumstance, answers_in}
-use Rattle.host_model.specs.Clients.{ClientProfile}
-use Rattle.host_model.specs.Servers.{ServerProfile}
-use Rattle.host_model.specs.Settings.{SetHost, set_to, client_machine, server_machine}
+use Rattle.bt_host.specs.host_model.specs.Circumstances.{Circumstance, answers_in}
+use Rattle.bt_host.specs.host_model.specs.Clients.{ClientProfile}
+use Rattle.bt_host.specs.host_model.specs.Servers.{ServerProfile}
+use Rattle.bt_host.specs.host_model.specs.Settings.{SetHost, set_to, client_machine, server_machine}
 use Rattle.bt_host.specs.Noting.{Noted}
 use Rattle.bt_host.specs.NotedHosts.{client_noting, server_noting, noted_client_machine, noted_server_machine}
 use Rattle.bt_host.specs.Pushing.{Lacks as NoShelf}
@@ -41,9 +41,9 @@ use Rattle.bt_host.specs.Serving.{Served, Asks, Lacks as NoInbox}
 use Rattle.bt_host.specs.Shells.{Shelled}
 use Rattle.bt_host.specs.Shelving.{Shelved}
 use Rattle.bt_host.specs.Playing.{playing}
-use Rattle.scenario_laws.specs.Captures.{beginning as first_world}
-use Rattle.scenario_laws.proofs.Played.{last_is}
-use Rattle.scenario_laws.proofs.SetHosts.{set_hosts_are_hosts}
+use Rattle.noting_laws.specs.scenario_laws.specs.Captures.{beginning as first_world}
+use Rattle.noting_laws.specs.scenario_laws.proofs.Played.{last_is}
+use Rattle.noting_laws.specs.scenario_laws.proofs.SetHosts.{set_hosts_are_hosts}
 use Rattle.tape_laws.specs.OwnPairs.{own_beginning}
 use Rattle.scenario_play.specs.Playing.{fresh_world, KeepsShelf, LackedNever, RoseNever, RanAnswered}
 use Rattle.scenario_play.specs.Breaking as breaking

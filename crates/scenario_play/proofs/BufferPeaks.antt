@@ -2,7 +2,7 @@
 use Rattle.std.proofs.Common.{◌≡◌, ℕ, suc, ◌≤◌, List, [], ◌∷◌, ◌++◌, take, fold, min, max, Option, inl, refl, sym, ap, subst, ◌∙◌, arith, append_assoc}
 use Rattle.std.proofs.lemmas.List.{append-nil}
 use Rattle.bt_base.specs.Objects.{Contents}
-use Rattle.obex_session.specs.Counting.{Counts}
+use Rattle.noting_laws.specs.obex_session.specs.Counting.{Counts}
 use Rattle.push_script.specs.declared.scenario.Scenario.{Scenario}
 use Rattle.push_terms.specs.declared.peaks.Peaks.{Peaks}
 use Rattle.push_terms.specs.declared.word.Side.{Side}
@@ -11,9 +11,9 @@ use Rattle.capture.specs.Entries.{Entry, Moved, Acted, Begun, Ended}
 use Rattle.capture.specs.Buffers.{all_outstanding, KeepsWithin}
 use Rattle.capture.specs.Histories.{each_after}
 use Rattle.capture.specs.Peaks.{buffers_peak}
-use Rattle.world_model.specs.Pushes.{Pushes}
-use Rattle.world_model.specs.Worlds.{Happening, all_entries}
-use Rattle.air_laws.specs.AirLaws.{IsLastEnd}
+use Rattle.noting_laws.specs.world_model.specs.Pushes.{Pushes}
+use Rattle.noting_laws.specs.world_model.specs.Worlds.{Happening, all_entries}
+use Rattle.noting_laws.specs.air_laws.specs.AirLaws.{IsLastEnd}
 use Rattle.radio_world.proofs.BufferPeaks.{buffer_peaks_are_seen, same_peak}
 use Rattle.bt_host.specs.NotedHosts.{noted_client_machine, noted_server_machine}
 use Rattle.scenario_play.specs.BufferPeaks.{AreBufferPeaks, BufferPeaksAreTold}

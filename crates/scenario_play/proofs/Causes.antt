@@ -1,14 +1,14 @@
 -- The capture of a played scenario shows why its pushes ended.
 use Rattle.std.proofs.Common.{◌≡◌, ℕ, List, ◌++◌, Option, sym, ap, subst, ◌∙◌}
 use Rattle.bt_base.specs.Objects.{Object, Contents}
-use Rattle.obex_session.specs.Counting.{Counts}
+use Rattle.noting_laws.specs.obex_session.specs.Counting.{Counts}
 use Rattle.push_script.specs.declared.scenario.Scenario.{Scenario}
 use Rattle.push_terms.specs.declared.outcome.Outcome.{Outcome}
 use Rattle.push_terms.specs.declared.peaks.Peaks.{Peaks}
 use Rattle.capture.specs.Entries.{Entry}
-use Rattle.world_model.specs.Worlds.{all_entries}
-use Rattle.cause_laws.specs.FirstCauses.{CausesAreShown}
-use Rattle.cause_laws.proofs.Runs.{runs_show_causes}
+use Rattle.noting_laws.specs.world_model.specs.Worlds.{all_entries}
+use Rattle.drop_laws.specs.cause_laws.specs.FirstCauses.{CausesAreShown}
+use Rattle.drop_laws.specs.cause_laws.proofs.Runs.{runs_show_causes}
 use Rattle.drop_laws.specs.Dropped.{LossesAreDrops}
 use Rattle.drop_laws.proofs.Runs.{runs_lose_by_drops}
 use Rattle.scenario_play.specs.Breaking.{IsBroken}

@@ -2,11 +2,11 @@
 use Rattle.std.proofs.Common.{◌≡◌, ℕ, ◌<◌, ◌≤◌, ◌⊎◌, List, [], ◌++◌, inl, inr, sym, subst, arith}
 use Rattle.std.proofs.lemmas.Bool.{cases_lt}
 use Rattle.bt_base.specs.Counts.{HasRisen, last_count}
-use Rattle.obex_session.specs.Counting.{Counts, counts_of, faults_of, HasRisenBy}
-use Rattle.obex_session.specs.InboxCalls.{Answer}
-use Rattle.push_laws.specs.Premises.{AllGranted, NoneShort}
+use Rattle.noting_laws.specs.obex_session.specs.Counting.{Counts, counts_of, faults_of, HasRisenBy}
+use Rattle.noting_laws.specs.obex_session.specs.InboxCalls.{Answer}
+use Rattle.noting_laws.specs.push_laws.specs.Premises.{AllGranted, NoneShort}
 use Rattle.radio_world.specs.Breaking.{IsLeft}
-use Rattle.host_model.specs.Circumstances.{Circumstance, answers_in}
+use Rattle.bt_host.specs.host_model.specs.Circumstances.{Circumstance, answers_in}
 use Rattle.bt_host.specs.Calls.{JoinAnswers}
 use Rattle.bt_host.specs.Serving.{Asks, Lacks}
 use Rattle.bt_host.specs.ServingLaws.{joins, lacks}

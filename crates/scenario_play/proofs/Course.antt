@@ -3,14 +3,14 @@ use Rattle.std.proofs.Common.{◌≡◌, ◌⊎◌, ℕ, false, List, [], ◌++�
 use Rattle.std.proofs.lemmas.Grind.{flat_map-append}
 use Rattle.bt_base.specs.Objects.{Object, Contents}
 use Rattle.bt_base.specs.Streams.{gained}
-use Rattle.obex_session.specs.Counting.{Counts, counts_of}
+use Rattle.noting_laws.specs.obex_session.specs.Counting.{Counts, counts_of}
 use Rattle.push_script.specs.declared.scenario.Scenario.{Scenario}
 use Rattle.push_terms.specs.declared.outcome.Outcome.{Outcome}
 use Rattle.push_terms.specs.declared.peaks.Peaks.{Peaks}
 use Rattle.push_terms.specs.declared.word.Word.{Word}
 use Rattle.capture.specs.Air.{words_of}
 use Rattle.capture.specs.Entries.{Entry, capture_octets}
-use Rattle.world_model.specs.Worlds.{Happening, all_entries, all_words, entries_of, words_in}
+use Rattle.noting_laws.specs.world_model.specs.Worlds.{Happening, all_entries, all_words, entries_of, words_in}
 use Rattle.radio_world.specs.Both.{Both}
 use Rattle.radio_world.specs.Leaving.{Medium}
 use Rattle.radio_world.specs.Hosts.{Asking, answering}
@@ -20,10 +20,10 @@ use Rattle.radio_world.proofs.Advancing.{plays_then}
 use Rattle.radio_world.proofs.Spelled.{AreEntries, each_of_both, each_then}
 use Rattle.radio_world.proofs.Moving.{written_then}
 use Rattle.radio_world.proofs.Standing.{runs_of, at_rest}
-use Rattle.host_model.specs.Circumstances.{Circumstance, answers_in}
-use Rattle.host_model.specs.Clients.{ClientProfile}
-use Rattle.host_model.specs.Servers.{ServerProfile}
-use Rattle.host_model.specs.Settings.{SetHost, set_to, client_machine, server_machine}
+use Rattle.bt_host.specs.host_model.specs.Circumstances.{Circumstance, answers_in}
+use Rattle.bt_host.specs.host_model.specs.Clients.{ClientProfile}
+use Rattle.bt_host.specs.host_model.specs.Servers.{ServerProfile}
+use Rattle.bt_host.specs.host_model.specs.Settings.{SetHost, set_to, client_machine, server_machine}
 use Rattle.bt_host.specs.Noting.{Noted}
 use Rattle.bt_host.specs.NotedHosts.{client_noting, server_noting, noted_client_machine, noted_server_machine}
 use Rattle.bt_host.specs.Pushing.{AreOf}
@@ -31,11 +31,11 @@ use Rattle.bt_host.specs.Serving.{Served, Asks}
 use Rattle.bt_host.specs.Shells.{Shelled}
 use Rattle.bt_host.specs.Shelving.{Shelved}
 use Rattle.bt_host.specs.Playing.{playing}
-use Rattle.scenario_laws.specs.Captures.{BothHosts}
-use Rattle.scenario_laws.proofs.Played.{last_is}
-use Rattle.scenario_laws.proofs.SetHosts.{set_hosts_are_hosts}
-use Rattle.pair_laws.specs.Enough.{HappenedEnough}
-use Rattle.pair_laws.specs.Served.{HappenedServed}
+use Rattle.noting_laws.specs.scenario_laws.specs.Captures.{BothHosts}
+use Rattle.noting_laws.specs.scenario_laws.proofs.Played.{last_is}
+use Rattle.noting_laws.specs.scenario_laws.proofs.SetHosts.{set_hosts_are_hosts}
+use Rattle.noting_laws.specs.pair_laws.specs.Enough.{HappenedEnough}
+use Rattle.noting_laws.specs.pair_laws.specs.Served.{HappenedServed}
 use Rattle.scenario_play.specs.Playing.{fresh_world, KeepsShelf, RoseNever, RanAnswered, IsPlayed}
 use Rattle.noting_laws.specs.Noting.{plain_set}
 use Rattle.scenario_play.specs.Shelving.{plain_client}

@@ -1,10 +1,10 @@
 -- A machine that keeps more goes as the one that it is.
 use Rattle.std.proofs.Common.{◌≡◌, ℕ, List, Some, refl, sym, ap, ◌∙◌}
-use Rattle.world_model.specs.Machines.{Upper, Linked, Up}
-use Rattle.turn_laws.specs.Premises.{SaysFrames, Idles}
-use Rattle.rest_laws.specs.Premises.{AsksOnce, AreOrderly}
-use Rattle.run_laws.specs.Embedding.{said_as, Embeds}
-use Rattle.alike_laws.proofs.Alike.{AreAlike}
+use Rattle.noting_laws.specs.world_model.specs.Machines.{Upper, Linked, Up}
+use Rattle.noting_laws.specs.turn_laws.specs.Premises.{SaysFrames, Idles}
+use Rattle.noting_laws.specs.rest_laws.specs.Premises.{AsksOnce, AreOrderly}
+use Rattle.radio_world.specs.run_laws.specs.Embedding.{said_as, Embeds}
+use Rattle.noting_laws.specs.alike_laws.proofs.Alike.{AreAlike}
 
 module _ {S S' G : Type 0} (embed : S → S') (U : Upper S G) (V : Upper S' G) (e : Embeds embed U V) where
   said_there : (s : S) (pdu : List ℕ) (after : S) → U.next s ≡ Some (pdu, after) → V.next (embed s) ≡ Some (pdu, embed after)

@@ -2,11 +2,11 @@
 use Rattle.std.proofs.Common.{◌≡◌, ℕ, ◌⊎◌, List, ◌++◌, Option, Some, inl, inr, sym, subst, arith}
 use Rattle.bt_base.specs.Objects.{Contents}
 use Rattle.capture.specs.Entries.{Entry, capture_octets}
-use Rattle.push_laws.specs.Laws.{stored_in}
-use Rattle.world_model.specs.Worlds.{all_entries}
+use Rattle.noting_laws.specs.push_laws.specs.Laws.{stored_in}
+use Rattle.noting_laws.specs.world_model.specs.Worlds.{all_entries}
 use Rattle.radio_world.proofs.Runs.{scripts_are_counted}
-use Rattle.scenario_laws.specs.Broken.{BrokeOff}
-use Rattle.scenario_laws.proofs.Broken.{scenarios_break_off, crowds_are_told}
+use Rattle.noting_laws.specs.scenario_laws.specs.Broken.{BrokeOff}
+use Rattle.noting_laws.specs.scenario_laws.proofs.Broken.{scenarios_break_off, crowds_are_told}
 use Rattle.scenario_play.specs.Breaking.{NothingYet, ShelfWants, InboxWants, AirCrowded, ManyWords}
 use Rattle.scenario_play.specs.Ending.{PlaysBreakOff, WantsAreTold}
 

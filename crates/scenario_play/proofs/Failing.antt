@@ -3,39 +3,39 @@ use Rattle.std.proofs.Common.{◌≡◌, ℕ, ◌≤◌, ◌+◌, ◌-◌, Bool,
 use Rattle.std.specs.Prelude.{zero, suc, replicate}
 use Rattle.bt_base.specs.declared.ports.PortFault.TheVariants as fault
 use Rattle.bt_base.specs.Objects.{Object, Contents}
-use Rattle.acl_fragments.specs.Pieces.{Piece}
-use Rattle.obex_session.specs.Counting.{HasRisenBy}
-use Rattle.obex_session.proofs.CountingLaws.{rises_both}
+use Rattle.bt_host.specs.acl_fragments.specs.Pieces.{Piece}
+use Rattle.noting_laws.specs.obex_session.specs.Counting.{HasRisenBy}
+use Rattle.noting_laws.specs.obex_session.proofs.CountingLaws.{rises_both}
 use Rattle.push_script.specs.declared.scenario.Scenario.{Scenario}
 use Rattle.push_terms.specs.declared.outcome.Outcome.{Outcome}
 use Rattle.push_terms.specs.declared.outcome.Outcome.TheVariants.{ScriptEnded}
 use Rattle.push_terms.specs.declared.word.Side.TheVariants.{A, B}
 use Rattle.push_terms.specs.declared.word.Way.TheVariants.{Ab, Ba}
-use Rattle.radio_air.specs.declared.deed.Deed.{Deed}
-use Rattle.radio_air.specs.declared.deed.Deed.TheVariants.{Nothing, Meets, Fires, FiresBoth, Breaks, Cancels}
-use Rattle.radio_air.specs.Controllers.{Answer}
-use Rattle.radio_air.specs.Radio.{found}
-use Rattle.world_model.specs.Machines.{News, LinkEvent, Linked, Heard, TimerFired, Cancelled, Opening, Upper}
-use Rattle.world_model.specs.Pushes.{Pushes, one_begun, one_ended}
-use Rattle.world_model.specs.Stations.{Station, Effort, Taking, Putting, Asking, Leaving, Commanding, MakesEffort, is_handle, longest_pdu, gives, holds, hears_each, hears_piece, event_in, upper_told, hears_answer, told}
-use Rattle.world_model.specs.Worlds.{World, Happening, Tries, Departure, GivingBack, Piecemeal, Answering, Turns, Misses, Opens, Closes, fired, Acts, one_turned, Does, Runs}
+use Rattle.radio_world.specs.radio_air.specs.declared.deed.Deed.{Deed}
+use Rattle.radio_world.specs.radio_air.specs.declared.deed.Deed.TheVariants.{Nothing, Meets, Fires, FiresBoth, Breaks, Cancels}
+use Rattle.radio_world.specs.radio_air.specs.Controllers.{Answer}
+use Rattle.radio_world.specs.radio_air.specs.Radio.{found}
+use Rattle.noting_laws.specs.world_model.specs.Machines.{News, LinkEvent, Linked, Heard, TimerFired, Cancelled, Opening, Upper}
+use Rattle.noting_laws.specs.world_model.specs.Pushes.{Pushes, one_begun, one_ended}
+use Rattle.noting_laws.specs.world_model.specs.Stations.{Station, Effort, Taking, Putting, Asking, Leaving, Commanding, MakesEffort, is_handle, longest_pdu, gives, holds, hears_each, hears_piece, event_in, upper_told, hears_answer, told}
+use Rattle.noting_laws.specs.world_model.specs.Worlds.{World, Happening, Tries, Departure, GivingBack, Piecemeal, Answering, Turns, Misses, Opens, Closes, fired, Acts, one_turned, Does, Runs}
 use Rattle.radio_world.specs.Hosts.{answering}
 use Rattle.radio_world.specs.Scenes.{world_at, moment, Plays, moment_of}
 use Rattle.radio_world.specs.Standing.{starting, first_moment, last_ended, all_outcomes}
 use Rattle.radio_world.proofs.Advancing.{plays_then}
 use Rattle.radio_world.proofs.Standing.{runs_of}
-use Rattle.host_model.specs.Circumstances.{Circumstance, Size}
-use Rattle.host_model.specs.Hosts.{most_steps, hears_news, ready, next}
-use Rattle.host_model.specs.Settings.{SetHost}
-use Rattle.host_model.proofs.Keeping.{drives_on, hears_on, goes_next}
-use Rattle.host_model.proofs.Setting.{said_by}
+use Rattle.bt_host.specs.host_model.specs.Circumstances.{Circumstance, Size}
+use Rattle.bt_host.specs.host_model.specs.Hosts.{most_steps, hears_news, ready, next}
+use Rattle.bt_host.specs.host_model.specs.Settings.{SetHost}
+use Rattle.bt_host.specs.host_model.proofs.Keeping.{drives_on, hears_on, goes_next}
+use Rattle.bt_host.specs.host_model.proofs.Setting.{said_by}
 use Rattle.bt_host.specs.NotedHosts.{client_noting, noted_client_machine, noted_server_machine}
 use Rattle.bt_host.specs.Pushing.{failures_in}
 use Rattle.bt_host.specs.PushingLaws.{Answers, failures_join}
 use Rattle.bt_host.specs.Serving.{Asks}
 use Rattle.bt_host.specs.Shelving.{Shelved, is_shelf_fault, is_failed, owed, shelf_profile}
 use Rattle.bt_host.specs.Uppers.{IsAside}
-use Rattle.inbox_laws.specs.Owned.{own_machine}
+use Rattle.noting_laws.specs.inbox_laws.specs.Owned.{own_machine}
 use Rattle.scenario_play.specs.Failing.{shelf_faults}
 use Rattle.scenario_play.specs.Playing.{fresh_world}
 use Rattle.scenario_play.proofs.Bare.{shelf_machine}

@@ -3,7 +3,7 @@ use Rattle.std.proofs.Common.{◌≡◌, ℕ, List, [], ◌++◌, length, take, 
 use Rattle.std.proofs.lemmas.List.{append-nil}
 use Rattle.bt_base.specs.Objects.{Object, Contents}
 use Rattle.bt_base.specs.declared.settings.Transport.TheVariants.{L2cap}
-use Rattle.obex_session.specs.Counting.{Counts}
+use Rattle.noting_laws.specs.obex_session.specs.Counting.{Counts}
 use Rattle.push_script.specs.declared.scenario.Scenario.{Scenario}
 use Rattle.push_terms.specs.declared.outcome.Outcome.{Outcome}
 use Rattle.push_terms.specs.declared.peaks.Peaks.{Peaks}
@@ -13,43 +13,43 @@ use Rattle.push_terms.specs.declared.word.Word.{Word}
 use Rattle.capture.specs.Entries.{Entry}
 use Rattle.capture.specs.Histories.{EachAfter, AtEach}
 use Rattle.capture.proofs.HistoryLaws.{at_each-whole}
-use Rattle.radio_air.specs.Air.{KeepsTo}
-use Rattle.link_talk.specs.Captures.{objects_heard, talk_now}
-use Rattle.channel_laws.proofs.Windowing.{windows-hold}
-use Rattle.world_model.specs.Machines.{News, Linked, Failed, Heard, TimerFired, Cancelled, Opening}
-use Rattle.world_model.specs.Worlds.{Happening, all_entries}
-use Rattle.push_laws.specs.Laws.{stored_in}
-use Rattle.host_model.specs.Circumstances.{Circumstance}
-use Rattle.shelf_model.specs.Held.{held_by}
-use Rattle.host_laws.specs.Answered.{TellsAtMost}
-use Rattle.host_laws.proofs.InOrder.{asks-nothing}
-use Rattle.request_laws.specs.BothFed.{most_octets}
-use Rattle.host_laws.specs.ShelfAnswers.{TellsSizeOf}
-use Rattle.scenario_laws.specs.Accounts.{KeepsWindow}
-use Rattle.scenario_laws.specs.Air.{hosts_of}
-use Rattle.scenario_laws.specs.Captures.{client_of, server_of, beginning, BothHosts, Ran}
-use Rattle.scenario_laws.specs.Gains.{holding}
-use Rattle.scenario_laws.specs.Parties.{party_of}
-use Rattle.scenario_laws.proofs.Accounts.{buffers_kept, controllers_honest, pushes_in_turn}
-use Rattle.scenario_laws.proofs.Airs.{air_kept, air_obeyed}
-use Rattle.scenario_laws.proofs.Early.{fronts_spell_fronts}
-use Rattle.scenario_laws.proofs.Gaining.{gains_exactly}
-use Rattle.scenario_laws.proofs.OneLink.{pushes_have_one_link}
-use Rattle.scenario_laws.proofs.PushEnds.{pushes_end, pushes_are_of_scenarios}
-use Rattle.pair_laws.specs.Granted.{granting, HappenedGranted}
-use Rattle.pair_laws.specs.Served.{HappenedServed}
-use Rattle.pair_laws.proofs.Answered.{runs-so}
-use Rattle.pair_laws.proofs.Pairing.{granted-take_turns, held-take_turns, served-take_turns}
-use Rattle.pair_laws.proofs.Taking.{clients_within, servers_within}
-use Rattle.pair_laws.proofs.Windows.{runs_hold, talks_hold}
-use Rattle.request_laws.specs.Together.{ServesAll}
-use Rattle.request_laws.proofs.AllSizes.{gains_so}
-use Rattle.request_laws.proofs.Linked.{runs_are_linked}
-use Rattle.request_laws.proofs.Together.{all_granted}
-use Rattle.request_laws.proofs.Told.{all_tell, none_longer}
-use Rattle.request_laws.proofs.ObjectPipes.{are_piped}
-use Rattle.request_laws.proofs.Paired.{paired_servers_serve}
-use Rattle.request_laws.proofs.Summing.{both_ask}
+use Rattle.radio_world.specs.radio_air.specs.Air.{KeepsTo}
+use Rattle.noting_laws.specs.link_talk.specs.Captures.{objects_heard, talk_now}
+use Rattle.noting_laws.specs.channel_laws.proofs.Windowing.{windows-hold}
+use Rattle.noting_laws.specs.world_model.specs.Machines.{News, Linked, Failed, Heard, TimerFired, Cancelled, Opening}
+use Rattle.noting_laws.specs.world_model.specs.Worlds.{Happening, all_entries}
+use Rattle.noting_laws.specs.push_laws.specs.Laws.{stored_in}
+use Rattle.bt_host.specs.host_model.specs.Circumstances.{Circumstance}
+use Rattle.bt_host.specs.shelf_model.specs.Held.{held_by}
+use Rattle.noting_laws.specs.host_laws.specs.Answered.{TellsAtMost}
+use Rattle.noting_laws.specs.host_laws.proofs.InOrder.{asks-nothing}
+use Rattle.credit_laws.specs.request_laws.specs.BothFed.{most_octets}
+use Rattle.noting_laws.specs.host_laws.specs.ShelfAnswers.{TellsSizeOf}
+use Rattle.noting_laws.specs.scenario_laws.specs.Accounts.{KeepsWindow}
+use Rattle.noting_laws.specs.scenario_laws.specs.Air.{hosts_of}
+use Rattle.noting_laws.specs.scenario_laws.specs.Captures.{client_of, server_of, beginning, BothHosts, Ran}
+use Rattle.noting_laws.specs.scenario_laws.specs.Gains.{holding}
+use Rattle.noting_laws.specs.scenario_laws.specs.Parties.{party_of}
+use Rattle.noting_laws.specs.scenario_laws.proofs.Accounts.{buffers_kept, controllers_honest, pushes_in_turn}
+use Rattle.noting_laws.specs.scenario_laws.proofs.Airs.{air_kept, air_obeyed}
+use Rattle.noting_laws.specs.scenario_laws.proofs.Early.{fronts_spell_fronts}
+use Rattle.noting_laws.specs.scenario_laws.proofs.Gaining.{gains_exactly}
+use Rattle.noting_laws.specs.scenario_laws.proofs.OneLink.{pushes_have_one_link}
+use Rattle.noting_laws.specs.scenario_laws.proofs.PushEnds.{pushes_end, pushes_are_of_scenarios}
+use Rattle.noting_laws.specs.pair_laws.specs.Granted.{granting, HappenedGranted}
+use Rattle.noting_laws.specs.pair_laws.specs.Served.{HappenedServed}
+use Rattle.noting_laws.specs.pair_laws.proofs.Answered.{runs-so}
+use Rattle.noting_laws.specs.pair_laws.proofs.Pairing.{granted-take_turns, held-take_turns, served-take_turns}
+use Rattle.noting_laws.specs.pair_laws.proofs.Taking.{clients_within, servers_within}
+use Rattle.noting_laws.specs.pair_laws.proofs.Windows.{runs_hold, talks_hold}
+use Rattle.credit_laws.specs.request_laws.specs.Together.{ServesAll}
+use Rattle.credit_laws.specs.request_laws.proofs.AllSizes.{gains_so}
+use Rattle.credit_laws.specs.request_laws.proofs.Linked.{runs_are_linked}
+use Rattle.credit_laws.specs.request_laws.proofs.Together.{all_granted}
+use Rattle.credit_laws.specs.request_laws.proofs.Told.{all_tell, none_longer}
+use Rattle.credit_laws.specs.request_laws.proofs.ObjectPipes.{are_piped}
+use Rattle.credit_laws.specs.request_laws.proofs.Paired.{paired_servers_serve}
+use Rattle.credit_laws.specs.request_laws.proofs.Summing.{both_ask}
 use Rattle.scenario_play.proofs.Causes.{causes_shown, losses_shown}
 use Rattle.scenario_play.specs.Breaking.{IsBroken}
 use Rattle.scenario_play.specs.Gaining.{HaveAnswered, HaveGranted, HaveOffered, HoldsAtMost, KeepsAccounts, ServesAndGains, KeepsPlayed, KeepsBroken, GainsPlayed, GainsBroken, PlaysKeep, PlaysGain}

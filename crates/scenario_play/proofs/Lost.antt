@@ -4,15 +4,15 @@ use Rattle.std.proofs.lemmas.Bool.{cases_lt}
 use Rattle.bt_base.specs.Counts.{HasRisen, last_count}
 use Rattle.bt_base.specs.declared.settings.Transport.TheVariants.{Rfcomm}
 use Rattle.bt_base.specs.Objects.{Object, Contents}
-use Rattle.obex_session.specs.Counting.{Counts, faults_of, HasRisenBy}
+use Rattle.noting_laws.specs.obex_session.specs.Counting.{Counts, faults_of, HasRisenBy}
 use Rattle.push_script.specs.declared.scenario.Scenario.{Scenario}
 use Rattle.capture.specs.Entries.{Entry}
-use Rattle.world_model.specs.Worlds.{Happening, all_entries, all_words}
-use Rattle.push_laws.specs.Laws.{stored_in}
-use Rattle.push_laws.specs.Losing.{LeavesOut}
-use Rattle.push_laws.proofs.Losing.{nothing-is_left_out}
-use Rattle.scenario_laws.specs.Gains.{holding}
-use Rattle.pair_laws.specs.Keeping.{LosesNothing}
+use Rattle.noting_laws.specs.world_model.specs.Worlds.{Happening, all_entries, all_words}
+use Rattle.noting_laws.specs.push_laws.specs.Laws.{stored_in}
+use Rattle.noting_laws.specs.push_laws.specs.Losing.{LeavesOut}
+use Rattle.noting_laws.specs.push_laws.proofs.Losing.{nothing-is_left_out}
+use Rattle.noting_laws.specs.scenario_laws.specs.Gains.{holding}
+use Rattle.noting_laws.specs.pair_laws.specs.Keeping.{LosesNothing}
 use Rattle.tape_laws.proofs.OwnGains.{own_servers_gain_less}
 use Rattle.scenario_play.specs.Losing.{LeavesOutCounted, GainsLess, PlaysGainLess}
 use Rattle.scenario_play.specs.Playing.{RanAnswered}

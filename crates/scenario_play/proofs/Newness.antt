@@ -5,31 +5,31 @@ use Rattle.bt_base.specs.declared.settings.Settings.{Settings}
 use Rattle.push_script.specs.declared.scenario.Scenario.{Scenario}
 use Rattle.push_terms.specs.declared.word.Side.{Side}
 use Rattle.push_terms.specs.declared.word.Side.TheVariants.{A, B}
-use Rattle.host_link.specs.PuttingOut.{started}
-use Rattle.station_laws.specs.Seen.{role_of}
-use Rattle.world_model.specs.Machines.{News}
-use Rattle.world_model.specs.Stations.{Station, Commanding, first_station}
-use Rattle.world_model.specs.Worlds.{Happening, Tries}
-use Rattle.alike_laws.specs.Twins.{AreTwins}
+use Rattle.bt_host.specs.host_link.specs.PuttingOut.{started}
+use Rattle.noting_laws.specs.station_laws.specs.Seen.{role_of}
+use Rattle.noting_laws.specs.world_model.specs.Machines.{News}
+use Rattle.noting_laws.specs.world_model.specs.Stations.{Station, Commanding, first_station}
+use Rattle.noting_laws.specs.world_model.specs.Worlds.{Happening, Tries}
+use Rattle.noting_laws.specs.alike_laws.specs.Twins.{AreTwins}
 use Rattle.radio_world.specs.Hosts.{answering}
 use Rattle.radio_world.specs.Scenes.{first_scene, moment, Plays}
 use Rattle.radio_world.specs.Standing.{starting, first_moment}
-use Rattle.line_laws.specs.Laws.{GoesAsSeen}
-use Rattle.line_laws.proofs.Seeing.{stations_are_seen}
-use Rattle.host_model.specs.Circumstances.{Circumstance, answers_in}
-use Rattle.host_model.specs.Profiles.{Profile}
-use Rattle.host_model.specs.Servers.{ServerProfile}
-use Rattle.host_model.specs.Machines.{client_host, server_host}
-use Rattle.host_model.specs.Settings.{SetHost, set_to, with_settings, client_machine, server_machine}
-use Rattle.host_model.proofs.Setting.{hosts_say_octets}
+use Rattle.bt_host.specs.line_laws.specs.Laws.{GoesAsSeen}
+use Rattle.bt_host.specs.line_laws.proofs.Seeing.{stations_are_seen}
+use Rattle.bt_host.specs.host_model.specs.Circumstances.{Circumstance, answers_in}
+use Rattle.bt_host.specs.host_model.specs.Profiles.{Profile}
+use Rattle.bt_host.specs.host_model.specs.Servers.{ServerProfile}
+use Rattle.bt_host.specs.host_model.specs.Machines.{client_host, server_host}
+use Rattle.bt_host.specs.host_model.specs.Settings.{SetHost, set_to, with_settings, client_machine, server_machine}
+use Rattle.bt_host.specs.host_model.proofs.Setting.{hosts_say_octets}
 use Rattle.bt_host.specs.Newness as served
 use Rattle.bt_host.specs.Pushing as pushed
 use Rattle.bt_host.specs.Noting.{Noted}
 use Rattle.bt_host.specs.Shelving.{Shelved}
 use Rattle.bt_host.specs.NotedHosts.{noted_client, client_noting, noted_client_machine, noted_server, server_noting, noted_server_machine}
 use Rattle.bt_host.specs.Playing.{set_host, playing}
-use Rattle.pair_laws.specs.Granted.{answered_by}
-use Rattle.pair_laws.specs.Served.{holding_on}
+use Rattle.noting_laws.specs.pair_laws.specs.Granted.{answered_by}
+use Rattle.noting_laws.specs.pair_laws.specs.Served.{holding_on}
 use Rattle.noting_laws.specs.Noting.{plain_set}
 use Rattle.scenario_play.specs.Shelving.{plain_client}
 

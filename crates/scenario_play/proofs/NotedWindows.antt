@@ -2,25 +2,25 @@
 use Rattle.std.proofs.Common.{◌≡◌, ℕ, zero, suc, ◌≤◌, Bool, true, false, List, [], ◌∷◌, ◌++◌, Option, Some, None, refl, sym, ap, subst, ◌∙◌, arith, if◌then◌else◌}
 use Rattle.std.specs.Prelude.{is_some}
 use Rattle.std.proofs.lemmas.List.Sums.{fold-append}
-use Rattle.channel_model.specs.declared.event.ChannelEvent.{ChannelEvent}
-use Rattle.acl_fragments.specs.Pieces.{channel_of}
-use Rattle.channel_model.specs.Calls.{window_used, carrier_window, setup_window, link_down, setup_on}
-use Rattle.channel_model.specs.Carrying.{Up as Handed, Nothing, Received}
-use Rattle.channel_model.specs.Changing.{setup_of}
-use Rattle.channel_model.specs.Giving.{Given, next_given, after_given}
-use Rattle.channel_model.specs.Hearing.{hears, up}
-use Rattle.channel_model.specs.Timing.{timed_out}
-use Rattle.channel_model.specs.Value.{Setup, Held, Channels, no_channels}
-use Rattle.channel_model.proofs.Lookups.{Distinct, own_of}
-use Rattle.channel_laws.specs.Runs.{Occurrence, Comes, Gives, Fires, Tells, Run, new_link, run_on, run_of, value_after}
-use Rattle.channel_laws.proofs.Running.{all-sound}
-use Rattle.world_model.specs.Machines.{News, Linked, Up, Down, Failed, Heard, TimerFired, Cancelled, Opening}
-use Rattle.host_model.specs.Circumstances.{Circumstance}
-use Rattle.host_model.specs.Hosts.{Host, drives, settles, strides, tells_each, tells_events, handed, hears_news, ready, hear, after_said, says, next, with_channels, most_steps, steps_behind}
-use Rattle.host_model.specs.Pdus.{pdu_of, is_frame}
-use Rattle.host_model.specs.Profiles.{Profile}
-use Rattle.host_laws.specs.Calls.{Asks, Call, occurrence_of, from_call, values_after}
-use Rattle.scenario_laws.proofs.Windows.{windows_within}
+use Rattle.bt_host.specs.channel_model.specs.declared.event.ChannelEvent.{ChannelEvent}
+use Rattle.bt_host.specs.acl_fragments.specs.Pieces.{channel_of}
+use Rattle.bt_host.specs.channel_model.specs.Calls.{window_used, carrier_window, setup_window, link_down, setup_on}
+use Rattle.bt_host.specs.channel_model.specs.Carrying.{Up as Handed, Nothing, Received}
+use Rattle.bt_host.specs.channel_model.specs.Changing.{setup_of}
+use Rattle.bt_host.specs.channel_model.specs.Giving.{Given, next_given, after_given}
+use Rattle.bt_host.specs.channel_model.specs.Hearing.{hears, up}
+use Rattle.bt_host.specs.channel_model.specs.Timing.{timed_out}
+use Rattle.bt_host.specs.channel_model.specs.Value.{Setup, Held, Channels, no_channels}
+use Rattle.bt_host.specs.channel_model.proofs.Lookups.{Distinct, own_of}
+use Rattle.noting_laws.specs.channel_laws.specs.Runs.{Occurrence, Comes, Gives, Fires, Tells, Run, new_link, run_on, run_of, value_after}
+use Rattle.noting_laws.specs.channel_laws.proofs.Running.{all-sound}
+use Rattle.noting_laws.specs.world_model.specs.Machines.{News, Linked, Up, Down, Failed, Heard, TimerFired, Cancelled, Opening}
+use Rattle.bt_host.specs.host_model.specs.Circumstances.{Circumstance}
+use Rattle.bt_host.specs.host_model.specs.Hosts.{Host, drives, settles, strides, tells_each, tells_events, handed, hears_news, ready, hear, after_said, says, next, with_channels, most_steps, steps_behind}
+use Rattle.bt_host.specs.host_model.specs.Pdus.{pdu_of, is_frame}
+use Rattle.bt_host.specs.host_model.specs.Profiles.{Profile}
+use Rattle.noting_laws.specs.host_laws.specs.Calls.{Asks, Call, occurrence_of, from_call, values_after}
+use Rattle.noting_laws.specs.scenario_laws.proofs.Windows.{windows_within}
 use Rattle.bt_host.specs.Noting.{Noted, noting}
 use Rattle.scenario_play.proofs.Unacknowledged.{AllUnder, window_on, used_under, each_under}
 use Rattle.scenario_play.proofs.Stepping.{StepsLess}

@@ -2,24 +2,24 @@
 use Rattle.std.proofs.Common.{◌≡◌, List, ◌++◌, Option, refl, sym, ap, ◌∙◌}
 use Rattle.bt_base.specs.declared.settings.Settings.{Settings}
 use Rattle.bt_base.specs.Objects.{Object, Contents}
-use Rattle.channel_model.specs.Giving.{next_given}
-use Rattle.obex_session.specs.Counting.{Counts}
-use Rattle.obex_session.specs.InboxCalls.{Answer}
+use Rattle.bt_host.specs.channel_model.specs.Giving.{next_given}
+use Rattle.noting_laws.specs.obex_session.specs.Counting.{Counts}
+use Rattle.noting_laws.specs.obex_session.specs.InboxCalls.{Answer}
 use Rattle.push_script.specs.declared.scenario.Scenario.{Scenario}
 use Rattle.capture.specs.Entries.{Entry}
-use Rattle.world_model.specs.Worlds.{Happening, all_entries}
-use Rattle.air_laws.specs.AirLaws.{IsLastEnd}
-use Rattle.run_laws.specs.Embedding.{Embeds, said_as}
+use Rattle.noting_laws.specs.world_model.specs.Worlds.{Happening, all_entries}
+use Rattle.noting_laws.specs.air_laws.specs.AirLaws.{IsLastEnd}
+use Rattle.radio_world.specs.run_laws.specs.Embedding.{Embeds, said_as}
 use Rattle.radio_world.specs.Scenes.{world_at, Plays}
 use Rattle.radio_world.specs.Standing.{starting, first_moment}
 use Rattle.radio_world.proofs.Standing.{runs_of}
-use Rattle.host_model.specs.Circumstances.{Circumstance, answers_in}
-use Rattle.host_model.specs.Machines.{upper}
-use Rattle.host_model.specs.Servers.{ServerProfile}
-use Rattle.host_model.specs.Settings.{SetHost, set_to, client_machine}
+use Rattle.bt_host.specs.host_model.specs.Circumstances.{Circumstance, answers_in}
+use Rattle.bt_host.specs.host_model.specs.Machines.{upper}
+use Rattle.bt_host.specs.host_model.specs.Servers.{ServerProfile}
+use Rattle.bt_host.specs.host_model.specs.Settings.{SetHost, set_to, client_machine}
 use Rattle.bt_host.specs.NotedHosts.{noted_client_machine, noted_server_machine}
-use Rattle.scenario_laws.proofs.SetHosts.{set_hosts_are_hosts, hear_same, says_same}
-use Rattle.inbox_laws.specs.Owned.{own_profile, own_machine}
+use Rattle.noting_laws.specs.scenario_laws.proofs.SetHosts.{set_hosts_are_hosts, hear_same, says_same}
+use Rattle.noting_laws.specs.inbox_laws.specs.Owned.{own_profile, own_machine}
 use Rattle.tape_laws.specs.Own.{own_server}
 use Rattle.scenario_play.specs.Peaks.{NotedMoment}
 use Rattle.scenario_play.specs.Playing.{LackedNever, RanAnswered}

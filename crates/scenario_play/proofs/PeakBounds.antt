@@ -9,50 +9,50 @@ use Rattle.push_terms.specs.declared.word.Side.TheVariants as sides
 use Rattle.push_terms.specs.declared.word.Word.{Word}
 use Rattle.capture.specs.Links.{Link, link_up}
 use Rattle.capture.specs.Pdus.{pdus}
-use Rattle.link_talk.specs.Accounts.{window_used}
-use Rattle.link_talk.specs.Captures.{talk_on}
-use Rattle.link_talk.specs.Channels.{Entry as Known, is_alive, reading}
-use Rattle.link_talk.specs.declared.channel.Channel.{Channel}
-use Rattle.link_talk.specs.declared.life.Life.{Life}
-use Rattle.link_talk.specs.declared.party.Party.{Party}
-use Rattle.link_talk.specs.Sayings.{Saying}
-use Rattle.channel_model.specs.Calls.{setup_on, setup_window, window_used as most_used}
-use Rattle.channel_model.specs.Changing.{held_at, setup_of}
-use Rattle.channel_model.specs.Policies.{Policy}
-use Rattle.channel_model.specs.Value.{Setup, Stage, Requested, Connected, Leaving, Closing, Crossed, Held, Channels}
-use Rattle.channel_model.proofs.Lookups.{own_of, found-has}
-use Rattle.channel_laws.specs.Frames.{AreUttered}
-use Rattle.channel_laws.specs.Runs.{Occurrence, run_of}
-use Rattle.channel_laws.specs.Sdus.{StatesFrame}
-use Rattle.channel_laws.specs.Views.{peer_of, life_of, IsReadBy, IsRead, read_at}
-use Rattle.channel_laws.proofs.Frames.{frames-are_held}
-use Rattle.channel_laws.proofs.Running.{channels-are_read}
-use Rattle.world_model.specs.Machines.{Upper}
-use Rattle.world_model.specs.Worlds.{Happening, Turns, IsAtRest, all_entries}
+use Rattle.noting_laws.specs.link_talk.specs.Accounts.{window_used}
+use Rattle.noting_laws.specs.link_talk.specs.Captures.{talk_on}
+use Rattle.noting_laws.specs.link_talk.specs.Channels.{Entry as Known, is_alive, reading}
+use Rattle.noting_laws.specs.link_talk.specs.declared.channel.Channel.{Channel}
+use Rattle.noting_laws.specs.link_talk.specs.declared.life.Life.{Life}
+use Rattle.noting_laws.specs.link_talk.specs.declared.party.Party.{Party}
+use Rattle.noting_laws.specs.link_talk.specs.Sayings.{Saying}
+use Rattle.bt_host.specs.channel_model.specs.Calls.{setup_on, setup_window, window_used as most_used}
+use Rattle.bt_host.specs.channel_model.specs.Changing.{held_at, setup_of}
+use Rattle.bt_host.specs.channel_model.specs.Policies.{Policy}
+use Rattle.bt_host.specs.channel_model.specs.Value.{Setup, Stage, Requested, Connected, Leaving, Closing, Crossed, Held, Channels}
+use Rattle.bt_host.specs.channel_model.proofs.Lookups.{own_of, found-has}
+use Rattle.noting_laws.specs.channel_laws.specs.Frames.{AreUttered}
+use Rattle.noting_laws.specs.channel_laws.specs.Runs.{Occurrence, run_of}
+use Rattle.noting_laws.specs.channel_laws.specs.Sdus.{StatesFrame}
+use Rattle.noting_laws.specs.channel_laws.specs.Views.{peer_of, life_of, IsReadBy, IsRead, read_at}
+use Rattle.noting_laws.specs.channel_laws.proofs.Frames.{frames-are_held}
+use Rattle.noting_laws.specs.channel_laws.proofs.Running.{channels-are_read}
+use Rattle.noting_laws.specs.world_model.specs.Machines.{Upper}
+use Rattle.noting_laws.specs.world_model.specs.Worlds.{Happening, Turns, IsAtRest, all_entries}
 use Rattle.radio_world.specs.Scenes.{world_at, Plays}
 use Rattle.radio_world.specs.Standing.{starting, first_moment}
 use Rattle.radio_world.proofs.Standing.{runs_of}
-use Rattle.host_model.specs.Circumstances.{Circumstance}
-use Rattle.host_model.specs.Clients.{ClientProfile, client_profile}
-use Rattle.host_model.specs.Hosts.{Host, hear, next}
-use Rattle.host_model.specs.Profiles.{Profile}
-use Rattle.host_model.specs.Servers.{ServerProfile, server_profile}
-use Rattle.host_model.specs.Settings.{SetHost, set_to, said_with, with_settings, client_machine, server_machine}
-use Rattle.host_laws.specs.Acts.{Hears, Says}
-use Rattle.host_laws.specs.Calls.{Asks}
-use Rattle.host_laws.proofs.Asking.{hosts_ask}
-use Rattle.host_laws.proofs.Links.{act_told}
+use Rattle.bt_host.specs.host_model.specs.Circumstances.{Circumstance}
+use Rattle.bt_host.specs.host_model.specs.Clients.{ClientProfile, client_profile}
+use Rattle.bt_host.specs.host_model.specs.Hosts.{Host, hear, next}
+use Rattle.bt_host.specs.host_model.specs.Profiles.{Profile}
+use Rattle.bt_host.specs.host_model.specs.Servers.{ServerProfile, server_profile}
+use Rattle.bt_host.specs.host_model.specs.Settings.{SetHost, set_to, said_with, with_settings, client_machine, server_machine}
+use Rattle.noting_laws.specs.host_laws.specs.Acts.{Hears, Says}
+use Rattle.noting_laws.specs.host_laws.specs.Calls.{Asks}
+use Rattle.noting_laws.specs.host_laws.proofs.Asking.{hosts_ask}
+use Rattle.noting_laws.specs.host_laws.proofs.Links.{act_told}
 use Rattle.bt_host.specs.Noting.{Noted, noting}
 use Rattle.bt_host.specs.NotedHosts.{credits_of_shelved, credits_of_server, noted_client_machine, noted_server_machine}
 use Rattle.bt_host.specs.Serving.{profile_of}
 use Rattle.bt_host.specs.Shelving.{Shelved, shelf_profile}
-use Rattle.scenario_laws.specs.Captures.{client_of, server_of}
-use Rattle.scenario_laws.specs.Parties.{party_of}
-use Rattle.scenario_laws.specs.Plain.{IsPlainAt}
-use Rattle.scenario_laws.proofs.PlainRuns.{stepping_asks, plain_runs as both_plain}
-use Rattle.scenario_laws.proofs.SetHosts.{set_hosts_are_hosts}
-use Rattle.scenario_laws.proofs.Telling.{side_linked}
-use Rattle.scenario_laws.proofs.Wishes.{states_frame, wishes_window}
+use Rattle.noting_laws.specs.scenario_laws.specs.Captures.{client_of, server_of}
+use Rattle.noting_laws.specs.scenario_laws.specs.Parties.{party_of}
+use Rattle.noting_laws.specs.scenario_laws.specs.Plain.{IsPlainAt}
+use Rattle.noting_laws.specs.scenario_laws.proofs.PlainRuns.{stepping_asks, plain_runs as both_plain}
+use Rattle.noting_laws.specs.scenario_laws.proofs.SetHosts.{set_hosts_are_hosts}
+use Rattle.noting_laws.specs.scenario_laws.proofs.Telling.{side_linked}
+use Rattle.noting_laws.specs.scenario_laws.proofs.Wishes.{states_frame, wishes_window}
 use Rattle.noting_laws.specs.Noting.{plain_set}
 use Rattle.scenario_play.specs.Shelving.{plain_client}
 use Rattle.scenario_play.specs.PeakBounds.{HoldsAtMost, AreBounded, PeaksAreBounded}

@@ -1,23 +1,23 @@
 -- What hosts do that note what they hold, those do that do not.
 use Rattle.std.proofs.Common.{◌≡◌, List, Option, refl, ap₂, subst, ◌∙◌}
-use Rattle.world_model.specs.Machines.{News}
-use Rattle.world_model.specs.Worlds.{World, Happening, Runs, IsAtRest}
-use Rattle.rest_laws.specs.Premises.{AreOrderly}
-use Rattle.run_laws.specs.Embedding.{Embeds}
-use Rattle.alike_laws.specs.Twins.{world_with}
-use Rattle.alike_laws.proofs.Alike.{runs_on, rest_on}
+use Rattle.noting_laws.specs.world_model.specs.Machines.{News}
+use Rattle.noting_laws.specs.world_model.specs.Worlds.{World, Happening, Runs, IsAtRest}
+use Rattle.noting_laws.specs.rest_laws.specs.Premises.{AreOrderly}
+use Rattle.radio_world.specs.run_laws.specs.Embedding.{Embeds}
+use Rattle.noting_laws.specs.alike_laws.specs.Twins.{world_with}
+use Rattle.noting_laws.specs.alike_laws.proofs.Alike.{runs_on, rest_on}
 use Rattle.bt_base.specs.Objects.{Object}
-use Rattle.host_model.specs.Circumstances.{Circumstance}
-use Rattle.host_model.specs.Clients.{ClientProfile}
-use Rattle.host_model.specs.Servers.{ServerProfile}
-use Rattle.host_model.specs.Settings.{SetHost, client_machine, server_machine}
-use Rattle.answer_laws.specs.Memory.{HadMemory}
-use Rattle.pair_laws.specs.Enough.{remembered, remembering}
-use Rattle.pair_laws.specs.Granted.{granted, granting}
-use Rattle.pair_laws.specs.Served.{holding_on}
-use Rattle.pair_laws.proofs.Answered.{same_alike}
-use Rattle.inbox_laws.specs.Owned.{own_machine, IsGranting, HasEnough}
-use Rattle.inbox_laws.proofs.Owning.{own_alike, answering_runs, IsGranted, grants_stay, memory_stays}
+use Rattle.bt_host.specs.host_model.specs.Circumstances.{Circumstance}
+use Rattle.bt_host.specs.host_model.specs.Clients.{ClientProfile}
+use Rattle.bt_host.specs.host_model.specs.Servers.{ServerProfile}
+use Rattle.bt_host.specs.host_model.specs.Settings.{SetHost, client_machine, server_machine}
+use Rattle.bt_host.specs.answer_laws.specs.Memory.{HadMemory}
+use Rattle.noting_laws.specs.pair_laws.specs.Enough.{remembered, remembering}
+use Rattle.noting_laws.specs.pair_laws.specs.Granted.{granted, granting}
+use Rattle.noting_laws.specs.pair_laws.specs.Served.{holding_on}
+use Rattle.noting_laws.specs.pair_laws.proofs.Answered.{same_alike}
+use Rattle.noting_laws.specs.inbox_laws.specs.Owned.{own_machine, IsGranting, HasEnough}
+use Rattle.noting_laws.specs.inbox_laws.proofs.Owning.{own_alike, answering_runs, IsGranted, grants_stay, memory_stays}
 use Rattle.bt_host.specs.Noting.{Noted}
 use Rattle.bt_host.specs.NotedHosts.{credits_of_shelved, credits_of_server, noted_client_machine, noted_server_machine}
 use Rattle.bt_host.specs.Serving.{profile_of}

@@ -4,19 +4,19 @@ use Rattle.bt_base.specs.Objects.{Object, Contents}
 use Rattle.bt_base.specs.declared.settings.Transport.TheVariants.{Rfcomm}
 use Rattle.push_script.specs.declared.scenario.Scenario.{Scenario}
 use Rattle.capture.specs.Entries.{Entry}
-use Rattle.air_laws.specs.AirLaws.{IsLastEnd}
-use Rattle.world_model.specs.Machines.{News}
-use Rattle.world_model.specs.Pushes.{Pushes}
-use Rattle.world_model.specs.Worlds.{all_entries, all_words}
-use Rattle.host_model.specs.Circumstances.{Circumstance}
-use Rattle.shelf_model.specs.Held.{held_by}
-use Rattle.scenario_laws.specs.Captures.{client_of, server_of, BothHosts, beginning, Ran}
-use Rattle.scenario_laws.specs.Gains.{holding}
-use Rattle.pair_laws.specs.Enough.{remembered, HappenedEnough}
-use Rattle.pair_laws.specs.Keeping.{LosesNothing}
-use Rattle.pair_laws.proofs.Answered.{runs-so}
-use Rattle.inbox_laws.proofs.Deciding.{answers_decide}
-use Rattle.request_laws.proofs.ShelfPushes.{runs_spell_pushed}
+use Rattle.noting_laws.specs.air_laws.specs.AirLaws.{IsLastEnd}
+use Rattle.noting_laws.specs.world_model.specs.Machines.{News}
+use Rattle.noting_laws.specs.world_model.specs.Pushes.{Pushes}
+use Rattle.noting_laws.specs.world_model.specs.Worlds.{all_entries, all_words}
+use Rattle.bt_host.specs.host_model.specs.Circumstances.{Circumstance}
+use Rattle.bt_host.specs.shelf_model.specs.Held.{held_by}
+use Rattle.noting_laws.specs.scenario_laws.specs.Captures.{client_of, server_of, BothHosts, beginning, Ran}
+use Rattle.noting_laws.specs.scenario_laws.specs.Gains.{holding}
+use Rattle.noting_laws.specs.pair_laws.specs.Enough.{remembered, HappenedEnough}
+use Rattle.noting_laws.specs.pair_laws.specs.Keeping.{LosesNothing}
+use Rattle.noting_laws.specs.pair_laws.proofs.Answered.{runs-so}
+use Rattle.noting_laws.specs.inbox_laws.proofs.Deciding.{answers_decide}
+use Rattle.credit_laws.specs.request_laws.proofs.ShelfPushes.{runs_spell_pushed}
 use Rattle.scenario_play.specs.Pushed.{SpellsOfShelf, PlaysSpellPushed}
 use Rattle.scenario_play.proofs.Gained.{run_so_far}
 use Rattle.scenario_play.proofs.Streamed.{loses_nothing, broke_gently}

@@ -3,10 +3,10 @@ use Rattle.std.proofs.Common.{List, ◌++◌, Option}
 use Rattle.bt_base.specs.Objects.{Contents}
 use Rattle.push_script.specs.declared.scenario.Scenario.{Scenario}
 use Rattle.capture.specs.Entries.{Entry}
-use Rattle.world_model.specs.Worlds.{all_entries}
-use Rattle.scenario_laws.specs.Captures.{Ran}
-use Rattle.pair_laws.proofs.Modes.{runs-are_enhanced}
-use Rattle.request_laws.proofs.AsTold.{runs_use_service}
+use Rattle.noting_laws.specs.world_model.specs.Worlds.{all_entries}
+use Rattle.noting_laws.specs.scenario_laws.specs.Captures.{Ran}
+use Rattle.noting_laws.specs.pair_laws.proofs.Modes.{runs-are_enhanced}
+use Rattle.credit_laws.specs.request_laws.proofs.AsTold.{runs_use_service}
 use Rattle.scenario_play.specs.Services.{KeepsService, PlaysKeepService}
 
 of_run : (scenario : Scenario) (content : Option Contents) (capture : List Entry) → Ran scenario content capture → KeepsService scenario.settings capture

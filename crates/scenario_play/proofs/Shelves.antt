@@ -5,32 +5,32 @@ use Rattle.bt_base.specs.Objects.{Object, octets_of}
 use Rattle.bt_base.specs.declared.ports.PortFault.{PortFault}
 use Rattle.bt_base.specs.declared.ports.PortFault.TheVariants as fault
 use Rattle.bt_base.specs.declared.settings.Settings.{Settings}
-use Rattle.channel_model.specs.declared.event.ChannelEvent.{ChannelEvent}
-use Rattle.channel_model.specs.declared.event.ChannelEvent.TheVariants as event
-use Rattle.channel_model.specs.Value.{Channels}
-use Rattle.channel_model.specs.Calls.{sends, peer_mtu, waits}
+use Rattle.bt_host.specs.channel_model.specs.declared.event.ChannelEvent.{ChannelEvent}
+use Rattle.bt_host.specs.channel_model.specs.declared.event.ChannelEvent.TheVariants as event
+use Rattle.bt_host.specs.channel_model.specs.Value.{Channels}
+use Rattle.bt_host.specs.channel_model.specs.Calls.{sends, peer_mtu, waits}
 use Rattle.push_terms.specs.declared.outcome.Outcome.{Outcome}
-use Rattle.push_model.specs.declared.closing.CloseCause.{CloseCause}
-use Rattle.push_model.specs.Client.{Client, begins, begun_by, cancelled}
-use Rattle.push_model.specs.Events as events
-use Rattle.push_model.specs.Events.{hears_news}
-use Rattle.push_model.specs.Laws.{link_steps}
-use Rattle.push_model.specs.Payloads.{Payload}
-use Rattle.push_model.specs.Steps as course
-use Rattle.push_model.specs.Steps.{Part as Octets, Step, put_count, steps}
-use Rattle.push_client.specs.Ending as push
-use Rattle.push_client.proofs.KeepingLaws as keeping
-use Rattle.world_model.specs.Machines.{News, Linked, Up, Down, Failed, Heard, TimerFired, Cancelled, Opening}
-use Rattle.host_model.specs.Circumstances.{Circumstance, Excerpt, Size, Part, Stored, size_in, parts_in}
-use Rattle.host_model.specs.Clients as clients
-use Rattle.host_model.specs.Clients.{ClientProfile, calls, ended, fitted, takes}
-use Rattle.host_model.specs.Endpoints.{endpoint_of, takes_sdu}
-use Rattle.host_model.specs.Pdus.{sdu_of}
-use Rattle.host_model.specs.Profiles.{Profile}
-use Rattle.host_model.specs.Shelves.{is_short, size_if, size_for, name_for, measured, is_next, part_for, bare_part, fitting, unused}
-use Rattle.shelf_model.specs.Held.{part_in_octets, size_in_octets, is_at, part_where, given_at, given_by, length_of, is_length, size_where, sized, sized_in, told_by, held_by}
-use Rattle.host_model.proofs.Keeping.{Keeps as HostKeeps, KeepsNews}
-use Rattle.inbox_laws.proofs.Keeping.{KeepsSo}
+use Rattle.bt_host.specs.push_model.specs.declared.closing.CloseCause.{CloseCause}
+use Rattle.bt_host.specs.push_model.specs.Client.{Client, begins, begun_by, cancelled}
+use Rattle.bt_host.specs.push_model.specs.Events as events
+use Rattle.bt_host.specs.push_model.specs.Events.{hears_news}
+use Rattle.bt_host.specs.push_model.specs.Laws.{link_steps}
+use Rattle.bt_host.specs.push_model.specs.Payloads.{Payload}
+use Rattle.bt_host.specs.push_model.specs.Steps as course
+use Rattle.bt_host.specs.push_model.specs.Steps.{Part as Octets, Step, put_count, steps}
+use Rattle.bt_host.specs.push_client.specs.Ending as push
+use Rattle.bt_host.specs.push_client.proofs.KeepingLaws as keeping
+use Rattle.noting_laws.specs.world_model.specs.Machines.{News, Linked, Up, Down, Failed, Heard, TimerFired, Cancelled, Opening}
+use Rattle.bt_host.specs.host_model.specs.Circumstances.{Circumstance, Excerpt, Size, Part, Stored, size_in, parts_in}
+use Rattle.bt_host.specs.host_model.specs.Clients as clients
+use Rattle.bt_host.specs.host_model.specs.Clients.{ClientProfile, calls, ended, fitted, takes}
+use Rattle.bt_host.specs.host_model.specs.Endpoints.{endpoint_of, takes_sdu}
+use Rattle.bt_host.specs.host_model.specs.Pdus.{sdu_of}
+use Rattle.bt_host.specs.host_model.specs.Profiles.{Profile}
+use Rattle.bt_host.specs.host_model.specs.Shelves.{is_short, size_if, size_for, name_for, measured, is_next, part_for, bare_part, fitting, unused}
+use Rattle.bt_host.specs.shelf_model.specs.Held.{part_in_octets, size_in_octets, is_at, part_where, given_at, given_by, length_of, is_length, size_where, sized, sized_in, told_by, held_by}
+use Rattle.bt_host.specs.host_model.proofs.Keeping.{Keeps as HostKeeps, KeepsNews}
+use Rattle.noting_laws.specs.inbox_laws.proofs.Keeping.{KeepsSo}
 use Rattle.bt_host.specs.Pushing.{FoundMemory}
 use Rattle.bt_host.specs.Shelving.{Shelved, is_failed, owed, less_one, left_behind, memory_found, in_memory, told_shelved, shelf_profile}
 use Rattle.bt_host.specs.Uppers.{IsAside}

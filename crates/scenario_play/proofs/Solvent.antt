@@ -1,7 +1,7 @@
 -- The credits of no host ran out in a scenario that was played.
 use Rattle.std.proofs.Common.{◌++◌}
-use Rattle.world_model.specs.Worlds.{all_entries, all_words}
-use Rattle.request_laws.proofs.Scripts.{scripts_lose_nothing}
+use Rattle.noting_laws.specs.world_model.specs.Worlds.{all_entries, all_words}
+use Rattle.credit_laws.specs.request_laws.proofs.Scripts.{scripts_lose_nothing}
 use Rattle.credit_laws.proofs.Staying.{runs-stay_solvent}
 use Rattle.scenario_play.specs.Solvent.{PlaysStaySolvent}
 use Rattle.scenario_play.proofs.Streamed.{loses_nothing}

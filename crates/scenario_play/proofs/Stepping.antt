@@ -2,20 +2,20 @@
 use Rattle.std.proofs.Common.{ℕ, ◌≤◌, Bool, true, false, cond, Option, Some, None, arith}
 use Rattle.bt_base.specs.declared.settings.Settings.{Settings}
 use Rattle.bt_base.specs.Objects.{Contents}
-use Rattle.channel_model.specs.Calls.{sends, window_used}
-use Rattle.channel_model.specs.Value.{Channels}
-use Rattle.push_model.specs.Payloads.{Payload}
-use Rattle.push_model.specs.Server.{Server, Lent, lends, lent_sdu, stepped}
-use Rattle.push_model.specs.Steps as push
-use Rattle.push_model.specs.Steps.{Step, steps}
-use Rattle.host_model.specs.Clients as clients
-use Rattle.host_model.specs.Clients.{ClientProfile, client_profile}
-use Rattle.host_model.specs.Endpoints.{endpoint_of, takes_sdu}
-use Rattle.host_model.specs.Pdus.{sdu_of}
-use Rattle.host_model.specs.Profiles.{Stride, Profile}
-use Rattle.host_model.specs.Servers as servers
-use Rattle.host_model.specs.Servers.{ServerProfile, server_profile}
-use Rattle.host_model.specs.Shelves.{unused}
+use Rattle.bt_host.specs.channel_model.specs.Calls.{sends, window_used}
+use Rattle.bt_host.specs.channel_model.specs.Value.{Channels}
+use Rattle.bt_host.specs.push_model.specs.Payloads.{Payload}
+use Rattle.bt_host.specs.push_model.specs.Server.{Server, Lent, lends, lent_sdu, stepped}
+use Rattle.bt_host.specs.push_model.specs.Steps as push
+use Rattle.bt_host.specs.push_model.specs.Steps.{Step, steps}
+use Rattle.bt_host.specs.host_model.specs.Clients as clients
+use Rattle.bt_host.specs.host_model.specs.Clients.{ClientProfile, client_profile}
+use Rattle.bt_host.specs.host_model.specs.Endpoints.{endpoint_of, takes_sdu}
+use Rattle.bt_host.specs.host_model.specs.Pdus.{sdu_of}
+use Rattle.bt_host.specs.host_model.specs.Profiles.{Stride, Profile}
+use Rattle.bt_host.specs.host_model.specs.Servers as servers
+use Rattle.bt_host.specs.host_model.specs.Servers.{ServerProfile, server_profile}
+use Rattle.bt_host.specs.host_model.specs.Shelves.{unused}
 use Rattle.scenario_play.proofs.Unacknowledged.{connected_less, features_less, disconnected_less, sends_less}
 
 -- no step of the profile raises it

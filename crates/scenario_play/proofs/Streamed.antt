@@ -4,26 +4,26 @@ use Rattle.std.proofs.lemmas.Grind.{flat_map-append}
 use Rattle.std.proofs.lemmas.List.{append-nil, append_assoc}
 use Rattle.bt_base.specs.Objects.{Object, Contents}
 use Rattle.bt_base.specs.declared.settings.Transport.TheVariants.{Rfcomm}
-use Rattle.obex_session.specs.Counting.{Counts}
+use Rattle.noting_laws.specs.obex_session.specs.Counting.{Counts}
 use Rattle.push_script.specs.declared.scenario.Scenario.{Scenario}
 use Rattle.push_terms.specs.declared.outcome.Outcome.{Outcome}
 use Rattle.push_terms.specs.declared.peaks.Peaks.{Peaks}
 use Rattle.push_terms.specs.declared.word.Side.TheVariants.{B}
 use Rattle.push_terms.specs.declared.word.Word.{Word}
 use Rattle.capture.specs.Entries.{Entry}
-use Rattle.push_laws.specs.Laws.{stored_in}
-use Rattle.world_model.specs.Worlds.{Happening, words_in, all_entries, all_words}
-use Rattle.scenario_laws.specs.Captures.{Ran, Finished}
-use Rattle.scenario_laws.specs.Gains.{holding}
-use Rattle.pair_laws.specs.Keeping.{LosesNothing}
-use Rattle.pair_laws.specs.Served.{HappenedServed}
-use Rattle.pair_laws.proofs.Pairing.{held-keep_order, served-keep_order}
-use Rattle.request_laws.proofs.GainsCarried.{gains-carried}
-use Rattle.request_laws.proofs.HeardTogether.{hears_all}
-use Rattle.request_laws.proofs.Scripts.{scripts_lose_nothing}
-use Rattle.request_laws.proofs.Summing.{both_ask}
-use Rattle.request_laws.proofs.Together.{all_granted}
-use Rattle.request_laws.proofs.Told.{none_longer, gives_octets}
+use Rattle.noting_laws.specs.push_laws.specs.Laws.{stored_in}
+use Rattle.noting_laws.specs.world_model.specs.Worlds.{Happening, words_in, all_entries, all_words}
+use Rattle.noting_laws.specs.scenario_laws.specs.Captures.{Ran, Finished}
+use Rattle.noting_laws.specs.scenario_laws.specs.Gains.{holding}
+use Rattle.noting_laws.specs.pair_laws.specs.Keeping.{LosesNothing}
+use Rattle.noting_laws.specs.pair_laws.specs.Served.{HappenedServed}
+use Rattle.noting_laws.specs.pair_laws.proofs.Pairing.{held-keep_order, served-keep_order}
+use Rattle.credit_laws.specs.request_laws.proofs.GainsCarried.{gains-carried}
+use Rattle.credit_laws.specs.request_laws.proofs.HeardTogether.{hears_all}
+use Rattle.credit_laws.specs.request_laws.proofs.Scripts.{scripts_lose_nothing}
+use Rattle.credit_laws.specs.request_laws.proofs.Summing.{both_ask}
+use Rattle.credit_laws.specs.request_laws.proofs.Together.{all_granted}
+use Rattle.credit_laws.specs.request_laws.proofs.Told.{none_longer, gives_octets}
 use Rattle.scenario_play.specs.Breaking.{IsBroken}
 use Rattle.scenario_play.specs.Playing.{IsPlayed}
 use Rattle.scenario_play.specs.Streaming.{HaveStreamed, StreamsPlayed, StreamsBroken, PlaysStream}

@@ -2,18 +2,18 @@
 use Rattle.std.proofs.Common.{◌≡◌, ℕ, ◌≤◌, Bool, true, false, cond, List, [], ◌∷◌, ◌++◌, map, filter, Option, Some, None, refl, sym, ap, subst, ◌∙◌, arith}
 use Rattle.std.specs.Prelude.{fold, max, find, not, ◌==◌, option_map, is_some}
 use Rattle.std.specs.List.{AllByRecursion}
-use Rattle.ertm_model.specs.Value.{window_used as machine_window}
-use Rattle.ertm_model.specs.Submitting.{is_busy, taking}
+use Rattle.noting_laws.specs.ertm_model.specs.Value.{window_used as machine_window}
+use Rattle.noting_laws.specs.ertm_model.specs.Submitting.{is_busy, taking}
 use Rattle.std.proofs.lemmas.Bool.{eqb-true}
-use Rattle.channel_model.specs.declared.event.CloseReason.TheVariants.{OwnClosed}
-use Rattle.channel_model.specs.declared.errand.Errand.TheVariants.{Connection, Features}
-use Rattle.channel_model.specs.Asking.{new_request, asks}
-use Rattle.channel_model.specs.Calls.{can_connect, connected, asks_features, disconnected, disconnected_at, disconnected_held, carrier_with, sends_setup, sends_on, sends_held, sends, carrier_window, setup_window, window_used}
-use Rattle.channel_model.specs.Changing.{held_at, has_own, in_place_of, setup_of, stage_with, is_open}
-use Rattle.channel_model.specs.Closing.{closes_at}
-use Rattle.channel_model.specs.Following.{with_channel}
-use Rattle.channel_model.proofs.Lookups.{Distinct, own_of, eqb-same}
-use Rattle.channel_model.specs.Value.{Carrier, Plain, Retransmitting, Setup, Stage, Requested, Connected, Leaving, Closing, Crossed, Held, Channels}
+use Rattle.bt_host.specs.channel_model.specs.declared.event.CloseReason.TheVariants.{OwnClosed}
+use Rattle.bt_host.specs.channel_model.specs.declared.errand.Errand.TheVariants.{Connection, Features}
+use Rattle.bt_host.specs.channel_model.specs.Asking.{new_request, asks}
+use Rattle.bt_host.specs.channel_model.specs.Calls.{can_connect, connected, asks_features, disconnected, disconnected_at, disconnected_held, carrier_with, sends_setup, sends_on, sends_held, sends, carrier_window, setup_window, window_used}
+use Rattle.bt_host.specs.channel_model.specs.Changing.{held_at, has_own, in_place_of, setup_of, stage_with, is_open}
+use Rattle.bt_host.specs.channel_model.specs.Closing.{closes_at}
+use Rattle.bt_host.specs.channel_model.specs.Following.{with_channel}
+use Rattle.bt_host.specs.channel_model.proofs.Lookups.{Distinct, own_of, eqb-same}
+use Rattle.bt_host.specs.channel_model.specs.Value.{Carrier, Plain, Retransmitting, Setup, Stage, Requested, Connected, Leaving, Closing, Crossed, Held, Channels}
 
 -- ---- the greatest of numbers
 

@@ -5,31 +5,31 @@ use Rattle.bt_base.specs.declared.settings.Transport.{Transport}
 use Rattle.bt_base.specs.declared.settings.Transport.TheVariants.{L2cap, Rfcomm}
 use Rattle.push_terms.specs.declared.outcome.Outcome.{Outcome}
 use Rattle.push_terms.specs.declared.outcome.Outcome.TheVariants.{LinkLost, RetryLimit, NoService, Cancelled, PeerClosed, PeerFault}
-use Rattle.rfcomm_model.specs.Hearing.{Up, nothing, opened, bytes, closed, up, hears}
-use Rattle.sdp_client.specs.Asking.{is_due}
-use Rattle.sdp_client.specs.Hearing.{found_at}
-use Rattle.sdp_client.specs.declared.reason.Found.{Found}
-use Rattle.sdp_client.specs.declared.reason.Found.TheVariants as found
-use Rattle.sdp_client.specs.declared.reason.QueryReason.{QueryReason}
-use Rattle.sdp_client.specs.declared.reason.QueryReason.TheVariants.{BadReply, ErrorCode, WrongTransaction, TooLong}
-use Rattle.obex_session.specs.declared.client.Answered.{Answered}
-use Rattle.obex_session.specs.declared.client.Answered.TheVariants as answer
-use Rattle.obex_session.specs.Views.{answer_at}
-use Rattle.push_model.specs.declared.closing.CloseCause.{CloseCause}
-use Rattle.push_model.specs.declared.closing.CloseCause.TheVariants as closing
-use Rattle.push_model.specs.declared.course.Point.TheVariants.{Due, Asked}
-use Rattle.push_model.specs.declared.course.Stage.{Stage}
-use Rattle.push_model.specs.declared.course.Stage.TheVariants.{Rest, Link, SearchChannel, Search, SearchEnd, Features, ObjectChannel, Object, ObjectEnd, LinkEnd, Over}
-use Rattle.push_model.specs.Causes.{cause_of_link, cause_of_page, cause_of_close, cause_of_query, cause_of_mux, small_channel, unawaited_response}
-use Rattle.push_model.specs.Client.{Client, is_direct, may_cancel, cancelled}
-use Rattle.push_model.specs.Events as events
-use Rattle.push_model.specs.Events.{News, is_linked, is_paging, is_asking_features, armed, search_psm, hears_news}
-use Rattle.push_model.specs.Laws.{Deed, Hears, Cancels, done}
-use Rattle.push_model.specs.Responding.{is_early, is_success, is_left, hears_response}
-use Rattle.push_model.specs.Shown.{first_of, watched, closed_shows, opened_shows, way_of, found_shows, says, answer_shows, response_shows, front_shows, stream_shows, up_shows, object_shows, outside_shows, sdu_shows, shows}
-use Rattle.push_model.specs.Streams.{Front, Whole, Partial, Broken, front_of}
-use Rattle.push_model.proofs.CauseLaws.{first_causes_stay}
-use Rattle.push_model.proofs.ShownLaws.{outcomes_are_shown}
+use Rattle.noting_laws.specs.rfcomm_model.specs.Hearing.{Up, nothing, opened, bytes, closed, up, hears}
+use Rattle.noting_laws.specs.sdp_client.specs.Asking.{is_due}
+use Rattle.noting_laws.specs.sdp_client.specs.Hearing.{found_at}
+use Rattle.noting_laws.specs.sdp_client.specs.declared.reason.Found.{Found}
+use Rattle.noting_laws.specs.sdp_client.specs.declared.reason.Found.TheVariants as found
+use Rattle.noting_laws.specs.sdp_client.specs.declared.reason.QueryReason.{QueryReason}
+use Rattle.noting_laws.specs.sdp_client.specs.declared.reason.QueryReason.TheVariants.{BadReply, ErrorCode, WrongTransaction, TooLong}
+use Rattle.noting_laws.specs.obex_session.specs.declared.client.Answered.{Answered}
+use Rattle.noting_laws.specs.obex_session.specs.declared.client.Answered.TheVariants as answer
+use Rattle.noting_laws.specs.obex_session.specs.Views.{answer_at}
+use Rattle.bt_host.specs.push_model.specs.declared.closing.CloseCause.{CloseCause}
+use Rattle.bt_host.specs.push_model.specs.declared.closing.CloseCause.TheVariants as closing
+use Rattle.bt_host.specs.push_model.specs.declared.course.Point.TheVariants.{Due, Asked}
+use Rattle.bt_host.specs.push_model.specs.declared.course.Stage.{Stage}
+use Rattle.bt_host.specs.push_model.specs.declared.course.Stage.TheVariants.{Rest, Link, SearchChannel, Search, SearchEnd, Features, ObjectChannel, Object, ObjectEnd, LinkEnd, Over}
+use Rattle.bt_host.specs.push_model.specs.Causes.{cause_of_link, cause_of_page, cause_of_close, cause_of_query, cause_of_mux, small_channel, unawaited_response}
+use Rattle.bt_host.specs.push_model.specs.Client.{Client, is_direct, may_cancel, cancelled}
+use Rattle.bt_host.specs.push_model.specs.Events as events
+use Rattle.bt_host.specs.push_model.specs.Events.{News, is_linked, is_paging, is_asking_features, armed, search_psm, hears_news}
+use Rattle.bt_host.specs.push_model.specs.Laws.{Deed, Hears, Cancels, done}
+use Rattle.bt_host.specs.push_model.specs.Responding.{is_early, is_success, is_left, hears_response}
+use Rattle.bt_host.specs.push_model.specs.Shown.{first_of, watched, closed_shows, opened_shows, way_of, found_shows, says, answer_shows, response_shows, front_shows, stream_shows, up_shows, object_shows, outside_shows, sdu_shows, shows}
+use Rattle.bt_host.specs.push_model.specs.Streams.{Front, Whole, Partial, Broken, front_of}
+use Rattle.bt_host.specs.push_model.proofs.CauseLaws.{first_causes_stay}
+use Rattle.bt_host.specs.push_model.proofs.ShownLaws.{outcomes_are_shown}
 use Rattle.bt_host.specs.Shelving.{is_shelf_fault, is_failed}
 
 -- no fault of the shelf shows

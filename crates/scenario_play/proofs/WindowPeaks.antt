@@ -9,13 +9,13 @@ use Rattle.push_terms.specs.declared.word.Word.{Word}
 use Rattle.capture.specs.Entries.{Entry, Acted, Begun, Ended}
 use Rattle.capture.specs.Histories.{EachAfter}
 use Rattle.capture.proofs.HistoryLaws.{each_after-more}
-use Rattle.link_talk.specs.Accounts.{window_used}
-use Rattle.link_talk.specs.Channels.{Entry as Known, is_alive, reading}
-use Rattle.link_talk.specs.Sayings.{Saying}
-use Rattle.channel_laws.specs.Views.{read_at}
-use Rattle.world_model.specs.Worlds.{Happening, Tries, Departure, GivingBack, Piecemeal, Answering, Turns, Misses, Opens, Closes, entries_of, all_entries}
-use Rattle.scenario_laws.specs.Parties.{party_of}
-use Rattle.scenario_laws.proofs.Fronts.{ended_talk, with_ends}
+use Rattle.noting_laws.specs.link_talk.specs.Accounts.{window_used}
+use Rattle.noting_laws.specs.link_talk.specs.Channels.{Entry as Known, is_alive, reading}
+use Rattle.noting_laws.specs.link_talk.specs.Sayings.{Saying}
+use Rattle.noting_laws.specs.channel_laws.specs.Views.{read_at}
+use Rattle.noting_laws.specs.world_model.specs.Worlds.{Happening, Tries, Departure, GivingBack, Piecemeal, Answering, Turns, Misses, Opens, Closes, entries_of, all_entries}
+use Rattle.noting_laws.specs.scenario_laws.specs.Parties.{party_of}
+use Rattle.noting_laws.specs.scenario_laws.proofs.Fronts.{ended_talk, with_ends}
 use Rattle.scenario_play.specs.PeakBounds.{HoldsAtMost}
 use Rattle.scenario_play.specs.WindowPeaks.{AsWordActs, WindowPeaksAreTold}
 use Rattle.scenario_play.proofs.PeakBounds.{peaks_are_bounded}

@@ -4,22 +4,22 @@ use Rattle.std.specs.List.{AllByRecursion}
 use Rattle.bt_base.specs.Counts.{HasRisen}
 use Rattle.bt_base.specs.Objects.{Object, Contents}
 use Rattle.bt_base.specs.Streams.{gained, GainedFront}
-use Rattle.obex_session.specs.Counting.{Counts}
+use Rattle.noting_laws.specs.obex_session.specs.Counting.{Counts}
 use Rattle.push_script.specs.declared.scenario.Scenario.{Scenario}
 use Rattle.push_terms.specs.declared.word.Word.{Word}
 use Rattle.capture.specs.Air.{words_of}
 use Rattle.capture.specs.Entries.{Entry, capture_octets, IsEntry}
-use Rattle.radio_air.specs.Queues.{is_crowded}
-use Rattle.world_model.specs.Machines.{Upper}
-use Rattle.world_model.specs.Worlds.{Happening, all_entries, all_words}
+use Rattle.radio_world.specs.radio_air.specs.Queues.{is_crowded}
+use Rattle.noting_laws.specs.world_model.specs.Machines.{Upper}
+use Rattle.noting_laws.specs.world_model.specs.Worlds.{Happening, all_entries, all_words}
 use Rattle.radio_world.specs.Hosts.{Asking}
 use Rattle.radio_world.specs.Scenes.{Stage, Advances}
 use Rattle.radio_world.specs.Standing.{last_entries}
 use Rattle.radio_world.specs.Shortages.{Wants}
 use Rattle.radio_world.specs.Breaking.{IsOf, Broken}
-use Rattle.scenario_laws.specs.Captures.{BothHosts, Happened, Ran}
-use Rattle.pair_laws.specs.Enough.{HappenedEnough}
-use Rattle.pair_laws.specs.Served.{HappenedServed}
+use Rattle.noting_laws.specs.scenario_laws.specs.Captures.{BothHosts, Happened, Ran}
+use Rattle.noting_laws.specs.pair_laws.specs.Enough.{HappenedEnough}
+use Rattle.noting_laws.specs.pair_laws.specs.Served.{HappenedServed}
 use Rattle.scenario_play.specs.Playing.{LackedNever, RoseNever, RanAnswered}
 
 -- ---- a world of any two hosts

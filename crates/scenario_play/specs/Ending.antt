@@ -5,21 +5,21 @@ use Rattle.bt_base.specs.Counts.{HasRisen}
 use Rattle.bt_base.specs.Objects.{Object, Contents}
 use Rattle.bt_base.specs.declared.settings.Transport.TheVariants.{L2cap}
 use Rattle.push_script.specs.Runs.{IsRun}
-use Rattle.obex_session.specs.Counting.{Counts}
+use Rattle.noting_laws.specs.obex_session.specs.Counting.{Counts}
 use Rattle.push_script.specs.declared.scenario.Scenario.{Scenario}
 use Rattle.push_terms.specs.declared.outcome.Outcome.{Outcome}
 use Rattle.push_terms.specs.declared.peaks.Peaks.{Peaks}
 use Rattle.capture.specs.Entries.{Entry, capture_octets}
-use Rattle.air_laws.specs.Crowded.{IsCrowded}
-use Rattle.world_model.specs.Worlds.{all_entries}
-use Rattle.push_laws.specs.Laws.{stored_in}
-use Rattle.host_laws.specs.Calls.{HostsAsk}
-use Rattle.scenario_laws.specs.Clauses.{Ends}
-use Rattle.scenario_laws.specs.Air.{hosts_of}
-use Rattle.scenario_laws.specs.Broken.{BrokeOff}
-use Rattle.scenario_laws.specs.Gains.{holding, OrderlyServer}
-use Rattle.scenario_laws.specs.Orderly.{ServesSo}
-use Rattle.request_laws.specs.Granted.{ServesGranted}
+use Rattle.noting_laws.specs.air_laws.specs.Crowded.{IsCrowded}
+use Rattle.noting_laws.specs.world_model.specs.Worlds.{all_entries}
+use Rattle.noting_laws.specs.push_laws.specs.Laws.{stored_in}
+use Rattle.noting_laws.specs.host_laws.specs.Calls.{HostsAsk}
+use Rattle.noting_laws.specs.scenario_laws.specs.Clauses.{Ends}
+use Rattle.noting_laws.specs.scenario_laws.specs.Air.{hosts_of}
+use Rattle.noting_laws.specs.scenario_laws.specs.Broken.{BrokeOff}
+use Rattle.noting_laws.specs.scenario_laws.specs.Gains.{holding, OrderlyServer}
+use Rattle.noting_laws.specs.scenario_laws.specs.Orderly.{ServesSo}
+use Rattle.credit_laws.specs.request_laws.specs.Granted.{ServesGranted}
 use Rattle.scenario_play.specs.Breaking.{IsBroken, IsWanting}
 use Rattle.scenario_play.specs.Playing.{LackedNever, RoseNever, IsPlayed}
 

@@ -3,7 +3,7 @@ use Rattle.std.specs.Prelude.{ℕ, ◌≡◌, ◌≤◌, List, [], ◌++◌, len
 use Rattle.std.specs.List.{AllByRecursion}
 use Rattle.bt_base.specs.Objects.{Object, Contents}
 use Rattle.bt_base.specs.declared.settings.Transport.TheVariants.{L2cap}
-use Rattle.obex_session.specs.Counting.{Counts}
+use Rattle.noting_laws.specs.obex_session.specs.Counting.{Counts}
 use Rattle.push_script.specs.declared.scenario.Scenario.{Scenario}
 use Rattle.push_terms.specs.declared.outcome.Outcome.{Outcome}
 use Rattle.push_terms.specs.declared.peaks.Peaks.{Peaks}
@@ -12,31 +12,31 @@ use Rattle.capture.specs.Air.{words_of}
 use Rattle.capture.specs.Buffers.{KeepsWithin}
 use Rattle.capture.specs.Entries.{Entry}
 use Rattle.capture.specs.Histories.{EachAfter, AtEach}
-use Rattle.radio_air.specs.Air.{KeepsTo, Obeys}
-use Rattle.radio_air.specs.Course.{pushes_begun, PushesInTurn}
-use Rattle.radio_air.specs.Honest.{AreHonest}
-use Rattle.link_talk.specs.Captures.{objects_heard}
-use Rattle.world_model.specs.Worlds.{all_entries}
-use Rattle.push_laws.specs.Laws.{stored_in}
-use Rattle.shelf_model.specs.Held.{length_of}
-use Rattle.host_laws.specs.Calls.{HostsAsk}
-use Rattle.scenario_laws.specs.Accounts.{KeepsWindow}
-use Rattle.scenario_laws.specs.Air.{hosts_of}
-use Rattle.scenario_laws.specs.Broken.{BrokeOff}
-use Rattle.scenario_laws.specs.Captures.{BothHosts, Ran, Finished}
-use Rattle.scenario_laws.specs.Clauses.{Ends}
-use Rattle.scenario_laws.specs.Gains.{holding, OrderlyServer}
-use Rattle.scenario_laws.specs.OneLink.{HasOneLink}
-use Rattle.scenario_laws.specs.Outcomes.{outcomes_of}
-use Rattle.scenario_laws.specs.Parties.{party_of}
-use Rattle.scenario_laws.specs.PushEnds.{AllHaveEnded}
-use Rattle.pair_laws.specs.InTurn.{PairsInTurn}
-use Rattle.pair_laws.specs.Served.{HeldInTurn}
-use Rattle.cause_laws.specs.FirstCauses.{CausesAreShown}
+use Rattle.radio_world.specs.radio_air.specs.Air.{KeepsTo, Obeys}
+use Rattle.radio_world.specs.radio_air.specs.Course.{pushes_begun, PushesInTurn}
+use Rattle.radio_world.specs.radio_air.specs.Honest.{AreHonest}
+use Rattle.noting_laws.specs.link_talk.specs.Captures.{objects_heard}
+use Rattle.noting_laws.specs.world_model.specs.Worlds.{all_entries}
+use Rattle.noting_laws.specs.push_laws.specs.Laws.{stored_in}
+use Rattle.bt_host.specs.shelf_model.specs.Held.{length_of}
+use Rattle.noting_laws.specs.host_laws.specs.Calls.{HostsAsk}
+use Rattle.noting_laws.specs.scenario_laws.specs.Accounts.{KeepsWindow}
+use Rattle.noting_laws.specs.scenario_laws.specs.Air.{hosts_of}
+use Rattle.noting_laws.specs.scenario_laws.specs.Broken.{BrokeOff}
+use Rattle.noting_laws.specs.scenario_laws.specs.Captures.{BothHosts, Ran, Finished}
+use Rattle.noting_laws.specs.scenario_laws.specs.Clauses.{Ends}
+use Rattle.noting_laws.specs.scenario_laws.specs.Gains.{holding, OrderlyServer}
+use Rattle.noting_laws.specs.scenario_laws.specs.OneLink.{HasOneLink}
+use Rattle.noting_laws.specs.scenario_laws.specs.Outcomes.{outcomes_of}
+use Rattle.noting_laws.specs.scenario_laws.specs.Parties.{party_of}
+use Rattle.noting_laws.specs.scenario_laws.specs.PushEnds.{AllHaveEnded}
+use Rattle.noting_laws.specs.pair_laws.specs.InTurn.{PairsInTurn}
+use Rattle.noting_laws.specs.pair_laws.specs.Served.{HeldInTurn}
+use Rattle.drop_laws.specs.cause_laws.specs.FirstCauses.{CausesAreShown}
 use Rattle.drop_laws.specs.Dropped.{LossesAreDrops}
-use Rattle.request_laws.specs.AllSizes.{InboxGrants}
-use Rattle.request_laws.specs.BothFed.{most_octets, GrantsAll}
-use Rattle.request_laws.specs.Together.{PortsAnswer}
+use Rattle.credit_laws.specs.request_laws.specs.AllSizes.{InboxGrants}
+use Rattle.credit_laws.specs.request_laws.specs.BothFed.{most_octets, GrantsAll}
+use Rattle.credit_laws.specs.request_laws.specs.Together.{PortsAnswer}
 use Rattle.scenario_play.specs.Breaking.{IsBroken}
 use Rattle.scenario_play.specs.Playing.{LackedNever, RoseNever, IsPlayed}
 

@@ -1,3 +1,14 @@
+pub use Rattle.noting_laws.specs.air_laws
+pub use Rattle.capture
+pub use Rattle.drop_laws.specs.cause_laws
+pub use Rattle.credit_laws
+pub use Rattle.drop_laws
+pub use Rattle.noting_laws.specs.host_laws
+pub use Rattle.noting_laws.specs.link_talk
+pub use Rattle.noting_laws.specs.obex_session
+pub use Rattle.noting_laws.specs.push_laws
+pub use Rattle.noting_laws.specs.scenario_laws
+pub use Rattle.noting_laws.specs.world_model
 pub mod Shelving
 pub mod Peaks
 pub mod Playing

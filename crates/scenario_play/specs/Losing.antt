@@ -2,18 +2,18 @@
 -- project's own).
 use Rattle.std.specs.Prelude.{ℕ, ◌≡◌, List, ◌++◌, Option, Some}
 use Rattle.bt_base.specs.Objects.{Object, Contents}
-use Rattle.obex_session.specs.Counting.{Counts, HasRisenBy}
+use Rattle.noting_laws.specs.obex_session.specs.Counting.{Counts, HasRisenBy}
 use Rattle.push_script.specs.declared.scenario.Scenario.{Scenario}
 use Rattle.push_terms.specs.declared.outcome.Outcome.{Outcome}
 use Rattle.push_terms.specs.declared.peaks.Peaks.{Peaks}
 use Rattle.push_terms.specs.declared.word.Side.TheVariants.{B}
 use Rattle.capture.specs.Entries.{Entry}
-use Rattle.link_talk.specs.Captures.{objects_heard}
-use Rattle.world_model.specs.Worlds.{all_entries}
-use Rattle.push_laws.specs.Laws.{stored_in}
-use Rattle.push_laws.specs.Losing.{LeavesOut}
-use Rattle.scenario_laws.specs.Gains.{holding}
-use Rattle.scenario_laws.specs.Parties.{party_of}
+use Rattle.noting_laws.specs.link_talk.specs.Captures.{objects_heard}
+use Rattle.noting_laws.specs.world_model.specs.Worlds.{all_entries}
+use Rattle.noting_laws.specs.push_laws.specs.Laws.{stored_in}
+use Rattle.noting_laws.specs.push_laws.specs.Losing.{LeavesOut}
+use Rattle.noting_laws.specs.scenario_laws.specs.Gains.{holding}
+use Rattle.noting_laws.specs.scenario_laws.specs.Parties.{party_of}
 use Rattle.scenario_play.specs.Breaking.{IsBroken}
 use Rattle.scenario_play.specs.Playing.{LackedNever, IsPlayed}
 

@@ -8,14 +8,14 @@ use Rattle.push_terms.specs.declared.word.Side.{Side}
 use Rattle.push_terms.specs.declared.word.Side.TheVariants.{A, B}
 use Rattle.push_terms.specs.declared.word.Word.{Word}
 use Rattle.capture.specs.Entries.{Entry}
-use Rattle.link_talk.specs.Accounts.{window_used}
-use Rattle.link_talk.specs.Captures.{talk_now}
-use Rattle.link_talk.specs.Channels.{Entry as Known, is_alive, reading}
-use Rattle.channel_laws.specs.Views.{read_at}
-use Rattle.world_model.specs.Worlds.{Happening, Turns, IsAtRest, all_entries}
-use Rattle.turn_laws.specs.Laws.{IsFront}
-use Rattle.scenario_laws.specs.Captures.{client_of, server_of, BothHosts, Happened}
-use Rattle.scenario_laws.specs.Parties.{party_of}
+use Rattle.noting_laws.specs.link_talk.specs.Accounts.{window_used}
+use Rattle.noting_laws.specs.link_talk.specs.Captures.{talk_now}
+use Rattle.noting_laws.specs.link_talk.specs.Channels.{Entry as Known, is_alive, reading}
+use Rattle.noting_laws.specs.channel_laws.specs.Views.{read_at}
+use Rattle.noting_laws.specs.world_model.specs.Worlds.{Happening, Turns, IsAtRest, all_entries}
+use Rattle.noting_laws.specs.turn_laws.specs.Laws.{IsFront}
+use Rattle.noting_laws.specs.scenario_laws.specs.Captures.{client_of, server_of, BothHosts, Happened}
+use Rattle.noting_laws.specs.scenario_laws.specs.Parties.{party_of}
 use Rattle.scenario_play.specs.Peaks.{AreReached}
 
 -- On the link that is up, of each channel that its host has not closed, no more I-frames are unacknowledged than this, as the capture has it.

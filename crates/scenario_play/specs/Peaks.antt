@@ -3,13 +3,13 @@ use Rattle.std.specs.Prelude.{◌≡◌, List, Option, min}
 use Rattle.bt_base.specs.Objects.{Object, Contents}
 use Rattle.push_script.specs.declared.scenario.Scenario.{Scenario}
 use Rattle.push_terms.specs.declared.peaks.Peaks.{Peaks}
-use Rattle.world_model.specs.Worlds.{Happening, IsAtRest}
+use Rattle.noting_laws.specs.world_model.specs.Worlds.{Happening, IsAtRest}
 use Rattle.radio_world.specs.Leaving.{Medium}
 use Rattle.radio_world.specs.Scenes.{Moment, world_at, Plays}
 use Rattle.radio_world.specs.Standing.{starting, first_moment}
-use Rattle.host_model.specs.Circumstances.{Circumstance}
-use Rattle.host_model.specs.Servers.{ServerProfile}
-use Rattle.host_model.specs.Settings.{SetHost}
+use Rattle.bt_host.specs.host_model.specs.Circumstances.{Circumstance}
+use Rattle.bt_host.specs.host_model.specs.Servers.{ServerProfile}
+use Rattle.bt_host.specs.host_model.specs.Settings.{SetHost}
 use Rattle.bt_host.specs.Newness as served
 use Rattle.bt_host.specs.Noting.{Noted}
 use Rattle.bt_host.specs.NotedHosts.{client_noting, noted_client_machine, server_noting, noted_server_machine}

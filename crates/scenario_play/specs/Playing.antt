@@ -4,28 +4,28 @@ use Rattle.std.specs.List.{AllByRecursion}
 use Rattle.bt_base.specs.Counts.{HasRisen}
 use Rattle.bt_base.specs.Objects.{Object, Contents}
 use Rattle.bt_base.specs.Streams.{gained}
-use Rattle.obex_session.specs.Counting.{Counts, faults_of, HasRisenBy}
-use Rattle.obex_session.specs.InboxCalls.{Answer}
+use Rattle.noting_laws.specs.obex_session.specs.Counting.{Counts, faults_of, HasRisenBy}
+use Rattle.noting_laws.specs.obex_session.specs.InboxCalls.{Answer}
 use Rattle.push_script.specs.declared.scenario.Scenario.{Scenario}
 use Rattle.push_terms.specs.declared.outcome.Outcome.{Outcome}
 use Rattle.push_terms.specs.declared.peaks.Peaks.{Peaks}
 use Rattle.capture.specs.Entries.{Entry, capture_octets, IsEntry}
-use Rattle.world_model.specs.Worlds.{Happening}
+use Rattle.noting_laws.specs.world_model.specs.Worlds.{Happening}
 use Rattle.radio_world.specs.Both.{Both}
 use Rattle.radio_world.specs.Scenes.{first_scene}
 use Rattle.radio_world.specs.Standing.{last_entries}
-use Rattle.push_laws.specs.Premises.{NoneShort}
-use Rattle.host_model.specs.Clients.{ClientProfile}
+use Rattle.noting_laws.specs.push_laws.specs.Premises.{NoneShort}
+use Rattle.bt_host.specs.host_model.specs.Clients.{ClientProfile}
 use Rattle.bt_host.specs.Newness as served
 use Rattle.bt_host.specs.Noting.{Noted}
 use Rattle.bt_host.specs.Pushing as pushed
 use Rattle.bt_host.specs.Refusals.{fresh_framing}
 use Rattle.bt_host.specs.Serving.{Served}
 use Rattle.bt_host.specs.Shells.{Shelled}
-use Rattle.scenario_laws.specs.Captures.{client_of, Finished}
-use Rattle.scenario_laws.specs.Outcomes.{outcomes_of}
-use Rattle.pair_laws.specs.Enough.{HappenedEnough}
-use Rattle.pair_laws.specs.Served.{HappenedServed}
+use Rattle.noting_laws.specs.scenario_laws.specs.Captures.{client_of, Finished}
+use Rattle.noting_laws.specs.scenario_laws.specs.Outcomes.{outcomes_of}
+use Rattle.noting_laws.specs.pair_laws.specs.Enough.{HappenedEnough}
+use Rattle.noting_laws.specs.pair_laws.specs.Served.{HappenedServed}
 use Rattle.tape_laws.specs.OwnPairs.{RanOwn}
 use Rattle.scenario_play.specs.Peaks.{AreReached}
 

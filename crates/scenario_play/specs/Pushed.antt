@@ -1,16 +1,16 @@
 -- That what the capture of a played scenario spells to host b are objects of the shelf (Object Push Profile 1.2, 4.3; IrOBEX 1.5, 3.4).
 use Rattle.std.specs.Prelude.{ℕ, List, Option, Some}
 use Rattle.bt_base.specs.Objects.{Object, Contents}
-use Rattle.obex_session.specs.Counting.{Counts}
+use Rattle.noting_laws.specs.obex_session.specs.Counting.{Counts}
 use Rattle.push_script.specs.declared.scenario.Scenario.{Scenario}
 use Rattle.push_terms.specs.declared.outcome.Outcome.{Outcome}
 use Rattle.push_terms.specs.declared.peaks.Peaks.{Peaks}
 use Rattle.push_terms.specs.declared.word.Side.TheVariants.{B}
 use Rattle.capture.specs.Entries.{Entry}
-use Rattle.link_talk.specs.Captures.{objects_heard}
-use Rattle.push_laws.specs.Spelled.{ArePushed}
-use Rattle.world_model.specs.Worlds.{all_entries}
-use Rattle.scenario_laws.specs.Parties.{party_of}
+use Rattle.noting_laws.specs.link_talk.specs.Captures.{objects_heard}
+use Rattle.noting_laws.specs.push_laws.specs.Spelled.{ArePushed}
+use Rattle.noting_laws.specs.world_model.specs.Worlds.{all_entries}
+use Rattle.noting_laws.specs.scenario_laws.specs.Parties.{party_of}
 use Rattle.scenario_play.specs.Breaking.{IsBroken}
 use Rattle.scenario_play.specs.Playing.{IsPlayed}
 

@@ -4,7 +4,7 @@ use Rattle.std.specs.List.{AllByRecursion}
 use Rattle.bt_base.specs.Streams.{gained}
 use Rattle.push_terms.specs.declared.word.Word.{Word}
 use Rattle.capture.specs.Entries.{capture_octets, IsEntry}
-use Rattle.world_model.specs.Machines.{Upper}
+use Rattle.noting_laws.specs.world_model.specs.Machines.{Upper}
 use Rattle.radio_world.specs.Scenes.{Scene, Stage, stage, Advances}
 use Rattle.radio_world.specs.Standing.{Stands, last_ended, last_entries, all_outcomes}
 

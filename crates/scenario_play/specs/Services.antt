@@ -3,14 +3,14 @@
 use Rattle.std.specs.Prelude.{ℕ, List, ◌++◌, Option}
 use Rattle.bt_base.specs.declared.settings.Settings.{Settings}
 use Rattle.bt_base.specs.Objects.{Object, Contents}
-use Rattle.obex_session.specs.Counting.{Counts}
+use Rattle.noting_laws.specs.obex_session.specs.Counting.{Counts}
 use Rattle.push_script.specs.declared.scenario.Scenario.{Scenario}
 use Rattle.push_terms.specs.declared.outcome.Outcome.{Outcome}
 use Rattle.push_terms.specs.declared.peaks.Peaks.{Peaks}
 use Rattle.capture.specs.Entries.{Entry}
-use Rattle.world_model.specs.Worlds.{all_entries}
-use Rattle.pair_laws.specs.Modes.{AreEnhanced}
-use Rattle.request_laws.specs.AsTold.{UsesService}
+use Rattle.noting_laws.specs.world_model.specs.Worlds.{all_entries}
+use Rattle.noting_laws.specs.pair_laws.specs.Modes.{AreEnhanced}
+use Rattle.credit_laws.specs.request_laws.specs.AsTold.{UsesService}
 use Rattle.scenario_play.specs.Breaking.{IsBroken}
 use Rattle.scenario_play.specs.Playing.{IsPlayed}
 

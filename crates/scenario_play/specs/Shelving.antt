@@ -1,7 +1,7 @@
 -- Clients without what their shelf tells that it holds (this project's own).
-use Rattle.host_model.specs.Clients.{ClientProfile}
-use Rattle.host_model.specs.Hosts.{Host}
-use Rattle.host_model.specs.Settings.{SetHost, set_to}
+use Rattle.bt_host.specs.host_model.specs.Clients.{ClientProfile}
+use Rattle.bt_host.specs.host_model.specs.Hosts.{Host}
+use Rattle.bt_host.specs.host_model.specs.Settings.{SetHost, set_to}
 use Rattle.bt_host.specs.Noting.{Noted}
 use Rattle.bt_host.specs.Shelving.{Shelved}
 use Rattle.noting_laws.specs.Noting.{plain_set}

@@ -1,12 +1,12 @@
 -- That the credits of no host ran out in a scenario that was played (RFCOMM 1.2, 6.5).
 use Rattle.std.specs.Prelude.{ℕ, List, ◌++◌, Option}
 use Rattle.bt_base.specs.Objects.{Object, Contents}
-use Rattle.obex_session.specs.Counting.{Counts}
+use Rattle.noting_laws.specs.obex_session.specs.Counting.{Counts}
 use Rattle.push_script.specs.declared.scenario.Scenario.{Scenario}
 use Rattle.push_terms.specs.declared.outcome.Outcome.{Outcome}
 use Rattle.push_terms.specs.declared.peaks.Peaks.{Peaks}
 use Rattle.push_terms.specs.declared.word.Side.{Side}
-use Rattle.world_model.specs.Worlds.{all_entries}
+use Rattle.noting_laws.specs.world_model.specs.Worlds.{all_entries}
 use Rattle.credit_laws.specs.Kept.{StaysSolvent}
 use Rattle.scenario_play.specs.Breaking.{IsBroken}
 use Rattle.scenario_play.specs.Playing.{IsPlayed}

@@ -2,23 +2,23 @@
 use Rattle.std.specs.Prelude.{ℕ, ◌≡◌, List, ◌++◌, Option, Some}
 use Rattle.bt_base.specs.Objects.{Object, Contents}
 use Rattle.bt_base.specs.declared.settings.Transport.TheVariants.{Rfcomm}
-use Rattle.obex_session.specs.Counting.{Counts}
+use Rattle.noting_laws.specs.obex_session.specs.Counting.{Counts}
 use Rattle.push_script.specs.declared.scenario.Scenario.{Scenario}
 use Rattle.push_terms.specs.declared.outcome.Outcome.{Outcome}
 use Rattle.push_terms.specs.declared.peaks.Peaks.{Peaks}
 use Rattle.push_terms.specs.declared.word.Side.TheVariants.{B}
 use Rattle.capture.specs.Entries.{Entry}
-use Rattle.link_talk.specs.Captures.{objects_heard}
-use Rattle.world_model.specs.Worlds.{all_entries}
-use Rattle.push_laws.specs.Laws.{stored_in}
-use Rattle.host_laws.specs.Calls.{HostsAsk}
-use Rattle.scenario_laws.specs.Captures.{Ran}
-use Rattle.scenario_laws.specs.Gains.{holding}
-use Rattle.scenario_laws.specs.Parties.{party_of}
-use Rattle.pair_laws.specs.Keeping.{PairsKeepOrder}
-use Rattle.pair_laws.specs.ServedOrder.{HeldInOrder}
-use Rattle.request_laws.specs.GainsCarried.{AllAreHeard}
-use Rattle.request_laws.specs.TogetherHeard.{HeardAnswer}
+use Rattle.noting_laws.specs.link_talk.specs.Captures.{objects_heard}
+use Rattle.noting_laws.specs.world_model.specs.Worlds.{all_entries}
+use Rattle.noting_laws.specs.push_laws.specs.Laws.{stored_in}
+use Rattle.noting_laws.specs.host_laws.specs.Calls.{HostsAsk}
+use Rattle.noting_laws.specs.scenario_laws.specs.Captures.{Ran}
+use Rattle.noting_laws.specs.scenario_laws.specs.Gains.{holding}
+use Rattle.noting_laws.specs.scenario_laws.specs.Parties.{party_of}
+use Rattle.noting_laws.specs.pair_laws.specs.Keeping.{PairsKeepOrder}
+use Rattle.noting_laws.specs.pair_laws.specs.ServedOrder.{HeldInOrder}
+use Rattle.credit_laws.specs.request_laws.specs.GainsCarried.{AllAreHeard}
+use Rattle.credit_laws.specs.request_laws.specs.TogetherHeard.{HeardAnswer}
 use Rattle.scenario_play.specs.Breaking.{IsBroken}
 use Rattle.scenario_play.specs.Gaining.{KeepsPlayed, KeepsBroken}
 use Rattle.scenario_play.specs.Playing.{LackedNever, RoseNever, IsPlayed}

@@ -2,7 +2,7 @@
 
 ghost use Rattle.std.specs.Prelude.{◌≡◌, ◌≤◌, ◌⊎◌, false, length, IfOk, OnErr, OnOk};
 ghost use Rattle.bt_base.specs.Counts.{HasRisen};
-ghost use Rattle.obex_session.specs.Counting.{counts_of, HasRisenBy};
+ghost use Rattle.noting_laws.specs.obex_session.specs.Counting.{counts_of, HasRisenBy};
 ghost use Rattle.radio_world.specs.Causes.{Blames};
 ghost use Rattle.radio_world.specs.Shortages.{Lacks};
 ghost use Rattle.scenario_play.specs.Breaking.{IsBroken, IsWanting};

@@ -3,13 +3,13 @@
 ghost use Rattle.std.specs.Prelude.{◌≡◌, [], List, length, min, vec_len, IfOk, OnErr, OnOk};
 ghost use Rattle.push_terms.specs.declared.word.Side.TheVariants as sides;
 ghost use Rattle.capture.specs.Air.{words_of};
-ghost use Rattle.rest_laws.specs.Premises.{AreOrderly};
+ghost use Rattle.noting_laws.specs.rest_laws.specs.Premises.{AreOrderly};
 ghost use Rattle.radio_world.specs.Causes.{Blames};
 ghost use Rattle.radio_world.specs.Hosts.{answering};
 ghost use Rattle.radio_world.specs.Scenes.{moment, stage};
 ghost use Rattle.radio_world.specs.Shortages.{Lacks, Wants};
 ghost use Rattle.radio_world.specs.Standing.{IsReached};
-ghost use Rattle.room_laws.specs.Rooms.{OwesNoneBack};
+ghost use Rattle.radio_world.specs.room_laws.specs.Rooms.{OwesNoneBack};
 ghost use Rattle.scenario_play.specs.Breaking.{BreaksThrough, MayWant};
 ghost use Rattle.scenario_play.specs.Running.{RunsThrough};
 

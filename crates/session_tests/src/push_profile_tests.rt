@@ -1,5 +1,5 @@
 ghost use Rattle.std.specs.Prelude.{◌≡◌, None, is_some};
-ghost use Rattle.push_model.specs.Sessions.{is_pending};
+ghost use Rattle.push_client.specs.push_model.specs.Sessions.{is_pending};
 
 use bt_base::{MemInbox, Psm, Settings};
 use push_profile::PushServer;

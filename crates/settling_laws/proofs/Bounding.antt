@@ -2,24 +2,24 @@
 use Rattle.std.proofs.Common.{◌≡◌, ℕ, zero, suc, ◌+◌, ◌-◌, ◌*◌, ◌<◌, ◌≤◌, Bool, true, false, List, [], ◌∷◌, ◌++◌, length, length-append, if◌then◌else◌, Some, None, refl, sym, subst, arith, mul-le-mul_left}
 use Rattle.std.specs.Prelude.{slice_get}
 use Rattle.std.proofs.lemmas.Option.{slice_get_within}
-use Rattle.push_terms.specs.declared.outcome.Outcome.{Outcome}
-use Rattle.push_terms.specs.declared.word.Side.{Side}
-use Rattle.push_terms.specs.declared.word.Side.TheVariants.{A, B}
-use Rattle.radio_air.specs.Controllers.{Answer, Returned, Stated, Called, LinkMade, LinkGone, GivenBack, Controller, after_giving_back, after_telling}
-use Rattle.radio_air.specs.Radio.{Radio, with_controller}
-use Rattle.world_model.specs.Machines.{Upper, Opening}
-use Rattle.world_model.specs.Pushes.{Pushes, one_begun, one_ended}
-use Rattle.world_model.specs.Stations.{Station, told, hears_piece, hears_answer}
-use Rattle.world_model.specs.Worlds.{World, Happening, Tries, Departure, GivingBack, Piecemeal, Answering, Turns, Misses, Opens, Closes, entries_of, all_entries, words_in, all_words, Does, Runs, first_world}
-use Rattle.turn_laws.specs.WorldLaws.{Fits}
-use Rattle.turn_laws.proofs.Leading.{tidings, made}
-use Rattle.turn_laws.proofs.Wiring.{count}
-use Rattle.turn_laws.proofs.Hearing.{with_coming, with_owed}
-use Rattle.turn_laws.proofs.Coming.{handed_piece, handed_answer}
-use Rattle.turn_laws.proofs.Keeping.{calling, Kept}
-use Rattle.air_laws.proofs.Following.{runs_then, reached_first, along}
-use Rattle.air_laws.proofs.Resting.{next_going}
-use Rattle.station_laws.specs.WorldLaws.{AreSizes}
+use Rattle.rest_laws.specs.push_terms.specs.declared.outcome.Outcome.{Outcome}
+use Rattle.rest_laws.specs.push_terms.specs.declared.word.Side.{Side}
+use Rattle.rest_laws.specs.push_terms.specs.declared.word.Side.TheVariants.{A, B}
+use Rattle.rest_laws.specs.radio_air.specs.Controllers.{Answer, Returned, Stated, Called, LinkMade, LinkGone, GivenBack, Controller, after_giving_back, after_telling}
+use Rattle.rest_laws.specs.radio_air.specs.Radio.{Radio, with_controller}
+use Rattle.rest_laws.specs.world_model.specs.Machines.{Upper, Opening}
+use Rattle.rest_laws.specs.world_model.specs.Pushes.{Pushes, one_begun, one_ended}
+use Rattle.rest_laws.specs.world_model.specs.Stations.{Station, told, hears_piece, hears_answer}
+use Rattle.rest_laws.specs.world_model.specs.Worlds.{World, Happening, Tries, Departure, GivingBack, Piecemeal, Answering, Turns, Misses, Opens, Closes, entries_of, all_entries, words_in, all_words, Does, Runs, first_world}
+use Rattle.rest_laws.specs.turn_laws.specs.WorldLaws.{Fits}
+use Rattle.rest_laws.specs.turn_laws.proofs.Leading.{tidings, made}
+use Rattle.rest_laws.specs.turn_laws.proofs.Wiring.{count}
+use Rattle.rest_laws.specs.turn_laws.proofs.Hearing.{with_coming, with_owed}
+use Rattle.rest_laws.specs.turn_laws.proofs.Coming.{handed_piece, handed_answer}
+use Rattle.rest_laws.specs.turn_laws.proofs.Keeping.{calling, Kept}
+use Rattle.rest_laws.specs.air_laws.proofs.Following.{runs_then, reached_first, along}
+use Rattle.rest_laws.specs.air_laws.proofs.Resting.{next_going}
+use Rattle.rest_laws.specs.station_laws.specs.WorldLaws.{AreSizes}
 use Rattle.rest_laws.specs.Premises.{AreOrderly}
 use Rattle.rest_laws.proofs.Happening.{LivelyIn}
 use Rattle.rest_laws.proofs.Resting.{first_lively, keeps_lively}

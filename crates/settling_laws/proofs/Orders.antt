@@ -1,17 +1,17 @@
 -- Orders that move lower what is left to happen: a link that goes on in its life weighs more than what both hosts are told.
 use Rattle.std.proofs.Common.{◌≡◌, ℕ, ◌+◌, ◌-◌, ◌*◌, ◌<◌, ◌≤◌, ◌==◌, ◌&&◌, nat_le, Bool, true, false, List, [], ◌∷◌, ◌++◌, if◌then◌else◌, refl, sym, ap, ap₂, subst, arith, mul-le-mul_left}
-use Rattle.bt_base.specs.Octets.{le16}
-use Rattle.push_terms.specs.declared.word.Side.{Side}
-use Rattle.push_terms.specs.declared.word.Side.TheVariants.{A, B}
-use Rattle.radio_air.specs.Controllers.{Answer, Returned, Stated, Called, LinkMade, LinkGone, address, Controller, owing}
-use Rattle.radio_air.specs.Radio.{Radio, Phase, Apart, Paging, Requested, is_paging, is_requested, is_together, owes, after_reaching, joined, parted, knows_link}
-use Rattle.world_model.specs.Machines.{Upper}
-use Rattle.world_model.specs.Pushes.{Pushes}
-use Rattle.world_model.specs.Stations.{Order, Reset, ReadBuffers, ReadAddress, Scan, Page, Accept, End, Data, Station}
-use Rattle.world_model.specs.Worlds.{piece_on, after_order}
-use Rattle.turn_laws.specs.Premises.{Idles}
-use Rattle.turn_laws.proofs.Wiring.{asking, count}
-use Rattle.turn_laws.proofs.Keeping.{calling, Kept}
+use Rattle.rest_laws.specs.bt_base.specs.Octets.{le16}
+use Rattle.rest_laws.specs.push_terms.specs.declared.word.Side.{Side}
+use Rattle.rest_laws.specs.push_terms.specs.declared.word.Side.TheVariants.{A, B}
+use Rattle.rest_laws.specs.radio_air.specs.Controllers.{Answer, Returned, Stated, Called, LinkMade, LinkGone, address, Controller, owing}
+use Rattle.rest_laws.specs.radio_air.specs.Radio.{Radio, Phase, Apart, Paging, Requested, is_paging, is_requested, is_together, owes, after_reaching, joined, parted, knows_link}
+use Rattle.rest_laws.specs.world_model.specs.Machines.{Upper}
+use Rattle.rest_laws.specs.world_model.specs.Pushes.{Pushes}
+use Rattle.rest_laws.specs.world_model.specs.Stations.{Order, Reset, ReadBuffers, ReadAddress, Scan, Page, Accept, End, Data, Station}
+use Rattle.rest_laws.specs.world_model.specs.Worlds.{piece_on, after_order}
+use Rattle.rest_laws.specs.turn_laws.specs.Premises.{Idles}
+use Rattle.rest_laws.specs.turn_laws.proofs.Wiring.{asking, count}
+use Rattle.rest_laws.specs.turn_laws.proofs.Keeping.{calling, Kept}
 use Rattle.rest_laws.proofs.Living.{own_first}
 use Rattle.rest_laws.proofs.Calling.{requested_is}
 use Rattle.rest_laws.proofs.Lively.{Lively, fresh_of, together_is}

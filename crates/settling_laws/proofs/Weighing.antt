@@ -2,21 +2,21 @@
 use Rattle.std.proofs.Common.{◌≡◌, ℕ, zero, suc, ◌+◌, ◌-◌, ◌*◌, ◌<◌, ◌≤◌, ◌==◌, ◌&&◌, ◌||◌, nat_lt, nat_le, min, Bool, true, false, List, [], ◌∷◌, ◌++◌, drop, length, Option, Some, None, is_none, if◌then◌else◌, refl, ap, length-append, arith}
 use Rattle.std.proofs.lemmas.Bool.{ltb-true}
 use Rattle.byteorder.specs.Endian.{little_number}
-use Rattle.hci_packets.specs.declared.acl.Boundary.{Boundary}
-use Rattle.hci_packets.specs.declared.acl.Boundary.TheVariants.{First, Continuing}
-use Rattle.acl_fragments.specs.Pieces.{Piece, starts}
-use Rattle.acl_fragments.specs.Cuts.{first_pieces, cut}
-use Rattle.acl_fragments.specs.Answers.{Answer as Joined, Pdu, More, Dropped, answer as joined_by}
-use Rattle.push_terms.specs.declared.word.Side.{Side}
-use Rattle.push_terms.specs.declared.word.Side.TheVariants.{A, B}
-use Rattle.radio_air.specs.Controllers.{Answer, Returned, Stated, Called, LinkMade, LinkGone, GivenBack, Controller, gives_back, after_giving_back, after_telling}
-use Rattle.radio_air.specs.Radio.{with_piece, after_taking}
-use Rattle.world_model.specs.Machines.{LinkEvent, Linked, Heard, Upper}
-use Rattle.world_model.specs.Stations.{Order, Page, Accept, End, Data, Station, Effort, Taking, Putting, Asking, Leaving, Commanding, MakesEffort, opcode, asks, longest_pdu, whole_in, gives, holds, hears_each, is_handle, answered, learns, may_accept, event_in, upper_told, hears_piece, hears_answer}
-use Rattle.turn_laws.specs.Premises.{SaysFrames}
-use Rattle.turn_laws.proofs.Wiring.{asking, count, count-append}
-use Rattle.turn_laws.proofs.Stationing.{none_asked}
-use Rattle.turn_laws.proofs.Hearing.{with_coming, with_owed}
+use Rattle.rest_laws.specs.hci_packets.specs.declared.acl.Boundary.{Boundary}
+use Rattle.rest_laws.specs.hci_packets.specs.declared.acl.Boundary.TheVariants.{First, Continuing}
+use Rattle.rest_laws.specs.acl_fragments.specs.Pieces.{Piece, starts}
+use Rattle.rest_laws.specs.acl_fragments.specs.Cuts.{first_pieces, cut}
+use Rattle.rest_laws.specs.acl_fragments.specs.Answers.{Answer as Joined, Pdu, More, Dropped, answer as joined_by}
+use Rattle.rest_laws.specs.push_terms.specs.declared.word.Side.{Side}
+use Rattle.rest_laws.specs.push_terms.specs.declared.word.Side.TheVariants.{A, B}
+use Rattle.rest_laws.specs.radio_air.specs.Controllers.{Answer, Returned, Stated, Called, LinkMade, LinkGone, GivenBack, Controller, gives_back, after_giving_back, after_telling}
+use Rattle.rest_laws.specs.radio_air.specs.Radio.{with_piece, after_taking}
+use Rattle.rest_laws.specs.world_model.specs.Machines.{LinkEvent, Linked, Heard, Upper}
+use Rattle.rest_laws.specs.world_model.specs.Stations.{Order, Page, Accept, End, Data, Station, Effort, Taking, Putting, Asking, Leaving, Commanding, MakesEffort, opcode, asks, longest_pdu, whole_in, gives, holds, hears_each, is_handle, answered, learns, may_accept, event_in, upper_told, hears_piece, hears_answer}
+use Rattle.rest_laws.specs.turn_laws.specs.Premises.{SaysFrames}
+use Rattle.rest_laws.specs.turn_laws.proofs.Wiring.{asking, count, count-append}
+use Rattle.rest_laws.specs.turn_laws.proofs.Stationing.{none_asked}
+use Rattle.rest_laws.specs.turn_laws.proofs.Hearing.{with_coming, with_owed}
 use Rattle.rest_laws.proofs.Heights.{open_height, asks_height, Shape, IsPlain}
 use Rattle.settling_laws.specs.Weights.{SaysAtMost, tiding_weight, piece_weight, answer_weight, owed_weight, side_weight}
 

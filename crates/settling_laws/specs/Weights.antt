@@ -1,14 +1,14 @@
 -- What is left to happen without a word, as one number (this project's own).
 use Rattle.std.specs.Prelude.{ℕ, ◌≡◌, ◌≤◌, ◌+◌, ◌*◌, List, [], ◌∷◌, length}
-use Rattle.push_terms.specs.declared.word.Side.{Side}
-use Rattle.push_terms.specs.declared.word.Side.TheVariants.{A, B}
-use Rattle.radio_air.specs.Controllers.{Answer, Returned, Stated, Called, LinkMade, LinkGone, GivenBack, Controller}
-use Rattle.radio_air.specs.Radio.{Radio}
-use Rattle.world_model.specs.Machines.{News, Upper}
-use Rattle.world_model.specs.Pushes.{Pushes}
-use Rattle.world_model.specs.Stations.{Station, longest_pdu}
-use Rattle.world_model.specs.Worlds.{World, Happening, Runs, all_entries, all_words, first_world}
-use Rattle.station_laws.specs.WorldLaws.{AreSizes}
+use Rattle.rest_laws.specs.push_terms.specs.declared.word.Side.{Side}
+use Rattle.rest_laws.specs.push_terms.specs.declared.word.Side.TheVariants.{A, B}
+use Rattle.rest_laws.specs.radio_air.specs.Controllers.{Answer, Returned, Stated, Called, LinkMade, LinkGone, GivenBack, Controller}
+use Rattle.rest_laws.specs.radio_air.specs.Radio.{Radio}
+use Rattle.rest_laws.specs.world_model.specs.Machines.{News, Upper}
+use Rattle.rest_laws.specs.world_model.specs.Pushes.{Pushes}
+use Rattle.rest_laws.specs.world_model.specs.Stations.{Station, longest_pdu}
+use Rattle.rest_laws.specs.world_model.specs.Worlds.{World, Happening, Runs, all_entries, all_words, first_world}
+use Rattle.rest_laws.specs.station_laws.specs.WorldLaws.{AreSizes}
 use Rattle.rest_laws.specs.Premises.{AreOrderly}
 use Rattle.rest_laws.proofs.Heights.{pushes_height, links_height, asks_height}
 

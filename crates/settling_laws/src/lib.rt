@@ -3,7 +3,7 @@
 #![tactic(auto)]
 
 ghost use Rattle.settling_laws.specs.Weights.{SettlingIsBounded};
-ghost use Rattle.world_model.specs.Machines.{Upper};
+ghost use Rattle.rest_laws.specs.world_model.specs.Machines.{Upper};
 
 /// One number falls with each entry that the capture gains without a word, whatever the ports answer: so many follow at most.
 #[tactic(auto, using(crate::proofs::Bounding::settling_is_bounded))]

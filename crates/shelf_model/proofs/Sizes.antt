@@ -5,12 +5,12 @@ use Rattle.std.specs.Str.{bytes_eq}
 use Rattle.std.proofs.lemmas.Slice.Eq.{bytes_eq-Decides}
 use Rattle.std.specs.List.{AllByRecursion}
 use Rattle.std.proofs.lemmas.Bool.{eqb-true, eq-eqb, and_parts, and_from, leb-true, le-leb, false≢true}
-use Rattle.bt_base.specs.Objects.{Object, octets_of, HasAt}
-use Rattle.bt_base.specs.Octets.{IsOctets}
-use Rattle.bt_base.specs.declared.ports.PortFault.{PortFault}
-use Rattle.h4_framing.proofs.OctetLists.{IsOctets-cons, IsOctets-nil}
-use Rattle.push_model.specs.Steps.{Part as Octets}
-use Rattle.world_model.specs.Machines.{News, Linked, Failed, Heard, TimerFired, Cancelled, Opening}
+use Rattle.host_model.specs.bt_base.specs.Objects.{Object, octets_of, HasAt}
+use Rattle.host_model.specs.bt_base.specs.Octets.{IsOctets}
+use Rattle.host_model.specs.bt_base.specs.declared.ports.PortFault.{PortFault}
+use Rattle.host_model.specs.h4_framing.proofs.OctetLists.{IsOctets-cons, IsOctets-nil}
+use Rattle.host_model.specs.push_model.specs.Steps.{Part as Octets}
+use Rattle.host_model.specs.world_model.specs.Machines.{News, Linked, Failed, Heard, TimerFired, Cancelled, Opening}
 use Rattle.host_model.specs.Circumstances.{Circumstance, Excerpt, Size, Part, Stored, size_in, parts_in}
 use Rattle.shelf_model.specs.Held.{longest_octets, low_octet, part_in_octets, is_at, part_where, standing, given_at, given_by, IsThere, IsHeld, IsPartOctets, length_of, is_length, size_where, sized, sized_in, told_by, held_by, ShelvesGiveWhatTheyHold, SizesAreOfObjects}
 

@@ -3,12 +3,12 @@ use Rattle.std.specs.Prelude.{ℕ, ◌≡◌, ◌≤◌, ◌==◌, ◌&&◌, ◌
 use Rattle.std.specs.List.{AllByRecursion}
 use Rattle.std.specs.Option.{option_map}
 use Rattle.std.specs.Str.{bytes_eq}
-use Rattle.bt_base.specs.Objects.{Object, octets_of, HasAt}
-use Rattle.bt_base.specs.Octets.{IsOctets}
-use Rattle.bt_base.specs.declared.ports.PortFault.{PortFault}
-use Rattle.bt_base.specs.declared.ports.PortFault.TheVariants.{Failed}
-use Rattle.push_model.specs.Steps.{Part as Octets}
-use Rattle.world_model.specs.Machines.{News, Linked, Failed as NotLinked, Heard, TimerFired, Cancelled, Opening, Upper}
+use Rattle.host_model.specs.bt_base.specs.Objects.{Object, octets_of, HasAt}
+use Rattle.host_model.specs.bt_base.specs.Octets.{IsOctets}
+use Rattle.host_model.specs.bt_base.specs.declared.ports.PortFault.{PortFault}
+use Rattle.host_model.specs.bt_base.specs.declared.ports.PortFault.TheVariants.{Failed}
+use Rattle.host_model.specs.push_model.specs.Steps.{Part as Octets}
+use Rattle.host_model.specs.world_model.specs.Machines.{News, Linked, Failed as NotLinked, Heard, TimerFired, Cancelled, Opening, Upper}
 use Rattle.host_model.specs.Circumstances.{Circumstance, Excerpt, Size, Part, Stored, size_in, parts_in}
 
 -- how long the object of that name is, where the shelf holds one

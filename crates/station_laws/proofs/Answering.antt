@@ -3,15 +3,15 @@ use Rattle.std.proofs.Common.{◌≡◌, ℕ, ◌-◌, ◌<◌, ◌≤◌, ◌^�
 use Rattle.std.specs.List.{list_any, AllByRecursion}
 use Rattle.std.proofs.lemmas.Bool.{cases_Bool, le-ltb, le-leb, ne_eqb, eq-eqb}
 use Rattle.byteorder.specs.Endian.{little_number}
-use Rattle.acl_fragments.specs.Pieces.{Piece}
-use Rattle.bt_base.specs.Octets.{le16}
-use Rattle.bt_base.specs.Numbers.{IsHandle}
-use Rattle.bt_base.proofs.OctetLemmas.{le16-number}
-use Rattle.hci_packets.specs.Events.{PlainEvent, code_of, event_params, entries_of, FitsEvent, AllowsEvent}
-use Rattle.acl_credits.specs.Ledgers.{Account, packets_of, without}
-use Rattle.push_terms.specs.declared.word.Side.{Side}
-use Rattle.push_terms.specs.declared.word.Side.TheVariants.{A, B}
-use Rattle.radio_air.specs.Controllers.{Answer, Returned, Stated, Called, LinkMade, LinkGone, GivenBack, address, other_side, event_of, answer_packet}
+use Rattle.turn_laws.specs.acl_fragments.specs.Pieces.{Piece}
+use Rattle.turn_laws.specs.bt_base.specs.Octets.{le16}
+use Rattle.turn_laws.specs.bt_base.specs.Numbers.{IsHandle}
+use Rattle.turn_laws.specs.bt_base.proofs.OctetLemmas.{le16-number}
+use Rattle.turn_laws.specs.hci_packets.specs.Events.{PlainEvent, code_of, event_params, entries_of, FitsEvent, AllowsEvent}
+use Rattle.turn_laws.specs.acl_credits.specs.Ledgers.{Account, packets_of, without}
+use Rattle.turn_laws.specs.push_terms.specs.declared.word.Side.{Side}
+use Rattle.turn_laws.specs.push_terms.specs.declared.word.Side.TheVariants.{A, B}
+use Rattle.turn_laws.specs.radio_air.specs.Controllers.{Answer, Returned, Stated, Called, LinkMade, LinkGone, GivenBack, address, other_side, event_of, answer_packet}
 use Rattle.host_link.specs.declared.role.Role.{Role}
 use Rattle.host_link.specs.declared.host_command.HostCommand.TheVariants.{AcceptConnection}
 use Rattle.host_link.specs.declared.news.ControllerFault.{ControllerFault}
@@ -27,9 +27,9 @@ use Rattle.host_link.specs.Hearing.{Nothing, LinkUp, LinkDown, fault_of, news_of
 use Rattle.host_link.specs.Hearing as code
 use Rattle.host_link.proofs.Reading.{event_read}
 use Rattle.host_link.proofs.Accounts.{given_shrinks}
-use Rattle.world_model.specs.Machines.{Up, Down, Linked, Upper}
-use Rattle.world_model.specs.Stations.{Order, Accept, Station, asks, is_handle, hears_answer}
-use Rattle.world_model.specs.Stations as stations
+use Rattle.turn_laws.specs.world_model.specs.Machines.{Up, Down, Linked, Upper}
+use Rattle.turn_laws.specs.world_model.specs.Stations.{Order, Accept, Station, asks, is_handle, hears_answer}
+use Rattle.turn_laws.specs.world_model.specs.Stations as stations
 use Rattle.station_laws.specs.Seen.{order_of, AreFew, IsHostOf, Offers, station_of, IsStation}
 use Rattle.station_laws.specs.Coming.{IsReturned, MayCome, news_of_link}
 use Rattle.station_laws.specs.Laws.{HearsAnswer, AnswersAreHeard}

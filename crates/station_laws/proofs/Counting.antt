@@ -1,10 +1,10 @@
 -- The packets that are outstanding, on the one link of a host.
 use Rattle.std.proofs.Common.{◌≡◌, ℕ, ◌-◌, ◌<◌, ◌≤◌, true, false, eqb, ◌&&◌, nat_le, nat_lt, Option, Some, None, if◌then◌else◌, inl, inr, refl, sym, ap, ◌∙◌, arith}
 use Rattle.std.proofs.lemmas.Bool.{cases_Bool, cases_lt, eqb-true, eqb-false, eq-eqb, lt-ltb, le-ltb, le-leb, lt-leb}
-use Rattle.acl_credits.specs.Ledgers.{Account, packets_of, packets_on, outstanding_on, less, without}
+use Rattle.turn_laws.specs.acl_credits.specs.Ledgers.{Account, packets_of, packets_on, outstanding_on, less, without}
 use Rattle.host_link.specs.Hearing.{given_back}
 use Rattle.host_link.specs.CommandFlows.{is_number}
-use Rattle.world_model.specs.Stations.{is_handle}
+use Rattle.turn_laws.specs.world_model.specs.Stations.{is_handle}
 
 -- packets are outstanding on the link that is up alone
 abbrev pub IsAlone : Option (ℕ × ℕ) → Option ℕ → Type 0

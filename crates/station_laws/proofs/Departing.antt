@@ -4,9 +4,9 @@ use Rattle.std.proofs.Math.Seq.{drop-append-add}
 use Rattle.std.proofs.lemmas.Bool.{cases_lt}
 use Rattle.std.proofs.lemmas.List.{drop-append-le, map-append}
 use Rattle.std.proofs.lemmas.List.Concat.{flat_map-append}
-use Rattle.h4_framing.specs.Packets.{Packet, Command, Acl, Sync, Event, spelling, spellings}
-use Rattle.push_terms.specs.declared.word.Side.{Side}
-use Rattle.world_model.specs.Stations.{Order, order_packet}
+use Rattle.turn_laws.specs.h4_framing.specs.Packets.{Packet, Command, Acl, Sync, Event, spelling, spellings}
+use Rattle.turn_laws.specs.push_terms.specs.declared.word.Side.{Side}
+use Rattle.turn_laws.specs.world_model.specs.Stations.{Order, order_packet}
 use Rattle.station_laws.specs.Seen.{IsWithin, Offers}
 use Rattle.station_laws.specs.Striving.{Departs}
 use Rattle.station_laws.specs.Laws.{OctetsDepart}

@@ -1,9 +1,9 @@
 -- What a host does by itself, and what moves from it, happens in its world.
 use Rattle.std.proofs.Common.{◌≡◌, List, [], ◌∷◌, ◌++◌, map, refl, sym, ap}
-use Rattle.push_terms.specs.declared.word.Side.TheVariants.{A, B}
-use Rattle.world_model.specs.Machines.{Upper}
-use Rattle.world_model.specs.Stations.{Order, Station, Effort}
-use Rattle.world_model.specs.Worlds.{World, Tries, Departure, Runs, after_order}
+use Rattle.turn_laws.specs.push_terms.specs.declared.word.Side.TheVariants.{A, B}
+use Rattle.turn_laws.specs.world_model.specs.Machines.{Upper}
+use Rattle.turn_laws.specs.world_model.specs.Stations.{Order, Station, Effort}
+use Rattle.turn_laws.specs.world_model.specs.Worlds.{World, Tries, Departure, Runs, after_order}
 use Rattle.station_laws.specs.Striving.{Makes}
 use Rattle.station_laws.specs.WorldLaws.{EffortsHappen, after_orders, OrdersHappen}
 

@@ -1,16 +1,16 @@
 -- A piece of a PDU does to a host in code what it does to its station.
 use Rattle.std.proofs.Common.{◌≡◌, ℕ, ◌+◌, ◌≤◌, ◌==◌, nat_lt, Bool, true, false, eqb, List, [], ◌++◌, length, Option, Some, None, if◌then◌else◌, inl, inr, refl, sym, ap, ◌∙◌, subst}
 use Rattle.std.proofs.lemmas.Bool.{cases_Bool, eqb-true, eqb-false, eq-eqb, ne_eqb}
-use Rattle.acl_fragments.specs.Pieces.{Piece, starts, pdu_length, channel_of}
-use Rattle.acl_fragments.specs.Answers.{Answer, Pdu, More, Dropped, answer}
-use Rattle.acl_fragments.specs.declared.joined.DropReason.{DropReason}
-use Rattle.acl_fragments.specs.declared.joined.DropReason.TheVariants.{StrayContinuation, Overrun, AboveLimit, ShortStart}
-use Rattle.push_terms.specs.declared.word.Side.{Side}
-use Rattle.radio_air.specs.Controllers.{piece_packet}
+use Rattle.turn_laws.specs.acl_fragments.specs.Pieces.{Piece, starts, pdu_length, channel_of}
+use Rattle.turn_laws.specs.acl_fragments.specs.Answers.{Answer, Pdu, More, Dropped, answer}
+use Rattle.turn_laws.specs.acl_fragments.specs.declared.joined.DropReason.{DropReason}
+use Rattle.turn_laws.specs.acl_fragments.specs.declared.joined.DropReason.TheVariants.{StrayContinuation, Overrun, AboveLimit, ShortStart}
+use Rattle.turn_laws.specs.push_terms.specs.declared.word.Side.{Side}
+use Rattle.turn_laws.specs.radio_air.specs.Controllers.{piece_packet}
 use Rattle.host_link.specs.Lines.{Line}
 use Rattle.host_link.specs.Hearing.{piece_on, piece_news, after_piece, joined_news}
-use Rattle.world_model.specs.Machines.{Upper}
-use Rattle.world_model.specs.Stations.{Order, Station, longest_pdu, is_handle, whole_in, gives, holds, hears_each, hears_piece}
+use Rattle.turn_laws.specs.world_model.specs.Machines.{Upper}
+use Rattle.turn_laws.specs.world_model.specs.Stations.{Order, Station, longest_pdu, is_handle, whole_in, gives, holds, hears_each, hears_piece}
 use Rattle.turn_laws.proofs.Showing.{piece_packet_is}
 use Rattle.station_laws.specs.Seen.{IsHostOf, Offers, station_of, IsStation}
 use Rattle.station_laws.specs.Coming.{news_of_pdus}

@@ -2,19 +2,19 @@
 use Rattle.std.proofs.Common.{◌≡◌, ℕ, ◌+◌, ◌<◌, ◌≤◌, ◌^◌, ◌==◌, ◌&&◌, ◌||◌, not, nat_lt, nat_le, eqb, Bool, true, false, List, [], ◌∷◌, ◌++◌, length, Option, Some, None, if◌then◌else◌, inl, inr, refl, sym, ap, ◌∙◌, subst, append_assoc, append-nil, arith}
 use Rattle.std.specs.List.{AllByRecursion}
 use Rattle.std.proofs.lemmas.Bool.{cases_Bool, ltb-true, eqb-false, or_left, or_right}
-use Rattle.bt_base.specs.Octets.{le16}
-use Rattle.bt_base.specs.Numbers.{IsHandle}
-use Rattle.acl_fragments.specs.Pieces.{Piece}
-use Rattle.push_terms.specs.declared.word.Side.{Side}
-use Rattle.push_terms.specs.declared.word.Side.TheVariants.{A, B}
-use Rattle.push_terms.specs.declared.word.Way.{Way}
-use Rattle.push_terms.specs.declared.word.Way.TheVariants.{Ab, Ba}
-use Rattle.radio_air.specs.declared.fate.Fate.{Fate}
-use Rattle.radio_air.specs.Controllers.{Answer, Returned, Stated, Called, LinkMade, LinkGone, GivenBack, address, other_side, Controller, owing, after_giving_back, after_telling, after_first_of, after_handing}
-use Rattle.radio_air.specs.Radio.{Radio, Paging, is_apart, is_paging, is_requested, controller, with_controller, owes, may_page, is_reached, after_reaching, after_paging, after_accepting, parting, parted, parted_by, knows_link, after_disconnecting, scanning, with_piece, after_taking, after_meeting}
-use Rattle.world_model.specs.Stations.{Order, ReadBuffers, ReadAddress, Scan, Page, Accept, End, Data, opcode}
-use Rattle.world_model.specs.Stations as orders
-use Rattle.world_model.specs.Worlds.{piece_on, after_order}
+use Rattle.turn_laws.specs.bt_base.specs.Octets.{le16}
+use Rattle.turn_laws.specs.bt_base.specs.Numbers.{IsHandle}
+use Rattle.turn_laws.specs.acl_fragments.specs.Pieces.{Piece}
+use Rattle.turn_laws.specs.push_terms.specs.declared.word.Side.{Side}
+use Rattle.turn_laws.specs.push_terms.specs.declared.word.Side.TheVariants.{A, B}
+use Rattle.turn_laws.specs.push_terms.specs.declared.word.Way.{Way}
+use Rattle.turn_laws.specs.push_terms.specs.declared.word.Way.TheVariants.{Ab, Ba}
+use Rattle.turn_laws.specs.radio_air.specs.declared.fate.Fate.{Fate}
+use Rattle.turn_laws.specs.radio_air.specs.Controllers.{Answer, Returned, Stated, Called, LinkMade, LinkGone, GivenBack, address, other_side, Controller, owing, after_giving_back, after_telling, after_first_of, after_handing}
+use Rattle.turn_laws.specs.radio_air.specs.Radio.{Radio, Paging, is_apart, is_paging, is_requested, controller, with_controller, owes, may_page, is_reached, after_reaching, after_paging, after_accepting, parting, parted, parted_by, knows_link, after_disconnecting, scanning, with_piece, after_taking, after_meeting}
+use Rattle.turn_laws.specs.world_model.specs.Stations.{Order, ReadBuffers, ReadAddress, Scan, Page, Accept, End, Data, opcode}
+use Rattle.turn_laws.specs.world_model.specs.Stations as orders
+use Rattle.turn_laws.specs.world_model.specs.Worlds.{piece_on, after_order}
 use Rattle.station_laws.specs.Coming.{IsReturned, IsStated}
 use Rattle.station_laws.specs.WorldLaws.{AreSizes}
 

@@ -1,8 +1,8 @@
 -- The packets of commands and pieces.
 use Rattle.std.proofs.Common.{◌≡◌, ℕ, ◌+◌, ◌*◌, List, refl, ap, arith}
-use Rattle.h4_framing.specs.Packets.{Acl}
-use Rattle.hci_packets.specs.AclWords.{flag_of}
-use Rattle.push_terms.specs.declared.word.Side.TheVariants.{A, B}
+use Rattle.turn_laws.specs.h4_framing.specs.Packets.{Acl}
+use Rattle.turn_laws.specs.hci_packets.specs.AclWords.{flag_of}
+use Rattle.turn_laws.specs.push_terms.specs.declared.word.Side.TheVariants.{A, B}
 use Rattle.host_link.specs.declared.host_command.HostCommand.TheVariants.{Reset, ReadBufferSize, ReadBdAddr, WriteScanEnable, CreateConnection, AcceptConnection, Disconnect}
 use Rattle.host_link.specs.HostCommands.{command_packet}
 use Rattle.station_laws.specs.Laws.{CommandsAreOrders, PiecesAreOrders}

@@ -2,13 +2,13 @@
 use Rattle.std.proofs.Common.{◌≡◌, ◌⊎◌, ℕ, ◌==◌, ◌&&◌, ◌-◌, nat_le, Bool, true, false, List, [], ◌∷◌, ◌++◌, drop, Option, Some, None, is_none, if◌then◌else◌, inl, inr, refl, sym, ap, ap₂, ◌∙◌, subst, append-nil}
 use Rattle.std.specs.List.{AllByRecursion}
 use Rattle.std.proofs.lemmas.Bool.{eq-eqb}
-use Rattle.acl_fragments.specs.Pieces.{Piece}
-use Rattle.push_terms.specs.declared.word.Side.{Side}
-use Rattle.push_terms.specs.declared.word.Side.TheVariants.{A, B}
-use Rattle.radio_air.specs.Controllers.{Answer, Returned, Stated, Called, LinkMade, LinkGone, GivenBack, Controller}
-use Rattle.world_model.specs.Machines.{News, Upper}
-use Rattle.world_model.specs.Stations.{Order, ReadBuffers, ReadAddress, Scan, Page, Accept, End, Data, opcode, Station, Effort, Taking, Putting, Asking, Leaving, Commanding, MakesEffort, is_handle, longest_pdu, gives, holds, hears_each, hears_piece, learns, may_accept, hears_answer, told}
-use Rattle.world_model.specs.Stations as orders
+use Rattle.turn_laws.specs.acl_fragments.specs.Pieces.{Piece}
+use Rattle.turn_laws.specs.push_terms.specs.declared.word.Side.{Side}
+use Rattle.turn_laws.specs.push_terms.specs.declared.word.Side.TheVariants.{A, B}
+use Rattle.turn_laws.specs.radio_air.specs.Controllers.{Answer, Returned, Stated, Called, LinkMade, LinkGone, GivenBack, Controller}
+use Rattle.turn_laws.specs.world_model.specs.Machines.{News, Upper}
+use Rattle.turn_laws.specs.world_model.specs.Stations.{Order, ReadBuffers, ReadAddress, Scan, Page, Accept, End, Data, opcode, Station, Effort, Taking, Putting, Asking, Leaving, Commanding, MakesEffort, is_handle, longest_pdu, gives, holds, hears_each, hears_piece, learns, may_accept, hears_answer, told}
+use Rattle.turn_laws.specs.world_model.specs.Stations as orders
 use Rattle.station_laws.specs.Coming.{MayCome}
 use Rattle.station_laws.specs.WorldLaws.{NextMayCome}
 use Rattle.station_laws.proofs.Owing.{number_of, numbers_of, numbers_in, numbers_of-append, IsRight, IsRightOne}

@@ -1,14 +1,14 @@
 -- Whatever happens in a world, what comes into its hosts may come.
 use Rattle.std.proofs.Common.{ℕ, Bool, true, false, List, [], ◌∷◌, if◌then◌else◌, refl, sym, subst, arith}
-use Rattle.push_terms.specs.declared.word.Side.TheVariants.{A, B}
-use Rattle.push_terms.specs.declared.word.Way.TheVariants.{Ab, Ba}
-use Rattle.radio_air.specs.declared.deed.Deed.{Deed}
-use Rattle.radio_air.specs.declared.deed.Deed.TheVariants.{Nothing, Meets, Fires, FiresBoth, Breaks, Cancels}
-use Rattle.radio_air.specs.Controllers.{Answer, Controller, after_handing}
-use Rattle.radio_air.specs.Radio.{Radio, controller, with_controller, found}
-use Rattle.world_model.specs.Machines.{TimerFired, Cancelled, Opening, Upper}
-use Rattle.world_model.specs.Stations.{Station, told, hears_answer}
-use Rattle.world_model.specs.Worlds.{World, Happening, Tries, Departure, GivingBack, Piecemeal, Answering, Turns, Misses, Opens, Closes, Does, Acts, Runs, checks, first_world}
+use Rattle.turn_laws.specs.push_terms.specs.declared.word.Side.TheVariants.{A, B}
+use Rattle.turn_laws.specs.push_terms.specs.declared.word.Way.TheVariants.{Ab, Ba}
+use Rattle.turn_laws.specs.radio_air.specs.declared.deed.Deed.{Deed}
+use Rattle.turn_laws.specs.radio_air.specs.declared.deed.Deed.TheVariants.{Nothing, Meets, Fires, FiresBoth, Breaks, Cancels}
+use Rattle.turn_laws.specs.radio_air.specs.Controllers.{Answer, Controller, after_handing}
+use Rattle.turn_laws.specs.radio_air.specs.Radio.{Radio, controller, with_controller, found}
+use Rattle.turn_laws.specs.world_model.specs.Machines.{TimerFired, Cancelled, Opening, Upper}
+use Rattle.turn_laws.specs.world_model.specs.Stations.{Station, told, hears_answer}
+use Rattle.turn_laws.specs.world_model.specs.Worlds.{World, Happening, Tries, Departure, GivingBack, Piecemeal, Answering, Turns, Misses, Opens, Closes, Does, Acts, Runs, checks, first_world}
 use Rattle.station_laws.specs.WorldLaws.{AreSizes, WorldsAnswer}
 use Rattle.station_laws.proofs.Owing.{Goes, IsRightOne, IsRightRadio, one_goes, right_of, gives_back_right, parts, order_goes, meets_right, piece_handed, answer_handed}
 use Rattle.station_laws.proofs.Pending.{Pending, pending_as, efforts_keep, departs_keep, told_keeps, pieces_keep, answers_keep, next_may_come}

@@ -1,7 +1,7 @@
 -- A host puts out all that it may.
 use Rattle.std.proofs.Common.{◌≡◌, ℕ, ◌&&◌, ◌==◌, not, nat_lt, Bool, true, false, List, [], ◌∷◌, length, Option, Some, None, is_none, is_some, if◌then◌else◌, inl, inr, refl, sym, ap, subst}
 use Rattle.std.proofs.lemmas.Bool.{cases_Bool}
-use Rattle.acl_fragments.specs.Pieces.{Piece}
+use Rattle.turn_laws.specs.acl_fragments.specs.Pieces.{Piece}
 use Rattle.host_link.specs.declared.host_command.HostCommand.{HostCommand}
 use Rattle.host_link.specs.CommandFlows.{first_of, next_command}
 use Rattle.host_link.specs.Lines.{Line}

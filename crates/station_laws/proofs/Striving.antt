@@ -2,12 +2,12 @@
 use Rattle.std.proofs.Common.{◌≡◌, ℕ, suc, ◌+◌, ◌<◌, ◌≤◌, not, ◌&&◌, ◌||◌, nat_lt, ◌==◌, Bool, true, false, eqb, List, [], ◌∷◌, ◌++◌, length, drop, map, replicate, Option, Some, None, is_none, is_some, if◌then◌else◌, inl, inr, refl, sym, ap, ◌∙◌, subst, arith}
 use Rattle.std.specs.List.{list_any, AllByRecursion}
 use Rattle.std.proofs.lemmas.Bool.{cases_Bool, ltb-true, eqb-true, ne_eqb}
-use Rattle.h4_framing.specs.Packets.{spelling}
-use Rattle.acl_fragments.specs.Pieces.{Piece}
-use Rattle.acl_credits.specs.Ledgers.{packets_of, outstanding_on}
-use Rattle.push_terms.specs.declared.word.Side.{Side}
-use Rattle.push_terms.specs.declared.word.Side.TheVariants.{A, B}
-use Rattle.radio_air.specs.Controllers.{address}
+use Rattle.turn_laws.specs.h4_framing.specs.Packets.{spelling}
+use Rattle.turn_laws.specs.acl_fragments.specs.Pieces.{Piece}
+use Rattle.turn_laws.specs.acl_credits.specs.Ledgers.{packets_of, outstanding_on}
+use Rattle.turn_laws.specs.push_terms.specs.declared.word.Side.{Side}
+use Rattle.turn_laws.specs.push_terms.specs.declared.word.Side.TheVariants.{A, B}
+use Rattle.turn_laws.specs.radio_air.specs.Controllers.{address}
 use Rattle.host_link.specs.declared.host_command.HostCommand.{HostCommand}
 use Rattle.host_link.specs.declared.host_command.HostCommand.TheVariants.{Reset, ReadBufferSize, ReadBdAddr, WriteScanEnable, CreateConnection, Disconnect}
 use Rattle.host_link.specs.HostCommands.{command_packet}
@@ -15,8 +15,8 @@ use Rattle.host_link.specs.HostCommands as code
 use Rattle.host_link.specs.CommandFlows.{Flow, with_command, first_of, next_command}
 use Rattle.host_link.specs.Lines.{Line, fresh}
 use Rattle.host_link.specs.PuttingOut.{has_room, has_buffer, is_waiting, with_piece, with_pieces, put_pieces_on, put_pieces, with_next, put_command, connecting, leaving, can_take_pdu, with_pdu, take_pdu}
-use Rattle.world_model.specs.Machines.{Upper}
-use Rattle.world_model.specs.Stations.{Order, Page, Data, asks, is_end, opcode, Station, Puts, Taking, Putting, Asking, Leaving, Commanding}
+use Rattle.turn_laws.specs.world_model.specs.Machines.{Upper}
+use Rattle.turn_laws.specs.world_model.specs.Stations.{Order, Page, Data, asks, is_end, opcode, Station, Puts, Taking, Putting, Asking, Leaving, Commanding}
 use Rattle.station_laws.specs.Seen.{role_of, order_of, IsCommandOf, AreFew, IsHostOf, Offers, station_of, IsStation}
 use Rattle.station_laws.specs.Striving.{Strives}
 use Rattle.station_laws.specs.Laws.{BeginsAsFirst, StartsAsFirst, PiecesGo, PdusGo, CommandsGo, LinksAreAsked, LinksAreEnded, MachinesChange}

@@ -3,14 +3,14 @@ use Rattle.std.proofs.Common.{◌≡◌, ℕ, ◌+◌, ◌<◌, ◌||◌, Bool, 
 use Rattle.std.specs.List.{list_any, AllByRecursion}
 use Rattle.std.proofs.lemmas.Bool.{lt-ltb}
 use Rattle.std.proofs.lemmas.List.{length-map, map-append}
-use Rattle.push_terms.specs.declared.word.Side.{Side}
-use Rattle.push_terms.specs.declared.word.Side.TheVariants.{B}
+use Rattle.turn_laws.specs.push_terms.specs.declared.word.Side.{Side}
+use Rattle.turn_laws.specs.push_terms.specs.declared.word.Side.TheVariants.{B}
 use Rattle.host_link.specs.declared.host_command.HostCommand.{HostCommand}
 use Rattle.host_link.specs.declared.host_command.HostCommand.TheVariants.{Reset, ReadBufferSize, ReadBdAddr, WriteScanEnable, CreateConnection, AcceptConnection, Disconnect}
 use Rattle.host_link.specs.HostCommands as code
 use Rattle.host_link.specs.CommandFlows.{Flow, with_command}
-use Rattle.world_model.specs.Stations.{Order, ReadBuffers, ReadAddress, Scan, Page, Accept, End, Data, asks, is_end, opcode}
-use Rattle.world_model.specs.Stations as orders
+use Rattle.turn_laws.specs.world_model.specs.Stations.{Order, ReadBuffers, ReadAddress, Scan, Page, Accept, End, Data, asks, is_end, opcode}
+use Rattle.turn_laws.specs.world_model.specs.Stations as orders
 use Rattle.station_laws.specs.Seen.{order_of, IsCommandOf, how_many, is_start, AreFew}
 
 -- ---- how many there are

@@ -1,12 +1,12 @@
 -- What comes into a host from the controllers of this world (Core 5.1, Volume 2 Part E, 7.7).
 use Rattle.std.specs.Prelude.{ℕ, ◌≡◌, ◌≤◌, ◌<◌, ◌^◌, ◌⊎◌, List, [], ◌∷◌, ◌++◌, length, Option, Some, None, if◌then◌else◌}
-use Rattle.bt_base.specs.Octets.{le16}
-use Rattle.bt_base.specs.Numbers.{IsHandle}
-use Rattle.acl_fragments.specs.Pieces.{Piece, channel_of}
-use Rattle.radio_air.specs.Controllers.{Answer, Returned, Stated, Called, LinkMade, LinkGone, GivenBack}
+use Rattle.turn_laws.specs.bt_base.specs.Octets.{le16}
+use Rattle.turn_laws.specs.bt_base.specs.Numbers.{IsHandle}
+use Rattle.turn_laws.specs.acl_fragments.specs.Pieces.{Piece, channel_of}
+use Rattle.turn_laws.specs.radio_air.specs.Controllers.{Answer, Returned, Stated, Called, LinkMade, LinkGone, GivenBack}
 use Rattle.host_link.specs.Hearing.{PlainNews, Nothing, LinkUp, LinkDown, Pdu}
-use Rattle.world_model.specs.Machines.{LinkEvent, Up, Down}
-use Rattle.world_model.specs.Stations.{Station, longest_pdu, is_handle, gives}
+use Rattle.turn_laws.specs.world_model.specs.Machines.{LinkEvent, Up, Down}
+use Rattle.turn_laws.specs.world_model.specs.Stations.{Station, longest_pdu, is_handle, gives}
 
 -- what Read Buffer Size returns: success, and at least one packet of at least 27 octets
 pub record AreBuffers (params : List ℕ) : Type 0 where

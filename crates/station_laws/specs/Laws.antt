@@ -2,19 +2,19 @@
 -- project's own).
 use Rattle.std.specs.Prelude.{ℕ, ◌≡◌, ◌≤◌, true, false, List, [], ◌∷◌, length, replicate, Some, None, ◌&&◌, is_some, is_none}
 use Rattle.std.specs.List.{list_any}
-use Rattle.bt_base.specs.Numbers.{IsHandle}
-use Rattle.acl_fragments.specs.Pieces.{Piece}
-use Rattle.push_terms.specs.declared.word.Side.{Side}
-use Rattle.push_terms.specs.declared.word.Side.TheVariants.{A, B}
-use Rattle.radio_air.specs.Controllers.{Answer, answer_packet, piece_packet, address}
+use Rattle.turn_laws.specs.bt_base.specs.Numbers.{IsHandle}
+use Rattle.turn_laws.specs.acl_fragments.specs.Pieces.{Piece}
+use Rattle.turn_laws.specs.push_terms.specs.declared.word.Side.{Side}
+use Rattle.turn_laws.specs.push_terms.specs.declared.word.Side.TheVariants.{A, B}
+use Rattle.turn_laws.specs.radio_air.specs.Controllers.{Answer, answer_packet, piece_packet, address}
 use Rattle.host_link.specs.declared.host_command.HostCommand.{HostCommand}
 use Rattle.host_link.specs.HostCommands.{command_packet}
 use Rattle.host_link.specs.Lines.{Line, fresh}
 use Rattle.host_link.specs.PuttingOut.{has_room, has_buffer, is_waiting, connecting, leaving, can_take_pdu, take_pdu, put_pieces, put_command, started}
 use Rattle.host_link.specs.PuttingOut as code
 use Rattle.host_link.specs.Hearing.{fault_of, news_of, heard}
-use Rattle.world_model.specs.Machines.{Upper}
-use Rattle.world_model.specs.Stations.{Order, Data, order_packet, Station, first_station, Taking, Putting, Asking, Leaving, Commanding, asks, is_end, event_in, hears_answer, hears_piece}
+use Rattle.turn_laws.specs.world_model.specs.Machines.{Upper}
+use Rattle.turn_laws.specs.world_model.specs.Stations.{Order, Data, order_packet, Station, first_station, Taking, Putting, Asking, Leaving, Commanding, asks, is_end, event_in, hears_answer, hears_piece}
 use Rattle.station_laws.specs.Seen.{role_of, IsHostOf, order_of, IsCommandOf, Offers, IsStation}
 use Rattle.station_laws.specs.Coming.{MayCome, news_of_link, news_of_pdus, pdus_by}
 use Rattle.station_laws.specs.Striving.{Strives, Departs}

@@ -1,18 +1,18 @@
 -- A host in code, seen as a station of the pure world (this project's own).
 use Rattle.std.specs.Prelude.{ℕ, ◌≡◌, ◌≤◌, ◌<◌, ◌+◌, Bool, not, ◌||◌, List, [], ◌∷◌, drop, map, length, Some, None, if◌then◌else◌}
 use Rattle.std.specs.List.{AllByRecursion}
-use Rattle.h4_framing.specs.Packets.{spelling, spellings}
-use Rattle.acl_credits.specs.Ledgers.{packets_of, outstanding_on}
-use Rattle.push_terms.specs.declared.word.Side.{Side}
-use Rattle.push_terms.specs.declared.word.Side.TheVariants.{A, B}
-use Rattle.radio_air.specs.Controllers.{address}
+use Rattle.turn_laws.specs.h4_framing.specs.Packets.{spelling, spellings}
+use Rattle.turn_laws.specs.acl_credits.specs.Ledgers.{packets_of, outstanding_on}
+use Rattle.turn_laws.specs.push_terms.specs.declared.word.Side.{Side}
+use Rattle.turn_laws.specs.push_terms.specs.declared.word.Side.TheVariants.{A, B}
+use Rattle.turn_laws.specs.radio_air.specs.Controllers.{address}
 use Rattle.host_link.specs.declared.role.Role.{Role}
 use Rattle.host_link.specs.declared.role.Role.TheVariants.{Client, Server}
 use Rattle.host_link.specs.declared.host_command.HostCommand.{HostCommand}
 use Rattle.host_link.specs.declared.host_command.HostCommand.TheVariants.{Reset, ReadBufferSize, ReadBdAddr, WriteScanEnable, CreateConnection, AcceptConnection, Disconnect}
 use Rattle.host_link.specs.Lines.{Line}
-use Rattle.world_model.specs.Stations.{Order, ReadBuffers, ReadAddress, Scan, Page, Accept, End, order_packet, asks, is_end, Station}
-use Rattle.world_model.specs.Stations as orders
+use Rattle.turn_laws.specs.world_model.specs.Stations.{Order, ReadBuffers, ReadAddress, Scan, Page, Accept, End, order_packet, asks, is_end, Station}
+use Rattle.turn_laws.specs.world_model.specs.Stations as orders
 
 -- host a is a client, host b is a server
 abbrev pub role_of : Side → Role

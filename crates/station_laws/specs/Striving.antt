@@ -1,10 +1,10 @@
 -- What a host in code does by itself, as efforts of its station (this project's own).
 use Rattle.std.specs.Prelude.{ℕ, ◌≡◌, ◌+◌, List, [], ◌∷◌, ◌++◌, drop, map, length}
-use Rattle.h4_framing.specs.Packets.{spellings}
-use Rattle.push_terms.specs.declared.word.Side.{Side}
+use Rattle.turn_laws.specs.h4_framing.specs.Packets.{spellings}
+use Rattle.turn_laws.specs.push_terms.specs.declared.word.Side.{Side}
 use Rattle.host_link.specs.Lines.{Line}
-use Rattle.world_model.specs.Machines.{Upper}
-use Rattle.world_model.specs.Stations.{Order, order_packet, Station, Effort, MakesEffort}
+use Rattle.turn_laws.specs.world_model.specs.Machines.{Upper}
+use Rattle.turn_laws.specs.world_model.specs.Stations.{Order, order_packet, Station, Effort, MakesEffort}
 use Rattle.station_laws.specs.Seen.{Offers, IsStation}
 
 -- one effort after the other

@@ -1,13 +1,13 @@
 -- What comes into the hosts of the pure world is what a host in code hears as its station does (this project's own).
 use Rattle.std.specs.Prelude.{ℕ, ◌≡◌, ◌≤◌, ◌<◌, ◌^◌, List, [], ◌∷◌, ◌++◌, map}
-use Rattle.bt_base.specs.Numbers.{IsHandle}
-use Rattle.push_terms.specs.declared.word.Side.{Side}
-use Rattle.push_terms.specs.declared.word.Side.TheVariants.{A, B}
-use Rattle.radio_air.specs.Controllers.{Answer, Controller}
-use Rattle.radio_air.specs.Radio.{Radio}
-use Rattle.world_model.specs.Machines.{Upper}
-use Rattle.world_model.specs.Stations.{Order, Station, Effort}
-use Rattle.world_model.specs.Worlds.{after_order, World, Happening, Tries, Departure, Runs, first_world}
+use Rattle.turn_laws.specs.bt_base.specs.Numbers.{IsHandle}
+use Rattle.turn_laws.specs.push_terms.specs.declared.word.Side.{Side}
+use Rattle.turn_laws.specs.push_terms.specs.declared.word.Side.TheVariants.{A, B}
+use Rattle.turn_laws.specs.radio_air.specs.Controllers.{Answer, Controller}
+use Rattle.turn_laws.specs.radio_air.specs.Radio.{Radio}
+use Rattle.turn_laws.specs.world_model.specs.Machines.{Upper}
+use Rattle.turn_laws.specs.world_model.specs.Stations.{Order, Station, Effort}
+use Rattle.turn_laws.specs.world_model.specs.Worlds.{after_order, World, Happening, Tries, Departure, Runs, first_world}
 use Rattle.station_laws.specs.Coming.{MayCome}
 use Rattle.station_laws.specs.Striving.{Makes}
 

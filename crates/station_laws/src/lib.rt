@@ -4,7 +4,7 @@
 
 ghost use Rattle.station_laws.specs.Laws.{AnswersAreHeard, BeginsAsFirst, CommandsAreOrders, CommandsGo, CommandsStop, LinksAreAsked, LinksAreEnded, MachinesChange, OctetsDepart, PdusGo, PiecesAreHeard, PiecesAreOrders, PiecesGo, PiecesStop, StartsAsFirst};
 ghost use Rattle.station_laws.specs.WorldLaws.{EffortsHappen, OrdersHappen, WorldsAnswer};
-ghost use Rattle.world_model.specs.Machines.{Upper};
+ghost use Rattle.turn_laws.specs.world_model.specs.Machines.{Upper};
 
 /// The packets of a host's commands and of the pieces of its PDUs are those of the orders of its station.
 #[tactic(auto, using(crate::proofs::Packets::commands_are_orders, crate::proofs::Packets::pieces_are_orders))]

@@ -2,13 +2,13 @@
 use Rattle.std.proofs.Common.{◌≡◌, ℕ, ◌+◌, Bool, true, false, cond, List, [], ◌∷◌, ◌++◌, length, fold, refl, sym, ap, ◌∙◌, arith, length-append}
 use Rattle.std.specs.Prelude.{pos, ◌-ℤ◌}
 use Rattle.std.proofs.lemmas.List.Sums.{fold-append}
-use Rattle.ertm_frames.specs.Frames.{PlainFrame}
-use Rattle.ertm_frames.specs.Picking.{Passage, Out, In, outs, ins, picked, last_req}
-use Rattle.ertm_frames.proofs.Telling.{picked-more, req-more, outs-more, outs-same}
-use Rattle.rfcomm_frames.specs.declared.connection.Role.{Role}
-use Rattle.rfcomm_frames.specs.Multiplexing.{Passed, Framed, frames, no_connections, granted_by, granted, spent_by}
-use Rattle.rfcomm_frames.specs.Ending.{Course, no_course, course_after, is_last, to_closing}
-use Rattle.rfcomm_frames.specs.UserChannel.{credits_held}
+use Rattle.link_talk.specs.ertm_frames.specs.Frames.{PlainFrame}
+use Rattle.link_talk.specs.ertm_frames.specs.Picking.{Passage, Out, In, outs, ins, picked, last_req}
+use Rattle.link_talk.specs.ertm_frames.proofs.Telling.{picked-more, req-more, outs-more, outs-same}
+use Rattle.link_talk.specs.rfcomm_frames.specs.declared.connection.Role.{Role}
+use Rattle.link_talk.specs.rfcomm_frames.specs.Multiplexing.{Passed, Framed, frames, no_connections, granted_by, granted, spent_by}
+use Rattle.link_talk.specs.rfcomm_frames.specs.Ending.{Course, no_course, course_after, is_last, to_closing}
+use Rattle.link_talk.specs.rfcomm_frames.specs.UserChannel.{credits_held}
 use Rattle.link_talk.specs.Picks.{pick}
 use Rattle.talk_laws.specs.Accounts.{Window, nothing_given, window_after, window_of, used, Credits, no_credits, credits_after, credits_of, left, AccountsLookBack, AccountsGrow}
 use Rattle.talk_laws.proofs.Passes.{from_end}

@@ -7,17 +7,17 @@ use Rattle.std.proofs.lemmas.List.{map-append}
 use Rattle.std.proofs.lemmas.List.Elements.{filter_map-append}
 use Rattle.std.proofs.lemmas.List.Sums.{fold-append}
 use Rattle.std.proofs.lemmas.Grind.{flat_map-append}
-use Rattle.push_terms.specs.declared.word.Side.{Side}
-use Rattle.acl_fragments.specs.Pieces.{Piece}
-use Rattle.acl_fragments.specs.Answers.{open_after}
-use Rattle.acl_fragments.proofs.Holding.{open_after-append}
-use Rattle.capture.specs.declared.flow.Flow.{Flow}
-use Rattle.capture.specs.declared.flow.Flow.TheVariants.{Out, Into}
-use Rattle.capture.specs.Entries.{Entry}
-use Rattle.capture.specs.Moves.{Move, move_of, moves}
-use Rattle.capture.specs.Links.{Link, Linking, LinkNews, Asked, Answered, LinkEnded, NoNews, longer, after_news, after_move, no_links, link_news, linking}
-use Rattle.capture.specs.Pdus.{pdu_limit, piece_of, piece_in, pieces, completed_by, completed, pdus}
-use Rattle.capture.proofs.HistoryLaws.{given_by-more}
+use Rattle.link_talk.specs.push_terms.specs.declared.word.Side.{Side}
+use Rattle.link_talk.specs.acl_fragments.specs.Pieces.{Piece}
+use Rattle.link_talk.specs.acl_fragments.specs.Answers.{open_after}
+use Rattle.link_talk.specs.acl_fragments.proofs.Holding.{open_after-append}
+use Rattle.link_talk.specs.capture.specs.declared.flow.Flow.{Flow}
+use Rattle.link_talk.specs.capture.specs.declared.flow.Flow.TheVariants.{Out, Into}
+use Rattle.link_talk.specs.capture.specs.Entries.{Entry}
+use Rattle.link_talk.specs.capture.specs.Moves.{Move, move_of, moves}
+use Rattle.link_talk.specs.capture.specs.Links.{Link, Linking, LinkNews, Asked, Answered, LinkEnded, NoNews, longer, after_news, after_move, no_links, link_news, linking}
+use Rattle.link_talk.specs.capture.specs.Pdus.{pdu_limit, piece_of, piece_in, pieces, completed_by, completed, pdus}
+use Rattle.link_talk.specs.capture.proofs.HistoryLaws.{given_by-more}
 use Rattle.link_talk.specs.Sayings.{Saying, said_by, talk}
 use Rattle.talk_laws.specs.CapturePass.{HeldLink, HeldLinks, no_held_links, unfinished, completed_with, octets_with, sayings_with, link_after, new_link, made_with, links_by, links_after, links_with, held_links, link_back, links_back, held_back}
 use Rattle.talk_laws.proofs.Passes.{from_end}

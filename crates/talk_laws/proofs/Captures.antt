@@ -6,17 +6,17 @@ use Rattle.std.specs.Option.{option_map, option_or}
 use Rattle.std.proofs.lemmas.List.{map-append}
 use Rattle.std.proofs.lemmas.List.Elements.{filter_map-append}
 use Rattle.std.proofs.lemmas.Grind.{flat_map-append}
-use Rattle.bt_base.specs.Objects.{Object}
-use Rattle.push_terms.specs.declared.word.Side.{Side}
-use Rattle.h4_framing.specs.Packets.{Packet, Command, Acl, Sync, Event}
-use Rattle.capture.specs.declared.flow.Flow.{Flow}
-use Rattle.capture.specs.declared.flow.Flow.TheVariants.{Out, Into}
-use Rattle.capture.specs.Entries.{Entry}
-use Rattle.capture.specs.Histories.{each_after}
-use Rattle.capture.specs.Moves.{Move, move_of, moves}
-use Rattle.capture.specs.Links.{Link, Linking, LinkNews, Asked, Answered, LinkEnded, NoNews, news, longer, after_news, after_move, link_news, linking}
-use Rattle.capture.specs.Pdus.{piece_of, pieces, completed_by, completed}
-use Rattle.capture.proofs.HistoryLaws.{each_after-append}
+use Rattle.link_talk.specs.bt_base.specs.Objects.{Object}
+use Rattle.link_talk.specs.push_terms.specs.declared.word.Side.{Side}
+use Rattle.link_talk.specs.h4_framing.specs.Packets.{Packet, Command, Acl, Sync, Event}
+use Rattle.link_talk.specs.capture.specs.declared.flow.Flow.{Flow}
+use Rattle.link_talk.specs.capture.specs.declared.flow.Flow.TheVariants.{Out, Into}
+use Rattle.link_talk.specs.capture.specs.Entries.{Entry}
+use Rattle.link_talk.specs.capture.specs.Histories.{each_after}
+use Rattle.link_talk.specs.capture.specs.Moves.{Move, move_of, moves}
+use Rattle.link_talk.specs.capture.specs.Links.{Link, Linking, LinkNews, Asked, Answered, LinkEnded, NoNews, news, longer, after_news, after_move, link_news, linking}
+use Rattle.link_talk.specs.capture.specs.Pdus.{piece_of, pieces, completed_by, completed}
+use Rattle.link_talk.specs.capture.proofs.HistoryLaws.{each_after-append}
 use Rattle.link_talk.specs.declared.party.Party.{Party}
 use Rattle.link_talk.specs.Sayings.{Saying, said_by, talk}
 use Rattle.link_talk.specs.ObjectsHeard.{objects, objects_with}

@@ -1,10 +1,10 @@
 -- What a channel carries, looking back and in one pass.
 use Rattle.std.proofs.Common.{◌≡◌, ℕ, List, [], ◌∷◌, ◌++◌, Bool, true, false, cond, ◌&&◌, eqb, not, Option, Some, None, refl, sym, ap, subst, ◌∙◌}
 use Rattle.std.specs.Prelude.{find}
-use Rattle.acl_fragments.specs.Pieces.{channel_of}
-use Rattle.capture.specs.declared.flow.Flow.{Flow}
-use Rattle.capture.specs.declared.flow.Flow.TheVariants.{Out, Into}
-use Rattle.capture.specs.Histories.{each_after}
+use Rattle.link_talk.specs.acl_fragments.specs.Pieces.{channel_of}
+use Rattle.link_talk.specs.capture.specs.declared.flow.Flow.{Flow}
+use Rattle.link_talk.specs.capture.specs.declared.flow.Flow.TheVariants.{Out, Into}
+use Rattle.link_talk.specs.capture.specs.Histories.{each_after}
 use Rattle.link_talk.specs.declared.channel.Channel.{Channel}
 use Rattle.link_talk.specs.Sayings.{Saying, Command, Carried, GaveUp}
 use Rattle.link_talk.specs.Meanings.{Meaning, meanings}

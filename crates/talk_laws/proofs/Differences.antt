@@ -1,7 +1,7 @@
 -- The small talks, worked out.
 use Rattle.std.proofs.Common.{refl}
-use Rattle.l2cap_config.specs.Reading.{items_of, items_within}
-use Rattle.obex_headers.specs.Reading.{packet_in, front_at, behind_length, headers_in, headers_at, header_at, value_at, text_at, octets_at, one_at, sized_at, fields_in}
+use Rattle.link_talk.specs.l2cap_config.specs.Reading.{items_of, items_within}
+use Rattle.link_talk.specs.obex_headers.specs.Reading.{packet_in, front_at, behind_length, headers_in, headers_at, header_at, value_at, text_at, octets_at, one_at, sized_at, fields_in}
 use Rattle.talk_laws.specs.Differences.{ChannelsDiffer, SilencesDiffer}
 
 pub channels_differ : ChannelsDiffer

@@ -6,10 +6,10 @@ use Rattle.std.proofs.lemmas.List.Elements.{filter_map-append}
 use Rattle.std.proofs.lemmas.List.Folds.{list_any-append}
 use Rattle.std.proofs.lemmas.List.Sums.{fold-append, sum_by-append}
 use Rattle.std.proofs.lemmas.Grind.{flat_map-append}
-use Rattle.capture.specs.declared.flow.Flow.{Flow}
-use Rattle.capture.specs.Histories.{each_after, given_by}
-use Rattle.capture.specs.Pdus.{same_flow}
-use Rattle.capture.proofs.HistoryLaws.{given_by-more}
+use Rattle.link_talk.specs.capture.specs.declared.flow.Flow.{Flow}
+use Rattle.link_talk.specs.capture.specs.Histories.{each_after, given_by}
+use Rattle.link_talk.specs.capture.specs.Pdus.{same_flow}
+use Rattle.link_talk.specs.capture.proofs.HistoryLaws.{given_by-more}
 use Rattle.link_talk.specs.Sdus.{Spoken, spoken_way, spoken_one_way}
 use Rattle.link_talk.specs.Exchanges.{Pending, fresh, is_abort, joins, with_request, Exchange, without_first, answered_first, pending_after, exchanges_from, exchanges}
 use Rattle.talk_laws.specs.Exchanges.{pending, answered_behind, packets_of, requests_made, last_waiting, displaced_behind, displaced, ExchangesLookBack, ExchangesGrow}

@@ -6,10 +6,10 @@ use Rattle.std.specs.Option.{option_or}
 use Rattle.std.proofs.lemmas.List.{map-append}
 use Rattle.std.proofs.lemmas.List.Elements.{filter_map-append}
 use Rattle.std.proofs.lemmas.List.Sums.{fold-append}
-use Rattle.capture.specs.Histories.{last_of, given_by}
-use Rattle.l2cap_config.specs.declared.wish.Mode.{Mode}
-use Rattle.rfcomm_frames.specs.Multiplexing.{Passed, framed}
-use Rattle.rfcomm_frames.specs.FrameReading.{frame_answer}
+use Rattle.link_talk.specs.capture.specs.Histories.{last_of, given_by}
+use Rattle.link_talk.specs.l2cap_config.specs.declared.wish.Mode.{Mode}
+use Rattle.link_talk.specs.rfcomm_frames.specs.Multiplexing.{Passed, framed}
+use Rattle.link_talk.specs.rfcomm_frames.specs.FrameReading.{frame_answer}
 use Rattle.link_talk.specs.declared.channel.Channel.{Channel}
 use Rattle.link_talk.specs.declared.party.Party.{Party}
 use Rattle.link_talk.specs.Sayings.{Saying}

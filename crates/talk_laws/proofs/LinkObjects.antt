@@ -5,13 +5,13 @@ use Rattle.std.specs.List.{filter_map, flat_map, list_any, cons_option}
 use Rattle.std.proofs.lemmas.Bool.{eqb-true, eq-eqb}
 use Rattle.std.proofs.lemmas.List.{map-append}
 use Rattle.std.proofs.lemmas.List.Elements.{filter_map-append}
-use Rattle.bt_base.specs.Objects.{Object}
-use Rattle.capture.specs.declared.flow.Flow.{Flow}
-use Rattle.capture.specs.declared.flow.Flow.TheVariants.{Out, Into}
-use Rattle.capture.specs.Histories.{each_after}
-use Rattle.capture.proofs.HistoryLaws.{given_by-more}
-use Rattle.acl_fragments.specs.Pieces.{channel_of}
-use Rattle.l2cap_config.specs.declared.wish.Mode.{Mode}
+use Rattle.link_talk.specs.bt_base.specs.Objects.{Object}
+use Rattle.link_talk.specs.capture.specs.declared.flow.Flow.{Flow}
+use Rattle.link_talk.specs.capture.specs.declared.flow.Flow.TheVariants.{Out, Into}
+use Rattle.link_talk.specs.capture.specs.Histories.{each_after}
+use Rattle.link_talk.specs.capture.proofs.HistoryLaws.{given_by-more}
+use Rattle.link_talk.specs.acl_fragments.specs.Pieces.{channel_of}
+use Rattle.link_talk.specs.l2cap_config.specs.declared.wish.Mode.{Mode}
 use Rattle.link_talk.specs.declared.channel.Channel.{Channel}
 use Rattle.link_talk.specs.declared.party.Party.{Party}
 use Rattle.link_talk.specs.Sayings.{Saying, Command, Carried, GaveUp}
@@ -25,8 +25,8 @@ use Rattle.link_talk.specs.ObjectsHeard.{put_within, channel_objects, objects, o
 use Rattle.link_talk.proofs.OnePass.{reading-more}
 use Rattle.talk_laws.specs.Sdus.{sdus_with, ear_of}
 use Rattle.link_talk.specs.Sdus.{longest}
-use Rattle.rfcomm_frames.specs.ObexPackets.{obex_packets}
-use Rattle.obex_headers.specs.Runs.{objects_from as spelled_from}
+use Rattle.link_talk.specs.rfcomm_frames.specs.ObexPackets.{obex_packets}
+use Rattle.link_talk.specs.obex_headers.specs.Runs.{objects_from as spelled_from}
 use Rattle.talk_laws.specs.Packets.{Streams, streams_after, stream_with, packets_now, packets_from}
 use Rattle.talk_laws.specs.Waits.{mode_held}
 use Rattle.talk_laws.specs.Spelling.{Hearing, no_hearing, objects_now, objects_told, hearing_of}

@@ -3,25 +3,25 @@ use Rattle.std.proofs.Common.{◌≡◌, ℕ, List, [], ◌∷◌, ◌++◌, map
 use Rattle.std.specs.List.{cons_option}
 use Rattle.std.proofs.lemmas.List.{map-append}
 use Rattle.std.proofs.lemmas.List.Elements.{filter_map-append}
-use Rattle.bt_base.specs.Objects.{Object}
-use Rattle.capture.specs.declared.flow.Flow.{Flow}
-use Rattle.capture.specs.declared.flow.Flow.TheVariants.{Out, Into}
-use Rattle.capture.specs.Histories.{each_after, given_by}
-use Rattle.capture.proofs.HistoryLaws.{each_after-append, given_by-more}
-use Rattle.obex_headers.specs.Packets.{PlainPacket}
-use Rattle.obex_headers.specs.Runs.{is_final, run_headers, object_of, objects_from}
-use Rattle.rfcomm_frames.specs.declared.connection.Role.{Role}
-use Rattle.rfcomm_frames.specs.declared.connection.Role.TheVariants.{Initiator, Responder}
-use Rattle.rfcomm_frames.specs.Answers.{Answer}
-use Rattle.rfcomm_frames.specs.Connections.{other_role}
-use Rattle.rfcomm_frames.specs.FrameReading.{frame_answer}
-use Rattle.rfcomm_frames.specs.Multiplexing.{Passed, Framed, framed, frames, no_connections, carries_on, information, carried}
-use Rattle.rfcomm_frames.specs.Ending.{no_course, has_last, to_closing}
-use Rattle.rfcomm_frames.specs.UserChannel.{user_octets}
-use Rattle.rfcomm_frames.specs.LookingBack.{connections}
-use Rattle.rfcomm_frames.specs.ObexPackets.{obex_packets}
-use Rattle.rfcomm_frames.proofs.Ending.{counting, to_closing-more}
-use Rattle.rfcomm_frames.proofs.LookingBack.{looks-back}
+use Rattle.link_talk.specs.bt_base.specs.Objects.{Object}
+use Rattle.link_talk.specs.capture.specs.declared.flow.Flow.{Flow}
+use Rattle.link_talk.specs.capture.specs.declared.flow.Flow.TheVariants.{Out, Into}
+use Rattle.link_talk.specs.capture.specs.Histories.{each_after, given_by}
+use Rattle.link_talk.specs.capture.proofs.HistoryLaws.{each_after-append, given_by-more}
+use Rattle.link_talk.specs.obex_headers.specs.Packets.{PlainPacket}
+use Rattle.link_talk.specs.obex_headers.specs.Runs.{is_final, run_headers, object_of, objects_from}
+use Rattle.link_talk.specs.rfcomm_frames.specs.declared.connection.Role.{Role}
+use Rattle.link_talk.specs.rfcomm_frames.specs.declared.connection.Role.TheVariants.{Initiator, Responder}
+use Rattle.link_talk.specs.rfcomm_frames.specs.Answers.{Answer}
+use Rattle.link_talk.specs.rfcomm_frames.specs.Connections.{other_role}
+use Rattle.link_talk.specs.rfcomm_frames.specs.FrameReading.{frame_answer}
+use Rattle.link_talk.specs.rfcomm_frames.specs.Multiplexing.{Passed, Framed, framed, frames, no_connections, carries_on, information, carried}
+use Rattle.link_talk.specs.rfcomm_frames.specs.Ending.{no_course, has_last, to_closing}
+use Rattle.link_talk.specs.rfcomm_frames.specs.UserChannel.{user_octets}
+use Rattle.link_talk.specs.rfcomm_frames.specs.LookingBack.{connections}
+use Rattle.link_talk.specs.rfcomm_frames.specs.ObexPackets.{obex_packets}
+use Rattle.link_talk.specs.rfcomm_frames.proofs.Ending.{counting, to_closing-more}
+use Rattle.link_talk.specs.rfcomm_frames.proofs.LookingBack.{looks-back}
 use Rattle.link_talk.specs.declared.channel.Channel.{Channel}
 use Rattle.link_talk.specs.declared.party.Party.{Party}
 use Rattle.link_talk.specs.Sayings.{Saying}

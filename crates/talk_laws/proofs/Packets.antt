@@ -2,17 +2,17 @@
 use Rattle.std.proofs.Common.{◌≡◌, ℕ, List, [], ◌∷◌, ◌++◌, map, fold, Bool, true, false, cond, ◌||◌, Option, Some, None, refl, sym, ap, ◌∙◌}
 use Rattle.std.specs.List.{cons_option}
 use Rattle.std.proofs.lemmas.List.Sums.{fold-append}
-use Rattle.capture.specs.declared.flow.Flow.{Flow}
-use Rattle.capture.specs.declared.flow.Flow.TheVariants.{Out, Into}
-use Rattle.capture.specs.Histories.{each_after}
-use Rattle.capture.proofs.HistoryLaws.{each_after-append, given_by-more}
-use Rattle.rfcomm_frames.specs.declared.connection.Role.{Role}
-use Rattle.rfcomm_frames.specs.declared.connection.Dlc.{Dlc}
-use Rattle.rfcomm_frames.specs.Multiplexing.{Framed, Connections, no_connections, connections_after, passing}
-use Rattle.rfcomm_frames.specs.Ending.{Course, no_course, course_after, is_last, has_last, to_closing}
-use Rattle.rfcomm_frames.specs.LookingBack.{connection, connections}
-use Rattle.rfcomm_frames.specs.ObexPackets.{obex_packets}
-use Rattle.rfcomm_frames.proofs.Ending.{counting}
+use Rattle.link_talk.specs.capture.specs.declared.flow.Flow.{Flow}
+use Rattle.link_talk.specs.capture.specs.declared.flow.Flow.TheVariants.{Out, Into}
+use Rattle.link_talk.specs.capture.specs.Histories.{each_after}
+use Rattle.link_talk.specs.capture.proofs.HistoryLaws.{each_after-append, given_by-more}
+use Rattle.link_talk.specs.rfcomm_frames.specs.declared.connection.Role.{Role}
+use Rattle.link_talk.specs.rfcomm_frames.specs.declared.connection.Dlc.{Dlc}
+use Rattle.link_talk.specs.rfcomm_frames.specs.Multiplexing.{Framed, Connections, no_connections, connections_after, passing}
+use Rattle.link_talk.specs.rfcomm_frames.specs.Ending.{Course, no_course, course_after, is_last, has_last, to_closing}
+use Rattle.link_talk.specs.rfcomm_frames.specs.LookingBack.{connection, connections}
+use Rattle.link_talk.specs.rfcomm_frames.specs.ObexPackets.{obex_packets}
+use Rattle.link_talk.specs.rfcomm_frames.proofs.Ending.{counting}
 use Rattle.link_talk.specs.declared.channel.Channel.{Channel}
 use Rattle.link_talk.specs.declared.party.Party.{Party}
 use Rattle.link_talk.specs.Sayings.{Saying}

@@ -4,7 +4,7 @@ use Rattle.std.specs.List.{filter_map, list_any, cons_option}
 use Rattle.std.specs.Option.{option_or}
 use Rattle.std.proofs.lemmas.List.Elements.{filter_map-append}
 use Rattle.std.proofs.lemmas.List.Folds.{list_any-append}
-use Rattle.capture.specs.Histories.{last_of}
+use Rattle.link_talk.specs.capture.specs.Histories.{last_of}
 use Rattle.talk_laws.specs.Lists.{behind_last}
 
 from_end_by : {X : Type 0} (P : List X → Type 0) → ((xs : List X) (x : X) → P xs → P (xs ++ x ∷ [])) → (past xs : List X) → P past → P (past ++ xs)

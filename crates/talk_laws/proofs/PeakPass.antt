@@ -1,10 +1,10 @@
 -- The greatest numbers of a capture, in one pass.
 use Rattle.std.proofs.Common.{◌≡◌, ℕ, List, [], ◌∷◌, ◌++◌, fold, max, refl, sym, ap, ◌∙◌}
 use Rattle.std.proofs.lemmas.List.Sums.{fold-append}
-use Rattle.push_terms.specs.declared.word.Side.{Side}
-use Rattle.capture.specs.Entries.{Entry}
-use Rattle.capture.specs.Histories.{given_by}
-use Rattle.capture.specs.Peaks.{greatest}
+use Rattle.link_talk.specs.push_terms.specs.declared.word.Side.{Side}
+use Rattle.link_talk.specs.capture.specs.Entries.{Entry}
+use Rattle.link_talk.specs.capture.specs.Histories.{given_by}
+use Rattle.link_talk.specs.capture.specs.Peaks.{greatest}
 use Rattle.link_talk.specs.Sayings.{Saying}
 use Rattle.link_talk.specs.Captures.{window_held, natural, credits_of}
 use Rattle.talk_laws.specs.LinkPass.{no_pass}

@@ -1,10 +1,10 @@
 -- The greatest numbers of a capture with one entry more.
 use Rattle.std.proofs.Common.{◌≡◌, ℕ, List, [], ◌∷◌, ◌++◌, max, ap, ◌∙◌}
 use Rattle.std.proofs.lemmas.List.Sums.{fold-append}
-use Rattle.capture.specs.Entries.{Entry}
-use Rattle.capture.specs.Histories.{given_by}
-use Rattle.capture.specs.Peaks.{greatest}
-use Rattle.capture.proofs.HistoryLaws.{given_by-more}
+use Rattle.link_talk.specs.capture.specs.Entries.{Entry}
+use Rattle.link_talk.specs.capture.specs.Histories.{given_by}
+use Rattle.link_talk.specs.capture.specs.Peaks.{greatest}
+use Rattle.link_talk.specs.capture.proofs.HistoryLaws.{given_by-more}
 use Rattle.link_talk.specs.Captures.{window_held, natural, credits_of}
 use Rattle.talk_laws.specs.Peaks.{PeaksGrow}
 

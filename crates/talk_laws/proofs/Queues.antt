@@ -3,10 +3,10 @@ use Rattle.std.proofs.Common.{◌≡◌, ℕ, List, [], ◌∷◌, ◌++◌, len
 use Rattle.std.specs.List.{cons_option}
 use Rattle.std.proofs.lemmas.List.Elements.{filter_map-append}
 use Rattle.std.proofs.lemmas.List.Sums.{fold-append}
-use Rattle.capture.specs.declared.flow.Flow.{Flow}
-use Rattle.capture.specs.declared.flow.Flow.TheVariants.{Out, Into}
-use Rattle.capture.specs.Histories.{each_after}
-use Rattle.capture.specs.Pdus.{same_flow}
+use Rattle.link_talk.specs.capture.specs.declared.flow.Flow.{Flow}
+use Rattle.link_talk.specs.capture.specs.declared.flow.Flow.TheVariants.{Out, Into}
+use Rattle.link_talk.specs.capture.specs.Histories.{each_after}
+use Rattle.link_talk.specs.capture.specs.Pdus.{same_flow}
 use Rattle.link_talk.specs.Sdus.{Spoken, spoken_way, spoken_one_way}
 use Rattle.link_talk.specs.Exchanges.{Pending, Exchange, with_request, without_first, answered_first, pending_after}
 use Rattle.talk_laws.specs.Exchanges.{pending, answered_behind}

@@ -2,7 +2,7 @@
 use Rattle.std.proofs.Common.{◌≡◌, ℕ, eqb, Bool, true, false, cond, ◌||◌, Option, Some, None, refl, ap}
 use Rattle.std.specs.Prelude.{is_some}
 use Rattle.std.specs.List.{filter_map}
-use Rattle.capture.specs.Histories.{given_by}
+use Rattle.link_talk.specs.capture.specs.Histories.{given_by}
 use Rattle.link_talk.specs.Waits.{Notice, AsksInformation, InformationEnds, notice, noticed, Demand, AsksOptions, OptionsAnswered, OptionsImplied, demand, demanded}
 use Rattle.talk_laws.specs.Requests.{information_asked, ends_information, options_asked, answers_options, RequestsLookBack}
 use Rattle.talk_laws.proofs.Unanswered.{waiting_behind, pass-finds}

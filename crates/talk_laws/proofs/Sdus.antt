@@ -4,19 +4,19 @@ use Rattle.std.specs.List.{cons_option}
 use Rattle.std.proofs.lemmas.List.{map-append}
 use Rattle.std.proofs.lemmas.List.Elements.{filter_map-append}
 use Rattle.std.proofs.lemmas.List.Sums.{fold-append}
-use Rattle.capture.specs.declared.flow.Flow.{Flow}
-use Rattle.capture.specs.declared.flow.Flow.TheVariants.{Out, Into}
-use Rattle.capture.specs.Histories.{each_after, given_by}
-use Rattle.capture.proofs.HistoryLaws.{given_by-more}
-use Rattle.ertm_frames.specs.Frames.{PlainFrame}
-use Rattle.ertm_frames.specs.Reading.{frame_in, frames_in}
-use Rattle.ertm_frames.specs.Segments.{Segment}
-use Rattle.ertm_frames.specs.Picking.{picked}
-use Rattle.ertm_frames.specs.Joining.{At, joined, ended}
-use Rattle.ertm_frames.proofs.Longest.{joined-append, ended-append}
-use Rattle.ertm_frames.proofs.Telling.{picked-more, frames-more}
-use Rattle.l2cap_config.specs.declared.wish.Mode.{Mode}
-use Rattle.l2cap_config.specs.declared.wish.Mode.TheVariants.{Basic, Enhanced}
+use Rattle.link_talk.specs.capture.specs.declared.flow.Flow.{Flow}
+use Rattle.link_talk.specs.capture.specs.declared.flow.Flow.TheVariants.{Out, Into}
+use Rattle.link_talk.specs.capture.specs.Histories.{each_after, given_by}
+use Rattle.link_talk.specs.capture.proofs.HistoryLaws.{given_by-more}
+use Rattle.link_talk.specs.ertm_frames.specs.Frames.{PlainFrame}
+use Rattle.link_talk.specs.ertm_frames.specs.Reading.{frame_in, frames_in}
+use Rattle.link_talk.specs.ertm_frames.specs.Segments.{Segment}
+use Rattle.link_talk.specs.ertm_frames.specs.Picking.{picked}
+use Rattle.link_talk.specs.ertm_frames.specs.Joining.{At, joined, ended}
+use Rattle.link_talk.specs.ertm_frames.proofs.Longest.{joined-append, ended-append}
+use Rattle.link_talk.specs.ertm_frames.proofs.Telling.{picked-more, frames-more}
+use Rattle.link_talk.specs.l2cap_config.specs.declared.wish.Mode.{Mode}
+use Rattle.link_talk.specs.l2cap_config.specs.declared.wish.Mode.TheVariants.{Basic, Enhanced}
 use Rattle.link_talk.specs.declared.party.Party.{Party}
 use Rattle.link_talk.specs.Carriages.{Carriage, one_way, pdus_of}
 use Rattle.link_talk.specs.Gains.{beyond}

@@ -3,11 +3,11 @@ use Rattle.std.proofs.Common.{◌≡◌, ℕ, List, [], ◌∷◌, ◌++◌, Boo
 use Rattle.std.specs.Option.{option_or}
 use Rattle.std.specs.List.{flat_map, AllByRecursion}
 use Rattle.std.proofs.lemmas.Grind.{flat_map-append}
-use Rattle.capture.specs.declared.flow.Flow.{Flow}
-use Rattle.capture.specs.declared.flow.Flow.TheVariants.{Out, Into}
-use Rattle.capture.specs.Histories.{each_after}
-use Rattle.sdp_elements.specs.Pdus.{pdu_in}
-use Rattle.sdp_client.specs.Replies.{PlainPart, is_of_another}
+use Rattle.link_talk.specs.capture.specs.declared.flow.Flow.{Flow}
+use Rattle.link_talk.specs.capture.specs.declared.flow.Flow.TheVariants.{Out, Into}
+use Rattle.link_talk.specs.capture.specs.Histories.{each_after}
+use Rattle.link_talk.specs.sdp_elements.specs.Pdus.{pdu_in}
+use Rattle.link_talk.specs.sdp_client.specs.Replies.{PlainPart, is_of_another}
 use Rattle.link_talk.specs.Sdus.{Spoken}
 use Rattle.link_talk.specs.ServiceAnswers.{transaction_of, waiting_with, waiting_after, part_with, parts_from, is_last, joined_from, answers_in}
 use Rattle.link_talk.specs.ServiceAnswers as link

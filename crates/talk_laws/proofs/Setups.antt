@@ -6,10 +6,10 @@ use Rattle.std.specs.Option.{option_or}
 use Rattle.std.proofs.lemmas.List.Elements.{filter_map-append}
 use Rattle.std.proofs.lemmas.List.Sums.{fold-append}
 use Rattle.std.proofs.lemmas.Grind.{flat_map-append}
-use Rattle.capture.specs.Histories.{last_of}
-use Rattle.capture.proofs.HistoryLaws.{given_by-more}
-use Rattle.l2cap_config.specs.declared.wish.Mode.{Mode}
-use Rattle.l2cap_config.specs.declared.wish.Mode.TheVariants.{Basic}
+use Rattle.link_talk.specs.capture.specs.Histories.{last_of}
+use Rattle.link_talk.specs.capture.proofs.HistoryLaws.{given_by-more}
+use Rattle.link_talk.specs.l2cap_config.specs.declared.wish.Mode.{Mode}
+use Rattle.link_talk.specs.l2cap_config.specs.declared.wish.Mode.TheVariants.{Basic}
 use Rattle.link_talk.specs.declared.channel.Channel.{Channel}
 use Rattle.link_talk.specs.Meanings.{Part, Meaning}
 use Rattle.link_talk.specs.Setups.{Setup, Term, Wished, Answered, term, mode_in, is_set, with_wish, with_answer, with_term, setup_after}

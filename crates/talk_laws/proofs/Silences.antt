@@ -3,12 +3,12 @@ use Rattle.std.proofs.Common.{◌≡◌, ℕ, List, [], ◌∷◌, ◌++◌, fol
 use Rattle.std.specs.List.{AllByRecursion}
 use Rattle.std.proofs.lemmas.List.{map-append}
 use Rattle.std.proofs.lemmas.List.Sums.{fold-append}
-use Rattle.capture.specs.declared.flow.Flow.{Flow}
-use Rattle.capture.specs.Histories.{each_after, given_by}
-use Rattle.capture.specs.Pdus.{same_flow}
-use Rattle.capture.proofs.HistoryLaws.{given_by-more, each_after-append}
-use Rattle.obex_headers.specs.declared.packet.Phase.TheVariants as phases
-use Rattle.obex_headers.specs.Reading.{packet_in}
+use Rattle.link_talk.specs.capture.specs.declared.flow.Flow.{Flow}
+use Rattle.link_talk.specs.capture.specs.Histories.{each_after, given_by}
+use Rattle.link_talk.specs.capture.specs.Pdus.{same_flow}
+use Rattle.link_talk.specs.capture.proofs.HistoryLaws.{given_by-more, each_after-append}
+use Rattle.link_talk.specs.obex_headers.specs.declared.packet.Phase.TheVariants as phases
+use Rattle.link_talk.specs.obex_headers.specs.Reading.{packet_in}
 use Rattle.link_talk.specs.Sdus.{Spoken}
 use Rattle.link_talk.specs.Exchanges.{code_of, exchanges}
 use Rattle.link_talk.specs.declared.course.Asked.TheVariants.{Put, Other, Refused}

@@ -2,8 +2,8 @@
 use Rattle.std.proofs.Common.{◌≡◌, ℕ, List, [], ◌∷◌, ◌++◌, length, drop, inl, arith, refl, sym, ap, ◌∙◌, append_assoc}
 use Rattle.std.specs.List.{flat_map, AllByRecursion}
 use Rattle.std.proofs.lemmas.Grind.{flat_map-append}
-use Rattle.rfcomm_frames.specs.ObexPackets.{IsPacket, HasNoPacket, obex_packets}
-use Rattle.rfcomm_frames.proofs.ObexSplits.{obex_packets-right, obex_packets-one}
+use Rattle.link_talk.specs.rfcomm_frames.specs.ObexPackets.{IsPacket, HasNoPacket, obex_packets}
+use Rattle.link_talk.specs.rfcomm_frames.proofs.ObexSplits.{obex_packets-right, obex_packets-one}
 use Rattle.talk_laws.specs.Packets.{rest_of}
 use Rattle.talk_laws.proofs.Passes.{drop_front}
 

@@ -1,9 +1,9 @@
 -- Objects within any longest packet, by stretches.
 use Rattle.std.proofs.Common.{ℕ, List, map, refl, sym}
 use Rattle.std.specs.Prelude.{◌≡◌, ◌↔◌}
-use Rattle.bt_base.specs.Objects.{Object}
-use Rattle.obex_headers.specs.Runs.{spelled, FallsInto}
-use Rattle.obex_headers.proofs.RunLaws.{packets_fall, stretches_spell}
+use Rattle.link_talk.specs.bt_base.specs.Objects.{Object}
+use Rattle.link_talk.specs.obex_headers.specs.Runs.{spelled, FallsInto}
+use Rattle.link_talk.specs.obex_headers.proofs.RunLaws.{packets_fall, stretches_spell}
 use Rattle.link_talk.specs.Packets.{packets_heard}
 use Rattle.link_talk.specs.ObjectsHeard.{put_within, spelled_within}
 use Rattle.link_talk.specs.Shortening.{shortened}

@@ -5,7 +5,7 @@ use Rattle.std.specs.Option.{option_or}
 use Rattle.std.specs.List.{filter_map, list_any}
 use Rattle.std.proofs.lemmas.List.Folds.{list_any-append}
 use Rattle.std.proofs.lemmas.List.Sums.{fold-append}
-use Rattle.capture.specs.Histories.{last_of}
+use Rattle.link_talk.specs.capture.specs.Histories.{last_of}
 use Rattle.talk_laws.specs.Lists.{behind_last}
 use Rattle.talk_laws.specs.Unanswered.{unless_answered, last_unanswered}
 use Rattle.talk_laws.proofs.Passes.{from_end, last_picked, behind_last-more}

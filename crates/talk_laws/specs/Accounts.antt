@@ -1,10 +1,10 @@
 -- Frames that are not acknowledged, and credits, in one pass (Core 5.1, Volume 3 Part A, 8.3 and 8.6; RFCOMM 1.2, 6.5).
 use Rattle.std.specs.Prelude.{ℕ, ℤ, pos, ◌≡◌, ◌+◌, ◌-◌, ◌%◌, ◌-ℤ◌, Bool, false, List, [], ◌∷◌, ◌++◌, length, fold, if◌then◌else◌}
-use Rattle.ertm_frames.specs.Picking.{Passage, Out, In, outs, ins, req_of, unacknowledged}
-use Rattle.rfcomm_frames.specs.declared.connection.Role.{Role}
-use Rattle.rfcomm_frames.specs.Multiplexing.{Passed, Framed, frames, granted_by, spent_by}
-use Rattle.rfcomm_frames.specs.Ending.{Course, no_course, course_after, is_last}
-use Rattle.rfcomm_frames.specs.UserChannel.{credits_held}
+use Rattle.link_talk.specs.ertm_frames.specs.Picking.{Passage, Out, In, outs, ins, req_of, unacknowledged}
+use Rattle.link_talk.specs.rfcomm_frames.specs.declared.connection.Role.{Role}
+use Rattle.link_talk.specs.rfcomm_frames.specs.Multiplexing.{Passed, Framed, frames, granted_by, spent_by}
+use Rattle.link_talk.specs.rfcomm_frames.specs.Ending.{Course, no_course, course_after, is_last}
+use Rattle.link_talk.specs.rfcomm_frames.specs.UserChannel.{credits_held}
 use Rattle.link_talk.specs.Picks.{pick}
 
 -- ---- I-frames

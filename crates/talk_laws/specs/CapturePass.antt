@@ -3,15 +3,15 @@
 use Rattle.std.specs.Prelude.{ℕ, ◌==◌, ◌&&◌, Bool, true, false, List, [], ◌∷◌, ◌++◌, map, fold, Option, Some, None, is_none, option_to_list, if◌then◌else◌}
 use Rattle.std.specs.List.{flat_map}
 use Rattle.std.specs.Option.{option_map, option_or}
-use Rattle.push_terms.specs.declared.word.Side.{Side}
-use Rattle.acl_fragments.specs.Pieces.{Piece, starts}
-use Rattle.acl_fragments.specs.Answers.{answer, open_after, held_after}
-use Rattle.capture.specs.declared.flow.Flow.{Flow}
-use Rattle.capture.specs.declared.flow.Flow.TheVariants.{Out, Into}
-use Rattle.capture.specs.Entries.{Entry}
-use Rattle.capture.specs.Moves.{Move, move_of, moves}
-use Rattle.capture.specs.Links.{Link, Linking, LinkNews, Asked, Answered, LinkEnded, NoNews, link_news, linking}
-use Rattle.capture.specs.Pdus.{Pdu, pdu_limit, piece_of, piece_in, pieces, whole_of}
+use Rattle.link_talk.specs.push_terms.specs.declared.word.Side.{Side}
+use Rattle.link_talk.specs.acl_fragments.specs.Pieces.{Piece, starts}
+use Rattle.link_talk.specs.acl_fragments.specs.Answers.{answer, open_after, held_after}
+use Rattle.link_talk.specs.capture.specs.declared.flow.Flow.{Flow}
+use Rattle.link_talk.specs.capture.specs.declared.flow.Flow.TheVariants.{Out, Into}
+use Rattle.link_talk.specs.capture.specs.Entries.{Entry}
+use Rattle.link_talk.specs.capture.specs.Moves.{Move, move_of, moves}
+use Rattle.link_talk.specs.capture.specs.Links.{Link, Linking, LinkNews, Asked, Answered, LinkEnded, NoNews, link_news, linking}
+use Rattle.link_talk.specs.capture.specs.Pdus.{Pdu, pdu_limit, piece_of, piece_in, pieces, whole_of}
 use Rattle.link_talk.specs.Sayings.{Saying, said_by, talk}
 
 -- ---- a link

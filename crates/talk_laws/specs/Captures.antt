@@ -1,10 +1,10 @@
 -- What a capture says of the talks of a side, in one pass and with one entry more.
 use Rattle.std.specs.Prelude.{ℕ, ◌≡◌, false, Bool, List, [], ◌∷◌, ◌++◌, fold, Option, Some, None}
 use Rattle.std.specs.List.{list_any}
-use Rattle.bt_base.specs.Objects.{Object}
-use Rattle.push_terms.specs.declared.word.Side.{Side}
-use Rattle.capture.specs.Entries.{Entry}
-use Rattle.capture.specs.Moves.{Move, move_of, moves}
+use Rattle.link_talk.specs.bt_base.specs.Objects.{Object}
+use Rattle.link_talk.specs.push_terms.specs.declared.word.Side.{Side}
+use Rattle.link_talk.specs.capture.specs.Entries.{Entry}
+use Rattle.link_talk.specs.capture.specs.Moves.{Move, move_of, moves}
 use Rattle.link_talk.specs.declared.party.Party.{Party}
 use Rattle.link_talk.specs.Sayings.{Saying}
 use Rattle.link_talk.specs.Waits.{is_checked}

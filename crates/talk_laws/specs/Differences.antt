@@ -1,7 +1,7 @@
 -- Small talks, worked out by hand, on which another reading might be expected.
 use Rattle.std.specs.Prelude.{ℕ, ◌≡◌, Bool, true, false, List, [], ◌∷◌, length, map}
-use Rattle.l2cap_signal.specs.Commands.{connection_request, connection_response, configuration_request, configuration_response, disconnection_request, disconnection_response}
-use Rattle.capture.specs.declared.flow.Flow.TheVariants.{Into}
+use Rattle.link_talk.specs.l2cap_signal.specs.Commands.{connection_request, connection_response, configuration_request, configuration_response, disconnection_request, disconnection_response}
+use Rattle.link_talk.specs.capture.specs.declared.flow.Flow.TheVariants.{Into}
 use Rattle.link_talk.specs.Sayings.{Saying}
 use Rattle.link_talk.specs.Channels.{reading}
 use Rattle.link_talk.specs.Sdus.{Spoken}

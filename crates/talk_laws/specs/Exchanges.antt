@@ -1,9 +1,9 @@
 -- Requests and responses of OBEX on a channel, looking back from each response (IrOBEX 1.5, 3.1, 3.2 and 3.4.3.7).
 use Rattle.std.specs.Prelude.{ℕ, ◌≡◌, ◌&&◌, Bool, false, List, [], ◌∷◌, ◌++◌, map, fold, if◌then◌else◌}
 use Rattle.std.specs.List.{flat_map, list_any, count_by}
-use Rattle.capture.specs.declared.flow.Flow.{Flow}
-use Rattle.capture.specs.Histories.{given_by}
-use Rattle.capture.specs.Pdus.{same_flow}
+use Rattle.link_talk.specs.capture.specs.declared.flow.Flow.{Flow}
+use Rattle.link_talk.specs.capture.specs.Histories.{given_by}
+use Rattle.link_talk.specs.capture.specs.Pdus.{same_flow}
 use Rattle.link_talk.specs.Sdus.{Spoken, spoken_one_way}
 use Rattle.link_talk.specs.Exchanges.{Pending, Exchange, is_abort, pending_after, answered_first, exchanges}
 

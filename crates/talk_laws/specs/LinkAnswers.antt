@@ -1,8 +1,8 @@
 -- The answers of service discovery on a link, in one pass (Core 5.1, Volume 3 Part B, 4.2, 4.3 and 4.7).
 use Rattle.std.specs.Prelude.{ℕ, ◌≡◌, ◌==◌, List, [], ◌∷◌, ◌++◌, fold, Option, None, if◌then◌else◌}
 use Rattle.std.specs.List.{flat_map}
-use Rattle.l2cap_config.specs.declared.wish.Mode.{Mode}
-use Rattle.sdp_client.specs.Replies.{PlainPart}
+use Rattle.link_talk.specs.l2cap_config.specs.declared.wish.Mode.{Mode}
+use Rattle.link_talk.specs.sdp_client.specs.Replies.{PlainPart}
 use Rattle.link_talk.specs.declared.channel.Channel.{Channel}
 use Rattle.link_talk.specs.declared.party.Party.{Party}
 use Rattle.link_talk.specs.Sayings.{Saying}

@@ -1,9 +1,9 @@
 -- The credits that a host holds on a link, in one pass (RFCOMM 1.2, 6.5).
 use Rattle.std.specs.Prelude.{ℤ, pos, ◌≡◌, ◌==◌, ◌&&◌, List, [], ◌∷◌, ◌++◌, map, fold, Option, Some, None, if◌then◌else◌}
 use Rattle.std.specs.List.{filter_map}
-use Rattle.capture.specs.Histories.{last_of}
-use Rattle.l2cap_config.specs.declared.wish.Mode.{Mode}
-use Rattle.rfcomm_frames.specs.Multiplexing.{Framed, frames}
+use Rattle.link_talk.specs.capture.specs.Histories.{last_of}
+use Rattle.link_talk.specs.l2cap_config.specs.declared.wish.Mode.{Mode}
+use Rattle.link_talk.specs.rfcomm_frames.specs.Multiplexing.{Framed, frames}
 use Rattle.link_talk.specs.declared.channel.Channel.{Channel}
 use Rattle.link_talk.specs.declared.party.Party.{Party}
 use Rattle.link_talk.specs.Sayings.{Saying}

@@ -1,8 +1,8 @@
 -- The packets and objects on a channel with more of them (IrOBEX 1.5, 2.2 and 3.4.3).
 use Rattle.std.specs.Prelude.{ℕ, ◌≡◌, List, [], ◌∷◌, ◌++◌}
-use Rattle.capture.specs.declared.flow.Flow.{Flow}
-use Rattle.capture.specs.Histories.{given_by}
-use Rattle.rfcomm_frames.specs.ObexPackets.{obex_packets}
+use Rattle.link_talk.specs.capture.specs.declared.flow.Flow.{Flow}
+use Rattle.link_talk.specs.capture.specs.Histories.{given_by}
+use Rattle.link_talk.specs.rfcomm_frames.specs.ObexPackets.{obex_packets}
 use Rattle.link_talk.specs.declared.channel.Channel.{Channel}
 use Rattle.link_talk.specs.declared.party.Party.{Party}
 use Rattle.link_talk.specs.Sayings.{Saying}

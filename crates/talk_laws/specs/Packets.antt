@@ -1,13 +1,13 @@
 -- The OBEX packets on a channel in one pass (IrOBEX 1.5, 2.2; RFCOMM 1.2, 5 and 6.5).
 use Rattle.std.specs.Prelude.{ℕ, ◌≡◌, Bool, false, List, [], ◌∷◌, ◌++◌, length, map, fold, drop, Option, Some, None, if◌then◌else◌}
 use Rattle.std.specs.List.{flat_map}
-use Rattle.capture.specs.declared.flow.Flow.{Flow}
-use Rattle.capture.specs.declared.flow.Flow.TheVariants.{Out, Into}
-use Rattle.rfcomm_frames.specs.Multiplexing.{Framed, frames}
-use Rattle.rfcomm_frames.specs.Ending.{Course, no_course, course_after, is_last, has_last}
-use Rattle.rfcomm_frames.specs.UserChannel.{live_frames, user_octets}
-use Rattle.rfcomm_frames.specs.LookingBack.{connections}
-use Rattle.rfcomm_frames.specs.ObexPackets.{obex_packets}
+use Rattle.link_talk.specs.capture.specs.declared.flow.Flow.{Flow}
+use Rattle.link_talk.specs.capture.specs.declared.flow.Flow.TheVariants.{Out, Into}
+use Rattle.link_talk.specs.rfcomm_frames.specs.Multiplexing.{Framed, frames}
+use Rattle.link_talk.specs.rfcomm_frames.specs.Ending.{Course, no_course, course_after, is_last, has_last}
+use Rattle.link_talk.specs.rfcomm_frames.specs.UserChannel.{live_frames, user_octets}
+use Rattle.link_talk.specs.rfcomm_frames.specs.LookingBack.{connections}
+use Rattle.link_talk.specs.rfcomm_frames.specs.ObexPackets.{obex_packets}
 use Rattle.link_talk.specs.declared.channel.Channel.{Channel}
 use Rattle.link_talk.specs.declared.party.Party.{Party}
 use Rattle.link_talk.specs.Sayings.{Saying}

@@ -1,8 +1,8 @@
 -- The greatest numbers of I-frames and of credits of a capture, in one pass (Core 5.1, Volume 3 Part A, 8.3 and 8.6; RFCOMM 1.2,
 -- 6.5).
 use Rattle.std.specs.Prelude.{ℕ, ◌≡◌, List, fold, max}
-use Rattle.push_terms.specs.declared.word.Side.{Side}
-use Rattle.capture.specs.Entries.{Entry}
+use Rattle.link_talk.specs.push_terms.specs.declared.word.Side.{Side}
+use Rattle.link_talk.specs.capture.specs.Entries.{Entry}
 use Rattle.link_talk.specs.declared.party.Party.{Party}
 use Rattle.link_talk.specs.Sayings.{Saying}
 use Rattle.link_talk.specs.Captures.{natural, window_peak, credits_peak}

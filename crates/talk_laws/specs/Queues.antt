@@ -1,9 +1,9 @@
 -- Which requests of OBEX wait on a channel, looking back to where none did (IrOBEX 1.5, 3.1, 3.2 and 3.4.3.7).
 use Rattle.std.specs.Prelude.{ℕ, ◌≡◌, Bool, true, false, List, [], ◌∷◌, ◌++◌, length, drop, fold, Option, Some, None, if◌then◌else◌}
 use Rattle.std.specs.List.{filter_map}
-use Rattle.capture.specs.declared.flow.Flow.{Flow}
-use Rattle.capture.specs.Histories.{given_by}
-use Rattle.capture.specs.Pdus.{same_flow}
+use Rattle.link_talk.specs.capture.specs.declared.flow.Flow.{Flow}
+use Rattle.link_talk.specs.capture.specs.Histories.{given_by}
+use Rattle.link_talk.specs.capture.specs.Pdus.{same_flow}
 use Rattle.link_talk.specs.Sdus.{Spoken, spoken_one_way}
 use Rattle.link_talk.specs.Exchanges.{Pending, Exchange, with_request, answered_first, exchanges}
 use Rattle.talk_laws.specs.Exchanges.{pending}

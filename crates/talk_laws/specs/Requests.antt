@@ -1,7 +1,7 @@
 -- Which requests for information and for options wait, looking back (Core 5.1, Volume 3 Part A, 4.1, 4.4 and 4.10).
 use Rattle.std.specs.Prelude.{ℕ, ◌≡◌, ◌==◌, Bool, true, false, List, Option, Some, None, is_some}
 use Rattle.std.specs.List.{filter_map}
-use Rattle.capture.specs.Histories.{given_by}
+use Rattle.link_talk.specs.capture.specs.Histories.{given_by}
 use Rattle.link_talk.specs.declared.channel.Channel.{Channel}
 use Rattle.link_talk.specs.declared.party.Party.{Party}
 use Rattle.link_talk.specs.Sayings.{Saying}

@@ -1,14 +1,14 @@
 -- The SDUs on a channel in one pass (Core 5.1, Volume 3 Part A, 3.1, 3.3, 7.3 and 8.4).
 use Rattle.std.specs.Prelude.{ℕ, ◌≡◌, ◌+◌, List, [], ◌∷◌, ◌++◌, length, map, fold, drop, None}
-use Rattle.capture.specs.declared.flow.Flow.{Flow}
-use Rattle.capture.specs.declared.flow.Flow.TheVariants.{Out, Into}
-use Rattle.capture.specs.Histories.{given_by}
-use Rattle.ertm_frames.specs.Reading.{frame_in, frames_in}
-use Rattle.ertm_frames.specs.Segments.{Segment}
-use Rattle.ertm_frames.specs.Picking.{picked}
-use Rattle.ertm_frames.specs.Joining.{Joining, At, joined, ended}
-use Rattle.l2cap_config.specs.declared.wish.Mode.{Mode}
-use Rattle.l2cap_config.specs.declared.wish.Mode.TheVariants.{Basic, Enhanced}
+use Rattle.link_talk.specs.capture.specs.declared.flow.Flow.{Flow}
+use Rattle.link_talk.specs.capture.specs.declared.flow.Flow.TheVariants.{Out, Into}
+use Rattle.link_talk.specs.capture.specs.Histories.{given_by}
+use Rattle.link_talk.specs.ertm_frames.specs.Reading.{frame_in, frames_in}
+use Rattle.link_talk.specs.ertm_frames.specs.Segments.{Segment}
+use Rattle.link_talk.specs.ertm_frames.specs.Picking.{picked}
+use Rattle.link_talk.specs.ertm_frames.specs.Joining.{Joining, At, joined, ended}
+use Rattle.link_talk.specs.l2cap_config.specs.declared.wish.Mode.{Mode}
+use Rattle.link_talk.specs.l2cap_config.specs.declared.wish.Mode.TheVariants.{Basic, Enhanced}
 use Rattle.link_talk.specs.declared.party.Party.{Party}
 use Rattle.link_talk.specs.Carriages.{Carriage, pdus_of}
 use Rattle.link_talk.specs.Picks.{pick_in}

@@ -1,11 +1,11 @@
 -- The answers of service discovery on a channel, looking back from each reply (Core 5.1, Volume 3 Part B, 4.2, 4.3 and 4.7).
 use Rattle.std.specs.Prelude.{ℕ, ◌≡◌, not, Bool, true, false, List, [], ◌∷◌, ◌++◌, fold, Option, None}
 use Rattle.std.specs.List.{flat_map, AllByRecursion}
-use Rattle.capture.specs.declared.flow.Flow.{Flow}
-use Rattle.capture.specs.declared.flow.Flow.TheVariants.{Out, Into}
-use Rattle.capture.specs.Histories.{given_by}
-use Rattle.sdp_elements.specs.Pdus.{pdu_in}
-use Rattle.sdp_client.specs.Replies.{PlainPart, is_of_another}
+use Rattle.link_talk.specs.capture.specs.declared.flow.Flow.{Flow}
+use Rattle.link_talk.specs.capture.specs.declared.flow.Flow.TheVariants.{Out, Into}
+use Rattle.link_talk.specs.capture.specs.Histories.{given_by}
+use Rattle.link_talk.specs.sdp_elements.specs.Pdus.{pdu_in}
+use Rattle.link_talk.specs.sdp_client.specs.Replies.{PlainPart, is_of_another}
 use Rattle.link_talk.specs.Sdus.{Spoken}
 use Rattle.link_talk.specs.ServiceAnswers.{transaction_of, waiting_after, part_with, is_last, answers_in}
 use Rattle.talk_laws.specs.Unanswered.{last_unanswered}

@@ -2,9 +2,9 @@
 -- 4.5, 5.4 and 7.1).
 use Rattle.std.specs.Prelude.{ℕ, ◌≡◌, ◌&&◌, not, Bool, List, [], ◌∷◌, ◌++◌, Option, Some, None, option_map, option_to_list, unwrap_or, if◌then◌else◌}
 use Rattle.std.specs.List.{filter_map, flat_map}
-use Rattle.capture.specs.Histories.{last_of, given_by}
-use Rattle.l2cap_config.specs.declared.wish.Mode.{Mode}
-use Rattle.l2cap_config.specs.declared.wish.Mode.TheVariants.{Basic}
+use Rattle.link_talk.specs.capture.specs.Histories.{last_of, given_by}
+use Rattle.link_talk.specs.l2cap_config.specs.declared.wish.Mode.{Mode}
+use Rattle.link_talk.specs.l2cap_config.specs.declared.wish.Mode.TheVariants.{Basic}
 use Rattle.link_talk.specs.declared.channel.Channel.{Channel}
 use Rattle.link_talk.specs.Meanings.{Part, Meaning}
 use Rattle.link_talk.specs.Setups.{Setup, Term, Wished, Answered, term, mode_in, is_set}

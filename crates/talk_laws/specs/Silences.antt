@@ -2,8 +2,8 @@
 -- is this project's own choice.
 use Rattle.std.specs.Prelude.{ℕ, ◌≡◌, Bool, true, List, [], ◌∷◌, ◌++◌, map, fold}
 use Rattle.std.specs.List.{AllByRecursion}
-use Rattle.capture.specs.declared.flow.Flow.{Flow}
-use Rattle.capture.specs.Histories.{each_after, given_by}
+use Rattle.link_talk.specs.capture.specs.declared.flow.Flow.{Flow}
+use Rattle.link_talk.specs.capture.specs.Histories.{each_after, given_by}
 use Rattle.link_talk.specs.Sdus.{Spoken}
 use Rattle.link_talk.specs.declared.course.Course.{Course}
 use Rattle.link_talk.specs.declared.course.Course.TheVariants.{Resting, Silent}

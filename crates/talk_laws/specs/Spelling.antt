@@ -1,11 +1,11 @@
 -- The objects that the packets on a channel spell, in one pass (IrOBEX 1.5, 3.4.1 and 3.4.3).
 use Rattle.std.specs.Prelude.{ℕ, ◌≡◌, ◌||◌, ◌&&◌, Bool, false, List, [], ◌∷◌, ◌++◌, map, fold, Option, Some, None, if◌then◌else◌}
 use Rattle.std.specs.List.{list_any}
-use Rattle.bt_base.specs.Objects.{Object}
-use Rattle.capture.specs.declared.flow.Flow.TheVariants.{Into}
-use Rattle.l2cap_config.specs.declared.wish.Mode.{Mode}
-use Rattle.obex_headers.specs.Packets.{PlainPacket}
-use Rattle.obex_headers.specs.Runs.{is_final, run_headers, breaks, lacks, objects_from}
+use Rattle.link_talk.specs.bt_base.specs.Objects.{Object}
+use Rattle.link_talk.specs.capture.specs.declared.flow.Flow.TheVariants.{Into}
+use Rattle.link_talk.specs.l2cap_config.specs.declared.wish.Mode.{Mode}
+use Rattle.link_talk.specs.obex_headers.specs.Packets.{PlainPacket}
+use Rattle.link_talk.specs.obex_headers.specs.Runs.{is_final, run_headers, breaks, lacks, objects_from}
 use Rattle.link_talk.specs.declared.channel.Channel.{Channel}
 use Rattle.link_talk.specs.declared.party.Party.{Party}
 use Rattle.link_talk.specs.Sayings.{Saying}

@@ -1,7 +1,7 @@
 -- Objects within any longest packet, as stretches of packets spell them (IrOBEX 1.5, 3.4.1 and 3.4.3).
 use Rattle.std.specs.Prelude.{◌≡◌, ℕ, ◌≤◌, ◌↔◌, List, map}
-use Rattle.bt_base.specs.Objects.{Object}
-use Rattle.obex_headers.specs.Runs.{spelled, FallsInto}
+use Rattle.link_talk.specs.bt_base.specs.Objects.{Object}
+use Rattle.link_talk.specs.obex_headers.specs.Runs.{spelled, FallsInto}
 use Rattle.link_talk.specs.declared.channel.Channel.{Channel}
 use Rattle.link_talk.specs.declared.party.Party.{Party}
 use Rattle.link_talk.specs.Sayings.{Saying}

@@ -2,7 +2,7 @@
 -- and what answers that.
 use Rattle.std.specs.Prelude.{ℕ, Bool, List, Option, Some, None, is_some, if◌then◌else◌}
 use Rattle.std.specs.List.{filter_map, list_any}
-use Rattle.capture.specs.Histories.{last_of}
+use Rattle.link_talk.specs.capture.specs.Histories.{last_of}
 use Rattle.talk_laws.specs.Lists.{behind_last}
 
 abbrev pub unless_answered : {X : Type 0} → (ℕ → X → Bool) → List X → Option ℕ → Option ℕ

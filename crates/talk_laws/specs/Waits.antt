@@ -1,10 +1,10 @@
 -- What a host waits for on a link, in one pass: what a timer finds (Core 5.1, Volume 3 Part A, 4.1, 6.2 and 8.6; Part B, 4.2).
 use Rattle.std.specs.Prelude.{ℕ, ◌≡◌, ◌==◌, ◌||◌, ◌&&◌, nat_lt, Bool, false, List, [], ◌∷◌, ◌++◌, fold, find, Option, None, is_some, option_to_list}
 use Rattle.std.specs.List.{list_any, filter_map}
-use Rattle.capture.specs.Histories.{given_by}
-use Rattle.ertm_frames.specs.Picking.{poll_waits}
-use Rattle.l2cap_config.specs.declared.wish.Mode.{Mode}
-use Rattle.l2cap_config.specs.declared.wish.Mode.TheVariants.{Basic, Enhanced}
+use Rattle.link_talk.specs.capture.specs.Histories.{given_by}
+use Rattle.link_talk.specs.ertm_frames.specs.Picking.{poll_waits}
+use Rattle.link_talk.specs.l2cap_config.specs.declared.wish.Mode.{Mode}
+use Rattle.link_talk.specs.l2cap_config.specs.declared.wish.Mode.TheVariants.{Basic, Enhanced}
 use Rattle.link_talk.specs.declared.channel.Channel.{Channel}
 use Rattle.link_talk.specs.declared.party.Party.{Party}
 use Rattle.link_talk.specs.Sayings.{Saying}

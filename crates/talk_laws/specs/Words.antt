@@ -1,9 +1,9 @@
 -- What a packet says on a channel of OBEX, and which words keep an object as it is (IrOBEX 1.5, 3.1, 3.2 and 3.4.3.7).
 use Rattle.std.specs.Prelude.{ℕ, ◌==◌, ◌&&◌, not, Bool, true, false, if◌then◌else◌}
-use Rattle.capture.specs.declared.flow.Flow.{Flow}
-use Rattle.capture.specs.Pdus.{same_flow}
-use Rattle.obex_headers.specs.declared.packet.Phase.TheVariants as phases
-use Rattle.obex_headers.specs.Reading.{packet_in}
+use Rattle.link_talk.specs.capture.specs.declared.flow.Flow.{Flow}
+use Rattle.link_talk.specs.capture.specs.Pdus.{same_flow}
+use Rattle.link_talk.specs.obex_headers.specs.declared.packet.Phase.TheVariants as phases
+use Rattle.link_talk.specs.obex_headers.specs.Reading.{packet_in}
 use Rattle.link_talk.specs.Sdus.{Spoken}
 use Rattle.link_talk.specs.Exchanges.{code_of}
 use Rattle.link_talk.specs.declared.course.Asked.{Asked}

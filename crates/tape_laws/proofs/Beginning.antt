@@ -1,17 +1,17 @@
 -- The first thing that a profile with a tape goes through is what it is given.
 use Rattle.std.proofs.Common.{◌≡◌, ◌⊎◌, inl, inr, ℕ, List, [], ◌∷◌, ◌++◌, Some, None, refl, sym, ap, subst, ◌∙◌, append-nil, append_assoc}
-use Rattle.world_model.specs.Machines.{News}
-use Rattle.world_model.specs.Talks.{Talk}
-use Rattle.host_model.specs.Circumstances.{Circumstance}
-use Rattle.host_model.specs.Hosts.{Host, first_host, ready, hear, next}
-use Rattle.host_model.specs.Machines.{upper}
-use Rattle.host_model.specs.Profiles.{Profile}
-use Rattle.host_laws.specs.Acts.{Act, Hears, Says, Acting}
-use Rattle.host_laws.specs.Calls.{Asks}
-use Rattle.host_laws.specs.Fed.{TalksFed}
-use Rattle.host_laws.specs.Feeds.{Feed, Gifts, Learns, Receives, Happens, Sent, Steps, fed, all_fed}
-use Rattle.host_laws.specs.OverLinks.{OverLinks}
-use Rattle.scenario_laws.proofs.SetHosts.{hear_same}
+use Rattle.inbox_laws.specs.world_model.specs.Machines.{News}
+use Rattle.inbox_laws.specs.world_model.specs.Talks.{Talk}
+use Rattle.inbox_laws.specs.host_model.specs.Circumstances.{Circumstance}
+use Rattle.inbox_laws.specs.host_model.specs.Hosts.{Host, first_host, ready, hear, next}
+use Rattle.inbox_laws.specs.host_model.specs.Machines.{upper}
+use Rattle.inbox_laws.specs.host_model.specs.Profiles.{Profile}
+use Rattle.inbox_laws.specs.host_laws.specs.Acts.{Act, Hears, Says, Acting}
+use Rattle.inbox_laws.specs.host_laws.specs.Calls.{Asks}
+use Rattle.inbox_laws.specs.host_laws.specs.Fed.{TalksFed}
+use Rattle.inbox_laws.specs.host_laws.specs.Feeds.{Feed, Gifts, Learns, Receives, Happens, Sent, Steps, fed, all_fed}
+use Rattle.inbox_laws.specs.host_laws.specs.OverLinks.{OverLinks}
+use Rattle.inbox_laws.specs.scenario_laws.proofs.SetHosts.{hear_same}
 use Rattle.inbox_laws.proofs.Keeping.{KeepsSo, hear_kept, next_kept}
 use Rattle.tape_laws.specs.Once.{BeginsGiven}
 use Rattle.tape_laws.specs.Taped.{Tape, Taped, taped, taped_asks}

@@ -1,17 +1,17 @@
 -- What is so of a profile, whatever it is told, is so of it with a tape.
 use Rattle.std.proofs.Common.{◌≡◌, ℕ, List, Option, Some, None, refl, sym, ap, subst, ◌∙◌}
-use Rattle.channel_model.specs.Value.{Channels}
-use Rattle.world_model.specs.Machines.{Linked, Up, Upper}
-use Rattle.world_model.specs.Worlds.{World, IsAtRest}
-use Rattle.alike_laws.proofs.Alike.{rest_on}
-use Rattle.turn_laws.specs.Premises.{SaysFrames}
-use Rattle.host_model.specs.Hosts.{Host, next}
-use Rattle.host_model.specs.Machines.{upper}
-use Rattle.host_model.specs.Profiles.{Profile}
-use Rattle.host_laws.proofs.Fitting.{KeepsFit}
-use Rattle.scenario_laws.proofs.Unlinked.{Keeps}
-use Rattle.pair_laws.proofs.Abreast.{HasToldAll, Awaits}
-use Rattle.pair_laws.proofs.Answered.{IsSame, same_alike}
+use Rattle.inbox_laws.specs.channel_model.specs.Value.{Channels}
+use Rattle.inbox_laws.specs.world_model.specs.Machines.{Linked, Up, Upper}
+use Rattle.inbox_laws.specs.world_model.specs.Worlds.{World, IsAtRest}
+use Rattle.inbox_laws.specs.alike_laws.proofs.Alike.{rest_on}
+use Rattle.inbox_laws.specs.turn_laws.specs.Premises.{SaysFrames}
+use Rattle.inbox_laws.specs.host_model.specs.Hosts.{Host, next}
+use Rattle.inbox_laws.specs.host_model.specs.Machines.{upper}
+use Rattle.inbox_laws.specs.host_model.specs.Profiles.{Profile}
+use Rattle.inbox_laws.specs.host_laws.proofs.Fitting.{KeepsFit}
+use Rattle.inbox_laws.specs.scenario_laws.proofs.Unlinked.{Keeps}
+use Rattle.inbox_laws.specs.pair_laws.proofs.Abreast.{HasToldAll, Awaits}
+use Rattle.inbox_laws.specs.pair_laws.proofs.Answered.{IsSame, same_alike}
 use Rattle.tape_laws.specs.Runs.{HearsNewsAlone, untaped_world}
 use Rattle.tape_laws.specs.Taped.{Tape, Taped, taped, untaped_host}
 use Rattle.tape_laws.proofs.Hearing.{hears_so, next_so, untaped_said, IsBare, taped_alike}

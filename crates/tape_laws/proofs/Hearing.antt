@@ -1,21 +1,21 @@
 -- A host with a tape hears and says as one without it.
 use Rattle.std.proofs.Common.{◌≡◌, ℕ, zero, suc, Bool, true, false, List, [], Option, Some, None, is_some, refl, sym, ap, ap₂, subst, ◌∙◌, if◌then◌else◌}
 use Rattle.std.specs.Option.{option_map}
-use Rattle.acl_fragments.specs.Pieces.{channel_of}
-use Rattle.channel_model.specs.Calls.{link_down}
-use Rattle.channel_model.specs.Giving.{Given, next_given, after_given}
-use Rattle.channel_model.specs.Hearing.{hears, up}
-use Rattle.channel_model.specs.Timing.{timed_out}
-use Rattle.world_model.specs.Machines.{Up, Down, News, Linked, Failed, Heard, TimerFired, Cancelled, Opening, Upper}
-use Rattle.world_model.specs.Worlds.{World, Runs}
-use Rattle.alike_laws.specs.Twins.{world_with}
-use Rattle.alike_laws.proofs.Alike.{AreAlike, runs_on}
-use Rattle.host_model.specs.Circumstances.{Circumstance}
-use Rattle.host_model.specs.Hosts.{Host, drives, driven, most_steps, steps_behind, goes_on, goes_by, strides, settles, tells_events, told, with_channels, handed, hears_news, ready, hear, after_said, says, next}
-use Rattle.host_model.specs.Machines.{upper}
-use Rattle.host_model.specs.Pdus.{pdu_of, is_frame}
-use Rattle.host_model.specs.Profiles.{Profile}
-use Rattle.pair_laws.proofs.Answered.{IsSame, same_alike}
+use Rattle.inbox_laws.specs.acl_fragments.specs.Pieces.{channel_of}
+use Rattle.inbox_laws.specs.channel_model.specs.Calls.{link_down}
+use Rattle.inbox_laws.specs.channel_model.specs.Giving.{Given, next_given, after_given}
+use Rattle.inbox_laws.specs.channel_model.specs.Hearing.{hears, up}
+use Rattle.inbox_laws.specs.channel_model.specs.Timing.{timed_out}
+use Rattle.inbox_laws.specs.world_model.specs.Machines.{Up, Down, News, Linked, Failed, Heard, TimerFired, Cancelled, Opening, Upper}
+use Rattle.inbox_laws.specs.world_model.specs.Worlds.{World, Runs}
+use Rattle.inbox_laws.specs.alike_laws.specs.Twins.{world_with}
+use Rattle.inbox_laws.specs.alike_laws.proofs.Alike.{AreAlike, runs_on}
+use Rattle.inbox_laws.specs.host_model.specs.Circumstances.{Circumstance}
+use Rattle.inbox_laws.specs.host_model.specs.Hosts.{Host, drives, driven, most_steps, steps_behind, goes_on, goes_by, strides, settles, tells_events, told, with_channels, handed, hears_news, ready, hear, after_said, says, next}
+use Rattle.inbox_laws.specs.host_model.specs.Machines.{upper}
+use Rattle.inbox_laws.specs.host_model.specs.Pdus.{pdu_of, is_frame}
+use Rattle.inbox_laws.specs.host_model.specs.Profiles.{Profile}
+use Rattle.inbox_laws.specs.pair_laws.proofs.Answered.{IsSame, same_alike}
 use Rattle.tape_laws.specs.Taped.{Tape, Taped, taped, untaped_host}
 use Rattle.tape_laws.specs.Runs.{HearsNewsAlone, untaped_world, TapedHostsHearSo, TapedRunsAreRuns}
 use Rattle.tape_laws.proofs.Untaping.{each_so, handed_so}

@@ -1,13 +1,13 @@
 -- A server that has the answers of its inbox from a tape.
 use Rattle.std.proofs.Common.{◌≡◌, Bool, true, List, [], ◌∷◌, ◌++◌, map, Option, refl, ap}
-use Rattle.bt_base.specs.declared.settings.Settings.{Settings}
-use Rattle.bt_base.specs.Objects.{Contents}
-use Rattle.obex_session.specs.InboxCalls.{Answer}
-use Rattle.world_model.specs.Machines.{Up, Down, Linked, Failed, Heard, TimerFired, Cancelled, Opening}
-use Rattle.host_model.specs.Circumstances.{Stored, answers_in}
-use Rattle.host_model.specs.Profiles.{Profile}
-use Rattle.host_model.specs.Servers.{ServerProfile, server_profile}
-use Rattle.host_laws.specs.Feeds.{Feed, Gifts, Learns, Receives, Happens, Sent, Steps}
+use Rattle.inbox_laws.specs.bt_base.specs.declared.settings.Settings.{Settings}
+use Rattle.inbox_laws.specs.bt_base.specs.Objects.{Contents}
+use Rattle.inbox_laws.specs.obex_session.specs.InboxCalls.{Answer}
+use Rattle.inbox_laws.specs.world_model.specs.Machines.{Up, Down, Linked, Failed, Heard, TimerFired, Cancelled, Opening}
+use Rattle.inbox_laws.specs.host_model.specs.Circumstances.{Stored, answers_in}
+use Rattle.inbox_laws.specs.host_model.specs.Profiles.{Profile}
+use Rattle.inbox_laws.specs.host_model.specs.Servers.{ServerProfile, server_profile}
+use Rattle.inbox_laws.specs.host_laws.specs.Feeds.{Feed, Gifts, Learns, Receives, Happens, Sent, Steps}
 use Rattle.inbox_laws.specs.Spending.{AreLeft, AreGivenOnce}
 use Rattle.inbox_laws.proofs.Spending.{spends_what_is_given, gives_what_is_left}
 use Rattle.tape_laws.specs.Taped.{Taped, taped, untaped}

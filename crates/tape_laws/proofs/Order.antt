@@ -1,12 +1,12 @@
 -- Where nothing is lost, each way keeps its order, also with a tape.
 use Rattle.std.proofs.Common.{true, Option}
-use Rattle.bt_base.specs.Objects.{Contents}
-use Rattle.push_script.specs.declared.scenario.Scenario.{Scenario}
-use Rattle.channel_laws.specs.Pairs.{Near, Far}
-use Rattle.host_model.specs.Servers.{ServerProfile}
-use Rattle.shelf_model.specs.Held.{held_by}
-use Rattle.host_laws.specs.ShelfAnswers.{AnswersOf}
-use Rattle.pair_laws.proofs.Pairing.{answers_allowed, ordered}
+use Rattle.inbox_laws.specs.bt_base.specs.Objects.{Contents}
+use Rattle.inbox_laws.specs.push_script.specs.declared.scenario.Scenario.{Scenario}
+use Rattle.inbox_laws.specs.channel_laws.specs.Pairs.{Near, Far}
+use Rattle.inbox_laws.specs.host_model.specs.Servers.{ServerProfile}
+use Rattle.inbox_laws.specs.shelf_model.specs.Held.{held_by}
+use Rattle.inbox_laws.specs.host_laws.specs.ShelfAnswers.{AnswersOf}
+use Rattle.inbox_laws.specs.pair_laws.proofs.Pairing.{answers_allowed, ordered}
 use Rattle.tape_laws.specs.Pairs.{TapedKeepOrder}
 use Rattle.tape_laws.specs.Taped.{Tape}
 use Rattle.tape_laws.proofs.Pairs.{takes_turns}

@@ -1,18 +1,18 @@
 -- A server that keeps what its inbox is to answer, and one with a tape.
 use Rattle.std.proofs.Common.{◌≡◌, ℕ, Bool, true, List, [], map, Option, Some, None, unwrap_or, inl, inr, refl, sym, ap, subst, ◌∙◌}
-use Rattle.bt_base.specs.declared.settings.Settings.{Settings}
-use Rattle.bt_base.specs.Objects.{Contents}
-use Rattle.channel_model.specs.Giving.{next_given}
-use Rattle.obex_session.specs.InboxCalls.{Answer}
-use Rattle.world_model.specs.Machines.{News, Upper}
-use Rattle.alike_laws.proofs.Alike.{AreAlike, runs_on}
-use Rattle.host_model.specs.Circumstances.{Circumstance, Stored}
-use Rattle.host_model.specs.Hosts.{Host, first_host, most_said, driven, hears_news, ready, hear, next}
-use Rattle.host_model.specs.Machines.{upper}
-use Rattle.host_model.specs.Profiles.{Profile}
-use Rattle.host_model.specs.Servers.{ServerProfile, with_answers, server_profile}
-use Rattle.scenario_laws.proofs.SetHosts.{hear_same, says_same}
-use Rattle.pair_laws.proofs.Answered.{IsSame, same_alike}
+use Rattle.inbox_laws.specs.bt_base.specs.declared.settings.Settings.{Settings}
+use Rattle.inbox_laws.specs.bt_base.specs.Objects.{Contents}
+use Rattle.inbox_laws.specs.channel_model.specs.Giving.{next_given}
+use Rattle.inbox_laws.specs.obex_session.specs.InboxCalls.{Answer}
+use Rattle.inbox_laws.specs.world_model.specs.Machines.{News, Upper}
+use Rattle.inbox_laws.specs.alike_laws.proofs.Alike.{AreAlike, runs_on}
+use Rattle.inbox_laws.specs.host_model.specs.Circumstances.{Circumstance, Stored}
+use Rattle.inbox_laws.specs.host_model.specs.Hosts.{Host, first_host, most_said, driven, hears_news, ready, hear, next}
+use Rattle.inbox_laws.specs.host_model.specs.Machines.{upper}
+use Rattle.inbox_laws.specs.host_model.specs.Profiles.{Profile}
+use Rattle.inbox_laws.specs.host_model.specs.Servers.{ServerProfile, with_answers, server_profile}
+use Rattle.inbox_laws.specs.scenario_laws.proofs.SetHosts.{hear_same, says_same}
+use Rattle.inbox_laws.specs.pair_laws.proofs.Answered.{IsSame, same_alike}
 use Rattle.inbox_laws.proofs.Keeping.{KeepsSo, hear_kept, next_kept}
 use Rattle.tape_laws.specs.Once.{once}
 use Rattle.tape_laws.specs.Own.{own_first, own_server, taped_server, AreOneServer, OwnServersAreTaped}

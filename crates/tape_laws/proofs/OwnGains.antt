@@ -1,35 +1,35 @@
 -- The inbox of a server that keeps its answers gains less by one object at most for each fault among them.
 use Rattle.std.proofs.Common.{arith, ◌≡◌, ◌≤◌, ◌+◌, ◌-◌, ℕ, Bool, false, List, ◌++◌, Option, Some, inl, inr, refl, sym, ap, subst, ◌∙◌}
 use Rattle.std.specs.List.{AllByRecursion}
-use Rattle.bt_base.specs.declared.settings.Transport.{Transport}
-use Rattle.bt_base.specs.declared.settings.Transport.TheVariants.{L2cap, Rfcomm}
-use Rattle.bt_base.specs.Objects.{Object}
-use Rattle.obex_session.specs.InboxCalls.{Answer}
-use Rattle.push_script.specs.declared.scenario.Scenario.{Scenario}
-use Rattle.push_terms.specs.declared.word.Side.TheVariants as sides
-use Rattle.capture.specs.Entries.{Entry}
-use Rattle.link_talk.specs.Captures.{objects_heard}
-use Rattle.push_laws.specs.Faults.{faults_of, spent_from}
-use Rattle.push_laws.specs.Laws.{new_over, stored_in}
-use Rattle.push_laws.specs.Losing.{LeavesOut}
-use Rattle.push_laws.specs.Occurrences.{Occurrence}
-use Rattle.push_laws.specs.Premises.{NoneShort}
-use Rattle.push_laws.proofs.Losing.{leaves_more}
-use Rattle.world_model.specs.Pushes.{Pushes}
-use Rattle.world_model.specs.Worlds.{all_words}
-use Rattle.air_laws.specs.AirLaws.{IsLastEnd}
-use Rattle.alike_laws.specs.Twins.{IsOther}
-use Rattle.host_model.specs.Hosts.{Host, first_host}
-use Rattle.host_model.specs.Servers.{ServerProfile, server_profile}
-use Rattle.host_laws.specs.ShelfAnswers.{AnswersOf}
-use Rattle.scenario_laws.specs.Captures.{client_of, Ran}
-use Rattle.scenario_laws.specs.Gains.{holding}
-use Rattle.scenario_laws.specs.Parties.{party_of}
-use Rattle.shelf_model.specs.Held.{held_by}
-use Rattle.pair_laws.specs.InTurn.{PairsInTurn}
-use Rattle.pair_laws.specs.Keeping.{LosesNothing, PairsKeepOrder}
-use Rattle.pair_laws.specs.Served.{holding_on}
-use Rattle.pair_laws.proofs.Pairing.{answers_allowed}
+use Rattle.inbox_laws.specs.bt_base.specs.declared.settings.Transport.{Transport}
+use Rattle.inbox_laws.specs.bt_base.specs.declared.settings.Transport.TheVariants.{L2cap, Rfcomm}
+use Rattle.inbox_laws.specs.bt_base.specs.Objects.{Object}
+use Rattle.inbox_laws.specs.obex_session.specs.InboxCalls.{Answer}
+use Rattle.inbox_laws.specs.push_script.specs.declared.scenario.Scenario.{Scenario}
+use Rattle.inbox_laws.specs.push_terms.specs.declared.word.Side.TheVariants as sides
+use Rattle.inbox_laws.specs.capture.specs.Entries.{Entry}
+use Rattle.inbox_laws.specs.link_talk.specs.Captures.{objects_heard}
+use Rattle.inbox_laws.specs.push_laws.specs.Faults.{faults_of, spent_from}
+use Rattle.inbox_laws.specs.push_laws.specs.Laws.{new_over, stored_in}
+use Rattle.inbox_laws.specs.push_laws.specs.Losing.{LeavesOut}
+use Rattle.inbox_laws.specs.push_laws.specs.Occurrences.{Occurrence}
+use Rattle.inbox_laws.specs.push_laws.specs.Premises.{NoneShort}
+use Rattle.inbox_laws.specs.push_laws.proofs.Losing.{leaves_more}
+use Rattle.inbox_laws.specs.world_model.specs.Pushes.{Pushes}
+use Rattle.inbox_laws.specs.world_model.specs.Worlds.{all_words}
+use Rattle.inbox_laws.specs.air_laws.specs.AirLaws.{IsLastEnd}
+use Rattle.inbox_laws.specs.alike_laws.specs.Twins.{IsOther}
+use Rattle.inbox_laws.specs.host_model.specs.Hosts.{Host, first_host}
+use Rattle.inbox_laws.specs.host_model.specs.Servers.{ServerProfile, server_profile}
+use Rattle.inbox_laws.specs.host_laws.specs.ShelfAnswers.{AnswersOf}
+use Rattle.inbox_laws.specs.scenario_laws.specs.Captures.{client_of, Ran}
+use Rattle.inbox_laws.specs.scenario_laws.specs.Gains.{holding}
+use Rattle.inbox_laws.specs.scenario_laws.specs.Parties.{party_of}
+use Rattle.inbox_laws.specs.shelf_model.specs.Held.{held_by}
+use Rattle.inbox_laws.specs.pair_laws.specs.InTurn.{PairsInTurn}
+use Rattle.inbox_laws.specs.pair_laws.specs.Keeping.{LosesNothing, PairsKeepOrder}
+use Rattle.inbox_laws.specs.pair_laws.specs.Served.{holding_on}
+use Rattle.inbox_laws.specs.pair_laws.proofs.Pairing.{answers_allowed}
 use Rattle.request_laws.specs.Losing.{LosesFew, served_in}
 use Rattle.request_laws.proofs.LessHeard.{loses_few}
 use Rattle.request_laws.proofs.Losing.{loses_so}

@@ -1,24 +1,24 @@
 -- A server that keeps what its inbox is to answer is one end of pairs, as the one with the tape of that.
 use Rattle.std.proofs.Common.{◌≡◌, Bool, List, Option, inl, inr, refl, sym, ap, subst}
-use Rattle.bt_base.specs.Objects.{Object, Contents}
-use Rattle.obex_session.specs.InboxCalls.{Answer}
-use Rattle.push_script.specs.declared.scenario.Scenario.{Scenario}
-use Rattle.capture.specs.Entries.{Entry}
-use Rattle.world_model.specs.Pushes.{Pushes}
-use Rattle.world_model.specs.Worlds.{all_words}
-use Rattle.air_laws.specs.AirLaws.{IsLastEnd}
-use Rattle.alike_laws.specs.Twins.{IsOther, WorldsAlike, world_with}
-use Rattle.host_model.specs.Clients.{ClientProfile}
-use Rattle.host_model.specs.Hosts.{Host, first_host}
-use Rattle.host_model.specs.Servers.{ServerProfile, server_profile}
-use Rattle.host_laws.specs.Calls.{HostsAsk}
-use Rattle.host_laws.specs.Feeds.{Feed}
-use Rattle.scenario_laws.specs.Captures.{client_of, Happened, Ran}
-use Rattle.shelf_model.specs.Held.{held_by}
-use Rattle.pair_laws.specs.Keeping.{LosesNothing}
-use Rattle.pair_laws.specs.Served.{holding_on}
-use Rattle.pair_laws.proofs.Answered.{runs-so}
-use Rattle.pair_laws.proofs.Carrying.{as_it_is}
+use Rattle.inbox_laws.specs.bt_base.specs.Objects.{Object, Contents}
+use Rattle.inbox_laws.specs.obex_session.specs.InboxCalls.{Answer}
+use Rattle.inbox_laws.specs.push_script.specs.declared.scenario.Scenario.{Scenario}
+use Rattle.inbox_laws.specs.capture.specs.Entries.{Entry}
+use Rattle.inbox_laws.specs.world_model.specs.Pushes.{Pushes}
+use Rattle.inbox_laws.specs.world_model.specs.Worlds.{all_words}
+use Rattle.inbox_laws.specs.air_laws.specs.AirLaws.{IsLastEnd}
+use Rattle.inbox_laws.specs.alike_laws.specs.Twins.{IsOther, WorldsAlike, world_with}
+use Rattle.inbox_laws.specs.host_model.specs.Clients.{ClientProfile}
+use Rattle.inbox_laws.specs.host_model.specs.Hosts.{Host, first_host}
+use Rattle.inbox_laws.specs.host_model.specs.Servers.{ServerProfile, server_profile}
+use Rattle.inbox_laws.specs.host_laws.specs.Calls.{HostsAsk}
+use Rattle.inbox_laws.specs.host_laws.specs.Feeds.{Feed}
+use Rattle.inbox_laws.specs.scenario_laws.specs.Captures.{client_of, Happened, Ran}
+use Rattle.inbox_laws.specs.shelf_model.specs.Held.{held_by}
+use Rattle.inbox_laws.specs.pair_laws.specs.Keeping.{LosesNothing}
+use Rattle.inbox_laws.specs.pair_laws.specs.Served.{holding_on}
+use Rattle.inbox_laws.specs.pair_laws.proofs.Answered.{runs-so}
+use Rattle.inbox_laws.specs.pair_laws.proofs.Carrying.{as_it_is}
 use Rattle.tape_laws.specs.Once.{once, SpendsOnce}
 use Rattle.tape_laws.specs.Own.{own_server, AreOneServer}
 use Rattle.tape_laws.specs.OwnPairs.{own_beginning, RanOwn, IsThereToo, OwnInOrder, OwnServersKeepOrder}

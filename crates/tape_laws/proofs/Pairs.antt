@@ -2,57 +2,57 @@
 use Rattle.std.proofs.Common.{◌≡◌, ◌≤◌, ◌+◌, ℕ, Bool, true, false, Option, List, [], ◌++◌, length, refl, sym, ap, subst, ◌∙◌}
 use Rattle.std.specs.Prelude.{get_or}
 use Rattle.std.specs.List.{AllByRecursion}
-use Rattle.bt_base.specs.Objects.{Contents}
-use Rattle.push_script.specs.declared.scenario.Scenario.{Scenario}
-use Rattle.push_terms.specs.declared.word.Side.{Side}
-use Rattle.push_terms.specs.declared.word.Side.TheVariants as sides
-use Rattle.capture.specs.Entries.{Entry}
-use Rattle.capture.specs.Links.{linking}
-use Rattle.capture.specs.Moves.{moves}
-use Rattle.air_laws.specs.AirLaws.{IsLastEnd}
-use Rattle.channel_laws.specs.Frames.{AreUttered}
-use Rattle.channel_laws.specs.Runs.{Occurrence}
-use Rattle.world_model.specs.Carriages as carriages
-use Rattle.world_model.specs.Machines.{News, Upper}
-use Rattle.world_model.specs.Worlds.{Happening, Runs, IsAtRest, all_entries, all_words}
-use Rattle.turn_laws.specs.WorldLaws.{Fits}
-use Rattle.turn_laws.proofs.Ordering.{at}
-use Rattle.turn_laws.proofs.Recounting.{HoldsAtRests}
-use Rattle.host_model.specs.Circumstances.{Circumstance}
-use Rattle.host_model.specs.Clients.{ClientProfile, client_profile}
-use Rattle.host_model.specs.Hosts.{Host}
-use Rattle.host_model.specs.Profiles.{Profile}
-use Rattle.host_model.specs.Servers.{ServerProfile, server_profile}
-use Rattle.host_laws.specs.Calls.{Asks, HostsAsk}
-use Rattle.host_laws.specs.Calm.{HoldsNothingBack}
-use Rattle.host_laws.specs.Read.{IsSoberPdu}
-use Rattle.host_laws.specs.Feeds.{Feed}
-use Rattle.host_laws.proofs.Fitting.{AnyServer, IsLowClient, IsProper}
-use Rattle.host_laws.proofs.OverLinks.{calmly_fed}
-use Rattle.scenario_laws.specs.Captures.{client_of, server_of, BothHosts, Happened, Ran}
-use Rattle.scenario_laws.proofs.Both.{AreReady}
-use Rattle.scenario_laws.proofs.Coming.{ended_all}
-use Rattle.scenario_laws.proofs.Free.{free_where, rests_hold}
-use Rattle.scenario_laws.proofs.Freeing.{runs_are_free}
-use Rattle.scenario_laws.proofs.Fronts.{fits}
-use Rattle.scenario_laws.proofs.Gentle.{client-keeps, server-keeps}
-use Rattle.scenario_laws.proofs.UnlinkedClients.{HasNoLink, clients_keep}
-use Rattle.scenario_laws.proofs.UnlinkedServers.{KnowsNone, servers_keep}
-use Rattle.pair_laws.specs.Costs.{adverse_in}
-use Rattle.pair_laws.specs.Granted.{answered_by}
-use Rattle.pair_laws.specs.InTurn.{PairsInTurn}
-use Rattle.pair_laws.specs.Keeping.{LosesNothing}
-use Rattle.pair_laws.specs.OnLinks.{LivedOver, happened_on, last_number}
-use Rattle.pair_laws.proofs.Answered.{runs-so, rest-so, rest-back, fits-so, rests-so as carriage_rest}
-use Rattle.pair_laws.proofs.Awaiting.{HasNew, servers-await}
-use Rattle.pair_laws.proofs.Carrying.{Wants, Always, StayOn, as_it_is, any_allowed, same_number, waits_none, all-sane}
-use Rattle.pair_laws.proofs.Facing.{AllKept}
-use Rattle.pair_laws.proofs.Given.{Allows}
-use Rattle.pair_laws.proofs.Meeting.{gentle_doings}
-use Rattle.pair_laws.proofs.Numbered.{part_at, coming_at}
-use Rattle.pair_laws.proofs.Opened.{all-opened}
-use Rattle.pair_laws.proofs.Pairing.{pair_of_two, lived, lived_at, came_by, came_talk, in_air, short_length, not_ahead}
-use Rattle.pair_laws.proofs.Wording.{carried_worded}
+use Rattle.inbox_laws.specs.bt_base.specs.Objects.{Contents}
+use Rattle.inbox_laws.specs.push_script.specs.declared.scenario.Scenario.{Scenario}
+use Rattle.inbox_laws.specs.push_terms.specs.declared.word.Side.{Side}
+use Rattle.inbox_laws.specs.push_terms.specs.declared.word.Side.TheVariants as sides
+use Rattle.inbox_laws.specs.capture.specs.Entries.{Entry}
+use Rattle.inbox_laws.specs.capture.specs.Links.{linking}
+use Rattle.inbox_laws.specs.capture.specs.Moves.{moves}
+use Rattle.inbox_laws.specs.air_laws.specs.AirLaws.{IsLastEnd}
+use Rattle.inbox_laws.specs.channel_laws.specs.Frames.{AreUttered}
+use Rattle.inbox_laws.specs.channel_laws.specs.Runs.{Occurrence}
+use Rattle.inbox_laws.specs.world_model.specs.Carriages as carriages
+use Rattle.inbox_laws.specs.world_model.specs.Machines.{News, Upper}
+use Rattle.inbox_laws.specs.world_model.specs.Worlds.{Happening, Runs, IsAtRest, all_entries, all_words}
+use Rattle.inbox_laws.specs.turn_laws.specs.WorldLaws.{Fits}
+use Rattle.inbox_laws.specs.turn_laws.proofs.Ordering.{at}
+use Rattle.inbox_laws.specs.turn_laws.proofs.Recounting.{HoldsAtRests}
+use Rattle.inbox_laws.specs.host_model.specs.Circumstances.{Circumstance}
+use Rattle.inbox_laws.specs.host_model.specs.Clients.{ClientProfile, client_profile}
+use Rattle.inbox_laws.specs.host_model.specs.Hosts.{Host}
+use Rattle.inbox_laws.specs.host_model.specs.Profiles.{Profile}
+use Rattle.inbox_laws.specs.host_model.specs.Servers.{ServerProfile, server_profile}
+use Rattle.inbox_laws.specs.host_laws.specs.Calls.{Asks, HostsAsk}
+use Rattle.inbox_laws.specs.host_laws.specs.Calm.{HoldsNothingBack}
+use Rattle.inbox_laws.specs.host_laws.specs.Read.{IsSoberPdu}
+use Rattle.inbox_laws.specs.host_laws.specs.Feeds.{Feed}
+use Rattle.inbox_laws.specs.host_laws.proofs.Fitting.{AnyServer, IsLowClient, IsProper}
+use Rattle.inbox_laws.specs.host_laws.proofs.OverLinks.{calmly_fed}
+use Rattle.inbox_laws.specs.scenario_laws.specs.Captures.{client_of, server_of, BothHosts, Happened, Ran}
+use Rattle.inbox_laws.specs.scenario_laws.proofs.Both.{AreReady}
+use Rattle.inbox_laws.specs.scenario_laws.proofs.Coming.{ended_all}
+use Rattle.inbox_laws.specs.scenario_laws.proofs.Free.{free_where, rests_hold}
+use Rattle.inbox_laws.specs.scenario_laws.proofs.Freeing.{runs_are_free}
+use Rattle.inbox_laws.specs.scenario_laws.proofs.Fronts.{fits}
+use Rattle.inbox_laws.specs.scenario_laws.proofs.Gentle.{client-keeps, server-keeps}
+use Rattle.inbox_laws.specs.scenario_laws.proofs.UnlinkedClients.{HasNoLink, clients_keep}
+use Rattle.inbox_laws.specs.scenario_laws.proofs.UnlinkedServers.{KnowsNone, servers_keep}
+use Rattle.inbox_laws.specs.pair_laws.specs.Costs.{adverse_in}
+use Rattle.inbox_laws.specs.pair_laws.specs.Granted.{answered_by}
+use Rattle.inbox_laws.specs.pair_laws.specs.InTurn.{PairsInTurn}
+use Rattle.inbox_laws.specs.pair_laws.specs.Keeping.{LosesNothing}
+use Rattle.inbox_laws.specs.pair_laws.specs.OnLinks.{LivedOver, happened_on, last_number}
+use Rattle.inbox_laws.specs.pair_laws.proofs.Answered.{runs-so, rest-so, rest-back, fits-so, rests-so as carriage_rest}
+use Rattle.inbox_laws.specs.pair_laws.proofs.Awaiting.{HasNew, servers-await}
+use Rattle.inbox_laws.specs.pair_laws.proofs.Carrying.{Wants, Always, StayOn, as_it_is, any_allowed, same_number, waits_none, all-sane}
+use Rattle.inbox_laws.specs.pair_laws.proofs.Facing.{AllKept}
+use Rattle.inbox_laws.specs.pair_laws.proofs.Given.{Allows}
+use Rattle.inbox_laws.specs.pair_laws.proofs.Meeting.{gentle_doings}
+use Rattle.inbox_laws.specs.pair_laws.proofs.Numbered.{part_at, coming_at}
+use Rattle.inbox_laws.specs.pair_laws.proofs.Opened.{all-opened}
+use Rattle.inbox_laws.specs.pair_laws.proofs.Pairing.{pair_of_two, lived, lived_at, came_by, came_talk, in_air, short_length, not_ahead}
+use Rattle.inbox_laws.specs.pair_laws.proofs.Wording.{carried_worded}
 use Rattle.tape_laws.specs.Pairs.{TapedHosts, taped_of, taped_beginning, AreOfTape, TapedTakeTurns}
 use Rattle.tape_laws.specs.Runs.{HearsNewsAlone, untaped_world}
 use Rattle.tape_laws.specs.Taped.{Tape, Taped, taped, taped_asks, untaped_host, untaped, IsUntaped}

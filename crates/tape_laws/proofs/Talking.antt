@@ -1,14 +1,14 @@
 -- What a host with a tape does, one without it does that is given what the tape tells.
 use Rattle.std.proofs.Common.{◌≡◌, Bool, false, List, [], ◌∷◌, map, None, refl, sym, ap, ap₂, subst, ◌∙◌}
-use Rattle.world_model.specs.Machines.{Up, Down, Linked, Failed, Heard, TimerFired, Cancelled, Opening}
-use Rattle.host_model.specs.Circumstances.{Circumstance}
-use Rattle.host_model.specs.Hosts.{Host, first_host, next}
-use Rattle.host_model.specs.Machines.{upper}
-use Rattle.host_model.specs.Profiles.{Profile}
-use Rattle.host_laws.specs.Acts.{Act, Hears, Says, Does, Acting}
-use Rattle.host_laws.specs.OverLinks.{IsTimely, AreInTurn, is_up_behind}
-use Rattle.host_laws.specs.Turning.{Deed, deed_of, IsActInQuiet}
-use Rattle.host_laws.proofs.Turning.{does_one}
+use Rattle.inbox_laws.specs.world_model.specs.Machines.{Up, Down, Linked, Failed, Heard, TimerFired, Cancelled, Opening}
+use Rattle.inbox_laws.specs.host_model.specs.Circumstances.{Circumstance}
+use Rattle.inbox_laws.specs.host_model.specs.Hosts.{Host, first_host, next}
+use Rattle.inbox_laws.specs.host_model.specs.Machines.{upper}
+use Rattle.inbox_laws.specs.host_model.specs.Profiles.{Profile}
+use Rattle.inbox_laws.specs.host_laws.specs.Acts.{Act, Hears, Says, Does, Acting}
+use Rattle.inbox_laws.specs.host_laws.specs.OverLinks.{IsTimely, AreInTurn, is_up_behind}
+use Rattle.inbox_laws.specs.host_laws.specs.Turning.{Deed, deed_of, IsActInQuiet}
+use Rattle.inbox_laws.specs.host_laws.proofs.Turning.{does_one}
 use Rattle.tape_laws.specs.Runs.{HearsNewsAlone}
 use Rattle.tape_laws.specs.Taped.{Tape, Taped, taped, untaped_host}
 use Rattle.tape_laws.specs.Talking.{TapedHostsComeSo}

@@ -2,23 +2,23 @@
 use Rattle.std.proofs.Common.{◌≡◌, List, [], ◌∷◌, ◌++◌, refl, sym, ap, ap₂, subst, ◌∙◌}
 use Rattle.std.specs.List.{AllByRecursion}
 use Rattle.std.proofs.lemmas.List.Sums.{fold-append}
-use Rattle.acl_fragments.specs.Pieces.{channel_of}
-use Rattle.channel_model.specs.declared.event.ChannelEvent.{ChannelEvent}
-use Rattle.channel_model.specs.Value.{Channels, no_channels}
-use Rattle.channel_model.specs.Calls.{link_down}
-use Rattle.channel_model.specs.Carrying.{Up as Handed, Nothing, Received}
-use Rattle.channel_model.specs.Hearing.{up}
-use Rattle.channel_laws.specs.Runs.{Occurrence}
-use Rattle.world_model.specs.Machines.{LinkEvent, Up, Down, News, Linked}
-use Rattle.world_model.specs.Talks.{Talk}
-use Rattle.host_model.specs.Circumstances.{Circumstance}
-use Rattle.host_model.specs.Hosts.{Host, handed, tells_each}
-use Rattle.host_model.specs.Profiles.{Profile}
-use Rattle.host_laws.specs.Calls.{Asks, values_after}
-use Rattle.host_laws.specs.Fed.{feeds_up, next_happening, strand_feeds, woven_feeds, WovenFed, happenings, turned_feeds, behind_span, AreFed, TalksFed}
-use Rattle.host_laws.specs.Feeds.{Feed, Gifts, Learns, Receives, Happens, Sent, Steps, fed, all_fed, asked_with, asked_from, Tiding, tidings_in, tidings_of}
-use Rattle.host_laws.specs.Lives.{Span}
-use Rattle.host_laws.specs.Woven.{Strand, Hearing, Giving, Firing, Telling, Gifting, Learning, Checking, Stepping, IsOnLink, told_next, strand_list, strand_profile, woven_list, woven_profile, turned}
+use Rattle.inbox_laws.specs.acl_fragments.specs.Pieces.{channel_of}
+use Rattle.inbox_laws.specs.channel_model.specs.declared.event.ChannelEvent.{ChannelEvent}
+use Rattle.inbox_laws.specs.channel_model.specs.Value.{Channels, no_channels}
+use Rattle.inbox_laws.specs.channel_model.specs.Calls.{link_down}
+use Rattle.inbox_laws.specs.channel_model.specs.Carrying.{Up as Handed, Nothing, Received}
+use Rattle.inbox_laws.specs.channel_model.specs.Hearing.{up}
+use Rattle.inbox_laws.specs.channel_laws.specs.Runs.{Occurrence}
+use Rattle.inbox_laws.specs.world_model.specs.Machines.{LinkEvent, Up, Down, News, Linked}
+use Rattle.inbox_laws.specs.world_model.specs.Talks.{Talk}
+use Rattle.inbox_laws.specs.host_model.specs.Circumstances.{Circumstance}
+use Rattle.inbox_laws.specs.host_model.specs.Hosts.{Host, handed, tells_each}
+use Rattle.inbox_laws.specs.host_model.specs.Profiles.{Profile}
+use Rattle.inbox_laws.specs.host_laws.specs.Calls.{Asks, values_after}
+use Rattle.inbox_laws.specs.host_laws.specs.Fed.{feeds_up, next_happening, strand_feeds, woven_feeds, WovenFed, happenings, turned_feeds, behind_span, AreFed, TalksFed}
+use Rattle.inbox_laws.specs.host_laws.specs.Feeds.{Feed, Gifts, Learns, Receives, Happens, Sent, Steps, fed, all_fed, asked_with, asked_from, Tiding, tidings_in, tidings_of}
+use Rattle.inbox_laws.specs.host_laws.specs.Lives.{Span}
+use Rattle.inbox_laws.specs.host_laws.specs.Woven.{Strand, Hearing, Giving, Firing, Telling, Gifting, Learning, Checking, Stepping, IsOnLink, told_next, strand_list, strand_profile, woven_list, woven_profile, turned}
 use Rattle.tape_laws.specs.Taped.{Tape, Taped, taped, taped_asks, untaped_feed, untaped, TapedHostsTalkSo}
 
 -- ---- a profile, of all strands

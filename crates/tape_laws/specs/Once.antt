@@ -1,16 +1,16 @@
 -- A tape that has all answers of an inbox at first, and then what is left of them (this project's own).
 use Rattle.std.specs.Prelude.{◌≤◌, Bool, true, false, List, [], ◌∷◌, map, Option, if◌then◌else◌}
 use Rattle.std.specs.List.{AllByRecursion}
-use Rattle.bt_base.specs.declared.settings.Settings.{Settings}
-use Rattle.bt_base.specs.Objects.{Contents}
-use Rattle.obex_session.specs.InboxCalls.{Answer}
-use Rattle.push_laws.specs.Faults.{faults_of, spent_from}
-use Rattle.push_laws.specs.Premises.{NoneShort}
-use Rattle.host_model.specs.Circumstances.{Circumstance, Stored, answers_in}
-use Rattle.host_model.specs.Servers.{ServerProfile, server_profile}
-use Rattle.host_laws.specs.Feeds.{Feed, Gifts, Learns, Receives, Happens, Sent, Steps}
-use Rattle.host_laws.specs.Gifts.{gifts_of}
-use Rattle.host_laws.specs.Serving.{served_from, reacted}
+use Rattle.inbox_laws.specs.bt_base.specs.declared.settings.Settings.{Settings}
+use Rattle.inbox_laws.specs.bt_base.specs.Objects.{Contents}
+use Rattle.inbox_laws.specs.obex_session.specs.InboxCalls.{Answer}
+use Rattle.inbox_laws.specs.push_laws.specs.Faults.{faults_of, spent_from}
+use Rattle.inbox_laws.specs.push_laws.specs.Premises.{NoneShort}
+use Rattle.inbox_laws.specs.host_model.specs.Circumstances.{Circumstance, Stored, answers_in}
+use Rattle.inbox_laws.specs.host_model.specs.Servers.{ServerProfile, server_profile}
+use Rattle.inbox_laws.specs.host_laws.specs.Feeds.{Feed, Gifts, Learns, Receives, Happens, Sent, Steps}
+use Rattle.inbox_laws.specs.host_laws.specs.Gifts.{gifts_of}
+use Rattle.inbox_laws.specs.host_laws.specs.Serving.{served_from, reacted}
 use Rattle.tape_laws.specs.Runs.{HearsNewsAlone}
 use Rattle.tape_laws.specs.Taped.{Tape, taped, untaped}
 

@@ -1,15 +1,15 @@
 -- A server that keeps what its inbox is to answer is one with a tape of that (this project's own).
 use Rattle.std.specs.Prelude.{◌≡◌, ◌⊎◌, Bool, true, List, Option}
-use Rattle.bt_base.specs.declared.settings.Settings.{Settings}
-use Rattle.bt_base.specs.Objects.{Contents}
-use Rattle.obex_session.specs.InboxCalls.{Answer}
-use Rattle.world_model.specs.Machines.{Upper}
-use Rattle.world_model.specs.Worlds.{World, Happening, Runs}
-use Rattle.alike_laws.specs.Twins.{WorldsAlike, world_with}
-use Rattle.host_model.specs.Hosts.{Host, first_host}
-use Rattle.host_model.specs.Machines.{upper}
-use Rattle.host_model.specs.Profiles.{Profile}
-use Rattle.host_model.specs.Servers.{ServerProfile, server_profile}
+use Rattle.inbox_laws.specs.bt_base.specs.declared.settings.Settings.{Settings}
+use Rattle.inbox_laws.specs.bt_base.specs.Objects.{Contents}
+use Rattle.inbox_laws.specs.obex_session.specs.InboxCalls.{Answer}
+use Rattle.inbox_laws.specs.world_model.specs.Machines.{Upper}
+use Rattle.inbox_laws.specs.world_model.specs.Worlds.{World, Happening, Runs}
+use Rattle.inbox_laws.specs.alike_laws.specs.Twins.{WorldsAlike, world_with}
+use Rattle.inbox_laws.specs.host_model.specs.Hosts.{Host, first_host}
+use Rattle.inbox_laws.specs.host_model.specs.Machines.{upper}
+use Rattle.inbox_laws.specs.host_model.specs.Profiles.{Profile}
+use Rattle.inbox_laws.specs.host_model.specs.Servers.{ServerProfile, server_profile}
 use Rattle.tape_laws.specs.Once.{once}
 use Rattle.tape_laws.specs.Taped.{Taped, taped, untaped_host}
 

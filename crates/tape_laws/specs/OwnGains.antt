@@ -1,20 +1,20 @@
 -- What an inbox gains that gives a list of answers (Object Push Profile 1.2, 4.3; that a fault leaves out one object at most is this project's own).
 use Rattle.std.specs.Prelude.{◌≡◌, List, ◌++◌, Option, Some}
-use Rattle.bt_base.specs.declared.settings.Transport.TheVariants.{Rfcomm}
-use Rattle.bt_base.specs.Objects.{Object}
-use Rattle.obex_session.specs.InboxCalls.{Answer}
-use Rattle.push_script.specs.declared.scenario.Scenario.{Scenario}
-use Rattle.push_terms.specs.declared.word.Side.TheVariants as sides
-use Rattle.capture.specs.Entries.{Entry}
-use Rattle.link_talk.specs.Captures.{objects_heard}
-use Rattle.push_laws.specs.Faults.{faults_of}
-use Rattle.push_laws.specs.Laws.{stored_in}
-use Rattle.push_laws.specs.Losing.{LeavesOut}
-use Rattle.push_laws.specs.Premises.{NoneShort}
-use Rattle.world_model.specs.Worlds.{all_words}
-use Rattle.scenario_laws.specs.Gains.{holding}
-use Rattle.scenario_laws.specs.Parties.{party_of}
-use Rattle.pair_laws.specs.Keeping.{LosesNothing}
+use Rattle.inbox_laws.specs.bt_base.specs.declared.settings.Transport.TheVariants.{Rfcomm}
+use Rattle.inbox_laws.specs.bt_base.specs.Objects.{Object}
+use Rattle.inbox_laws.specs.obex_session.specs.InboxCalls.{Answer}
+use Rattle.inbox_laws.specs.push_script.specs.declared.scenario.Scenario.{Scenario}
+use Rattle.inbox_laws.specs.push_terms.specs.declared.word.Side.TheVariants as sides
+use Rattle.inbox_laws.specs.capture.specs.Entries.{Entry}
+use Rattle.inbox_laws.specs.link_talk.specs.Captures.{objects_heard}
+use Rattle.inbox_laws.specs.push_laws.specs.Faults.{faults_of}
+use Rattle.inbox_laws.specs.push_laws.specs.Laws.{stored_in}
+use Rattle.inbox_laws.specs.push_laws.specs.Losing.{LeavesOut}
+use Rattle.inbox_laws.specs.push_laws.specs.Premises.{NoneShort}
+use Rattle.inbox_laws.specs.world_model.specs.Worlds.{all_words}
+use Rattle.inbox_laws.specs.scenario_laws.specs.Gains.{holding}
+use Rattle.inbox_laws.specs.scenario_laws.specs.Parties.{party_of}
+use Rattle.inbox_laws.specs.pair_laws.specs.Keeping.{LosesNothing}
 use Rattle.tape_laws.specs.OwnPairs.{RanOwn}
 
 -- Behind what was stored at first the inbox gained the objects that the capture spells, in their order, but for one at most for each fault among its answers.

@@ -1,24 +1,24 @@
 -- A server that keeps what its inbox is to answer, and host a's client: their channels are pairs (this project's own).
 use Rattle.std.specs.Prelude.{◌≡◌, List, ◌++◌, Option}
 use Rattle.std.specs.List.{AllByRecursion}
-use Rattle.bt_base.specs.Objects.{Object, Contents}
-use Rattle.obex_session.specs.InboxCalls.{Answer}
-use Rattle.push_script.specs.declared.scenario.Scenario.{Scenario}
-use Rattle.capture.specs.Entries.{Entry}
-use Rattle.world_model.specs.Machines.{Upper}
-use Rattle.world_model.specs.Worlds.{Happening, Runs, all_entries, all_words, first_world}
-use Rattle.air_laws.specs.AirLaws.{IsLastEnd}
-use Rattle.alike_laws.specs.Twins.{IsOther, WorldsAlike}
-use Rattle.host_model.specs.Circumstances.{Circumstance}
-use Rattle.host_model.specs.Clients.{ClientProfile}
-use Rattle.host_model.specs.Hosts.{Host, first_host}
-use Rattle.host_model.specs.Machines.{upper}
-use Rattle.host_model.specs.Servers.{ServerProfile, server_profile}
-use Rattle.host_laws.specs.Calls.{HostsAsk}
-use Rattle.host_laws.specs.ShelfAnswers.{AnswersOf}
-use Rattle.scenario_laws.specs.Captures.{client_of, BothHosts, Ran}
-use Rattle.pair_laws.specs.Keeping.{LosesNothing, PairsKeepOrder}
-use Rattle.pair_laws.specs.Served.{holding_on}
+use Rattle.inbox_laws.specs.bt_base.specs.Objects.{Object, Contents}
+use Rattle.inbox_laws.specs.obex_session.specs.InboxCalls.{Answer}
+use Rattle.inbox_laws.specs.push_script.specs.declared.scenario.Scenario.{Scenario}
+use Rattle.inbox_laws.specs.capture.specs.Entries.{Entry}
+use Rattle.inbox_laws.specs.world_model.specs.Machines.{Upper}
+use Rattle.inbox_laws.specs.world_model.specs.Worlds.{Happening, Runs, all_entries, all_words, first_world}
+use Rattle.inbox_laws.specs.air_laws.specs.AirLaws.{IsLastEnd}
+use Rattle.inbox_laws.specs.alike_laws.specs.Twins.{IsOther, WorldsAlike}
+use Rattle.inbox_laws.specs.host_model.specs.Circumstances.{Circumstance}
+use Rattle.inbox_laws.specs.host_model.specs.Clients.{ClientProfile}
+use Rattle.inbox_laws.specs.host_model.specs.Hosts.{Host, first_host}
+use Rattle.inbox_laws.specs.host_model.specs.Machines.{upper}
+use Rattle.inbox_laws.specs.host_model.specs.Servers.{ServerProfile, server_profile}
+use Rattle.inbox_laws.specs.host_laws.specs.Calls.{HostsAsk}
+use Rattle.inbox_laws.specs.host_laws.specs.ShelfAnswers.{AnswersOf}
+use Rattle.inbox_laws.specs.scenario_laws.specs.Captures.{client_of, BothHosts, Ran}
+use Rattle.inbox_laws.specs.pair_laws.specs.Keeping.{LosesNothing, PairsKeepOrder}
+use Rattle.inbox_laws.specs.pair_laws.specs.Served.{holding_on}
 use Rattle.tape_laws.specs.Once.{SpendsOnce}
 use Rattle.tape_laws.specs.Own.{own_server}
 

@@ -1,24 +1,24 @@
 -- A server with a tape and host a's client: their channels are pairs, and host b is given what the tape tells (this project's own).
 use Rattle.std.specs.Prelude.{◌≡◌, List, Option}
 use Rattle.std.specs.List.{AllByRecursion}
-use Rattle.bt_base.specs.declared.settings.Settings.{Settings}
-use Rattle.bt_base.specs.Objects.{Object, Contents}
-use Rattle.push_script.specs.declared.scenario.Scenario.{Scenario}
-use Rattle.capture.specs.Entries.{Entry}
-use Rattle.world_model.specs.Machines.{Upper}
-use Rattle.world_model.specs.Worlds.{World, Happening, Runs, all_words, first_world}
-use Rattle.host_model.specs.Circumstances.{Circumstance}
-use Rattle.host_model.specs.Clients.{ClientProfile}
-use Rattle.host_model.specs.Hosts.{Host}
-use Rattle.host_model.specs.Machines.{upper}
-use Rattle.host_model.specs.Servers.{ServerProfile, server_profile}
-use Rattle.host_laws.specs.Calls.{HostsAsk}
-use Rattle.host_laws.specs.Feeds.{Feed}
-use Rattle.host_laws.specs.ShelfAnswers.{AnswersOf}
-use Rattle.scenario_laws.specs.Captures.{client_of, Ran}
-use Rattle.pair_laws.specs.InTurn.{PairsInTurn}
-use Rattle.pair_laws.specs.Keeping.{LosesNothing, PairsKeepOrder}
-use Rattle.pair_laws.specs.Served.{holding_on}
+use Rattle.inbox_laws.specs.bt_base.specs.declared.settings.Settings.{Settings}
+use Rattle.inbox_laws.specs.bt_base.specs.Objects.{Object, Contents}
+use Rattle.inbox_laws.specs.push_script.specs.declared.scenario.Scenario.{Scenario}
+use Rattle.inbox_laws.specs.capture.specs.Entries.{Entry}
+use Rattle.inbox_laws.specs.world_model.specs.Machines.{Upper}
+use Rattle.inbox_laws.specs.world_model.specs.Worlds.{World, Happening, Runs, all_words, first_world}
+use Rattle.inbox_laws.specs.host_model.specs.Circumstances.{Circumstance}
+use Rattle.inbox_laws.specs.host_model.specs.Clients.{ClientProfile}
+use Rattle.inbox_laws.specs.host_model.specs.Hosts.{Host}
+use Rattle.inbox_laws.specs.host_model.specs.Machines.{upper}
+use Rattle.inbox_laws.specs.host_model.specs.Servers.{ServerProfile, server_profile}
+use Rattle.inbox_laws.specs.host_laws.specs.Calls.{HostsAsk}
+use Rattle.inbox_laws.specs.host_laws.specs.Feeds.{Feed}
+use Rattle.inbox_laws.specs.host_laws.specs.ShelfAnswers.{AnswersOf}
+use Rattle.inbox_laws.specs.scenario_laws.specs.Captures.{client_of, Ran}
+use Rattle.inbox_laws.specs.pair_laws.specs.InTurn.{PairsInTurn}
+use Rattle.inbox_laws.specs.pair_laws.specs.Keeping.{LosesNothing, PairsKeepOrder}
+use Rattle.inbox_laws.specs.pair_laws.specs.Served.{holding_on}
 use Rattle.tape_laws.specs.Once.{BeginsGiven}
 use Rattle.tape_laws.specs.Runs.{untaped_world}
 use Rattle.tape_laws.specs.Taped.{Tape, Taped, taped, untaped}

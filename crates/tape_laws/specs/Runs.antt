@@ -1,12 +1,12 @@
 -- What happens to a host with a tape happens to one without it (this project's own).
 use Rattle.std.specs.Prelude.{◌≡◌, List}
-use Rattle.world_model.specs.Machines.{News, Upper}
-use Rattle.world_model.specs.Worlds.{World, Happening, Runs}
-use Rattle.alike_laws.specs.Twins.{world_with}
-use Rattle.host_model.specs.Circumstances.{Circumstance}
-use Rattle.host_model.specs.Hosts.{Host, hear}
-use Rattle.host_model.specs.Machines.{upper}
-use Rattle.host_model.specs.Profiles.{Profile}
+use Rattle.inbox_laws.specs.world_model.specs.Machines.{News, Upper}
+use Rattle.inbox_laws.specs.world_model.specs.Worlds.{World, Happening, Runs}
+use Rattle.inbox_laws.specs.alike_laws.specs.Twins.{world_with}
+use Rattle.inbox_laws.specs.host_model.specs.Circumstances.{Circumstance}
+use Rattle.inbox_laws.specs.host_model.specs.Hosts.{Host, hear}
+use Rattle.inbox_laws.specs.host_model.specs.Machines.{upper}
+use Rattle.inbox_laws.specs.host_model.specs.Profiles.{Profile}
 use Rattle.tape_laws.specs.Taped.{Tape, Taped, taped, untaped_host}
 
 -- what a profile makes of news hangs on the news alone, as a server's does

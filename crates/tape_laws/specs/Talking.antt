@@ -1,10 +1,10 @@
 -- What a host with a tape does over its links (this project's own).
 use Rattle.std.specs.Prelude.{List}
-use Rattle.world_model.specs.Talks.{Talk}
-use Rattle.host_model.specs.Hosts.{Host}
-use Rattle.host_model.specs.Machines.{upper}
-use Rattle.host_model.specs.Profiles.{Profile}
-use Rattle.host_laws.specs.OverLinks.{OverLinks}
+use Rattle.inbox_laws.specs.world_model.specs.Talks.{Talk}
+use Rattle.inbox_laws.specs.host_model.specs.Hosts.{Host}
+use Rattle.inbox_laws.specs.host_model.specs.Machines.{upper}
+use Rattle.inbox_laws.specs.host_model.specs.Profiles.{Profile}
+use Rattle.inbox_laws.specs.host_laws.specs.OverLinks.{OverLinks}
 use Rattle.tape_laws.specs.Runs.{HearsNewsAlone}
 use Rattle.tape_laws.specs.Taped.{Tape, Taped, taped, untaped_host}
 

@@ -1,15 +1,15 @@
 -- A host that has what its ports will answer from a tape, whatever they give (this project's own).
 use Rattle.std.specs.Prelude.{◌≡◌, List, [], ◌∷◌, ◌++◌}
 use Rattle.std.specs.List.{flat_map}
-use Rattle.world_model.specs.Talks.{Talk}
-use Rattle.host_model.specs.Circumstances.{Circumstance}
-use Rattle.host_model.specs.Hosts.{Host}
-use Rattle.host_model.specs.Profiles.{Profile}
-use Rattle.host_laws.specs.Calls.{Asks}
-use Rattle.host_laws.specs.Fed.{TalksFed}
-use Rattle.host_laws.specs.Feeds.{Feed, Gifts, Learns, Receives, Happens, Sent, Steps, fed}
-use Rattle.host_laws.specs.Lives.{on_links}
-use Rattle.host_laws.specs.OverLinks.{talk_marks}
+use Rattle.inbox_laws.specs.world_model.specs.Talks.{Talk}
+use Rattle.inbox_laws.specs.host_model.specs.Circumstances.{Circumstance}
+use Rattle.inbox_laws.specs.host_model.specs.Hosts.{Host}
+use Rattle.inbox_laws.specs.host_model.specs.Profiles.{Profile}
+use Rattle.inbox_laws.specs.host_laws.specs.Calls.{Asks}
+use Rattle.inbox_laws.specs.host_laws.specs.Fed.{TalksFed}
+use Rattle.inbox_laws.specs.host_laws.specs.Feeds.{Feed, Gifts, Learns, Receives, Happens, Sent, Steps, fed}
+use Rattle.inbox_laws.specs.host_laws.specs.Lives.{on_links}
+use Rattle.inbox_laws.specs.host_laws.specs.OverLinks.{talk_marks}
 
 -- A tape tells, by how far it ran and by what the profile is, what the profile is given; and with that it runs on.
 pub record Tape (P T : Type 0) : Type 0 where

@@ -2,10 +2,10 @@
 #![tactic(auto)]
 
 ghost use Rattle.std.specs.Prelude.{Option};
-ghost use Rattle.bt_base.specs.Objects.{Contents};
-ghost use Rattle.host_model.specs.Profiles.{Profile};
-ghost use Rattle.host_model.specs.Servers.{ServerProfile};
-ghost use Rattle.push_script.specs.declared.scenario.Scenario.{Scenario};
+ghost use Rattle.inbox_laws.specs.bt_base.specs.Objects.{Contents};
+ghost use Rattle.inbox_laws.specs.host_model.specs.Profiles.{Profile};
+ghost use Rattle.inbox_laws.specs.host_model.specs.Servers.{ServerProfile};
+ghost use Rattle.inbox_laws.specs.push_script.specs.declared.scenario.Scenario.{Scenario};
 ghost use Rattle.tape_laws.specs.Once.{ServersHearNewsAlone, ServersSpendOnce};
 ghost use Rattle.tape_laws.specs.Own.{OwnServersAreTaped};
 ghost use Rattle.tape_laws.specs.OwnGains.{OwnServersGainLess};
@@ -14,7 +14,7 @@ ghost use Rattle.tape_laws.specs.Pairs.{TapedKeepOrder, TapedTakeTurns};
 ghost use Rattle.tape_laws.specs.Runs.{TapedHostsHearSo, TapedRunsAreRuns};
 ghost use Rattle.tape_laws.specs.Talking.{TapedHostsComeSo};
 ghost use Rattle.tape_laws.specs.Taped.{Tape, TapedHostsTalkSo};
-ghost use Rattle.world_model.specs.Machines.{Upper};
+ghost use Rattle.inbox_laws.specs.world_model.specs.Machines.{Upper};
 
 /// Where a host with a tape lives over the links of its talk, one without a tape lives over the same links, that is given with each thing that it hears
 /// what the tape tells; the same happens to the channels of both.

@@ -5,15 +5,15 @@ use Rattle.bt_base.specs.Streams.{gained}
 use Rattle.push_terms.specs.declared.word.Side.TheVariants.{A, B}
 use Rattle.push_terms.specs.declared.word.Word.{Word}
 use Rattle.bt_base.proofs.PortLaws.{gained-gained}
-use Rattle.capture.specs.Entries.{Entry, capture_octets}
-use Rattle.capture.proofs.MoreLaws.{octets-in_parts}
+use Rattle.radio_world.specs.capture.specs.Entries.{Entry, capture_octets}
+use Rattle.radio_world.specs.capture.proofs.MoreLaws.{octets-in_parts}
 use Rattle.host_link.specs.declared.role.Role.TheVariants.{Client, Server}
 use Rattle.host_link.specs.Lines.{Line}
 use Rattle.host_link.specs.PuttingOut.{started}
-use Rattle.radio_air.specs.Queues.{IsSize}
-use Rattle.world_model.specs.Machines.{Upper}
-use Rattle.world_model.specs.Stations.{Station, Commanding, first_station}
-use Rattle.world_model.specs.Worlds.{Happening, Tries, IsSettled, entries_of, words_in, all_entries, all_words}
+use Rattle.radio_world.specs.radio_air.specs.Queues.{IsSize}
+use Rattle.line_laws.specs.world_model.specs.Machines.{Upper}
+use Rattle.line_laws.specs.world_model.specs.Stations.{Station, Commanding, first_station}
+use Rattle.line_laws.specs.world_model.specs.Worlds.{Happening, Tries, IsSettled, entries_of, words_in, all_entries, all_words}
 use Rattle.radio_world.specs.Hosts.{Asking, answering}
 use Rattle.radio_world.specs.Both.{Both}
 use Rattle.radio_world.specs.Scenes.{Scene, first_scene, Moment, moment, world_at, Plays, Stage, stage, Advances}

@@ -11,7 +11,7 @@ use Rattle.h4_framing.proofs.ReadingLemmas.{written_is_read}
 use Rattle.h4_framing.proofs.SpellingLemmas.{one_spelling}
 use Rattle.push_terms.specs.declared.word.Side.{Side}
 use Rattle.host_link.specs.Lines.{Line}
-use Rattle.world_model.specs.Machines.{Upper}
+use Rattle.line_laws.specs.world_model.specs.Machines.{Upper}
 use Rattle.radio_world.specs.Hosts.{Coming, Part, Told, coming_packet, MayBeHeard, Hears}
 use Rattle.line_laws.specs.Seeing.{seen, IsSeen}
 use Rattle.tiny_hosts.specs.Minds.{Unasked}

@@ -3,16 +3,16 @@ use Rattle.std.proofs.Common.{◌≡◌, ℕ, ◌||◌, ◌&&◌, not, Bool, tru
 use Rattle.std.specs.List.{list_any}
 use Rattle.push_terms.specs.declared.word.Side.{Side}
 use Rattle.push_terms.specs.declared.word.Side.TheVariants.{A, B}
-use Rattle.radio_air.specs.Controllers.{address}
+use Rattle.radio_world.specs.radio_air.specs.Controllers.{address}
 use Rattle.host_link.specs.declared.host_command.HostCommand.{HostCommand}
 use Rattle.host_link.specs.HostCommands as code
 use Rattle.host_link.specs.Lines.{Line}
 use Rattle.host_link.specs.PuttingOut.{can_take_pdu, take_pdu, put_pieces, put_command, connecting, leaving}
 use Rattle.host_link.specs.Calling.{may_end}
-use Rattle.world_model.specs.Machines.{Upper}
-use Rattle.world_model.specs.Stations.{Order, Page, Station, Effort, Taking, Putting, Asking, Leaving, Commanding, asks}
-use Rattle.station_laws.specs.Seen.{order_of}
-use Rattle.station_laws.proofs.Striving.{pieces_go, pdus_go, commands_go}
+use Rattle.line_laws.specs.world_model.specs.Machines.{Upper}
+use Rattle.line_laws.specs.world_model.specs.Stations.{Order, Page, Station, Effort, Taking, Putting, Asking, Leaving, Commanding, asks}
+use Rattle.line_laws.specs.station_laws.specs.Seen.{order_of}
+use Rattle.line_laws.specs.station_laws.proofs.Striving.{pieces_go, pdus_go, commands_go}
 use Rattle.radio_world.specs.Hosts.{MakesEfforts}
 use Rattle.line_laws.specs.Laws.{GoesAsSeen}
 use Rattle.line_laws.specs.Seeing.{seen, SaysOctets, is_asking, IsSeen, IsSpent}

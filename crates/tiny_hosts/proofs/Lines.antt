@@ -1,14 +1,14 @@
 -- What a line can still put out.
 use Rattle.std.proofs.Common.{◌≡◌, ℕ, suc, ◌&&◌, ◌==◌, not, Bool, true, false, List, [], ◌∷◌, ◌++◌, length, Option, Some, None, is_some, if◌then◌else◌, inl, inr, refl, sym, ap, ◌∙◌, subst, arith}
 use Rattle.std.proofs.lemmas.Bool.{cases_Bool, ne_eqb}
-use Rattle.acl_fragments.specs.Pieces.{Piece}
+use Rattle.line_laws.specs.acl_fragments.specs.Pieces.{Piece}
 use Rattle.h4_framing.specs.Packets.{Packet, Command, Acl, Sync, Event, spelling}
 use Rattle.host_link.specs.declared.host_command.HostCommand.{HostCommand}
 use Rattle.host_link.specs.HostCommands.{command_packet}
 use Rattle.host_link.specs.CommandFlows.{next_command}
 use Rattle.host_link.specs.Lines.{Line}
 use Rattle.host_link.specs.PuttingOut.{has_room, has_buffer, is_waiting, with_piece, with_pieces, put_pieces_on, put_pieces, with_pdu, take_pdu, with_next, put_command}
-use Rattle.station_laws.proofs.Stopping.{pieces_stop}
+use Rattle.line_laws.specs.station_laws.proofs.Stopping.{pieces_stop}
 use Rattle.tiny_hosts.specs.Hosting.{IsStuck}
 
 -- ---- pieces

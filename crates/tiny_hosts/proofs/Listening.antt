@@ -1,18 +1,18 @@
 -- What a tiny host hears of what may come.
 use Rattle.std.proofs.Common.{◌≡◌, ℕ, Bool, true, false, List, [], ◌∷◌, Option, Some, None, if◌then◌else◌, refl, sym, ap, ◌∙◌, subst}
-use Rattle.acl_fragments.specs.Pieces.{Piece, starts}
-use Rattle.acl_fragments.specs.Answers.{Answer as Joined, answer}
-use Rattle.acl_fragments.specs.Answers as joined
+use Rattle.line_laws.specs.acl_fragments.specs.Pieces.{Piece, starts}
+use Rattle.line_laws.specs.acl_fragments.specs.Answers.{Answer as Joined, answer}
+use Rattle.line_laws.specs.acl_fragments.specs.Answers as joined
 use Rattle.h4_framing.specs.Packets.{Packet}
 use Rattle.push_terms.specs.declared.word.Side.{Side}
-use Rattle.radio_air.specs.Controllers.{Answer, answer_packet, piece_packet}
+use Rattle.radio_world.specs.radio_air.specs.Controllers.{Answer, answer_packet, piece_packet}
 use Rattle.host_link.specs.Lines.{Line}
 use Rattle.host_link.specs.Hearing.{PlainNews, fault_of, news_of, heard}
-use Rattle.world_model.specs.Machines.{LinkEvent, Up, Down, Upper}
-use Rattle.world_model.specs.Stations.{Station, Effort, longest_pdu, is_handle, whole_in, gives, hears_each, hears_piece, hears_answer, upper_told, event_in}
-use Rattle.station_laws.specs.Coming.{news_of_link, news_of_pdus, pdus_by}
-use Rattle.station_laws.proofs.Answering.{answers_are_heard}
-use Rattle.station_laws.proofs.Hearing.{pieces_are_heard}
+use Rattle.line_laws.specs.world_model.specs.Machines.{LinkEvent, Up, Down, Upper}
+use Rattle.line_laws.specs.world_model.specs.Stations.{Station, Effort, longest_pdu, is_handle, whole_in, gives, hears_each, hears_piece, hears_answer, upper_told, event_in}
+use Rattle.line_laws.specs.station_laws.specs.Coming.{news_of_link, news_of_pdus, pdus_by}
+use Rattle.line_laws.specs.station_laws.proofs.Answering.{answers_are_heard}
+use Rattle.line_laws.specs.station_laws.proofs.Hearing.{pieces_are_heard}
 use Rattle.radio_world.specs.Hosts.{Coming, Part, Told, coming_packet, hears_coming, MayBeHeard, MakesEfforts}
 use Rattle.line_laws.specs.Laws.{HearsAsSeen}
 use Rattle.line_laws.specs.Seeing.{seen, IsSeen}

@@ -1,9 +1,9 @@
 -- The counter and the echo are orderly.
 use Rattle.std.proofs.Common.{◌≡◌, ℕ, ◌+◌, ◌==◌, nat_lt, Bool, true, false, List, Option, Some, None, if◌then◌else◌, refl, ap, ◌∙◌, subst, sym}
 use Rattle.push_terms.specs.declared.outcome.Outcome.TheVariants as outcomes
-use Rattle.world_model.specs.Machines.{News, Linked, Up, Down, Failed, Heard, TimerFired, Cancelled, Opening}
-use Rattle.turn_laws.specs.Premises.{IsFrame, SaysFrames, IsAside, Idles}
-use Rattle.rest_laws.specs.Premises.{AsksOnce, AreOrderly}
+use Rattle.line_laws.specs.world_model.specs.Machines.{News, Linked, Up, Down, Failed, Heard, TimerFired, Cancelled, Opening}
+use Rattle.line_laws.specs.turn_laws.specs.Premises.{IsFrame, SaysFrames, IsAside, Idles}
+use Rattle.line_laws.specs.rest_laws.specs.Premises.{AsksOnce, AreOrderly}
 use Rattle.tiny_hosts.specs.declared.counter.Counter.{Counter}
 use Rattle.tiny_hosts.specs.declared.counter.Stage.{Stage}
 use Rattle.tiny_hosts.specs.declared.counter.Stage.TheVariants.{Resting, Calling, Saying, Waiting, Leaving}

@@ -5,9 +5,9 @@ use Rattle.bt_base.specs.Octets.{IsOctets}
 use Rattle.push_terms.specs.declared.outcome.Outcome.TheVariants as outcomes
 use Rattle.push_terms.specs.declared.word.Side.{Side}
 use Rattle.push_terms.specs.declared.word.Side.TheVariants.{A, B}
-use Rattle.world_model.specs.Machines.{News, Linked, Up, Down, Failed, Heard, TimerFired, Cancelled, Opening}
+use Rattle.line_laws.specs.world_model.specs.Machines.{News, Linked, Up, Down, Failed, Heard, TimerFired, Cancelled, Opening}
 use Rattle.line_laws.specs.Seeing.{SaysOctets}
-use Rattle.settling_laws.specs.Weights.{SaysAtMost}
+use Rattle.radio_world.specs.settling_laws.specs.Weights.{SaysAtMost}
 use Rattle.tiny_hosts.specs.declared.counter.Counter.{Counter}
 use Rattle.tiny_hosts.specs.declared.counter.Stage.{Stage}
 use Rattle.tiny_hosts.specs.declared.counter.Stage.TheVariants.{Resting, Calling, Saying, Waiting, Leaving}

@@ -3,7 +3,7 @@ use Rattle.std.specs.Prelude.{ℕ, ◌≡◌, ◌<◌, ◌+◌, ◌==◌, ◌&&�
 use Rattle.std.proofs.Common.{refl, ap, arith}
 use Rattle.push_terms.specs.declared.outcome.Outcome.{Outcome}
 use Rattle.push_terms.specs.declared.outcome.Outcome.TheVariants as outcomes
-use Rattle.world_model.specs.Machines.{News, Linked, Up, Down, Heard, TimerFired, Cancelled, Opening, Upper}
+use Rattle.line_laws.specs.world_model.specs.Machines.{News, Linked, Up, Down, Heard, TimerFired, Cancelled, Opening, Upper}
 use Rattle.tiny_hosts.specs.declared.counter.Counter.{Counter}
 use Rattle.tiny_hosts.specs.declared.counter.Stage.{Stage}
 use Rattle.tiny_hosts.specs.declared.counter.Stage.TheVariants.{Resting, Calling, Saying, Waiting, Leaving}

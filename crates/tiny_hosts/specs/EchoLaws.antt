@@ -2,9 +2,9 @@
 use Rattle.std.specs.Prelude.{ℕ, ◌≡◌, ◌≤◌, ◌<◌, ◌%◌, List, Option, Some, None, refl}
 use Rattle.std.proofs.Common.{ap, subst, arith}
 use Rattle.bt_base.specs.Octets.{IsOctets}
-use Rattle.world_model.specs.Machines.{News, Linked, Failed, Heard, TimerFired, Cancelled, Opening}
+use Rattle.line_laws.specs.world_model.specs.Machines.{News, Linked, Failed, Heard, TimerFired, Cancelled, Opening}
 use Rattle.line_laws.specs.Seeing.{SaysOctets}
-use Rattle.settling_laws.specs.Weights.{SaysAtMost}
+use Rattle.radio_world.specs.settling_laws.specs.Weights.{SaysAtMost}
 use Rattle.tiny_hosts.specs.declared.echo.Echo.{Echo}
 use Rattle.tiny_hosts.specs.Minds.{Unasked, IsCounted}
 use Rattle.tiny_hosts.specs.Talking.{one_more}

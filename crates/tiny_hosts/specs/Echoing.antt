@@ -1,7 +1,7 @@
 -- A host that says again what it hears (this project's own).
 use Rattle.std.specs.Prelude.{ℕ, ◌≡◌, ◌<◌, Bool, true, false, List, Option, Some, None, is_some}
 use Rattle.std.proofs.Common.{refl, ap, arith}
-use Rattle.world_model.specs.Machines.{News, Linked, Heard, TimerFired, Upper}
+use Rattle.line_laws.specs.world_model.specs.Machines.{News, Linked, Heard, TimerFired, Upper}
 use Rattle.tiny_hosts.specs.declared.echo.Echo.{Echo}
 use Rattle.tiny_hosts.specs.Minds.{Unasked}
 use Rattle.tiny_hosts.specs.Talking.{pdu_of, octet_in, one_more}

@@ -3,12 +3,12 @@ use Rattle.std.specs.Prelude.{ℕ, ◌≡◌, List, [], ◌++◌, max, refl}
 use Rattle.std.proofs.Common.{sym, ap, ◌∙◌, arith}
 use Rattle.push_terms.specs.declared.word.Side.{Side}
 use Rattle.host_link.specs.Lines.{Line}
-use Rattle.world_model.specs.Machines.{News, Upper}
-use Rattle.world_model.specs.Stations.{IsStopped}
+use Rattle.line_laws.specs.world_model.specs.Machines.{News, Upper}
+use Rattle.line_laws.specs.world_model.specs.Stations.{IsStopped}
 use Rattle.radio_world.specs.Hosts.{answering, order_octets, JoinAnswers}
 use Rattle.radio_world.specs.Measures.{IsMostOf}
 use Rattle.radio_world.specs.Speaking.{SpeaksWithin}
-use Rattle.settling_laws.specs.Weights.{SaysAtMost}
+use Rattle.radio_world.specs.settling_laws.specs.Weights.{SaysAtMost}
 use Rattle.line_laws.proofs.Stopping.{spent_hosts_stop}
 use Rattle.tiny_hosts.specs.Minds.{Unasked, IsCounted}
 use Rattle.tiny_hosts.specs.Hosting.{Tiny, asking, IsReady, Unaltered}

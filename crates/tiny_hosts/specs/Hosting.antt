@@ -5,8 +5,8 @@ use Rattle.h4_framing.specs.Packets.{Packet}
 use Rattle.host_link.specs.Lines.{Line}
 use Rattle.host_link.specs.Hearing.{PlainNews, Nothing, LinkUp, LinkFailed, LinkDown, Pdu}
 use Rattle.host_link.specs.PuttingOut.{has_room, has_buffer, is_waiting}
-use Rattle.world_model.specs.Machines.{Linked, Up, Down, Failed, Heard, Upper}
-use Rattle.world_model.specs.Stations.{Effort, Station}
+use Rattle.line_laws.specs.world_model.specs.Machines.{Linked, Up, Down, Failed, Heard, Upper}
+use Rattle.line_laws.specs.world_model.specs.Stations.{Effort, Station}
 use Rattle.radio_world.specs.Hosts.{Asking, Coming, coming_packet, hears_coming, MayBeHeard, MakesEfforts}
 use Rattle.line_laws.specs.Seeing.{seen, IsSeen, IsSpent}
 use Rattle.tiny_hosts.specs.Minds.{Unasked}

@@ -2,7 +2,7 @@
 use Rattle.std.specs.Prelude.{ℕ, ◌≡◌, ◌≤◌, List, Some}
 use Rattle.tiny_hosts.specs.declared.told.Told.{Told}
 use Rattle.tiny_hosts.specs.declared.told.Told.TheVariants as told
-use Rattle.world_model.specs.Machines.{News, Linked, Up, Down, Failed, Heard, TimerFired, Cancelled, Opening, Upper}
+use Rattle.line_laws.specs.world_model.specs.Machines.{News, Linked, Up, Down, Failed, Heard, TimerFired, Cancelled, Opening, Upper}
 
 -- a tiny host has no port: nothing is asked and nothing answered
 abbrev pub Unasked : Type 0

@@ -2,8 +2,8 @@
 use Rattle.std.specs.Prelude.{ℕ, ◌≡◌, List, ◌++◌, Option}
 use Rattle.bt_base.specs.Streams.{gained}
 use Rattle.push_terms.specs.declared.word.Word.{Word}
-use Rattle.capture.specs.Entries.{capture_octets}
-use Rattle.world_model.specs.Worlds.{Happening, IsSettled, all_entries, all_words}
+use Rattle.radio_world.specs.capture.specs.Entries.{capture_octets}
+use Rattle.line_laws.specs.world_model.specs.Worlds.{Happening, IsSettled, all_entries, all_words}
 use Rattle.radio_world.specs.Both.{Both}
 use Rattle.radio_world.specs.Scenes.{Moment, world_at, Plays}
 use Rattle.radio_world.specs.Standing.{first_moment, last_ended, last_entries, all_outcomes}

@@ -3,7 +3,7 @@ use Rattle.std.specs.Prelude.{ℕ, ◌≡◌, ◌≤◌, ◌<◌, ◌%◌, ◌+�
 use Rattle.std.proofs.Common.{ap, arith}
 use Rattle.bt_base.specs.Octets.{IsOctets}
 use Rattle.h4_framing.proofs.OctetLists.{IsOctets-cons, IsOctets-nil}
-use Rattle.turn_laws.specs.Premises.{IsFrame}
+use Rattle.line_laws.specs.turn_laws.specs.Premises.{IsFrame}
 use Rattle.tiny_hosts.specs.Talking.{channel, pdu_of, one_more}
 
 -- what was said, and what is then

@@ -3,9 +3,9 @@
 ghost use Rattle.std.specs.Prelude.{◌≡◌, ℕ, List, true, false, Some, is_some};
 ghost use Rattle.push_terms.specs.declared.word.Side.{Side};
 ghost use Rattle.push_terms.specs.declared.word.Side.TheVariants.{B};
-ghost use Rattle.world_model.specs.Machines.{Upper};
+ghost use Rattle.line_laws.specs.world_model.specs.Machines.{Upper};
 ghost use Rattle.line_laws.specs.Seeing.{SaysOctets};
-ghost use Rattle.settling_laws.specs.Weights.{SaysAtMost};
+ghost use Rattle.radio_world.specs.settling_laws.specs.Weights.{SaysAtMost};
 ghost use Rattle.tiny_hosts.specs.Minds.{Unasked, news_told, IsCounted};
 
 use crate::told::Told;

@@ -1,7 +1,7 @@
 //! Scripts that are played over the counter and the echo.
 
 ghost use Rattle.std.specs.Prelude.{IfOk};
-ghost use Rattle.capture.specs.Air.{words_of};
+ghost use Rattle.radio_world.specs.capture.specs.Air.{words_of};
 ghost use Rattle.tiny_hosts.specs.Playing.{IsPlayed};
 
 use crate::counter::Counter;

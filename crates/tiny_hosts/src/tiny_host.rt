@@ -3,11 +3,11 @@
 ghost use Rattle.std.specs.Prelude.{◌≡◌, [], true, false, None, IfOk};
 ghost use Rattle.push_terms.specs.declared.word.Side.TheVariants as sides;
 ghost use Rattle.h4_framing.specs.Packets.{packet};
-ghost use Rattle.radio_air.specs.Controllers.{address};
+ghost use Rattle.radio_world.specs.radio_air.specs.Controllers.{address};
 ghost use Rattle.host_link.specs.Hearing.{plain_news};
 ghost use Rattle.host_link.specs.PuttingOut.{can_take_pdu, started};
 ghost use Rattle.host_link.specs.Calling.{may_end};
-ghost use Rattle.station_laws.specs.Seen.{role_of};
+ghost use Rattle.line_laws.specs.station_laws.specs.Seen.{role_of};
 ghost use Rattle.line_laws.specs.Seeing.{IsSeen, is_asking};
 ghost use Rattle.tiny_hosts.specs.Hosting.{GoesOn, WaitsMore, IsStuck, IsReady, IsTold, HearsComing};
 

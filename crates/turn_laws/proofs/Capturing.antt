@@ -3,19 +3,19 @@ use Rattle.std.proofs.Common.{◌≡◌, ◌⊎◌, ℕ, ◌+◌, ◌*◌, ◌�
 use Rattle.std.specs.Option.{option_map}
 use Rattle.std.proofs.lemmas.List.{append-nil}
 use Rattle.std.proofs.lemmas.Bool.{eq-eqb}
-use Rattle.h4_framing.specs.Packets.{Packet, Acl}
-use Rattle.hci_packets.specs.AclWords.{flag_of}
-use Rattle.acl_fragments.specs.Pieces.{Piece}
-use Rattle.push_terms.specs.declared.word.Side.{Side}
-use Rattle.capture.specs.declared.flow.Flow.{Flow}
-use Rattle.capture.specs.declared.flow.Flow.TheVariants.{Out, Into}
-use Rattle.capture.specs.Entries.{Entry}
-use Rattle.capture.specs.Moves.{Move, move_of, moves}
-use Rattle.capture.specs.Links.{Link, Linking, Asked, LinkEnded, NoNews, link_news, longer, gone_on, ends_with, after_move, linking}
-use Rattle.capture.specs.Pdus.{Pdu, piece_of, piece_in, pdus}
-use Rattle.capture.proofs.MoreLaws.{moves-more, links-more}
-use Rattle.radio_air.specs.Controllers.{LinkMade, LinkGone, Controller, answer_packet}
-use Rattle.radio_air.specs.Radio.{frame_limit}
+use Rattle.world_model.specs.h4_framing.specs.Packets.{Packet, Acl}
+use Rattle.world_model.specs.hci_packets.specs.AclWords.{flag_of}
+use Rattle.world_model.specs.acl_fragments.specs.Pieces.{Piece}
+use Rattle.world_model.specs.push_terms.specs.declared.word.Side.{Side}
+use Rattle.world_model.specs.capture.specs.declared.flow.Flow.{Flow}
+use Rattle.world_model.specs.capture.specs.declared.flow.Flow.TheVariants.{Out, Into}
+use Rattle.world_model.specs.capture.specs.Entries.{Entry}
+use Rattle.world_model.specs.capture.specs.Moves.{Move, move_of, moves}
+use Rattle.world_model.specs.capture.specs.Links.{Link, Linking, Asked, LinkEnded, NoNews, link_news, longer, gone_on, ends_with, after_move, linking}
+use Rattle.world_model.specs.capture.specs.Pdus.{Pdu, piece_of, piece_in, pdus}
+use Rattle.world_model.specs.capture.proofs.MoreLaws.{moves-more, links-more}
+use Rattle.world_model.specs.radio_air.specs.Controllers.{LinkMade, LinkGone, Controller, answer_packet}
+use Rattle.world_model.specs.radio_air.specs.Radio.{frame_limit}
 use Rattle.world_model.specs.PerLink.{Linkage, with_moved, link_begins, link_ends}
 use Rattle.world_model.specs.Stations.{asks, Station, longest_pdu, gives, holds}
 use Rattle.turn_laws.proofs.Linkages.{said_by}

@@ -2,12 +2,12 @@
 use Rattle.std.proofs.Common.{◌≡◌, ◌⊎◌, ℕ, ◌+◌, ◌≤◌, ◌==◌, ◌&&◌, ◌||◌, Bool, true, false, List, [], ◌∷◌, ◌++◌, map, nat_lt, nat_le, Some, None, if◌then◌else◌, refl, sym, ap, ◌∙◌, inl, inr, arith, subst}
 use Rattle.std.proofs.lemmas.Bool.{eq-eqb}
 use Rattle.std.proofs.lemmas.List.{append-nil}
-use Rattle.acl_fragments.specs.Pieces.{Piece, starts}
-use Rattle.acl_fragments.specs.Answers.{Answer as Joined, Pdu, More, Dropped, answer}
-use Rattle.capture.specs.declared.flow.Flow.TheVariants.{Out}
-use Rattle.capture.specs.Pdus.{whole_of}
-use Rattle.radio_air.specs.Controllers.{Answer, GivenBack, Controller, gives_back, after_giving_back, is_empty}
-use Rattle.radio_air.specs.Radio.{frame_limit, frames_by, with_piece, after_taking}
+use Rattle.world_model.specs.acl_fragments.specs.Pieces.{Piece, starts}
+use Rattle.world_model.specs.acl_fragments.specs.Answers.{Answer as Joined, Pdu, More, Dropped, answer}
+use Rattle.world_model.specs.capture.specs.declared.flow.Flow.TheVariants.{Out}
+use Rattle.world_model.specs.capture.specs.Pdus.{whole_of}
+use Rattle.world_model.specs.radio_air.specs.Controllers.{Answer, GivenBack, Controller, gives_back, after_giving_back, is_empty}
+use Rattle.world_model.specs.radio_air.specs.Radio.{frame_limit, frames_by, with_piece, after_taking}
 use Rattle.world_model.specs.Machines.{LinkEvent, Upper}
 use Rattle.world_model.specs.Talks.{Talk, Said}
 use Rattle.world_model.specs.Carriages.{End, Motion, Departure, landed}

@@ -1,16 +1,16 @@
 -- What one host and its controller become when a piece or an answer comes in.
 use Rattle.std.proofs.Common.{◌≡◌, ◌⊎◌, ℕ, ◌≤◌, Bool, true, false, List, [], ◌∷◌, ◌++◌, Option, refl, sym, ap, ◌∙◌, inl, inr, subst}
 use Rattle.std.proofs.lemmas.Bool.{eq-eqb}
-use Rattle.acl_fragments.specs.Pieces.{Piece, starts}
-use Rattle.acl_fragments.specs.Answers.{Answer as Joined, Pdu, More, Dropped, answer}
-use Rattle.radio_air.specs.Controllers.{Answer, Controller}
+use Rattle.world_model.specs.acl_fragments.specs.Pieces.{Piece, starts}
+use Rattle.world_model.specs.acl_fragments.specs.Answers.{Answer as Joined, Pdu, More, Dropped, answer}
+use Rattle.world_model.specs.radio_air.specs.Controllers.{Answer, Controller}
 use Rattle.world_model.specs.Machines.{Heard, Upper}
 use Rattle.world_model.specs.Talks.{Talk, Told}
 use Rattle.world_model.specs.Carriages.{End, Arrival}
 use Rattle.world_model.specs.Stations.{Station, longest_pdu, gives, holds, whole_in, is_handle, hears_each, hears_piece}
 use Rattle.turn_laws.proofs.Joining.{completions, EndsOnce}
 use Rattle.turn_laws.proofs.Leading.{Tiding, tidings, tiding_in, events, Led}
-use Rattle.capture.specs.declared.flow.Flow.TheVariants.{Into}
+use Rattle.world_model.specs.capture.specs.declared.flow.Flow.TheVariants.{Into}
 use Rattle.world_model.specs.PerLink.{linkage}
 use Rattle.turn_laws.proofs.Linkages.{as_was, heard_more, linkage_one, moved_none}
 use Rattle.turn_laws.proofs.Wiring.{IsListening, Awaits, Ends}

@@ -3,16 +3,16 @@ use Rattle.std.proofs.Common.{◌≡◌, ◌⊎◌, ℕ, zero, suc, ◌+◌, ◌
 use Rattle.std.proofs.lemmas.List.{take-append-drop, length-take, take_all, drop_all, length-set}
 use Rattle.std.proofs.lemmas.Bool.{cases_lt, le-ltb, eq-eqb, ne_eqb}
 use Rattle.byteorder.specs.Numbers.{little_from-append}
-use Rattle.hci_packets.specs.declared.acl.Boundary.{Boundary}
-use Rattle.hci_packets.specs.declared.acl.Boundary.TheVariants.{Continuing, FirstFromController}
-use Rattle.acl_fragments.specs.Pieces.{Piece, starts, pdu_length, channel_of}
-use Rattle.acl_fragments.specs.Cuts.{first_pieces, cut}
-use Rattle.acl_fragments.specs.Answers.{Answer, Pdu, More, start_answer, next_answer, answer, kept}
-use Rattle.acl_fragments.specs.Laws.{IsPdu}
-use Rattle.capture.specs.Frames.{frame_pieces}
-use Rattle.radio_air.specs.declared.fate.Fate.{Fate}
-use Rattle.radio_air.specs.declared.fate.Fate.TheVariants.{Delivered, Lost, Repeated, CutOff, Changed}
-use Rattle.radio_air.specs.Fates.{changed, meets, comes_of}
+use Rattle.world_model.specs.hci_packets.specs.declared.acl.Boundary.{Boundary}
+use Rattle.world_model.specs.hci_packets.specs.declared.acl.Boundary.TheVariants.{Continuing, FirstFromController}
+use Rattle.world_model.specs.acl_fragments.specs.Pieces.{Piece, starts, pdu_length, channel_of}
+use Rattle.world_model.specs.acl_fragments.specs.Cuts.{first_pieces, cut}
+use Rattle.world_model.specs.acl_fragments.specs.Answers.{Answer, Pdu, More, start_answer, next_answer, answer, kept}
+use Rattle.world_model.specs.acl_fragments.specs.Laws.{IsPdu}
+use Rattle.world_model.specs.capture.specs.Frames.{frame_pieces}
+use Rattle.world_model.specs.radio_air.specs.declared.fate.Fate.{Fate}
+use Rattle.world_model.specs.radio_air.specs.declared.fate.Fate.TheVariants.{Delivered, Lost, Repeated, CutOff, Changed}
+use Rattle.world_model.specs.radio_air.specs.Fates.{changed, meets, comes_of}
 use Rattle.turn_laws.specs.Premises.{IsFrame}
 use Rattle.world_model.specs.Stations.{longest_pdu, whole_in, gives, holds}
 

@@ -1,14 +1,14 @@
 -- Laws of turns: on each link a host hears what came of what the other said.
 use Rattle.std.proofs.Common.{ℕ, ◌≡◌, ◌+◌, Bool, true, false, List, [], ◌∷◌, ◌++◌, length, map, take, drop, nat_lt, if◌then◌else◌, arith, length-append, refl, ap, sym, ◌∙◌, subst}
 use Rattle.std.proofs.lemmas.List.{append_assoc, append-nil}
-use Rattle.push_terms.specs.declared.word.Side.TheVariants.{A, B}
-use Rattle.push_terms.specs.declared.word.Way.TheVariants.{Ab, Ba}
-use Rattle.capture.specs.Frames.{frame_pieces}
-use Rattle.radio_air.specs.declared.fate.Fate.{Fate}
-use Rattle.radio_air.specs.declared.fate.Fate.TheVariants.{Delivered, Lost, Repeated, CutOff, Changed}
-use Rattle.radio_air.specs.declared.deed.Deed.{Deed}
-use Rattle.radio_air.specs.declared.deed.Deed.TheVariants.{Nothing, Meets, Fires, FiresBoth, Breaks, Cancels}
-use Rattle.radio_air.specs.Fates.{meets, comes_of}
+use Rattle.world_model.specs.push_terms.specs.declared.word.Side.TheVariants.{A, B}
+use Rattle.world_model.specs.push_terms.specs.declared.word.Way.TheVariants.{Ab, Ba}
+use Rattle.world_model.specs.capture.specs.Frames.{frame_pieces}
+use Rattle.world_model.specs.radio_air.specs.declared.fate.Fate.{Fate}
+use Rattle.world_model.specs.radio_air.specs.declared.fate.Fate.TheVariants.{Delivered, Lost, Repeated, CutOff, Changed}
+use Rattle.world_model.specs.radio_air.specs.declared.deed.Deed.{Deed}
+use Rattle.world_model.specs.radio_air.specs.declared.deed.Deed.TheVariants.{Nothing, Meets, Fires, FiresBoth, Breaks, Cancels}
+use Rattle.world_model.specs.radio_air.specs.Fates.{meets, comes_of}
 use Rattle.world_model.specs.Machines.{Up, Down, News, Linked, Failed, Heard, TimerFired, Cancelled, Opening, Upper, drain, all_said, Breath, Whole, Short, Reaction}
 use Rattle.world_model.specs.Talks.{Talk, Told, Said, Unsent, Met, Done}
 use Rattle.world_model.specs.Turns.{Party, Pair, breathes, speaks, notes, hears, with_queue, with_talk, receives, event_heard, fires, Step, Turn, Idle, Rise, Fall, Began, Ended, Hands, Acts, found, Moves, Passes, first_pair}

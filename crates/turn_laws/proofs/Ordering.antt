@@ -1,12 +1,12 @@
 -- Orders that move: each is nothing where PDUs move one at a time, or moves one, or makes or ends a link.
 use Rattle.std.proofs.Common.{◌≡◌, ◌⊎◌, ℕ, ◌+◌, ◌==◌, ◌&&◌, ◌||◌, Bool, true, false, List, [], ◌∷◌, ◌++◌, map, Some, None, if◌then◌else◌, refl, sym, ap, ◌∙◌, inl, inr, arith, subst}
 use Rattle.std.proofs.lemmas.Bool.{eqb-true, eq-eqb}
-use Rattle.acl_fragments.specs.Pieces.{Piece}
-use Rattle.push_terms.specs.declared.word.Side.{Side}
-use Rattle.push_terms.specs.declared.word.Side.TheVariants.{A, B}
-use Rattle.push_terms.specs.declared.word.Word.{Word}
-use Rattle.radio_air.specs.Controllers.{Answer, Stated, Controller}
-use Rattle.radio_air.specs.Radio.{frame_limit, Radio, Paging, is_requested, is_together, after_reaching, joined, parted, knows_link, with_piece, after_taking}
+use Rattle.world_model.specs.acl_fragments.specs.Pieces.{Piece}
+use Rattle.world_model.specs.push_terms.specs.declared.word.Side.{Side}
+use Rattle.world_model.specs.push_terms.specs.declared.word.Side.TheVariants.{A, B}
+use Rattle.world_model.specs.push_terms.specs.declared.word.Word.{Word}
+use Rattle.world_model.specs.radio_air.specs.Controllers.{Answer, Stated, Controller}
+use Rattle.world_model.specs.radio_air.specs.Radio.{frame_limit, Radio, Paging, is_requested, is_together, after_reaching, joined, parted, knows_link, with_piece, after_taking}
 use Rattle.world_model.specs.Machines.{Up, Down, Upper}
 use Rattle.world_model.specs.Talks.{Talk}
 use Rattle.world_model.specs.Carriages.{End, Carriage, Motion, Doing, Moved, Rises, Falls, IsIdle, Carries, all_words, with_events}

@@ -5,26 +5,26 @@ use Rattle.std.specs.List.{cons_option}
 use Rattle.std.proofs.lemmas.Bool.{eq-eqb}
 use Rattle.std.proofs.lemmas.List.{append-nil, map-append}
 use Rattle.std.proofs.lemmas.List.Elements.{filter_map-append}
-use Rattle.bt_base.proofs.OctetLemmas.{le16-number}
-use Rattle.h4_framing.specs.Packets.{Packet, Acl}
-use Rattle.hci_packets.specs.declared.acl.Boundary.{Boundary}
-use Rattle.hci_packets.specs.declared.acl.Boundary.TheVariants.{First, Continuing, FirstFromController}
-use Rattle.hci_packets.specs.AclWords.{flag_of}
-use Rattle.hci_packets.specs.Events.{event_params, ConnectionComplete, DisconnectionComplete}
-use Rattle.acl_fragments.specs.Pieces.{Piece, starts}
-use Rattle.acl_fragments.specs.Answers.{Answer as Joined, Pdu as Whole, More, Dropped, answer, open_after}
-use Rattle.acl_fragments.proofs.Holding.{open_after-append}
-use Rattle.push_terms.specs.declared.word.Side.{Side}
-use Rattle.push_terms.specs.declared.word.Side.TheVariants as sides
-use Rattle.capture.specs.declared.flow.Flow.{Flow}
-use Rattle.capture.specs.declared.flow.Flow.TheVariants.{Out, Into}
-use Rattle.capture.specs.Moves.{Move}
-use Rattle.capture.specs.Links.{Link, Linking, Answered, LinkEnded, NoNews, link_news, told_by, longer, after_move, made, ends_with}
-use Rattle.capture.specs.PieceHeads.{piece_head}
-use Rattle.capture.specs.Pdus.{Pdu, piece_with, piece_of, piece_in, pieces, whole_of, completed_by, completed, pdus}
-use Rattle.capture.proofs.MoreLaws.{pdus-more}
-use Rattle.radio_air.specs.Controllers.{address, other_side}
-use Rattle.radio_air.specs.Radio.{frame_limit}
+use Rattle.world_model.specs.bt_base.proofs.OctetLemmas.{le16-number}
+use Rattle.world_model.specs.h4_framing.specs.Packets.{Packet, Acl}
+use Rattle.world_model.specs.hci_packets.specs.declared.acl.Boundary.{Boundary}
+use Rattle.world_model.specs.hci_packets.specs.declared.acl.Boundary.TheVariants.{First, Continuing, FirstFromController}
+use Rattle.world_model.specs.hci_packets.specs.AclWords.{flag_of}
+use Rattle.world_model.specs.hci_packets.specs.Events.{event_params, ConnectionComplete, DisconnectionComplete}
+use Rattle.world_model.specs.acl_fragments.specs.Pieces.{Piece, starts}
+use Rattle.world_model.specs.acl_fragments.specs.Answers.{Answer as Joined, Pdu as Whole, More, Dropped, answer, open_after}
+use Rattle.world_model.specs.acl_fragments.proofs.Holding.{open_after-append}
+use Rattle.world_model.specs.push_terms.specs.declared.word.Side.{Side}
+use Rattle.world_model.specs.push_terms.specs.declared.word.Side.TheVariants as sides
+use Rattle.world_model.specs.capture.specs.declared.flow.Flow.{Flow}
+use Rattle.world_model.specs.capture.specs.declared.flow.Flow.TheVariants.{Out, Into}
+use Rattle.world_model.specs.capture.specs.Moves.{Move}
+use Rattle.world_model.specs.capture.specs.Links.{Link, Linking, Answered, LinkEnded, NoNews, link_news, told_by, longer, after_move, made, ends_with}
+use Rattle.world_model.specs.capture.specs.PieceHeads.{piece_head}
+use Rattle.world_model.specs.capture.specs.Pdus.{Pdu, piece_with, piece_of, piece_in, pieces, whole_of, completed_by, completed, pdus}
+use Rattle.world_model.specs.capture.proofs.MoreLaws.{pdus-more}
+use Rattle.world_model.specs.radio_air.specs.Controllers.{address, other_side}
+use Rattle.world_model.specs.radio_air.specs.Radio.{frame_limit}
 use Rattle.world_model.specs.PerLink.{Linkage, pdus_of}
 use Rattle.world_model.specs.Stations.{longest_pdu, gives, holds, whole_in}
 

@@ -1,17 +1,17 @@
 -- A radio makes of a packet what it makes of the order that the packet spells.
 use Rattle.std.proofs.Common.{◌≡◌, ℕ, ◌+◌, ◌*◌, ◌%◌, ◌≤◌, ◌==◌, ◌&&◌, Bool, true, false, List, [], ◌∷◌, ◌++◌, Option, Some, None, if◌then◌else◌, refl, sym, ap, ◌∙◌, arith, le-ltb}
-use Rattle.bt_base.specs.Octets.{le16}
-use Rattle.bt_base.proofs.OctetLemmas.{le16-number}
-use Rattle.h4_framing.specs.Packets.{Packet, Acl}
-use Rattle.hci_packets.specs.declared.acl.Boundary.{Boundary}
-use Rattle.hci_packets.specs.declared.acl.Boundary.TheVariants.{First, Continuing, FirstFromController}
-use Rattle.hci_packets.specs.AclWords.{flag_of}
-use Rattle.acl_fragments.specs.Pieces.{Piece}
-use Rattle.push_terms.specs.declared.word.Side.{Side}
-use Rattle.push_terms.specs.declared.word.Side.TheVariants.{A, B}
-use Rattle.capture.specs.Pdus.{piece_of}
-use Rattle.radio_air.specs.Controllers.{Controller}
-use Rattle.radio_air.specs.Radio.{Radio, controller, with_controller, knows_link, piece_from, with_piece, after_taking, after_packet}
+use Rattle.world_model.specs.bt_base.specs.Octets.{le16}
+use Rattle.world_model.specs.bt_base.proofs.OctetLemmas.{le16-number}
+use Rattle.world_model.specs.h4_framing.specs.Packets.{Packet, Acl}
+use Rattle.world_model.specs.hci_packets.specs.declared.acl.Boundary.{Boundary}
+use Rattle.world_model.specs.hci_packets.specs.declared.acl.Boundary.TheVariants.{First, Continuing, FirstFromController}
+use Rattle.world_model.specs.hci_packets.specs.AclWords.{flag_of}
+use Rattle.world_model.specs.acl_fragments.specs.Pieces.{Piece}
+use Rattle.world_model.specs.push_terms.specs.declared.word.Side.{Side}
+use Rattle.world_model.specs.push_terms.specs.declared.word.Side.TheVariants.{A, B}
+use Rattle.world_model.specs.capture.specs.Pdus.{piece_of}
+use Rattle.world_model.specs.radio_air.specs.Controllers.{Controller}
+use Rattle.world_model.specs.radio_air.specs.Radio.{Radio, controller, with_controller, knows_link, piece_from, with_piece, after_taking, after_packet}
 use Rattle.world_model.specs.Stations.{Order, Reset, ReadBuffers, ReadAddress, Scan, Page, Accept, End, Data, order_packet}
 use Rattle.world_model.specs.Worlds.{piece_on, after_order}
 use Rattle.turn_laws.specs.WorldLaws.{handle_of, OrdersAreSpelled}

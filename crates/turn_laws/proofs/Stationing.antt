@@ -4,10 +4,10 @@ use Rattle.std.specs.List.{list_any}
 use Rattle.std.proofs.lemmas.Bool.{eq-eqb}
 use Rattle.std.proofs.lemmas.List.{append-nil}
 use Rattle.std.proofs.lemmas.List.Concat.{flat_map-append}
-use Rattle.hci_packets.specs.declared.acl.Boundary.TheVariants.{First}
-use Rattle.acl_fragments.specs.Pieces.{Piece}
-use Rattle.acl_fragments.specs.Cuts.{cut}
-use Rattle.radio_air.specs.Controllers.{Controller}
+use Rattle.world_model.specs.hci_packets.specs.declared.acl.Boundary.TheVariants.{First}
+use Rattle.world_model.specs.acl_fragments.specs.Pieces.{Piece}
+use Rattle.world_model.specs.acl_fragments.specs.Cuts.{cut}
+use Rattle.world_model.specs.radio_air.specs.Controllers.{Controller}
 use Rattle.world_model.specs.Machines.{LinkEvent, Upper}
 use Rattle.world_model.specs.Talks.{Talk}
 use Rattle.world_model.specs.Carriages.{End, Motion, Saying, DoesMotion}

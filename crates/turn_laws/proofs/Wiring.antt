@@ -4,10 +4,10 @@ use Rattle.std.proofs.Common.{◌≡◌, ◌⊎◌, ℕ, ◌+◌, ◌≤◌, ◌
 use Rattle.std.specs.List.{flat_map, AllByRecursion}
 use Rattle.std.proofs.lemmas.Bool.{ne_eqb}
 use Rattle.std.proofs.lemmas.List.Concat.{flat_map-append}
-use Rattle.hci_packets.specs.declared.acl.Boundary.TheVariants.{First}
-use Rattle.acl_fragments.specs.Pieces.{Piece}
-use Rattle.acl_fragments.specs.Cuts.{cut}
-use Rattle.radio_air.specs.Radio.{frame_limit}
+use Rattle.world_model.specs.hci_packets.specs.declared.acl.Boundary.TheVariants.{First}
+use Rattle.world_model.specs.acl_fragments.specs.Pieces.{Piece}
+use Rattle.world_model.specs.acl_fragments.specs.Cuts.{cut}
+use Rattle.world_model.specs.radio_air.specs.Radio.{frame_limit}
 use Rattle.world_model.specs.Machines.{Upper}
 use Rattle.world_model.specs.Stations.{Order, Reset, ReadBuffers, ReadAddress, Scan, Page, Accept, End, Data, asks, longest_pdu, gives, holds}
 use Rattle.turn_laws.specs.WorldLaws.{handle_of}

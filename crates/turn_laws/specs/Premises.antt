@@ -1,6 +1,6 @@
 -- What a law asks of a machine, where it asks more than that it says less and less.
 use Rattle.std.specs.Prelude.{ℕ, ◌≡◌, ◌≤◌, true, false, List, length, Some}
-use Rattle.acl_fragments.specs.Laws.{IsPdu}
+use Rattle.world_model.specs.acl_fragments.specs.Laws.{IsPdu}
 use Rattle.world_model.specs.Machines.{News, Opening, Upper}
 use Rattle.world_model.specs.Stations.{longest_pdu}
 

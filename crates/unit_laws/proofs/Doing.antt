@@ -5,24 +5,24 @@ use Rattle.std.specs.List.{AllByRecursion}
 use Rattle.std.proofs.lemmas.Bool.{eqb-true}
 use Rattle.std.proofs.lemmas.List.{append-nil, map-append}
 use Rattle.std.proofs.lemmas.List.Concat.{flat_map-append}
-use Rattle.bt_base.specs.Numbers.{IsHandle}
-use Rattle.h4_framing.specs.Packets.{Packet, spelling, spellings, IsPacket}
-use Rattle.h4_framing.proofs.FaultLemmas.{spellings_append}
-use Rattle.h4_framing.proofs.ReadingLemmas.{all_append}
-use Rattle.hci_packets.specs.AclWords.{acl_word_of}
-use Rattle.hci_packets.specs.declared.acl.Boundary.{Boundary}
-use Rattle.hci_packets.specs.declared.acl.Boundary.TheVariants.{First, Continuing, FirstFromController}
-use Rattle.acl_fragments.specs.Pieces.{Piece}
-use Rattle.capture.specs.Moves.{Move}
-use Rattle.host_link.specs.declared.host_command.HostCommand.{HostCommand}
-use Rattle.host_link.specs.declared.host_command.HostCommand.TheVariants.{CreateConnection, Disconnect}
-use Rattle.host_link.specs.CommandFlows.{first_of, next_command, with_command}
-use Rattle.host_link.specs.Hearing.{fault_of, news_of}
-use Rattle.host_link.specs.HostCommands.{command_packet}
-use Rattle.host_link.specs.Lines.{Line}
-use Rattle.host_link.specs.PuttingOut.{has_room, has_buffer, can_take_pdu, take_pdu, with_pdu, with_piece, with_pieces, put_pieces_on, with_next, piece_packet, leaving}
-use Rattle.host_link.specs.Stands.{into, out_of}
-use Rattle.world_model.specs.Machines.{Upper}
+use Rattle.scenario_laws.specs.bt_base.specs.Numbers.{IsHandle}
+use Rattle.scenario_laws.specs.h4_framing.specs.Packets.{Packet, spelling, spellings, IsPacket}
+use Rattle.scenario_laws.specs.h4_framing.proofs.FaultLemmas.{spellings_append}
+use Rattle.scenario_laws.specs.h4_framing.proofs.ReadingLemmas.{all_append}
+use Rattle.scenario_laws.specs.hci_packets.specs.AclWords.{acl_word_of}
+use Rattle.scenario_laws.specs.hci_packets.specs.declared.acl.Boundary.{Boundary}
+use Rattle.scenario_laws.specs.hci_packets.specs.declared.acl.Boundary.TheVariants.{First, Continuing, FirstFromController}
+use Rattle.scenario_laws.specs.acl_fragments.specs.Pieces.{Piece}
+use Rattle.scenario_laws.specs.capture.specs.Moves.{Move}
+use Rattle.scenario_laws.specs.host_link.specs.declared.host_command.HostCommand.{HostCommand}
+use Rattle.scenario_laws.specs.host_link.specs.declared.host_command.HostCommand.TheVariants.{CreateConnection, Disconnect}
+use Rattle.scenario_laws.specs.host_link.specs.CommandFlows.{first_of, next_command, with_command}
+use Rattle.scenario_laws.specs.host_link.specs.Hearing.{fault_of, news_of}
+use Rattle.scenario_laws.specs.host_link.specs.HostCommands.{command_packet}
+use Rattle.scenario_laws.specs.host_link.specs.Lines.{Line}
+use Rattle.scenario_laws.specs.host_link.specs.PuttingOut.{has_room, has_buffer, can_take_pdu, take_pdu, with_pdu, with_piece, with_pieces, put_pieces_on, with_next, piece_packet, leaving}
+use Rattle.scenario_laws.specs.host_link.specs.Stands.{into, out_of}
+use Rattle.scenario_laws.specs.world_model.specs.Machines.{Upper}
 use Rattle.unit_laws.specs.Units.{Lined, Occasion, Comes, Says, Puts, Commands, Waits, units_of, units, after_unit, Happens, Runs, IsToldInTurn, ComesInTurn}
 use Rattle.unit_laws.specs.Laws.{FiresNone}
 use Rattle.unit_laws.specs.Calls.{FitsPacket, CanGo, gifts_of, gifts_in, IsWritable, GoesBy, SaysInOctets, CallsGo, CallsAreRuns}

@@ -1,19 +1,19 @@
 -- The inbox of a server gains what its units spell, and a client comes to what its units say.
 use Rattle.std.proofs.Common.{true, List, ◌++◌, map, Some, ap, ◌∙◌}
 use Rattle.std.specs.List.{flat_map}
-use Rattle.bt_base.specs.declared.settings.Transport.{Transport}
-use Rattle.bt_base.specs.declared.settings.Transport.TheVariants.{L2cap}
-use Rattle.bt_base.specs.Objects.{Object}
-use Rattle.push_terms.specs.declared.word.Side.TheVariants as sides
-use Rattle.capture.specs.Links.{links}
-use Rattle.capture.specs.Pdus.{pdus}
-use Rattle.push_model.specs.Client.{own_maximum}
-use Rattle.host_laws.specs.OverLinks.{parts, talk_marks}
-use Rattle.host_laws.proofs.Asking.{hosts_ask}
-use Rattle.host_laws.proofs.GainingOver.{hosts_read_over_links}
-use Rattle.host_laws.proofs.InOrder.{asks-nothing, servers-are_served_in_order}
-use Rattle.host_laws.proofs.Pushing.{clients_are_pushed}
-use Rattle.host_laws.proofs.Serving.{hosts_gain}
+use Rattle.scenario_laws.specs.bt_base.specs.declared.settings.Transport.{Transport}
+use Rattle.scenario_laws.specs.bt_base.specs.declared.settings.Transport.TheVariants.{L2cap}
+use Rattle.scenario_laws.specs.bt_base.specs.Objects.{Object}
+use Rattle.scenario_laws.specs.push_terms.specs.declared.word.Side.TheVariants as sides
+use Rattle.scenario_laws.specs.capture.specs.Links.{links}
+use Rattle.scenario_laws.specs.capture.specs.Pdus.{pdus}
+use Rattle.scenario_laws.specs.push_model.specs.Client.{own_maximum}
+use Rattle.scenario_laws.specs.host_laws.specs.OverLinks.{parts, talk_marks}
+use Rattle.scenario_laws.specs.host_laws.proofs.Asking.{hosts_ask}
+use Rattle.scenario_laws.specs.host_laws.proofs.GainingOver.{hosts_read_over_links}
+use Rattle.scenario_laws.specs.host_laws.proofs.InOrder.{asks-nothing, servers-are_served_in_order}
+use Rattle.scenario_laws.specs.host_laws.proofs.Pushing.{clients_are_pushed}
+use Rattle.scenario_laws.specs.host_laws.proofs.Serving.{hosts_gain}
 use Rattle.scenario_laws.specs.Gains.{holding, asked_by}
 use Rattle.scenario_laws.specs.Parties.{party_of}
 use Rattle.scenario_laws.proofs.Gaining.{all_spell, link_talks}

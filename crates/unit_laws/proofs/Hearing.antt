@@ -4,23 +4,23 @@ use Rattle.std.specs.Option.{option_map}
 use Rattle.std.proofs.lemmas.Bool.{cases_Bool, eqb-true}
 use Rattle.std.proofs.lemmas.List.{map-append}
 use Rattle.byteorder.specs.Endian.{little_number}
-use Rattle.h4_framing.specs.Packets.{Packet, Command, Acl, Sync, Event}
-use Rattle.hci_packets.specs.Events.{PlainEvent, Other, event_refusal}
-use Rattle.acl_fragments.specs.Pieces.{Piece, starts}
-use Rattle.acl_fragments.specs.Answers.{Answer, Pdu as Whole, More, Dropped, answer}
-use Rattle.capture.specs.declared.flow.Flow.TheVariants.{Out, Into}
-use Rattle.capture.specs.Moves.{Move}
-use Rattle.capture.specs.Links.{Link, Linking, Answered, longer, gone_on, made, ends_with, after_news, after_move, linking}
-use Rattle.capture.specs.Pdus.{Pdu, piece_of, piece_in, pdus}
-use Rattle.capture.proofs.MoreLaws.{links-more}
-use Rattle.host_link.specs.Lines.{Line, longest_pdu}
-use Rattle.host_link.specs.CommandFlows.{is_number}
-use Rattle.host_link.specs.Hearing.{PlainNews, Nothing, LinkUp, LinkFailed, LinkDown, Pdu as News_pdu, connection_news, joined_news, piece_on, piece_news, event_news, news_of}
-use Rattle.host_link.specs.Stands.{Stands, JoinsOn, into}
-use Rattle.host_link.proofs.Standing.{At, here}
-use Rattle.world_model.specs.PerLink.{Linkage, with_moved, link_begins, link_ends}
-use Rattle.world_model.specs.Stations.{whole_in, gives}
-use Rattle.turn_laws.proofs.Linkages.{moved_none}
+use Rattle.scenario_laws.specs.h4_framing.specs.Packets.{Packet, Command, Acl, Sync, Event}
+use Rattle.scenario_laws.specs.hci_packets.specs.Events.{PlainEvent, Other, event_refusal}
+use Rattle.scenario_laws.specs.acl_fragments.specs.Pieces.{Piece, starts}
+use Rattle.scenario_laws.specs.acl_fragments.specs.Answers.{Answer, Pdu as Whole, More, Dropped, answer}
+use Rattle.scenario_laws.specs.capture.specs.declared.flow.Flow.TheVariants.{Out, Into}
+use Rattle.scenario_laws.specs.capture.specs.Moves.{Move}
+use Rattle.scenario_laws.specs.capture.specs.Links.{Link, Linking, Answered, longer, gone_on, made, ends_with, after_news, after_move, linking}
+use Rattle.scenario_laws.specs.capture.specs.Pdus.{Pdu, piece_of, piece_in, pdus}
+use Rattle.scenario_laws.specs.capture.proofs.MoreLaws.{links-more}
+use Rattle.scenario_laws.specs.host_link.specs.Lines.{Line, longest_pdu}
+use Rattle.scenario_laws.specs.host_link.specs.CommandFlows.{is_number}
+use Rattle.scenario_laws.specs.host_link.specs.Hearing.{PlainNews, Nothing, LinkUp, LinkFailed, LinkDown, Pdu as News_pdu, connection_news, joined_news, piece_on, piece_news, event_news, news_of}
+use Rattle.scenario_laws.specs.host_link.specs.Stands.{Stands, JoinsOn, into}
+use Rattle.scenario_laws.specs.host_link.proofs.Standing.{At, here}
+use Rattle.scenario_laws.specs.world_model.specs.PerLink.{Linkage, with_moved, link_begins, link_ends}
+use Rattle.scenario_laws.specs.world_model.specs.Stations.{whole_in, gives}
+use Rattle.scenario_laws.specs.turn_laws.proofs.Linkages.{moved_none}
 use Rattle.unit_laws.proofs.Shown.{shown, begun_on, OnUp, always_up, Completes, completes_none, completes_one, goes_on, begun_stays}
 
 -- what news of the line add to the PDUs of the links

@@ -2,25 +2,25 @@
 use Rattle.std.proofs.Common.{◌≡◌, List, [], ◌∷◌, ◌++◌, map, Option, Some, None, sym, ap, subst, ◌∙◌, append_assoc}
 use Rattle.std.specs.List.{AllZip, flat_map}
 use Rattle.std.proofs.lemmas.List.Concat.{flat_map-append}
-use Rattle.push_terms.specs.declared.word.Side.{Side}
-use Rattle.push_terms.specs.declared.word.Side.TheVariants as sides
-use Rattle.capture.specs.Links.{Link, link_up}
-use Rattle.capture.specs.Pdus.{Pdu, pdus}
-use Rattle.link_talk.specs.Channels.{reading}
-use Rattle.link_talk.specs.Sayings.{Saying, said_by, talk}
-use Rattle.channel_model.specs.Changing.{held_at}
-use Rattle.channel_model.specs.Value.{Channels}
-use Rattle.channel_laws.specs.Runs.{run_of}
-use Rattle.channel_laws.specs.Views.{IsRead, read_at}
-use Rattle.channel_laws.proofs.Running.{channels-are_read}
-use Rattle.world_model.specs.Talks.{Talk}
-use Rattle.host_model.specs.Circumstances.{Circumstance}
-use Rattle.host_model.specs.Hosts.{Host}
-use Rattle.host_model.specs.Profiles.{Profile}
-use Rattle.host_laws.specs.Calls.{Asks}
-use Rattle.host_laws.specs.Lives.{Span}
-use Rattle.host_laws.specs.OverLinks.{parts, moved_in, IsTalkOf}
-use Rattle.host_laws.proofs.Asking.{hosts_ask}
+use Rattle.scenario_laws.specs.push_terms.specs.declared.word.Side.{Side}
+use Rattle.scenario_laws.specs.push_terms.specs.declared.word.Side.TheVariants as sides
+use Rattle.scenario_laws.specs.capture.specs.Links.{Link, link_up}
+use Rattle.scenario_laws.specs.capture.specs.Pdus.{Pdu, pdus}
+use Rattle.scenario_laws.specs.link_talk.specs.Channels.{reading}
+use Rattle.scenario_laws.specs.link_talk.specs.Sayings.{Saying, said_by, talk}
+use Rattle.scenario_laws.specs.channel_model.specs.Changing.{held_at}
+use Rattle.scenario_laws.specs.channel_model.specs.Value.{Channels}
+use Rattle.scenario_laws.specs.channel_laws.specs.Runs.{run_of}
+use Rattle.scenario_laws.specs.channel_laws.specs.Views.{IsRead, read_at}
+use Rattle.scenario_laws.specs.channel_laws.proofs.Running.{channels-are_read}
+use Rattle.scenario_laws.specs.world_model.specs.Talks.{Talk}
+use Rattle.scenario_laws.specs.host_model.specs.Circumstances.{Circumstance}
+use Rattle.scenario_laws.specs.host_model.specs.Hosts.{Host}
+use Rattle.scenario_laws.specs.host_model.specs.Profiles.{Profile}
+use Rattle.scenario_laws.specs.host_laws.specs.Calls.{Asks}
+use Rattle.scenario_laws.specs.host_laws.specs.Lives.{Span}
+use Rattle.scenario_laws.specs.host_laws.specs.OverLinks.{parts, moved_in, IsTalkOf}
+use Rattle.scenario_laws.specs.host_laws.proofs.Asking.{hosts_ask}
 use Rattle.scenario_laws.specs.Coming.{out_of, LastIsUp}
 use Rattle.scenario_laws.proofs.Gaining.{all-out, both_out}
 use Rattle.unit_laws.specs.Units.{Occasion, units, lone_capture}

@@ -3,23 +3,23 @@ use Rattle.std.proofs.Common.{◌≡◌, ℕ, ◌==◌, ◌&&◌, ◌||◌, ◌�
 use Rattle.std.proofs.lemmas.Bool.{cases_Bool, eqb-true}
 use Rattle.std.proofs.Math.Nat.{le-min}
 use Rattle.byteorder.specs.Endian.{little_number}
-use Rattle.bt_base.specs.Numbers.{IsHandle}
-use Rattle.h4_framing.specs.Packets.{Packet, Command, Acl, Sync, Event}
-use Rattle.hci_packets.specs.Events.{PlainEvent, ConnectionComplete, ConnectionRequest, DisconnectionComplete, CommandComplete, CommandStatus, CompletedPackets, Other, event_refusal}
-use Rattle.hci_packets.specs.declared.refusal.HciRefusal.{HciRefusal}
-use Rattle.hci_packets.specs.declared.refusal.HciRefusal.TheVariants.{ShortParams, LongParams, BadHandle}
-use Rattle.acl_credits.specs.Ledgers.{without}
-use Rattle.acl_fragments.specs.Pieces.{Piece, starts}
-use Rattle.acl_fragments.specs.Answers.{Answer, Pdu as Whole, More, Dropped, answer}
-use Rattle.host_link.specs.Lines.{Line, longest_pdu}
-use Rattle.host_link.specs.CommandFlows.{is_number, awaits, stated, answered}
-use Rattle.host_link.specs.declared.news.ControllerFault.{ControllerFault}
-use Rattle.host_link.specs.declared.news.ControllerFault.TheVariants.{CommandFailed, BadBuffers}
-use Rattle.host_link.specs.declared.returned.Returned.{Returned}
-use Rattle.host_link.specs.declared.returned.Returned.TheVariants.{Refused, Unlisted, Status, Buffers}
-use Rattle.host_link.specs.Returning.{returned_by, completes, buffers_fault, returned_fault}
-use Rattle.host_link.specs.EventReading.{event_in}
-use Rattle.host_link.specs.Hearing.{PlainNews, Nothing, LinkUp, LinkFailed, LinkDown, Pdu, with_flow, learn, after_answer, after_other, after_complete, complete_fault, after_status, connection_news, after_connection, disconnection_news, after_disconnection, may_accept, joined_news, piece_on, piece_news, after_piece, event_news, event_fault, after_event, news_of, fault_of, after_packet, unless_fault, heard}
+use Rattle.scenario_laws.specs.bt_base.specs.Numbers.{IsHandle}
+use Rattle.scenario_laws.specs.h4_framing.specs.Packets.{Packet, Command, Acl, Sync, Event}
+use Rattle.scenario_laws.specs.hci_packets.specs.Events.{PlainEvent, ConnectionComplete, ConnectionRequest, DisconnectionComplete, CommandComplete, CommandStatus, CompletedPackets, Other, event_refusal}
+use Rattle.scenario_laws.specs.hci_packets.specs.declared.refusal.HciRefusal.{HciRefusal}
+use Rattle.scenario_laws.specs.hci_packets.specs.declared.refusal.HciRefusal.TheVariants.{ShortParams, LongParams, BadHandle}
+use Rattle.scenario_laws.specs.acl_credits.specs.Ledgers.{without}
+use Rattle.scenario_laws.specs.acl_fragments.specs.Pieces.{Piece, starts}
+use Rattle.scenario_laws.specs.acl_fragments.specs.Answers.{Answer, Pdu as Whole, More, Dropped, answer}
+use Rattle.scenario_laws.specs.host_link.specs.Lines.{Line, longest_pdu}
+use Rattle.scenario_laws.specs.host_link.specs.CommandFlows.{is_number, awaits, stated, answered}
+use Rattle.scenario_laws.specs.host_link.specs.declared.news.ControllerFault.{ControllerFault}
+use Rattle.scenario_laws.specs.host_link.specs.declared.news.ControllerFault.TheVariants.{CommandFailed, BadBuffers}
+use Rattle.scenario_laws.specs.host_link.specs.declared.returned.Returned.{Returned}
+use Rattle.scenario_laws.specs.host_link.specs.declared.returned.Returned.TheVariants.{Refused, Unlisted, Status, Buffers}
+use Rattle.scenario_laws.specs.host_link.specs.Returning.{returned_by, completes, buffers_fault, returned_fault}
+use Rattle.scenario_laws.specs.host_link.specs.EventReading.{event_in}
+use Rattle.scenario_laws.specs.host_link.specs.Hearing.{PlainNews, Nothing, LinkUp, LinkFailed, LinkDown, Pdu, with_flow, learn, after_answer, after_other, after_complete, complete_fault, after_status, connection_news, after_connection, disconnection_news, after_disconnection, may_accept, joined_news, piece_on, piece_news, after_piece, event_news, event_fault, after_event, news_of, fault_of, after_packet, unless_fault, heard}
 
 -- a packet carries 27 octets at least, and where no link is up no piece waits
 pub record IsFit (line : Line) : Type 0 where

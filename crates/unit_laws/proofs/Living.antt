@@ -1,31 +1,31 @@
 -- Both hosts live through what their units say.
 use Rattle.std.proofs.Common.{false, List, [], ◌∷◌, map, Option}
-use Rattle.capture.specs.Entries.{Entry}
+use Rattle.scenario_laws.specs.capture.specs.Entries.{Entry}
 use Rattle.std.specs.List.{AllByRecursion}
-use Rattle.bt_base.specs.declared.settings.Settings.{Settings}
-use Rattle.bt_base.specs.Objects.{Contents}
-use Rattle.push_terms.specs.declared.word.Side.{Side}
-use Rattle.push_terms.specs.declared.word.Side.TheVariants as sides
-use Rattle.capture.specs.Links.{Link, links}
-use Rattle.capture.specs.Pdus.{Pdu, pdus}
-use Rattle.host_link.specs.declared.role.Role.{Role}
-use Rattle.host_link.specs.declared.role.Role.TheVariants.{Client, Server}
-use Rattle.host_model.specs.Circumstances.{Circumstance}
-use Rattle.host_model.specs.Clients.{ClientProfile, client_profile}
-use Rattle.host_model.specs.Hosts.{Host, first_host}
-use Rattle.host_model.specs.Machines.{upper}
-use Rattle.host_model.specs.Profiles.{Profile}
-use Rattle.host_model.specs.Servers.{ServerProfile, server_profile}
-use Rattle.host_model.proofs.Orderly.{says_frames}
-use Rattle.host_laws.specs.Acts.{Act, Acting}
-use Rattle.host_laws.specs.Calls.{Asks}
-use Rattle.host_laws.specs.Free.{HoldsBackNothing}
-use Rattle.host_laws.specs.OverLinks.{AreGentleUp}
-use Rattle.host_laws.specs.Read.{IsActSo, IsSoberPdu}
-use Rattle.host_laws.specs.Seen.{IsOneCommand, FiresPlainly}
-use Rattle.host_laws.proofs.Fitting.{IsProper, KeepsFit, AnyServer, IsLowClient}
-use Rattle.host_laws.proofs.Freeing.{hosts_hold_back_nothing, servers_fire_plainly, clients_fire_plainly}
-use Rattle.host_laws.proofs.OverLinks.{hosts_talk_over_links}
+use Rattle.scenario_laws.specs.bt_base.specs.declared.settings.Settings.{Settings}
+use Rattle.scenario_laws.specs.bt_base.specs.Objects.{Contents}
+use Rattle.scenario_laws.specs.push_terms.specs.declared.word.Side.{Side}
+use Rattle.scenario_laws.specs.push_terms.specs.declared.word.Side.TheVariants as sides
+use Rattle.scenario_laws.specs.capture.specs.Links.{Link, links}
+use Rattle.scenario_laws.specs.capture.specs.Pdus.{Pdu, pdus}
+use Rattle.scenario_laws.specs.host_link.specs.declared.role.Role.{Role}
+use Rattle.scenario_laws.specs.host_link.specs.declared.role.Role.TheVariants.{Client, Server}
+use Rattle.scenario_laws.specs.host_model.specs.Circumstances.{Circumstance}
+use Rattle.scenario_laws.specs.host_model.specs.Clients.{ClientProfile, client_profile}
+use Rattle.scenario_laws.specs.host_model.specs.Hosts.{Host, first_host}
+use Rattle.scenario_laws.specs.host_model.specs.Machines.{upper}
+use Rattle.scenario_laws.specs.host_model.specs.Profiles.{Profile}
+use Rattle.scenario_laws.specs.host_model.specs.Servers.{ServerProfile, server_profile}
+use Rattle.scenario_laws.specs.host_model.proofs.Orderly.{says_frames}
+use Rattle.scenario_laws.specs.host_laws.specs.Acts.{Act, Acting}
+use Rattle.scenario_laws.specs.host_laws.specs.Calls.{Asks}
+use Rattle.scenario_laws.specs.host_laws.specs.Free.{HoldsBackNothing}
+use Rattle.scenario_laws.specs.host_laws.specs.OverLinks.{AreGentleUp}
+use Rattle.scenario_laws.specs.host_laws.specs.Read.{IsActSo, IsSoberPdu}
+use Rattle.scenario_laws.specs.host_laws.specs.Seen.{IsOneCommand, FiresPlainly}
+use Rattle.scenario_laws.specs.host_laws.proofs.Fitting.{IsProper, KeepsFit, AnyServer, IsLowClient}
+use Rattle.scenario_laws.specs.host_laws.proofs.Freeing.{hosts_hold_back_nothing, servers_fire_plainly, clients_fire_plainly}
+use Rattle.scenario_laws.specs.host_laws.proofs.OverLinks.{hosts_talk_over_links}
 use Rattle.scenario_laws.specs.Coming.{CameOver}
 use Rattle.scenario_laws.proofs.FreeServers.{always-free}
 use Rattle.scenario_laws.proofs.Freeing.{all_one}

@@ -5,47 +5,47 @@ use Rattle.std.specs.Option.{option_map}
 use Rattle.std.proofs.lemmas.Bool.{eq-eqb}
 use Rattle.std.proofs.lemmas.List.{append-nil, append_cancel_left}
 use Rattle.std.proofs.lemmas.List.Concat.{flat_map-append}
-use Rattle.bt_base.specs.Numbers.{IsHandle}
-use Rattle.h4_framing.specs.Packets.{Packet, Acl, spelling, spellings, IsPacket}
-use Rattle.h4_framing.proofs.ExtentLemmas.{packet_long}
-use Rattle.h4_framing.proofs.SpellingLemmas.{one_spelling}
-use Rattle.hci_packets.specs.AclWords.{flag_of, acl_word_of}
-use Rattle.hci_packets.specs.Commands.{command_refusal, opcode_of, command_params}
-use Rattle.hci_packets.specs.declared.acl.Boundary.{Boundary}
-use Rattle.hci_packets.specs.declared.acl.Boundary.TheVariants.{First, Continuing, FirstFromController}
-use Rattle.acl_fragments.specs.Pieces.{Piece, starts}
-use Rattle.acl_fragments.specs.Answers.{Answer, Pdu as Whole, More, Dropped, answer}
-use Rattle.push_terms.specs.declared.word.Side.{Side}
-use Rattle.push_terms.specs.declared.word.Side.TheVariants as sides
-use Rattle.capture.specs.declared.flow.Flow.TheVariants.{Out}
-use Rattle.capture.specs.Moves.{Move, moves}
-use Rattle.capture.specs.Links.{links, Link, Linking, Asked, NoNews, longer, gone_on, after_news, after_move, linking}
-use Rattle.capture.specs.Pdus.{pdu_limit, piece_of, pdus}
-use Rattle.capture.specs.Pdus as moves_of
-use Rattle.capture.proofs.MoreLaws.{links-more}
-use Rattle.host_link.specs.declared.role.Role.{Role}
-use Rattle.host_link.specs.declared.host_command.HostCommand.{HostCommand}
-use Rattle.host_link.specs.Hearing.{PlainNews, Nothing, LinkUp, LinkFailed, LinkDown, Pdu, news_of, heard}
-use Rattle.host_link.specs.HostCommands.{command_of, command_packet}
-use Rattle.host_link.specs.Lines.{Line, fresh}
-use Rattle.host_link.specs.PuttingOut.{piece_packet, with_piece, with_next, with_pdu}
-use Rattle.host_link.specs.Stands.{Stands, into, out_of, Says as Says_units}
-use Rattle.host_link.proofs.HeardPackets.{heard_stands}
-use Rattle.host_link.proofs.Saying.{command_says, piece_says}
-use Rattle.host_link.proofs.Standing.{stands_alike}
-use Rattle.world_model.specs.Machines.{Upper, News, LinkEvent, Up, Down, Linked, Failed, Heard, TimerFired, Cancelled, Opening}
-use Rattle.world_model.specs.Talks.{Talk, Told, Said, Unsent}
-use Rattle.world_model.specs.Carriages.{linked_by}
-use Rattle.world_model.specs.PerLink.{Linkage, with_moved, linkage_after, linkage, captured}
-use Rattle.world_model.specs.Stations.{whole_in, gives, holds}
-use Rattle.turn_laws.proofs.Joining.{completions, cut_comes}
-use Rattle.turn_laws.proofs.Linkages.{linkage_one, linkage_ended, moved_none}
-use Rattle.turn_laws.proofs.Showing.{piece_packet_is}
-use Rattle.turn_laws.specs.Premises.{SaysFrames}
-use Rattle.host_laws.specs.Acts.{Act, Hears}
-use Rattle.host_laws.specs.Calm.{pdus_in}
-use Rattle.host_laws.specs.OverLinks.{IsTimely, parts}
-use Rattle.host_laws.specs.Turning.{IsHeardInQuiet}
+use Rattle.scenario_laws.specs.bt_base.specs.Numbers.{IsHandle}
+use Rattle.scenario_laws.specs.h4_framing.specs.Packets.{Packet, Acl, spelling, spellings, IsPacket}
+use Rattle.scenario_laws.specs.h4_framing.proofs.ExtentLemmas.{packet_long}
+use Rattle.scenario_laws.specs.h4_framing.proofs.SpellingLemmas.{one_spelling}
+use Rattle.scenario_laws.specs.hci_packets.specs.AclWords.{flag_of, acl_word_of}
+use Rattle.scenario_laws.specs.hci_packets.specs.Commands.{command_refusal, opcode_of, command_params}
+use Rattle.scenario_laws.specs.hci_packets.specs.declared.acl.Boundary.{Boundary}
+use Rattle.scenario_laws.specs.hci_packets.specs.declared.acl.Boundary.TheVariants.{First, Continuing, FirstFromController}
+use Rattle.scenario_laws.specs.acl_fragments.specs.Pieces.{Piece, starts}
+use Rattle.scenario_laws.specs.acl_fragments.specs.Answers.{Answer, Pdu as Whole, More, Dropped, answer}
+use Rattle.scenario_laws.specs.push_terms.specs.declared.word.Side.{Side}
+use Rattle.scenario_laws.specs.push_terms.specs.declared.word.Side.TheVariants as sides
+use Rattle.scenario_laws.specs.capture.specs.declared.flow.Flow.TheVariants.{Out}
+use Rattle.scenario_laws.specs.capture.specs.Moves.{Move, moves}
+use Rattle.scenario_laws.specs.capture.specs.Links.{links, Link, Linking, Asked, NoNews, longer, gone_on, after_news, after_move, linking}
+use Rattle.scenario_laws.specs.capture.specs.Pdus.{pdu_limit, piece_of, pdus}
+use Rattle.scenario_laws.specs.capture.specs.Pdus as moves_of
+use Rattle.scenario_laws.specs.capture.proofs.MoreLaws.{links-more}
+use Rattle.scenario_laws.specs.host_link.specs.declared.role.Role.{Role}
+use Rattle.scenario_laws.specs.host_link.specs.declared.host_command.HostCommand.{HostCommand}
+use Rattle.scenario_laws.specs.host_link.specs.Hearing.{PlainNews, Nothing, LinkUp, LinkFailed, LinkDown, Pdu, news_of, heard}
+use Rattle.scenario_laws.specs.host_link.specs.HostCommands.{command_of, command_packet}
+use Rattle.scenario_laws.specs.host_link.specs.Lines.{Line, fresh}
+use Rattle.scenario_laws.specs.host_link.specs.PuttingOut.{piece_packet, with_piece, with_next, with_pdu}
+use Rattle.scenario_laws.specs.host_link.specs.Stands.{Stands, into, out_of, Says as Says_units}
+use Rattle.scenario_laws.specs.host_link.proofs.HeardPackets.{heard_stands}
+use Rattle.scenario_laws.specs.host_link.proofs.Saying.{command_says, piece_says}
+use Rattle.scenario_laws.specs.host_link.proofs.Standing.{stands_alike}
+use Rattle.scenario_laws.specs.world_model.specs.Machines.{Upper, News, LinkEvent, Up, Down, Linked, Failed, Heard, TimerFired, Cancelled, Opening}
+use Rattle.scenario_laws.specs.world_model.specs.Talks.{Talk, Told, Said, Unsent}
+use Rattle.scenario_laws.specs.world_model.specs.Carriages.{linked_by}
+use Rattle.scenario_laws.specs.world_model.specs.PerLink.{Linkage, with_moved, linkage_after, linkage, captured}
+use Rattle.scenario_laws.specs.world_model.specs.Stations.{whole_in, gives, holds}
+use Rattle.scenario_laws.specs.turn_laws.proofs.Joining.{completions, cut_comes}
+use Rattle.scenario_laws.specs.turn_laws.proofs.Linkages.{linkage_one, linkage_ended, moved_none}
+use Rattle.scenario_laws.specs.turn_laws.proofs.Showing.{piece_packet_is}
+use Rattle.scenario_laws.specs.turn_laws.specs.Premises.{SaysFrames}
+use Rattle.scenario_laws.specs.host_laws.specs.Acts.{Act, Hears}
+use Rattle.scenario_laws.specs.host_laws.specs.Calm.{pdus_in}
+use Rattle.scenario_laws.specs.host_laws.specs.OverLinks.{IsTimely, parts}
+use Rattle.scenario_laws.specs.host_laws.specs.Turning.{IsHeardInQuiet}
 use Rattle.scenario_laws.specs.Coming.{FallTo, LastIsUp}
 use Rattle.scenario_laws.proofs.Acting.{Anyhow, Acted, IsAside, IsNewsSo, first_acted, went_all, hears_acted, moves_acted, says_acted, tells_acted}
 use Rattle.scenario_laws.proofs.Coming.{captured_links, up_last}

@@ -4,17 +4,17 @@ use Rattle.std.specs.Option.{option_map}
 use Rattle.std.specs.List.{cons_option}
 use Rattle.std.proofs.lemmas.List.{append-nil}
 use Rattle.std.proofs.lemmas.List.Elements.{filter_map-append}
-use Rattle.acl_fragments.specs.Pieces.{Piece, starts}
-use Rattle.acl_fragments.specs.Answers.{Answer, Pdu as Whole, More, Dropped, answer, open_after}
-use Rattle.acl_fragments.proofs.Holding.{open_after-append}
-use Rattle.capture.specs.declared.flow.Flow.{Flow}
-use Rattle.capture.specs.declared.flow.Flow.TheVariants.{Out}
-use Rattle.capture.specs.Moves.{Move}
-use Rattle.capture.specs.Links.{Link, Linking, longer, gone_on}
-use Rattle.capture.specs.Pdus.{Pdu, pdu_limit, piece_of, piece_in, pieces, whole_of, completed, completed_by, pdus}
-use Rattle.capture.proofs.MoreLaws.{pdus-more}
-use Rattle.world_model.specs.PerLink.{Linkage, pdus_of, with_moved}
-use Rattle.world_model.specs.Stations.{whole_in, gives, holds}
+use Rattle.scenario_laws.specs.acl_fragments.specs.Pieces.{Piece, starts}
+use Rattle.scenario_laws.specs.acl_fragments.specs.Answers.{Answer, Pdu as Whole, More, Dropped, answer, open_after}
+use Rattle.scenario_laws.specs.acl_fragments.proofs.Holding.{open_after-append}
+use Rattle.scenario_laws.specs.capture.specs.declared.flow.Flow.{Flow}
+use Rattle.scenario_laws.specs.capture.specs.declared.flow.Flow.TheVariants.{Out}
+use Rattle.scenario_laws.specs.capture.specs.Moves.{Move}
+use Rattle.scenario_laws.specs.capture.specs.Links.{Link, Linking, longer, gone_on}
+use Rattle.scenario_laws.specs.capture.specs.Pdus.{Pdu, pdu_limit, piece_of, piece_in, pieces, whole_of, completed, completed_by, pdus}
+use Rattle.scenario_laws.specs.capture.proofs.MoreLaws.{pdus-more}
+use Rattle.scenario_laws.specs.world_model.specs.PerLink.{Linkage, pdus_of, with_moved}
+use Rattle.scenario_laws.specs.world_model.specs.Stations.{whole_in, gives, holds}
 
 -- the PDUs of the links, as the units of the host show them
 abbrev pub shown : Linking → Linkage

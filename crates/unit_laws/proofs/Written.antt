@@ -5,31 +5,31 @@ use Rattle.std.proofs.Math.Nat.{min-le_right}
 use Rattle.std.proofs.lemmas.Bool.{cases_Bool, eqb-true}
 use Rattle.std.proofs.lemmas.List.{length-take}
 use Rattle.byteorder.specs.Endian.{little_number}
-use Rattle.bt_base.specs.Numbers.{IsHandle}
-use Rattle.bt_base.specs.Octets.{IsOctets, le16}
-use Rattle.h4_framing.specs.Packets.{Packet, Command, Acl, Sync, Event, IsPacket}
-use Rattle.h4_framing.proofs.OctetLists.{IsOctets-append, IsOctets-cons, IsOctets-drop, IsOctets-nil, IsOctets-take}
-use Rattle.hci_packets.specs.declared.acl.Boundary.{Boundary}
-use Rattle.hci_packets.specs.declared.acl.Boundary.TheVariants.{Continuing}
-use Rattle.hci_packets.specs.declared.refusal.HciRefusal.{HciRefusal}
-use Rattle.hci_packets.specs.declared.refusal.HciRefusal.TheVariants.{ShortParams, LongParams}
-use Rattle.hci_packets.specs.Events.{PlainEvent, ConnectionComplete, ConnectionRequest, DisconnectionComplete, CommandComplete, CommandStatus, CompletedPackets, Other, event_refusal}
-use Rattle.acl_credits.specs.Ledgers.{without}
-use Rattle.acl_fragments.specs.Pieces.{Piece}
-use Rattle.acl_fragments.specs.Cuts.{first_pieces}
-use Rattle.host_link.specs.declared.host_command.HostCommand.{HostCommand}
-use Rattle.host_link.specs.declared.host_command.HostCommand.TheVariants.{Reset, ReadBufferSize, ReadBdAddr, WriteScanEnable, CreateConnection, AcceptConnection, Disconnect}
-use Rattle.host_link.specs.declared.news.ControllerFault.{ControllerFault}
-use Rattle.host_link.specs.declared.returned.Returned.{Returned}
-use Rattle.host_link.specs.declared.returned.Returned.TheVariants.{Refused, Unlisted, Status, Buffers}
-use Rattle.host_link.specs.CommandFlows.{Flow, with_command, awaits, stated, answered, is_number}
-use Rattle.host_link.specs.EventReading.{event_in}
-use Rattle.host_link.specs.Hearing.{with_flow, after_answer, after_other, may_accept, piece_on, after_piece, after_event, after_packet, fault_of, news_of, unless_fault, heard}
-use Rattle.host_link.specs.HostCommands.{start_commands}
-use Rattle.host_link.specs.Lines.{Line}
-use Rattle.host_link.specs.Returning.{returned_by, completes}
-use Rattle.host_link.specs.declared.role.Role.{Role}
-use Rattle.host_link.specs.declared.role.Role.TheVariants.{Client, Server}
+use Rattle.scenario_laws.specs.bt_base.specs.Numbers.{IsHandle}
+use Rattle.scenario_laws.specs.bt_base.specs.Octets.{IsOctets, le16}
+use Rattle.scenario_laws.specs.h4_framing.specs.Packets.{Packet, Command, Acl, Sync, Event, IsPacket}
+use Rattle.scenario_laws.specs.h4_framing.proofs.OctetLists.{IsOctets-append, IsOctets-cons, IsOctets-drop, IsOctets-nil, IsOctets-take}
+use Rattle.scenario_laws.specs.hci_packets.specs.declared.acl.Boundary.{Boundary}
+use Rattle.scenario_laws.specs.hci_packets.specs.declared.acl.Boundary.TheVariants.{Continuing}
+use Rattle.scenario_laws.specs.hci_packets.specs.declared.refusal.HciRefusal.{HciRefusal}
+use Rattle.scenario_laws.specs.hci_packets.specs.declared.refusal.HciRefusal.TheVariants.{ShortParams, LongParams}
+use Rattle.scenario_laws.specs.hci_packets.specs.Events.{PlainEvent, ConnectionComplete, ConnectionRequest, DisconnectionComplete, CommandComplete, CommandStatus, CompletedPackets, Other, event_refusal}
+use Rattle.scenario_laws.specs.acl_credits.specs.Ledgers.{without}
+use Rattle.scenario_laws.specs.acl_fragments.specs.Pieces.{Piece}
+use Rattle.scenario_laws.specs.acl_fragments.specs.Cuts.{first_pieces}
+use Rattle.scenario_laws.specs.host_link.specs.declared.host_command.HostCommand.{HostCommand}
+use Rattle.scenario_laws.specs.host_link.specs.declared.host_command.HostCommand.TheVariants.{Reset, ReadBufferSize, ReadBdAddr, WriteScanEnable, CreateConnection, AcceptConnection, Disconnect}
+use Rattle.scenario_laws.specs.host_link.specs.declared.news.ControllerFault.{ControllerFault}
+use Rattle.scenario_laws.specs.host_link.specs.declared.returned.Returned.{Returned}
+use Rattle.scenario_laws.specs.host_link.specs.declared.returned.Returned.TheVariants.{Refused, Unlisted, Status, Buffers}
+use Rattle.scenario_laws.specs.host_link.specs.CommandFlows.{Flow, with_command, awaits, stated, answered, is_number}
+use Rattle.scenario_laws.specs.host_link.specs.EventReading.{event_in}
+use Rattle.scenario_laws.specs.host_link.specs.Hearing.{with_flow, after_answer, after_other, may_accept, piece_on, after_piece, after_event, after_packet, fault_of, news_of, unless_fault, heard}
+use Rattle.scenario_laws.specs.host_link.specs.HostCommands.{start_commands}
+use Rattle.scenario_laws.specs.host_link.specs.Lines.{Line}
+use Rattle.scenario_laws.specs.host_link.specs.Returning.{returned_by, completes}
+use Rattle.scenario_laws.specs.host_link.specs.declared.role.Role.{Role}
+use Rattle.scenario_laws.specs.host_link.specs.declared.role.Role.TheVariants.{Client, Server}
 use Rattle.unit_laws.specs.Calls.{FitsPacket, CanGo, IsWritable}
 use Rattle.unit_laws.proofs.Lining.{IsFit, heard_line}
 use Rattle.unit_laws.proofs.Running.{low_news, fit_news}

@@ -2,18 +2,18 @@
 -- it puts out are those of these (Core 5.1, Volume 4 Part A, 2).
 use Rattle.std.specs.Prelude.{ℕ, ◌≡◌, ◌≤◌, true, List, [], ◌∷◌, ◌++◌, map, length, Option, Some, None}
 use Rattle.std.specs.List.{AllByRecursion, flat_map}
-use Rattle.bt_base.specs.Numbers.{IsHandle}
-use Rattle.bt_base.specs.Octets.{IsOctets}
-use Rattle.h4_framing.specs.Packets.{Packet, spellings, IsPacket}
-use Rattle.acl_fragments.specs.Pieces.{Piece}
-use Rattle.host_link.specs.declared.role.Role.{Role}
-use Rattle.host_link.specs.declared.host_command.HostCommand.{HostCommand}
-use Rattle.host_link.specs.Hearing.{fault_of, news_of}
-use Rattle.host_link.specs.HostCommands.{command_packet, IsWhole}
-use Rattle.host_link.specs.Lines.{Line}
-use Rattle.host_link.specs.PuttingOut.{can_take_pdu, take_pdu, put_pieces, put_command, connecting, leaving}
-use Rattle.host_link.specs.Stands.{into, out_of}
-use Rattle.world_model.specs.Machines.{Upper}
+use Rattle.scenario_laws.specs.bt_base.specs.Numbers.{IsHandle}
+use Rattle.scenario_laws.specs.bt_base.specs.Octets.{IsOctets}
+use Rattle.scenario_laws.specs.h4_framing.specs.Packets.{Packet, spellings, IsPacket}
+use Rattle.scenario_laws.specs.acl_fragments.specs.Pieces.{Piece}
+use Rattle.scenario_laws.specs.host_link.specs.declared.role.Role.{Role}
+use Rattle.scenario_laws.specs.host_link.specs.declared.host_command.HostCommand.{HostCommand}
+use Rattle.scenario_laws.specs.host_link.specs.Hearing.{fault_of, news_of}
+use Rattle.scenario_laws.specs.host_link.specs.HostCommands.{command_packet, IsWhole}
+use Rattle.scenario_laws.specs.host_link.specs.Lines.{Line}
+use Rattle.scenario_laws.specs.host_link.specs.PuttingOut.{can_take_pdu, take_pdu, put_pieces, put_command, connecting, leaving}
+use Rattle.scenario_laws.specs.host_link.specs.Stands.{into, out_of}
+use Rattle.scenario_laws.specs.world_model.specs.Machines.{Upper}
 use Rattle.unit_laws.specs.Laws.{FiresNone}
 use Rattle.unit_laws.specs.Units.{Lined, starting, Occasion, Comes, Learns, Says, Puts, Commands, Waits, units, after_unit, Runs, IsToldInTurn, ComesInTurn}
 

@@ -1,23 +1,23 @@
 -- What the inbox of a server gains, and what a client comes to, read off their own units (Object Push Profile 1.2, 4.3; IrOBEX 1.5, 3.4.3).
 use Rattle.std.specs.Prelude.{◌≡◌, List, ◌++◌, Some}
 use Rattle.std.specs.List.{AllByRecursion, flat_map}
-use Rattle.bt_base.specs.declared.settings.Settings.{Settings}
-use Rattle.bt_base.specs.declared.settings.Transport.TheVariants.{L2cap}
-use Rattle.bt_base.specs.Objects.{Object}
-use Rattle.push_terms.specs.declared.word.Side.TheVariants as sides
-use Rattle.capture.specs.Entries.{Entry}
-use Rattle.link_talk.specs.Captures.{talks, objects_heard}
-use Rattle.host_link.specs.declared.role.Role.TheVariants.{Client, Server}
-use Rattle.host_model.specs.Circumstances.{Circumstance}
-use Rattle.host_model.specs.Hosts.{Host}
-use Rattle.host_model.specs.Clients.{ClientProfile, client_profile}
-use Rattle.host_model.specs.Servers.{ServerProfile}
-use Rattle.push_laws.specs.Laws.{stored_in}
-use Rattle.push_model.specs.Client.{new_client}
-use Rattle.host_laws.specs.Calls.{HostsAsk}
-use Rattle.host_laws.specs.InOrder.{AsksForOneObject}
-use Rattle.host_laws.specs.OverLinks.{talk_marks}
-use Rattle.host_laws.specs.Pushing.{client_behind, pushed}
+use Rattle.scenario_laws.specs.bt_base.specs.declared.settings.Settings.{Settings}
+use Rattle.scenario_laws.specs.bt_base.specs.declared.settings.Transport.TheVariants.{L2cap}
+use Rattle.scenario_laws.specs.bt_base.specs.Objects.{Object}
+use Rattle.scenario_laws.specs.push_terms.specs.declared.word.Side.TheVariants as sides
+use Rattle.scenario_laws.specs.capture.specs.Entries.{Entry}
+use Rattle.scenario_laws.specs.link_talk.specs.Captures.{talks, objects_heard}
+use Rattle.scenario_laws.specs.host_link.specs.declared.role.Role.TheVariants.{Client, Server}
+use Rattle.scenario_laws.specs.host_model.specs.Circumstances.{Circumstance}
+use Rattle.scenario_laws.specs.host_model.specs.Hosts.{Host}
+use Rattle.scenario_laws.specs.host_model.specs.Clients.{ClientProfile, client_profile}
+use Rattle.scenario_laws.specs.host_model.specs.Servers.{ServerProfile}
+use Rattle.scenario_laws.specs.push_laws.specs.Laws.{stored_in}
+use Rattle.scenario_laws.specs.push_model.specs.Client.{new_client}
+use Rattle.scenario_laws.specs.host_laws.specs.Calls.{HostsAsk}
+use Rattle.scenario_laws.specs.host_laws.specs.InOrder.{AsksForOneObject}
+use Rattle.scenario_laws.specs.host_laws.specs.OverLinks.{talk_marks}
+use Rattle.scenario_laws.specs.host_laws.specs.Pushing.{client_behind, pushed}
 use Rattle.scenario_laws.specs.FreeServers.{ServesAnyhow}
 use Rattle.scenario_laws.specs.Gains.{serving}
 use Rattle.scenario_laws.specs.Parties.{party_of}

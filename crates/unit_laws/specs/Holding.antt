@@ -1,23 +1,23 @@
 -- What the channels of a host are, read off its own units (Core 5.1, Volume 3 Part A, 4 and 7).
 use Rattle.std.specs.Prelude.{ℕ, ◌≡◌, true, false, List, ◌++◌, Option, Some, None}
 use Rattle.std.specs.List.{AllByRecursion}
-use Rattle.bt_base.specs.declared.settings.Settings.{Settings}
-use Rattle.bt_base.specs.Objects.{Contents}
-use Rattle.push_terms.specs.declared.word.Side.TheVariants as sides
-use Rattle.capture.specs.Links.{Link, link_up}
-use Rattle.link_talk.specs.Channels.{reading}
-use Rattle.link_talk.specs.Sayings.{Saying, talk}
-use Rattle.channel_model.specs.Changing.{held_at}
-use Rattle.channel_model.specs.Policies.{Policy, policy}
-use Rattle.channel_model.specs.Value.{Channels}
-use Rattle.channel_laws.specs.Views.{IsRead, read_at}
-use Rattle.host_link.specs.declared.role.Role.TheVariants.{Client, Server}
-use Rattle.host_model.specs.Circumstances.{Circumstance}
-use Rattle.host_model.specs.Hosts.{Host}
-use Rattle.host_model.specs.Clients.{ClientProfile, client_profile}
-use Rattle.host_model.specs.Servers.{ServerProfile, server_profile}
-use Rattle.host_laws.specs.OverLinks.{GoesOut}
-use Rattle.host_laws.specs.Seen.{spoken_of}
+use Rattle.scenario_laws.specs.bt_base.specs.declared.settings.Settings.{Settings}
+use Rattle.scenario_laws.specs.bt_base.specs.Objects.{Contents}
+use Rattle.scenario_laws.specs.push_terms.specs.declared.word.Side.TheVariants as sides
+use Rattle.scenario_laws.specs.capture.specs.Links.{Link, link_up}
+use Rattle.scenario_laws.specs.link_talk.specs.Channels.{reading}
+use Rattle.scenario_laws.specs.link_talk.specs.Sayings.{Saying, talk}
+use Rattle.scenario_laws.specs.channel_model.specs.Changing.{held_at}
+use Rattle.scenario_laws.specs.channel_model.specs.Policies.{Policy, policy}
+use Rattle.scenario_laws.specs.channel_model.specs.Value.{Channels}
+use Rattle.scenario_laws.specs.channel_laws.specs.Views.{IsRead, read_at}
+use Rattle.scenario_laws.specs.host_link.specs.declared.role.Role.TheVariants.{Client, Server}
+use Rattle.scenario_laws.specs.host_model.specs.Circumstances.{Circumstance}
+use Rattle.scenario_laws.specs.host_model.specs.Hosts.{Host}
+use Rattle.scenario_laws.specs.host_model.specs.Clients.{ClientProfile, client_profile}
+use Rattle.scenario_laws.specs.host_model.specs.Servers.{ServerProfile, server_profile}
+use Rattle.scenario_laws.specs.host_laws.specs.OverLinks.{GoesOut}
+use Rattle.scenario_laws.specs.host_laws.specs.Seen.{spoken_of}
 use Rattle.unit_laws.specs.Units.{Lined, Occasion, units, lone_capture}
 use Rattle.unit_laws.specs.Living.{Did, HaveCommands}
 

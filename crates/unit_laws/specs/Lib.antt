@@ -1,3 +1,4 @@
+pub use Rattle.scenario_laws
 pub mod Units
 pub mod Laws
 pub mod Calls

@@ -2,20 +2,20 @@
 -- (Core 5.1, Volume 4 Part A, 2; Volume 2 Part E, 4.1.1, 4.4 and 5.4.2).
 use Rattle.std.specs.Prelude.{ℕ, ◌≡◌, List, [], ◌∷◌, map, Some, None}
 use Rattle.std.specs.List.{flat_map}
-use Rattle.h4_framing.specs.Packets.{Packet, IsPacket}
-use Rattle.acl_fragments.specs.Pieces.{Piece}
-use Rattle.push_terms.specs.declared.word.Side.{Side}
-use Rattle.capture.specs.Entries.{Entry, Moved}
-use Rattle.capture.specs.Moves.{Move}
-use Rattle.host_link.specs.declared.role.Role.{Role}
-use Rattle.host_link.specs.declared.host_command.HostCommand.{HostCommand}
-use Rattle.host_link.specs.CommandFlows.{next_command}
-use Rattle.host_link.specs.Hearing.{PlainNews, Nothing, LinkUp, LinkFailed, LinkDown, Pdu, fault_of, news_of, heard}
-use Rattle.host_link.specs.HostCommands.{command_packet, IsWhole}
-use Rattle.host_link.specs.Lines.{Line, fresh}
-use Rattle.host_link.specs.PuttingOut.{piece_packet, with_piece, with_next, with_pdu}
-use Rattle.host_link.specs.Stands.{into, out_of}
-use Rattle.world_model.specs.Machines.{News, Linked, Up, Down, Failed, Heard, TimerFired, Cancelled, Opening, Upper}
+use Rattle.scenario_laws.specs.h4_framing.specs.Packets.{Packet, IsPacket}
+use Rattle.scenario_laws.specs.acl_fragments.specs.Pieces.{Piece}
+use Rattle.scenario_laws.specs.push_terms.specs.declared.word.Side.{Side}
+use Rattle.scenario_laws.specs.capture.specs.Entries.{Entry, Moved}
+use Rattle.scenario_laws.specs.capture.specs.Moves.{Move}
+use Rattle.scenario_laws.specs.host_link.specs.declared.role.Role.{Role}
+use Rattle.scenario_laws.specs.host_link.specs.declared.host_command.HostCommand.{HostCommand}
+use Rattle.scenario_laws.specs.host_link.specs.CommandFlows.{next_command}
+use Rattle.scenario_laws.specs.host_link.specs.Hearing.{PlainNews, Nothing, LinkUp, LinkFailed, LinkDown, Pdu, fault_of, news_of, heard}
+use Rattle.scenario_laws.specs.host_link.specs.HostCommands.{command_packet, IsWhole}
+use Rattle.scenario_laws.specs.host_link.specs.Lines.{Line, fresh}
+use Rattle.scenario_laws.specs.host_link.specs.PuttingOut.{piece_packet, with_piece, with_next, with_pdu}
+use Rattle.scenario_laws.specs.host_link.specs.Stands.{into, out_of}
+use Rattle.scenario_laws.specs.world_model.specs.Machines.{News, Linked, Up, Down, Failed, Heard, TimerFired, Cancelled, Opening, Upper}
 
 -- a machine above its line
 pub record Lined (S : Type 0) : Type 0 where

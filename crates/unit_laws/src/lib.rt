@@ -7,7 +7,7 @@ ghost use Rattle.unit_laws.specs.Gaining.{ClientsCome, ServersGain};
 ghost use Rattle.unit_laws.specs.Holding.{ChannelsAreSeen};
 ghost use Rattle.unit_laws.specs.Laws.{LinesAreRead, UnitsAreTalk};
 ghost use Rattle.unit_laws.specs.Living.{HostsLiveByUnits};
-ghost use Rattle.world_model.specs.Machines.{Upper};
+ghost use Rattle.scenario_laws.specs.world_model.specs.Machines.{Upper};
 
 /// Whatever comes to a host, and whatever it does, its ledger is what its units say, and so are its link and the PDU that is coming in.
 pub fn lines_are_read<S, G>()

@@ -4,7 +4,7 @@ ghost use Rattle.std.specs.Prelude.{◌≡◌, ◌≤◌};
 ghost use Rattle.push_model.specs.Events.{own_frame, muxed_anew, object_opened, opened_at, search_closed, closed_at, hears_object, hears_outside, sdu_at};
 ghost use Rattle.push_model.specs.Causes.{cause_of_close};
 ghost use Rattle.push_model.specs.Responding.{hears_frame, hears_up, hears_end, is_left};
-ghost use Rattle.rfcomm_model.specs.Hearing.{up, hears};
+ghost use Rattle.push_model.specs.rfcomm_model.specs.Hearing.{up, hears};
 
 use super::{FRAME_SIZE, LONGEST_PACKET, PushClient, SEARCH_PSM};
 use crate::causes::{of_close, of_mux, small_channel, unawaited_response};

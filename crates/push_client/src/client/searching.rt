@@ -1,7 +1,7 @@
 //! A client searches for the way to its server.
 
 ghost use Rattle.std.specs.Prelude.{◌≡◌, false, List};
-ghost use Rattle.sdp_elements.specs.Targets.{is_service_psm, is_server_channel, kept};
+ghost use Rattle.push_model.specs.sdp_elements.specs.Targets.{is_service_psm, is_server_channel, kept};
 ghost use Rattle.push_model.specs.Events.{kept_of, found_psm, found_channel, found_way, finds, hears_reply, fires};
 ghost use Rattle.push_model.specs.Steps.{Part, steps_search};
 ghost use Rattle.push_model.specs.declared.course.Stage.TheVariants.{Search};

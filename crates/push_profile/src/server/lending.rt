@@ -1,7 +1,7 @@
 //! What a server sends.
 
 ghost use Rattle.std.specs.Prelude.{◌≡◌, None};
-ghost use Rattle.rfcomm_model.specs.Saying.{next};
+ghost use Rattle.push_model.specs.rfcomm_model.specs.Saying.{next};
 ghost use Rattle.push_model.specs.Server.{filled, said_on, breaks_now, framed, outlet_of, lends, stepped, lent_sdu};
 ghost use Rattle.bt_base.specs.Numbers.{IsPsm};
 ghost use Rattle.push_profile.specs.Serving.{IsPsmOf, AreLent};

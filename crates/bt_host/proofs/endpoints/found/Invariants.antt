@@ -1,5 +1,5 @@
 use Rattle.std.proofs.Common.{◌≡◌, length}
-use Rattle.host_model.specs.Endpoints.{endpoint_of}
+use Rattle.shelf_model.specs.host_model.specs.Endpoints.{endpoint_of}
 use Rattle.bt_host.specs.EndpointLists.{endpoints_of}
 use Rattle.bt_host.proofs.endpoints.found.Given as goal
 

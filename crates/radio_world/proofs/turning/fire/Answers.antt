@@ -1,7 +1,7 @@
 use Rattle.std.proofs.Common.{sym, ◌∙◌}
-use Rattle.world_model.specs.Machines.{TimerFired}
-use Rattle.world_model.specs.Stations.{told}
-use Rattle.world_model.specs.Worlds.{fired}
+use Rattle.room_laws.specs.world_model.specs.Machines.{TimerFired}
+use Rattle.room_laws.specs.world_model.specs.Stations.{told}
+use Rattle.room_laws.specs.world_model.specs.Worlds.{fired}
 use Rattle.radio_world.specs.Hosts.{answering}
 use Rattle.radio_world.proofs.Reacting.{reacts_not, reacts_as, not_fired, is_fired}
 use Rattle.radio_world.proofs.turning.fire.Goals as goal

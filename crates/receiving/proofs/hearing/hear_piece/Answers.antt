@@ -1,6 +1,6 @@
 use Rattle.std.proofs.Common.{◌≡◌, ◌+◌, ◌∙◌, List, ℕ, [], ◌∷◌, ◌++◌, get_or, take, drop, sym, ap, subst, refl, arith, length-append, take-append-drop}
 use Rattle.std.proofs.lemmas.List.{take_more, length-take, take_all}
-use Rattle.host_model.specs.Profiles.{Profile}
+use Rattle.bt_host.specs.host_model.specs.Profiles.{Profile}
 use Rattle.receiving.specs.Faring.{Fares, HearsOctet}
 use Rattle.std.specs.Prelude.{Err}
 use Rattle.receiving.proofs.Counting.{steady_faults, steady_shortages, counts_behind, lacked_behind}

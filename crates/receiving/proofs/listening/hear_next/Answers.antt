@@ -1,7 +1,7 @@
 use Rattle.std.proofs.Common.{◌≡◌, ◌≤◌, ◌+◌, ◌∙◌, ℕ, Ok, Err, length, take, ap, subst, arith, refl}
 use Rattle.std.proofs.lemmas.List.{length-take}
 use Rattle.h4_framing.specs.Framing.{Framing}
-use Rattle.h4_view.specs.View.{Took}
+use Rattle.btpush_forms.specs.h4_view.specs.View.{Took}
 use Rattle.receiving.specs.declared.fault.ListenFault.TheVariants.{WriteFault}
 use Rattle.receiving.specs.Coming.{input_limit}
 use Rattle.receiving.specs.Faring.{EndsHeld}

@@ -1,6 +1,6 @@
 use Rattle.std.proofs.Common.{◌∙◌, Bool, Ok, Err, Result, refl, sym, ap, subst, arith}
 use Rattle.h4_framing.specs.Framing.{Framing}
-use Rattle.host_model.specs.Profiles.{Profile}
+use Rattle.bt_host.specs.host_model.specs.Profiles.{Profile}
 use Rattle.receiving.specs.declared.fault.ListenFault.{ListenFault}
 use Rattle.receiving.specs.declared.fault.ListenFault.TheVariants.{ReadFault, WriteFault}
 use Rattle.receiving.specs.Coming.{Comes}

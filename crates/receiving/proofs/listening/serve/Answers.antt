@@ -1,5 +1,5 @@
 use Rattle.std.proofs.Common.{◌∙◌, [], sym, subst}
-use Rattle.host_model.specs.Profiles.{Profile}
+use Rattle.bt_host.specs.host_model.specs.Profiles.{Profile}
 use Rattle.receiving.specs.Turns.{begun}
 use Rattle.receiving.specs.Coming.{Comes}
 use Rattle.receiving.specs.Faring.{Fares}

@@ -1,7 +1,7 @@
 use Rattle.std.proofs.Common.{ap, ◌∙◌}
-use Rattle.push_laws.specs.Laws.{stored_in}
-use Rattle.scenario_laws.specs.Captures.{client_of}
-use Rattle.scenario_laws.proofs.Clauses.{scenarios_end}
+use Rattle.noting_laws.specs.push_laws.specs.Laws.{stored_in}
+use Rattle.noting_laws.specs.scenario_laws.specs.Captures.{client_of}
+use Rattle.noting_laws.specs.scenario_laws.proofs.Clauses.{scenarios_end}
 use Rattle.scenario_play.proofs.ending.plays_end.Goals as goal
 
 pub returns : goal.returns

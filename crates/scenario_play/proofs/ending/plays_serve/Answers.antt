@@ -1,4 +1,4 @@
-use Rattle.request_laws.proofs.Together.{runs_serve_granted}
+use Rattle.credit_laws.specs.request_laws.proofs.Together.{runs_serve_granted}
 use Rattle.scenario_play.proofs.Gained.{so_granted}
 use Rattle.scenario_play.proofs.ending.plays_serve.Goals as goal
 

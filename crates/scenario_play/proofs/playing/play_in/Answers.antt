@@ -4,7 +4,7 @@ use Rattle.radio_world.specs.Both.{Both}
 use Rattle.radio_world.specs.Hosts.{answering}
 use Rattle.radio_world.specs.Scenes.{moment}
 use Rattle.radio_world.specs.Standing.{IsReached}
-use Rattle.host_model.specs.Clients.{ClientProfile}
+use Rattle.bt_host.specs.host_model.specs.Clients.{ClientProfile}
 use Rattle.bt_host.specs.Noting.{Noted}
 use Rattle.bt_host.specs.NotedHosts.{client_noting, server_noting, noted_client_machine, noted_server_machine}
 use Rattle.bt_host.specs.Pushing.{Lacks as NoShelf}
@@ -13,7 +13,7 @@ use Rattle.bt_host.specs.Serving.{Served}
 use Rattle.bt_host.specs.Shells.{Shelled}
 use Rattle.bt_host.specs.Playing.{playing, PushesSoundly, ServesSoundly}
 use Rattle.bt_host.proofs.Beginning.{hosts_reached, client_sound, server_sound}
-use Rattle.room_laws.specs.Rooms.{OwesNoneBack}
+use Rattle.radio_world.specs.room_laws.specs.Rooms.{OwesNoneBack}
 use Rattle.scenario_play.specs.Peaks.{NotedMoment, AreNoted}
 use Rattle.scenario_play.proofs.Breaking.{broke, wanting, shelf_left, inbox_left}
 use Rattle.scenario_play.proofs.Plainness.{orderly}

@@ -1,5 +1,5 @@
 use Rattle.std.proofs.Common.{◌≡◌, [], sym, ap₂, ◌∙◌, subst}
-use Rattle.capture.specs.Air.{words_of}
+use Rattle.radio_world.specs.capture.specs.Air.{words_of}
 use Rattle.radio_world.specs.Both.{Both}
 use Rattle.tiny_hosts.specs.declared.counter.Counter.{Counter}
 use Rattle.tiny_hosts.specs.declared.echo.Echo.{Echo}

@@ -1,6 +1,6 @@
 use Rattle.std.proofs.Common.{sym, subst}
 use Rattle.std.specs.List.{AllByRecursion}
-use Rattle.host_model.specs.Clients.{ClientProfile}
+use Rattle.shelf_model.specs.host_model.specs.Clients.{ClientProfile}
 use Rattle.bt_host.specs.Pushing.{HasCid}
 use Rattle.bt_host.specs.declared.client_end.ClientEnd.TheInside.{Inside}
 use Rattle.bt_host.proofs.ClientsCalls.{put_cid}

@@ -1,5 +1,5 @@
 use Rattle.std.proofs.Common.{sym, subst}
-use Rattle.world_model.specs.Machines.{Linked, Down}
+use Rattle.shelf_model.specs.world_model.specs.Machines.{Linked, Down}
 use Rattle.bt_host.specs.Pushing.{Pushes}
 use Rattle.bt_host.proofs.Clients.{told_sound}
 use Rattle.bt_host.proofs.client_end.ClientEndEnd.link_down.Goals as goal

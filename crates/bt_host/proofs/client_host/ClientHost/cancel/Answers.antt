@@ -1,4 +1,4 @@
-use Rattle.world_model.specs.Machines.{Cancelled}
+use Rattle.shelf_model.specs.world_model.specs.Machines.{Cancelled}
 use Rattle.bt_host.specs.PushingLaws.{Answers}
 use Rattle.bt_host.specs.NotedHosts.{noted_client, client_noting}
 use Rattle.bt_host.proofs.Feeding.{rests_noted}

@@ -1,6 +1,6 @@
 use Rattle.std.proofs.Common.{[]}
 use Rattle.std.proofs.lemmas.Result.{on_ok_weaker}
-use Rattle.world_model.specs.Machines.{Linked, Down}
+use Rattle.shelf_model.specs.world_model.specs.Machines.{Linked, Down}
 use Rattle.bt_host.proofs.NotedCalls.{noted_does}
 use Rattle.bt_host.proofs.noting.NotingEnd.link_down.Goals as goal
 

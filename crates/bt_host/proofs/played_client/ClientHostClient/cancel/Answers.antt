@@ -1,7 +1,7 @@
 use Rattle.std.proofs.Common.{[], ◌∙◌, ap}
 use Rattle.push_terms.specs.declared.word.Side.TheVariants.{A}
-use Rattle.world_model.specs.Machines.{Cancelled}
-use Rattle.host_model.specs.Clients.{ClientProfile}
+use Rattle.shelf_model.specs.world_model.specs.Machines.{Cancelled}
+use Rattle.shelf_model.specs.host_model.specs.Clients.{ClientProfile}
 use Rattle.bt_host.specs.Noting.{Noted}
 use Rattle.bt_host.specs.NotedHosts.{noted_client, client_noting}
 use Rattle.bt_host.specs.PushingLaws.{Answers}

@@ -1,8 +1,8 @@
 use Rattle.std.proofs.Common.{◌≡◌, ◌∙◌, sym, ap, subst}
 use Rattle.push_terms.specs.declared.word.Side.TheVariants.{A, B}
 use Rattle.radio_world.specs.Hosts as world
-use Rattle.radio_air.specs.Controllers.{address}
-use Rattle.host_model.specs.Clients.{ClientProfile}
+use Rattle.radio_world.specs.radio_air.specs.Controllers.{address}
+use Rattle.shelf_model.specs.host_model.specs.Clients.{ClientProfile}
 use Rattle.bt_host.specs.Pushing.{Pushes, Lacks}
 use Rattle.bt_host.specs.Noting.{Noted}
 use Rattle.bt_host.specs.NotedHosts.{noted_client_machine, noted_client, client_noting}

@@ -1,6 +1,6 @@
 use Rattle.std.proofs.Common.{◌∙◌, ap}
 use Rattle.push_terms.specs.declared.word.Side.TheVariants.{B}
-use Rattle.world_model.specs.Machines.{TimerFired}
+use Rattle.shelf_model.specs.world_model.specs.Machines.{TimerFired}
 use Rattle.bt_host.specs.Serving.{Asks, Served}
 use Rattle.bt_host.specs.Noting.{Noted}
 use Rattle.bt_host.specs.NotedHosts.{noted_server, server_noting}

@@ -1,5 +1,5 @@
 use Rattle.std.proofs.lemmas.Result.{on_ok_weaker}
-use Rattle.world_model.specs.Machines.{Opening}
+use Rattle.shelf_model.specs.world_model.specs.Machines.{Opening}
 use Rattle.bt_host.specs.Shelving.{shelf_profile, shelved_by}
 use Rattle.bt_host.specs.PushingLaws.{Answers}
 use Rattle.bt_host.proofs.NotedCalls.{noted_does}

@@ -1,7 +1,7 @@
 use Rattle.std.proofs.Common.{ap, ◌∙◌}
 use Rattle.l2cap_channels.specs.Machine.{Machine}
-use Rattle.world_model.specs.Machines.{Cancelled}
-use Rattle.host_model.specs.Hosts.{hear}
+use Rattle.shelf_model.specs.world_model.specs.Machines.{Cancelled}
+use Rattle.shelf_model.specs.host_model.specs.Hosts.{hear}
 use Rattle.bt_host.specs.Uppers.{asking}
 use Rattle.bt_host.specs.Stacks.{Stacked, standing}
 use Rattle.bt_host.specs.NotedHosts.{noted_client, client_noting}

@@ -1,6 +1,6 @@
 use Rattle.std.proofs.Common.{◌^◌, false, refl}
-use Rattle.world_model.specs.Machines.{Opening}
-use Rattle.host_model.specs.Hosts.{Host}
+use Rattle.shelf_model.specs.world_model.specs.Machines.{Opening}
+use Rattle.shelf_model.specs.host_model.specs.Hosts.{Host}
 use Rattle.bt_host.specs.Noting.{Noted}
 use Rattle.bt_host.specs.NotedHosts.{noted_client, client_noting}
 use Rattle.bt_host.specs.Shelving.{Shelved}

@@ -1,7 +1,7 @@
 use Rattle.std.proofs.Common.{rules, ℕ, ◌≤◌, [], sym, ap, ◌∙◌, subst}
 use Rattle.obex_session.proofs.CountingLaws.{counted_none}
-use Rattle.rfcomm_model.specs.Machine.{Mux}
-use Rattle.rfcomm_model.proofs.Keeping.{hears_keeps}
+use Rattle.push_model.specs.rfcomm_model.specs.Machine.{Mux}
+use Rattle.push_model.specs.rfcomm_model.proofs.Keeping.{hears_keeps}
 use Rattle.push_profile.proofs.server.PushServer.hear_frame.Goals as goal
 
 pub invariant_of-self : goal.invariant_of-self

@@ -1,6 +1,6 @@
 use Rattle.std.proofs.Common.{true, is_some, sym, ap, ◌∙◌}
-use Rattle.rfcomm_model.specs.Machine.{Mux}
-use Rattle.rfcomm_model.specs.Saying.{next}
+use Rattle.push_model.specs.rfcomm_model.specs.Machine.{Mux}
+use Rattle.push_model.specs.rfcomm_model.specs.Saying.{next}
 use Rattle.push_model.specs.Server.{Server, said_on, breaks_now, left_by, leaves_with}
 use Rattle.push_profile.specs.Serving.{server_of}
 use Rattle.push_profile.proofs.ServerLaws.{framed_anew, says_none}

@@ -1,6 +1,6 @@
 use Rattle.std.proofs.Common.{◌≡◌, ℕ, List, [], ◌∷◌, length, refl, sym, ap, subst, ◌∙◌, arith}
 use Rattle.push_terms.specs.declared.word.Side.{Side}
-use Rattle.world_model.specs.Stations.{Order}
+use Rattle.room_laws.specs.world_model.specs.Stations.{Order}
 use Rattle.radio_world.specs.Hosts.{order_octets, AreSent, Reacts}
 use Rattle.radio_world.proofs.Moving.{goes_none}
 use Rattle.radio_world.proofs.Tallying.{goes_out_by}

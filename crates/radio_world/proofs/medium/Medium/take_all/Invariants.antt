@@ -1,5 +1,5 @@
 use Rattle.std.proofs.Common.{◌≡◌, ◌≤◌, List, length}
-use Rattle.world_model.specs.Stations.{Order}
+use Rattle.room_laws.specs.world_model.specs.Stations.{Order}
 use Rattle.radio_world.specs.Hosts.{order_octets, AreSent}
 use Rattle.radio_world.proofs.Leaving.{IsTaken}
 use Rattle.radio_world.proofs.medium.Medium.take_all.Given as goal

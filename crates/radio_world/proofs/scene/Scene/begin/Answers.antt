@@ -1,7 +1,7 @@
 use Rattle.std.proofs.Common.{ℕ, ◌+◌, inl, inr, refl, sym, ap, subst, ◌∙◌}
 use Rattle.bt_base.specs.Streams.{gained, GainedFront}
 use Rattle.capture.specs.Entries.{Begun, IsEntry, entry_octets}
-use Rattle.world_model.specs.Pushes.{Pushes, next_name, one_begun}
+use Rattle.room_laws.specs.world_model.specs.Pushes.{Pushes, next_name, one_begun}
 use Rattle.radio_world.specs.Scenes.{Scene}
 use Rattle.radio_world.proofs.Wanting.{any_err}
 use Rattle.radio_world.proofs.scene.Scene.begin.Goals as goal

@@ -12,9 +12,9 @@ use Rattle.radio_world.proofs.Returned.{exchange_gives_none}
 use Rattle.radio_world.proofs.Tallying.{advances_by_then}
 use Rattle.radio_world.specs.Hosts.{Asking, answering}
 use Rattle.radio_world.specs.Scenes.{Scene, moment, world_at, Begins}
-use Rattle.world_model.specs.Pushes.{next_name}
-use Rattle.world_model.specs.Stations.{IsStopped}
-use Rattle.world_model.specs.Worlds.{IsSettled}
+use Rattle.room_laws.specs.world_model.specs.Pushes.{next_name}
+use Rattle.room_laws.specs.world_model.specs.Stations.{IsStopped}
+use Rattle.room_laws.specs.world_model.specs.Worlds.{IsSettled}
 use Rattle.radio_world.proofs.Advancing.{advances_then, begun_or_not, exchanged_a, exchanged_b, ended_or_not}
 use Rattle.radio_world.proofs.Settling.{settles}
 use Rattle.radio_world.proofs.Standing.{reached_then}
