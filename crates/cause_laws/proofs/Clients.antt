@@ -1,13 +1,13 @@
 -- What a client hears and does, and the outcomes that come of it.
 use Rattle.std.proofs.Common.{◌≡◌, ℕ, zero, suc, Bool, true, false, not, ◌&&◌, ◌||◌, ◌==◌, List, [], ◌∷◌, ◌++◌, length, Option, Some, None, is_none, Result, Ok, Err, refl, sym, ap, subst, ◌∙◌, if◌then◌else◌}
-use Rattle.std.specs.Prelude.{nat_lt}
+use Rattle.std.specs.Prelude.{nat_lt, IfSome}
 use Rattle.std.specs.List.{AllByRecursion}
 use Rattle.scenario_laws.specs.bt_base.specs.declared.ports.PortFault.{PortFault}
 use Rattle.scenario_laws.specs.bt_base.specs.declared.ports.PortFault.TheVariants as fault
 use Rattle.scenario_laws.specs.bt_base.specs.declared.settings.Transport.{Transport}
 use Rattle.scenario_laws.specs.bt_base.specs.declared.settings.Transport.TheVariants.{L2cap, Rfcomm}
 use Rattle.scenario_laws.specs.push_terms.specs.declared.outcome.Outcome.{Outcome}
-use Rattle.scenario_laws.specs.push_terms.specs.declared.outcome.Outcome.TheVariants.{Done, LinkLost, RetryLimit, Refused, NoService, ShelfFault, Cancelled, PeerClosed, PeerFault, ScriptEnded}
+use Rattle.scenario_laws.specs.push_terms.specs.declared.outcome.Outcome.TheVariants.{Done, RetryLimit, Refused, NoService, ShelfFault, PeerClosed, PeerFault}
 use Rattle.scenario_laws.specs.rfcomm_model.specs.Hearing.{Up, nothing, opened, bytes, closed, up, hears}
 use Rattle.scenario_laws.specs.rfcomm_model.specs.Saying.{Said, next}
 use Rattle.scenario_laws.specs.sdp_client.specs.Asking.{is_due}
@@ -24,83 +24,67 @@ use Rattle.scenario_laws.specs.push_model.specs.declared.closing.CloseCause.TheV
 use Rattle.scenario_laws.specs.push_model.specs.declared.course.Point.TheVariants.{Due, Asked}
 use Rattle.scenario_laws.specs.push_model.specs.declared.course.Stage.{Stage}
 use Rattle.scenario_laws.specs.push_model.specs.declared.course.Stage.TheVariants.{Rest, Link, SearchChannel, Search, SearchEnd, Features, ObjectChannel, Object, ObjectEnd, LinkEnd, Over}
-use Rattle.scenario_laws.specs.push_model.specs.Causes.{cause_of_link, cause_of_close, cause_of_query, cause_of_mux, small_channel, unawaited_response}
+use Rattle.scenario_laws.specs.push_model.specs.Causes.{cause_of_close, cause_of_query, cause_of_mux, small_channel, unawaited_response}
 use Rattle.scenario_laws.specs.push_model.specs.Client.{Client, is_direct, begins, begun_by}
 use Rattle.scenario_laws.specs.push_model.specs.Events as events
-use Rattle.scenario_laws.specs.push_model.specs.Events.{News, is_linked, is_asking_features, armed, search_psm}
+use Rattle.scenario_laws.specs.push_model.specs.Events.{is_asking_features, armed, search_psm}
 use Rattle.scenario_laws.specs.push_model.specs.Laws.{Deed, Hears, Asks, Finishes, Cancels, done}
 use Rattle.scenario_laws.specs.push_model.specs.Responding.{is_early, is_success, is_left, is_object, hears_response}
 use Rattle.scenario_laws.specs.push_model.specs.Shown.{first_of, watched, closed_shows, opened_shows, way_of, found_shows, says, answer_shows, response_shows, front_shows, stream_shows, up_shows, object_shows, outside_shows, sdu_shows, part_shows, ask_shows, said_shows, step_shows, shows}
 use Rattle.scenario_laws.specs.push_model.specs.Steps as course
-use Rattle.scenario_laws.specs.push_model.specs.Steps.{Part, Ask, Stepped, puts, takes_some, filled, next_ask, may_ask, steps}
+use Rattle.scenario_laws.specs.push_model.specs.Steps.{Part, Ask, Stepped, puts, takes_some, filled, next_ask, may_ask}
 use Rattle.scenario_laws.specs.push_model.specs.Streams.{Front, Whole, Partial, Broken, front_of}
 use Rattle.scenario_laws.specs.push_model.proofs.CauseLaws.{first_causes_stay}
 use Rattle.scenario_laws.specs.push_model.proofs.ShownLaws.{outcomes_are_shown}
+use Rattle.cause_laws.specs.Said.{Decision, decision_of}
 use Rattle.push_client.proofs.KeepingLaws.{news_keeps, cancelled_keeps}
 use Rattle.scenario_laws.specs.host_laws.specs.Pushing.{Affair, Begins, Does, client_after, client_behind}
+use Rattle.cause_laws.specs.Said.{Decision, decision_of}
 
 -- ---- outcomes
 
+pub never : {X : Type 0} → false ≡ true → X
+never is = absurd cc
+
 -- those that come of anything
 abbrev pub is_any : Outcome → Bool
-is_any Done = false
-is_any LinkLost = false
 is_any RetryLimit = true
-is_any (Refused code) = false
-is_any NoService = false
 is_any ShelfFault = true
-is_any Cancelled = false
 is_any PeerClosed = true
 is_any (PeerFault layer reason) = true
-is_any ScriptEnded = false
+is_any outcome = false
+
+-- those that no SDU decides
+abbrev pub is_unsaid : Outcome → Bool
+is_unsaid outcome = is_none (decision_of outcome)
 
 -- and those that come of an SDU besides
 abbrev pub is_heard : Outcome → Bool
-is_heard Done = true
-is_heard LinkLost = false
-is_heard RetryLimit = true
-is_heard (Refused code) = true
-is_heard NoService = true
-is_heard ShelfFault = true
-is_heard Cancelled = false
-is_heard PeerClosed = true
-is_heard (PeerFault layer reason) = true
-is_heard ScriptEnded = false
+is_heard outcome = is_any outcome || not (is_unsaid outcome)
 
-abbrev pub is_lost : Outcome → Bool
-is_lost Done = false
-is_lost LinkLost = true
-is_lost RetryLimit = false
-is_lost (Refused code) = false
-is_lost NoService = false
-is_lost ShelfFault = false
-is_lost Cancelled = false
-is_lost PeerClosed = false
-is_lost (PeerFault layer reason) = false
-is_lost ScriptEnded = false
+pub any_unsaid : (outcome : Outcome) → is_any outcome ≡ true → is_unsaid outcome ≡ true
+any_unsaid Done is = is
+any_unsaid (Refused code) is = is
+any_unsaid NoService is = is
+any_unsaid outcome is = refl
 
--- and of the end of a link
-abbrev pub is_ended : (by_user : Bool) → Outcome → Bool
-is_ended by_user outcome = is_any outcome || (is_lost outcome && not by_user)
+pub none_says : {X : Type 0} (P : X → Type 0) (found : Option X) → is_none found ≡ true → IfSome found P
+none_says P None is = tt
+none_says P (Some x) is = cc
+
+pub unsaid_says : (P : Decision → Type 0) (outcome : Outcome) → is_unsaid outcome ≡ true → IfSome (decision_of outcome) P
+unsaid_says P outcome is = none_says P (decision_of outcome) is
+
+pub some_goes : {X : Type 0} (P Q : X → Type 0) → ((x : X) → P x → Q x) → (found : Option X) → IfSome found P → IfSome found Q
+some_goes P Q goes None some = tt
+some_goes P Q goes (Some x) some = goes x some
 
 abbrev pub Within : (Outcome → Bool) → Option Outcome → Type 0
 Within q None = Unit {0}
 Within q (Some outcome) = q outcome ≡ true
 
 pub any_heard : (outcome : Outcome) → is_any outcome ≡ true → is_heard outcome ≡ true
-any_heard Done is = refl
-any_heard LinkLost is = is
-any_heard RetryLimit is = refl
-any_heard (Refused code) is = refl
-any_heard NoService is = refl
-any_heard ShelfFault is = refl
-any_heard Cancelled is = is
-any_heard PeerClosed is = refl
-any_heard (PeerFault layer reason) is = refl
-any_heard ScriptEnded is = is
-
-pub any_ended : (by_user : Bool) (outcome : Outcome) → is_any outcome ≡ true → is_ended by_user outcome ≡ true
-any_ended by_user outcome is = ap (λ (b : Bool). b || (is_lost outcome && not by_user)) is
+any_heard outcome is = ap (λ (b : Bool). b || not (is_unsaid outcome)) is
 
 pub within_more : (p q : Outcome → Bool) → ((outcome : Outcome) → p outcome ≡ true → q outcome ≡ true) → (shown : Option Outcome) → Within p shown → Within q shown
 within_more p q more None within = tt
@@ -158,27 +142,15 @@ found_within transport (found.Refused reason) = query_within reason
 
 abbrev pub is_responded : Outcome → Bool
 is_responded Done = true
-is_responded LinkLost = false
-is_responded RetryLimit = false
 is_responded (Refused code) = true
-is_responded NoService = false
-is_responded ShelfFault = false
-is_responded Cancelled = false
-is_responded PeerClosed = false
 is_responded (PeerFault layer reason) = true
-is_responded ScriptEnded = false
+is_responded outcome = false
 
 responded_heard : (outcome : Outcome) → is_responded outcome ≡ true → is_heard outcome ≡ true
 responded_heard Done is = refl
-responded_heard LinkLost is = is
-responded_heard RetryLimit is = refl
 responded_heard (Refused code) is = refl
-responded_heard NoService is = refl
-responded_heard ShelfFault is = refl
-responded_heard Cancelled is = is
-responded_heard PeerClosed is = refl
 responded_heard (PeerFault layer reason) is = refl
-responded_heard ScriptEnded is = is
+responded_heard outcome is = cc
 
 says_responds : (answered : Answered) → Within is_responded (says answered)
 says_responds answer.Go = tt
@@ -243,38 +215,19 @@ sdu_within (ObjectEnd point) psm sdu client = either is_heard (psm == client.psm
 sdu_within (LinkEnd point) psm sdu client = tt
 sdu_within Over psm sdu client = tt
 
-link_within : (by_user : Bool) → Within (is_ended by_user) (Some (if by_user then PeerClosed else LinkLost))
-link_within true = refl
-link_within false = refl
-
-pub down_within : (reason : ℕ) (client : Client) → Within (is_ended (reason == 0x13)) (shows (Hears (events.LinkDown reason)) client)
-down_within reason client = either (is_ended (reason == 0x13)) (is_linked client.stage) (Some (cause_of_link reason)) None (link_within (reason == 0x13)) tt
-
 -- only the shelf's fault comes of a step
 
 abbrev pub is_shelf : Outcome → Bool
-is_shelf Done = false
-is_shelf LinkLost = false
-is_shelf RetryLimit = false
-is_shelf (Refused code) = false
-is_shelf NoService = false
 is_shelf ShelfFault = true
-is_shelf Cancelled = false
-is_shelf PeerClosed = false
-is_shelf (PeerFault layer reason) = false
-is_shelf ScriptEnded = false
+is_shelf outcome = false
 
 pub shelf_any : (outcome : Outcome) → is_shelf outcome ≡ true → is_any outcome ≡ true
-shelf_any Done is = is
-shelf_any LinkLost is = is
-shelf_any RetryLimit is = refl
-shelf_any (Refused code) is = is
-shelf_any NoService is = is
 shelf_any ShelfFault is = refl
-shelf_any Cancelled is = is
-shelf_any PeerClosed is = refl
-shelf_any (PeerFault layer reason) is = refl
-shelf_any ScriptEnded is = is
+shelf_any outcome is = cc
+
+pub shelf_unsaid : (outcome : Outcome) → is_shelf outcome ≡ true → is_unsaid outcome ≡ true
+shelf_unsaid ShelfFault is = refl
+shelf_unsaid outcome is = cc
 
 part_within : (answer : Result (Unit {0}) PortFault) → Within is_shelf (part_shows answer)
 part_within (Ok done) = tt
@@ -411,15 +364,6 @@ lame_behind [] client lame = lame
 lame_behind (affair ∷ affairs) client lame = lame_behind affairs (client_after affair client) (lame_after affair client lame)
 
 -- a push that is begun has no outcome yet, or the shelf does not give its object
-pub begins_within : (size : Result ℕ PortFault) (name : List ℕ) (client : Client) → client.failed ≡ false → (begins size name client).failed ≡ false → Within is_any (begins size name client).cause
-begins_within size name client well after =
-    subst (λ (b : Bool). Within is_any (if b then client else begun_by size name client).cause) (sym well) (by size (sym (ap (λ (b : Bool). (if b then client else begun_by size name client).failed) well) ∙ after))
-  where
-    by : (s : Result ℕ PortFault) → (begun_by s name client).failed ≡ false → Within is_any (begun_by s name client).cause
-    by (Ok n) is = tt
-    by (Err fault.Failed) is = refl
-    by (Err fault.NoMemory) is = absurd (let never : true ≡ false = is in cc)
-
 pub begins_shelf : (size : Result ℕ PortFault) (name : List ℕ) (client : Client) → client.failed ≡ false → (begins size name client).failed ≡ false → Within is_shelf (begins size name client).cause
 begins_shelf size name client well after =
     subst (λ (b : Bool). Within is_shelf (if b then client else begun_by size name client).cause) (sym well) (by size (sym (ap (λ (b : Bool). (if b then client else begun_by size name client).failed) well) ∙ after))

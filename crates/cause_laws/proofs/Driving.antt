@@ -4,7 +4,7 @@ use Rattle.std.specs.Prelude.{find, is_some}
 use Rattle.std.specs.List.{AllByRecursion, flat_map}
 use Rattle.scenario_laws.specs.bt_base.specs.declared.settings.Settings.{Settings}
 use Rattle.scenario_laws.specs.push_terms.specs.declared.outcome.Outcome.{Outcome}
-use Rattle.scenario_laws.specs.push_terms.specs.declared.outcome.Outcome.TheVariants.{Done, LinkLost, RetryLimit, Refused, NoService, ShelfFault, Cancelled as PushCancelled, PeerClosed, PeerFault, ScriptEnded}
+use Rattle.scenario_laws.specs.push_terms.specs.declared.outcome.Outcome.TheVariants.{Done, LinkLost, RetryLimit, Refused, NoService, ShelfFault, PeerClosed, PeerFault, Cancelled as PushCancelled}
 use Rattle.scenario_laws.specs.ertm_model.specs.declared.reason.ErtmReason.{ErtmReason}
 use Rattle.scenario_laws.specs.ertm_model.specs.declared.reason.ErtmReason.TheVariants as machines
 use Rattle.scenario_laws.specs.ertm_model.specs.Giving.{timed}
@@ -29,7 +29,7 @@ use Rattle.scenario_laws.specs.channel_model.specs.Value.{Request, Queued, Answe
 use Rattle.scenario_laws.specs.push_model.specs.declared.closing.CloseCause.{CloseCause}
 use Rattle.scenario_laws.specs.push_model.specs.declared.closing.CloseCause.TheVariants as closing
 use Rattle.scenario_laws.specs.push_model.specs.Causes.{cause_of_link, cause_of_close}
-use Rattle.scenario_laws.specs.push_model.specs.Client.{Client, begins}
+use Rattle.scenario_laws.specs.push_model.specs.Client.{Client, begins, cancelled, may_cancel}
 use Rattle.scenario_laws.specs.push_model.specs.Events as events
 use Rattle.scenario_laws.specs.push_model.specs.Events.{hears_news, is_linked, is_asking_features}
 use Rattle.scenario_laws.specs.push_model.specs.Laws.{Hears, Asks, Finishes}
@@ -37,80 +37,62 @@ use Rattle.scenario_laws.specs.push_model.specs.Payloads.{Payload}
 use Rattle.scenario_laws.specs.sdp_client.specs.Asking.{is_due}
 use Rattle.scenario_laws.specs.push_model.specs.Shown.{watched, closed_shows}
 use Rattle.scenario_laws.specs.push_model.specs.Steps.{Part, Step, Wait, MakeLink, AskFeatures, OpenChannel, SendSdu, CloseChannel, BreakLink, Ended, NoMemory, steps}
-use Rattle.scenario_laws.specs.world_model.specs.Machines.{Linked, Up, Down, TimerFired, Opening}
+use Rattle.scenario_laws.specs.world_model.specs.Machines.{Linked, Up, Down, TimerFired, Cancelled, Opening}
 use Rattle.scenario_laws.specs.host_model.specs.Circumstances.{Circumstance}
 use Rattle.scenario_laws.specs.host_model.specs.Clients as clients
 use Rattle.scenario_laws.specs.host_model.specs.Clients.{ClientProfile, client_profile, cause_of, ended, fitted, takes, submits}
 use Rattle.scenario_laws.specs.host_model.specs.Endpoints.{endpoint_of, takes_sdu}
-use Rattle.scenario_laws.specs.host_model.specs.Hosts.{Host, most_steps, hears_news as host_hears, ready, hear, next, tells_each, with_channels, strides, settles, drives, says, after_said, steps_behind}
+use Rattle.scenario_laws.specs.host_model.specs.Hosts.{Host, most_steps, hears_news as host_hears, ready, hear, next, tells_each, tells_events, with_channels, strides, settles, drives, says, after_said, steps_behind}
 use Rattle.scenario_laws.specs.host_model.specs.Pdus.{pdu_of, sdu_of, is_frame}
 use Rattle.scenario_laws.specs.host_model.specs.Profiles.{Profile}
 use Rattle.scenario_laws.specs.host_model.specs.Shelves.{size_for, name_for, unused}
-use Rattle.scenario_laws.specs.host_model.proofs.Keeping.{drives_on}
+use Rattle.scenario_laws.specs.host_model.proofs.Keeping.{tells, drives_on}
+use Rattle.scenario_laws.specs.host_laws.proofs.OnwardSteps.{IsSo, keeps_so}
 use Rattle.scenario_laws.specs.host_laws.specs.Feeds.{Learns, Happens, Sent, Steps}
 use Rattle.scenario_laws.specs.host_laws.specs.Pushing.{Affair, Begins, Does, client_behind, end_asked, link_asked, then_ends, then_calls, closed_pushed, event_pushed, sent_pushed, step_pushed}
 use Rattle.scenario_laws.specs.host_laws.proofs.Pushing.{feed_so}
-use Rattle.cause_laws.proofs.Clients.{is_shelf, either, Within, within_more, ShowsWithin, asks_within, Came, came_same, came_then, came_more, IsWithin, came_behind, lame_behind, begins_shelf}
-use Rattle.cause_laws.proofs.Profiles.{came_fed, keeps_lame, well_before}
+use Rattle.cause_laws.proofs.Clients.{never, is_shelf, is_unsaid, either, Within, within_more, ShowsWithin, asks_within, Came, came_same, came_then, came_more, IsWithin, came_behind, HasCome, has_come, over_comes, lame_behind, begins_shelf}
+use Rattle.cause_laws.proofs.Profiles.{came_fed, keeps_lame, well_before, cancelled_so}
 
 -- ---- outcomes
 
 -- of a timer that fires
 abbrev pub is_timed : Outcome → Bool
-is_timed Done = false
-is_timed LinkLost = false
 is_timed RetryLimit = true
-is_timed (Refused code) = false
-is_timed NoService = false
 is_timed ShelfFault = true
-is_timed PushCancelled = false
-is_timed PeerClosed = false
 is_timed (PeerFault layer reason) = true
-is_timed ScriptEnded = false
+is_timed outcome = false
 
 -- of the end of a link
 abbrev pub is_gone : (by_user : Bool) → Outcome → Bool
-is_gone by_user Done = false
 is_gone by_user LinkLost = not by_user
-is_gone by_user RetryLimit = false
-is_gone by_user (Refused code) = false
-is_gone by_user NoService = false
 is_gone by_user ShelfFault = true
-is_gone by_user PushCancelled = false
 is_gone by_user PeerClosed = by_user
-is_gone by_user (PeerFault layer reason) = false
-is_gone by_user ScriptEnded = false
+is_gone by_user outcome = false
+
+pub timed_unsaid : (outcome : Outcome) → is_timed outcome ≡ true → is_unsaid outcome ≡ true
+timed_unsaid Done is = is
+timed_unsaid (Refused code) is = is
+timed_unsaid NoService is = is
+timed_unsaid outcome is = refl
+
+pub gone_unsaid : (by_user : Bool) (outcome : Outcome) → is_gone by_user outcome ≡ true → is_unsaid outcome ≡ true
+gone_unsaid by_user Done is = is
+gone_unsaid by_user (Refused code) is = is
+gone_unsaid by_user NoService is = is
+gone_unsaid by_user outcome is = refl
 
 -- the fault of the shelf is among them
 abbrev HasShelf : (Outcome → Bool) → Type 0
 HasShelf q = (outcome : Outcome) → is_shelf outcome ≡ true → q outcome ≡ true
 
 pub shelf_timed : (outcome : Outcome) → is_shelf outcome ≡ true → is_timed outcome ≡ true
-shelf_timed Done is = is
-shelf_timed LinkLost is = is
-shelf_timed RetryLimit is = refl
-shelf_timed (Refused code) is = is
-shelf_timed NoService is = is
 shelf_timed ShelfFault is = refl
-shelf_timed PushCancelled is = is
-shelf_timed PeerClosed is = is
-shelf_timed (PeerFault layer reason) is = refl
-shelf_timed ScriptEnded is = is
-
-never : {X : Type 0} → false ≡ true → X
-never is = absurd cc
+shelf_timed outcome is = cc
 
 shelf_gone : (by_user : Bool) (outcome : Outcome) → is_shelf outcome ≡ true → is_gone by_user outcome ≡ true
-shelf_gone by_user Done is = is
-shelf_gone by_user LinkLost is = never is
-shelf_gone by_user RetryLimit is = is
-shelf_gone by_user (Refused code) is = is
-shelf_gone by_user NoService is = is
 shelf_gone by_user ShelfFault is = refl
-shelf_gone by_user PushCancelled is = is
-shelf_gone by_user PeerClosed is = never is
-shelf_gone by_user (PeerFault layer reason) is = is
-shelf_gone by_user ScriptEnded is = is
+shelf_gone by_user outcome is = never is
 
 -- ---- what channels have to tell
 
@@ -138,38 +120,25 @@ module _ (Q : ChannelEvent → Type 0) where
 
 -- the host closed it itself
 abbrev IsOwnReason : CloseReason → Type 0
-IsOwnReason reasons.PeerClosed = ⊥
-IsOwnReason (reasons.Refused answer) = ⊥
-IsOwnReason reasons.NoAgreement = ⊥
-IsOwnReason reasons.RetryLimit = ⊥
-IsOwnReason (reasons.Ertm reason) = ⊥
 IsOwnReason reasons.LinkDown = Unit {0}
 IsOwnReason reasons.OwnClosed = Unit {0}
+IsOwnReason reason = ⊥
 
 -- a channel ended as its host asked, or with its link
 abbrev IsOwn : ChannelEvent → Type 0
-IsOwn (channels.Opened own psm) = ⊥
 IsOwn (channels.Closed own psm reason) = IsOwnReason reason
-IsOwn (channels.Features features) = ⊥
-IsOwn channels.FeaturesLost = ⊥
-IsOwn (channels.DisconnectLost own) = ⊥
+IsOwn event = ⊥
 
 -- it ended, but not since the peer asked for that; or something was asked for as often as may be
 abbrev IsLateReason : CloseReason → Type 0
 IsLateReason reasons.PeerClosed = ⊥
-IsLateReason (reasons.Refused answer) = Unit {0}
-IsLateReason reasons.NoAgreement = Unit {0}
-IsLateReason reasons.RetryLimit = Unit {0}
-IsLateReason (reasons.Ertm reason) = Unit {0}
-IsLateReason reasons.LinkDown = Unit {0}
-IsLateReason reasons.OwnClosed = Unit {0}
+IsLateReason reason = Unit {0}
 
 abbrev IsLate : ChannelEvent → Type 0
 IsLate (channels.Opened own psm) = ⊥
 IsLate (channels.Closed own psm reason) = IsLateReason reason
 IsLate (channels.Features features) = ⊥
-IsLate channels.FeaturesLost = Unit {0}
-IsLate (channels.DisconnectLost own) = Unit {0}
+IsLate event = Unit {0}
 
 -- ---- a PDU is given
 
@@ -551,6 +520,29 @@ module _ (settings : Settings) where
 
       down_shows : ShowsWithin (is_gone (reason == 0x13)) (Hears (events.LinkDown reason))
       down_shows client = either (is_gone (reason == 0x13)) (is_linked client.stage) (Some (cause_of_link reason)) None (link_shows (reason == 0x13)) tt
+
+  -- on its link it has an outcome once that ended
+  pub down_comes : (gifts : List Circumstance) (reason : ℕ) (host : Host ClientProfile) → IsSo true host.profile → HasCome (hear (client_profile settings) gifts (Linked (Down reason)) host).profile.client.cause
+  down_comes gifts reason host so =
+      let now = ready C gifts host in
+      let gone : Host ClientProfile = with_channels (link_down now.channels) now in
+      let p = (tells_events C gone).profile in
+      let p_so : IsSo true p = tells C (IsSo true) (keeps_so settings true) gone ((keeps_so settings true).given gifts host.profile so) in
+      let heard = hears_news (events.LinkDown reason) p.client in
+      let heard_comes : HasCome heard.cause = subst (λ (b : Bool). HasCome (if b then events.over (cause_of_link reason) p.client else p.client).cause) (sym (p_so.linked refl)) (over_comes (cause_of_link reason) p.client) in
+      let mid = host_hears C gifts (Linked (Down reason)) now in
+      let mid_comes : HasCome mid.profile.client.cause =
+      subst (λ (c : Client). HasCome c.cause) (sym (feed_so settings p (Learns gifts (Linked (Down reason))))) (has_come is_shelf heard.cause (client_behind (then_ends heard) heard).cause (came_behind is_shelf (then_ends heard) heard (end_shelf (steps heard []).step)) heard_comes) in
+      has_come is_shelf mid.profile.client.cause (drives C most_steps mid).profile.client.cause (drives_shelf mid.profile.client.cause most_steps mid refl (came_same is_shelf mid.profile.client.cause)) mid_comes
+
+  pub cancel_came : (gifts : List Circumstance) (host : Host ClientProfile) → host.channels.events ≡ [] → may_cancel host.profile.client ≡ true → (hear (client_profile settings) gifts Cancelled host).profile.client.cause ≡ Some PushCancelled
+  cancel_came gifts host none may =
+      let now = ready C gifts host in
+      let c = cancelled now.profile.client in
+      let told_is : (C.told gifts Cancelled now.profile).client.cause ≡ Some PushCancelled =
+      ap (λ (d : Client). d.cause) (feed_so settings now.profile (Learns gifts Cancelled))
+      ∙ subst (λ (x : Option Outcome). Came is_shelf x (client_behind (then_ends c) c).cause) (cancelled_so settings now.profile.client may) (came_behind is_shelf (then_ends c) c (end_shelf (steps c []).step)) in
+      drives_shelf (Some PushCancelled) most_steps (host_hears C gifts Cancelled now) none told_is
 
   pub opens_shelf : (gifts : List Circumstance) (name : List ℕ) (host : Host ClientProfile) → host.channels.events ≡ [] → (hear (client_profile settings) gifts (Opening name) host).profile.client.failed ≡ false
       → Within is_shelf (hear (client_profile settings) gifts (Opening name) host).profile.client.cause

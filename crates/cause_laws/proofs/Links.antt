@@ -1,6 +1,6 @@
 -- On the link that is up where a run is at rest: host a heard what brought the outcome of its push about, where an SDU does so.
 use Rattle.std.proofs.Common.{◌≡◌, ℕ, Bool, true, false, eqb, List, [], ◌∷◌, ◌++◌, map, fold, Option, Some, None, refl, sym, ap, subst, ◌∙◌, ◌⊎◌, inl, inr, append_assoc, append-nil, if◌then◌else◌}
-use Rattle.std.specs.Prelude.{drop, is_some}
+use Rattle.std.specs.Prelude.{drop, is_some, IfSome}
 use Rattle.std.specs.List.{AllByRecursion, AllZip, filter_map, flat_map}
 use Rattle.std.proofs.lemmas.List.Concat.{flat_map-append}
 use Rattle.std.proofs.lemmas.List.Sums.{fold-append}
@@ -23,7 +23,7 @@ use Rattle.scenario_laws.specs.channel_laws.specs.OwnTalk.{asked_between}
 use Rattle.scenario_laws.specs.channel_laws.specs.Runs.{Occurrence, Comes, Connects, AsksFeatures, Disconnects, Sends, Gives, Fires, Tells, said_in, Run, new_link, run_on, run_of}
 use Rattle.scenario_laws.specs.push_model.specs.declared.course.Point.TheVariants.{Due, Asked}
 use Rattle.scenario_laws.specs.push_model.specs.declared.course.Stage.{Stage}
-use Rattle.scenario_laws.specs.push_model.specs.declared.course.Stage.TheVariants.{Rest, Link as Paged, SearchChannel, Search, SearchEnd, Features, ObjectChannel, Object, ObjectEnd, LinkEnd, Over}
+use Rattle.scenario_laws.specs.push_model.specs.declared.course.Stage.TheVariants.{Rest, Link as Paged, SearchChannel, LinkEnd, Over}
 use Rattle.scenario_laws.specs.push_model.specs.Client.{Client}
 use Rattle.scenario_laws.specs.push_model.specs.Events.{is_linked, linked_at}
 use Rattle.scenario_laws.specs.world_model.specs.Machines.{LinkEvent, Up, Down, Linked}
@@ -35,7 +35,7 @@ use Rattle.scenario_laws.specs.host_model.specs.Clients.{ClientProfile, client_p
 use Rattle.scenario_laws.specs.host_model.specs.Hosts.{tells_each}
 use Rattle.scenario_laws.specs.host_model.specs.Profiles.{Profile}
 use Rattle.scenario_laws.specs.host_laws.specs.Calls.{Asks, values_after, outer}
-use Rattle.scenario_laws.specs.host_laws.specs.Fed.{WovenFed, FedSpan, behind_span, AreFed}
+use Rattle.scenario_laws.specs.host_laws.specs.Fed.{WovenFed, FedSpan, span_feeds, behind_span, AreFed}
 use Rattle.scenario_laws.specs.host_laws.specs.Feeds.{Feed}
 use Rattle.scenario_laws.specs.host_laws.specs.Leaving.{is_off}
 use Rattle.scenario_laws.specs.host_laws.specs.Lives.{Mark, Occurred, Turned, Span, marks_on, span_marks, all_marks}
@@ -43,8 +43,12 @@ use Rattle.scenario_laws.specs.host_laws.specs.OverLinks.{parts, AreTimely, Goes
 use Rattle.scenario_laws.specs.host_laws.specs.Seen.{spoken_of}
 use Rattle.scenario_laws.specs.host_laws.specs.Woven.{Strand, IsOnLink, turned, strand_list, strand_profile, woven_profile}
 use Rattle.scenario_laws.specs.host_laws.proofs.Asking.{hosts_ask}
+use Rattle.scenario_laws.specs.host_laws.proofs.FramesSent.{IsOver}
+use Rattle.scenario_laws.specs.host_laws.proofs.GoingAsTold.{first_over, fed_over}
 use Rattle.scenario_laws.specs.host_laws.proofs.KeepingClients.{clients_keep_on}
 use Rattle.scenario_laws.specs.host_laws.proofs.OverLinks.{hosts_talk_fed}
+use Rattle.scenario_laws.specs.host_laws.proofs.StrandsFed.{span_so}
+use Rattle.scenario_laws.specs.push_laws.proofs.Opening.{Walk, Stands}
 use Rattle.scenario_laws.specs.Captures.{client_of, server_of, BothHosts, Happened, Ran}
 use Rattle.scenario_laws.specs.Coming.{out_of, LastHas, LastIsUp}
 use Rattle.scenario_laws.specs.Gentle.{CameGently}
@@ -53,13 +57,11 @@ use Rattle.scenario_laws.proofs.Free.{free_runs_are_gentle}
 use Rattle.scenario_laws.proofs.Onward.{pushes_go_onward}
 use Rattle.scenario_laws.proofs.UnlinkedClients.{clients_keep}
 use Rattle.scenario_laws.proofs.Wishes.{states_frame}
-use Rattle.cause_laws.specs.Said.{Brings, HearsOf}
+use Rattle.cause_laws.specs.Said.{Decision, decision_of, Brings, IsHeard}
+use Rattle.cause_laws.proofs.Clients.{never}
 use Rattle.cause_laws.proofs.Hearings.{is_read_up, said_then}
 use Rattle.cause_laws.proofs.Off.{IsOff, strand_off}
-use Rattle.cause_laws.proofs.Weaves.{is_said, CameIn, HasCame, Knows, weave_knows}
-
-never : {X : Type 0} → false ≡ true → X
-never is = absurd cc
+use Rattle.cause_laws.proofs.Weaves.{CameIn, HasCame, Knows, weave_knows}
 
 -- ---- where a link begins
 
@@ -73,43 +75,33 @@ module _ (settings : Settings) where
   abbrev wanted : Policy
   wanted = policy settings false
 
-  -- no push goes on over it, or one without an outcome yet
+  -- no push goes on over it, or one without an outcome yet, which stands where its way begins
+  abbrev StartsSo : Client → Type 0
+  StartsSo c = (is_off c.stage ≡ true) ⊎ ((c.cause ≡ None) × ((walk : Walk) × Stands walk c))
+
   abbrev Starts : ClientProfile → Type 0
-  Starts p = IsOff p ⊎ (p.client.cause ≡ None)
+  Starts p = StartsSo p.client
 
   up_starts : (circumstances : List Circumstance) (p : ClientProfile) → IsOff p → Starts (clients.told circumstances (Linked Up) p)
   up_starts circumstances p off = by p.client.stage refl off
     where
-      waiting : (cause : Option Outcome) → p.client.cause ≡ cause → (let d : Client = if is_some cause then record (p.client) { stage = LinkEnd Due } else record (p.client) { stage = SearchChannel Due } in (is_off d.stage ≡ true) ⊎ (d.cause ≡ None))
-      waiting None is = inr is
+      waiting : (cause : Option Outcome) → p.client.cause ≡ cause → (let d : Client = if is_some cause then record (p.client) { stage = LinkEnd Due } else record (p.client) { stage = SearchChannel Due } in StartsSo d)
+      waiting None is = inr (is, (record { transport = p.client.transport; targets = []; taken = [] }, record { same = refl; none = refl; is = refl }))
       waiting (Some outcome) is = inl refl
 
-      by : (stage : Stage) → p.client.stage ≡ stage → is_off stage ≡ true → (let d : Client = linked_at stage p.client in (is_off d.stage ≡ true) ⊎ (d.cause ≡ None))
+      by : (stage : Stage) → p.client.stage ≡ stage → is_off stage ≡ true → StartsSo (linked_at stage p.client)
       by Rest at off' = inl off
       by (Paged Due) at off' = inl off
       by (Paged Asked) at off' = waiting p.client.cause refl
       by (LinkEnd point) at off' = inl off
       by Over at off' = inl off
-      by (SearchChannel point) at off' = cc
-      by Search at off' = cc
-      by (SearchEnd point) at off' = cc
-      by (Features point) at off' = cc
-      by (ObjectChannel point) at off' = cc
-      by Object at off' = cc
-      by (ObjectEnd point) at off' = cc
+      by stage at off' = cc
 
   unlinked_off : (stage : Stage) → is_linked stage ≡ false → is_off stage ≡ true
   unlinked_off Rest is = refl
   unlinked_off (Paged point) is = refl
   unlinked_off Over is = refl
-  unlinked_off (LinkEnd point) is = cc
-  unlinked_off (SearchChannel point) is = cc
-  unlinked_off Search is = cc
-  unlinked_off (SearchEnd point) is = cc
-  unlinked_off (Features point) is = cc
-  unlinked_off (ObjectChannel point) is = cc
-  unlinked_off Object is = cc
-  unlinked_off (ObjectEnd point) is = cc
+  unlinked_off stage is = cc
 
   down_off : (circumstances : List Circumstance) (reason : ℕ) (p : ClientProfile) → IsOff (clients.told circumstances (Linked (Down reason)) p)
   down_off circumstances reason p = unlinked_off (clients.told circumstances (Linked (Down reason)) p).client.stage ((clients_keep settings).down circumstances reason p).free
@@ -169,18 +161,24 @@ module _ (settings : Settings) where
       }
       by false (Down reason) at timely' fits' = let no : false ≡ true = timely'.0 in never no
 
+  -- it keeps its transport
+  span_over : (span : Span) (p : ClientProfile) (fed : FedSpan (client_profile settings) (hosts_ask.clients settings) span p) → IsOver settings.transport p.client → IsOver settings.transport (behind_span (client_profile settings) (hosts_ask.clients settings) span p fed).client
+  span_over span p fed over = subst (λ (q : ClientProfile). IsOver settings.transport q.client) (span_so C asks span p fed) (fed_over settings (span_feeds C asks span p fed) p over)
+
   record LastLink (now : List Occurrence) (last : ClientProfile) : Type 0 where
     feeds : List Feed
     first : ClientProfile
     so : WovenFed (client_profile settings) (hosts_ask.clients settings) now feeds first last
     starts : Starts first
+    over : IsOver settings.transport first.client
 
-  last_link : (up : Bool) (spans : List Span) (now : List Occurrence) (feeds : List Feed) (first last : ClientProfile) → AreFed (client_profile settings) (hosts_ask.clients settings) spans now feeds first last → AreTimely up (all_marks spans now) → Fits up first
+  last_link : (up : Bool) (spans : List Span) (now : List Occurrence) (feeds : List Feed) (first last : ClientProfile) → AreFed (client_profile settings) (hosts_ask.clients settings) spans now feeds first last → AreTimely up (all_marks spans now) → Fits up first → IsOver settings.transport first.client
       → IsOff last ⊎ LastLink now last
-  last_link true [] now feeds first last fed timely fits = inr (record { feeds = feeds; first = first; so = fed; starts = fits })
-  last_link false [] now feeds first last fed timely fits = inl (fed_off now feeds first last fed fits)
-  last_link up (span ∷ spans) now feeds first last (here, later, is, fed) timely fits =
-      let behind = behind_fits up span spans now first here (turn_timely up span spans now timely) fits in last_link behind.up spans now later (behind_span C asks span first here) last fed behind.timely behind.fits
+  last_link true [] now feeds first last fed timely fits over = inr (record { feeds = feeds; first = first; so = fed; starts = fits; over = over })
+  last_link false [] now feeds first last fed timely fits over = inl (fed_off now feeds first last fed fits)
+  last_link up (span ∷ spans) now feeds first last (here, later, is, fed) timely fits over =
+      let behind = behind_fits up span spans now first here (turn_timely up span spans now timely) fits in
+      last_link behind.up spans now later (behind_span C asks span first here) last fed behind.timely behind.fits (span_over span first here over)
 
 -- ---- talk
 
@@ -248,6 +246,10 @@ none_told scenario content done w there =
 
 -- ---- at rest
 
+-- its outcome comes of an SDU that says this
+abbrev pub Decides : BothHosts → Decision → Type 0
+Decides w decision = (outcome : Outcome) × (w.a.upper.profile.client.cause ≡ Some outcome) × (decision_of outcome ≡ Some decision)
+
 module _ (scenario : Scenario) (content : Option Contents) (done : List Happening) (w : BothHosts) (there : Happened scenario content done w) (rest : IsAtRest (client_of scenario) (server_of scenario content) w) (link : Link) (up : link_up sides.A (all_entries done) ≡ Some link) where
   abbrev D : Profile ClientProfile
   D = client_profile scenario.settings
@@ -262,9 +264,9 @@ module _ (scenario : Scenario) (content : Option Contents) (done : List Happenin
   on_never off = never (sym goes_on ∙ off)
 
   -- an SDU that came in on it stands in its talk
-  in_talk : (outcome : Outcome) (now : List Occurrence) → spoken_of (run_of (policy scenario.settings false) now).said ≡ (run_of (policy scenario.settings false) now).said
-      → (outs : List Saying) → spoken_of (run_of (policy scenario.settings false) now).said ≡ talk link ++ outs → AllByRecursion GoesOut outs → CameIn scenario.settings outcome now → HearsOf outcome (talk link)
-  in_talk outcome now keeps outs talk_is out came =
+  in_talk : (decision : Decision) (now : List Occurrence) → spoken_of (run_of (policy scenario.settings false) now).said ≡ (run_of (policy scenario.settings false) now).said
+      → (outs : List Saying) → spoken_of (run_of (policy scenario.settings false) now).said ≡ talk link ++ outs → AllByRecursion GoesOut outs → CameIn scenario.settings decision now → IsHeard scenario.settings decision (talk link)
+  in_talk decision now keeps outs talk_is out came =
       let party = party_of scenario.settings sides.A in
       let read = is_read_up own party came.front came.pdu came.own came.psm came.sdu (states_frame scenario.settings false sides.A) came.brought in
       let run = run_of own came.front in
@@ -284,14 +286,13 @@ module _ (scenario : Scenario) (content : Option Contents) (done : List Happenin
         pdu = came.pdu;
         rest = behind;
         said_is = moved_is;
-        party = party;
         entry = read.entry;
         found = read.found;
         earlier = read.earlier;
         octets = came.sdu;
         later = read.later;
         sdus_are = read.sdus_are;
-        brings = subst (λ (psm : ℕ). Brings outcome psm came.sdu) (sym read.psm_is) came.brings;
+        brings = subst (λ (psm : ℕ). Brings scenario.settings.transport decision psm came.sdu) (sym read.psm_is) came.brings;
       }
 
   abbrev asking : Asks (client_profile scenario.settings)
@@ -306,14 +307,16 @@ module _ (scenario : Scenario) (content : Option Contents) (done : List Happenin
     where
       at_first : Starts scenario.settings here.first → Knows scenario.settings (hosts_ask.clients scenario.settings) here.first []
       at_first (inl off) = inl off
-      at_first (inr none) = inr (subst (λ (c : Option Outcome). HasCame scenario.settings c []) (sym none) tt)
+      at_first (inr (none, (walk, stands))) = inr (record { over = here.over; walk = walk; stands = stands; has = subst (λ (c : Option Outcome). HasCame scenario.settings c []) (sym none) tt })
 
-  came_on : (outcome : Outcome) (now : List Occurrence) → w.a.upper.profile.client.cause ≡ Some outcome → is_said outcome ≡ true → Knows scenario.settings (hosts_ask.clients scenario.settings) w.a.upper.profile now → CameIn scenario.settings outcome now
-  came_on outcome now is said (inl off) = on_never off
-  came_on outcome now is said (inr has) = let known : HasCame scenario.settings (Some outcome) now = subst (λ (c : Option Outcome). HasCame scenario.settings c now) is has in known said
+  came_on : (decision : Decision) (now : List Occurrence) → Decides w decision → Knows scenario.settings (hosts_ask.clients scenario.settings) w.a.upper.profile now → CameIn scenario.settings decision now
+  came_on decision now (outcome, is, said) (inl off) = on_never off
+  came_on decision now (outcome, is, said) (inr known) =
+      let has : HasCame scenario.settings (Some outcome) now = subst (λ (c : Option Outcome). HasCame scenario.settings c now) is known.has in
+      subst (λ (found : Option Decision). IfSome found (λ one. CameIn scenario.settings one now)) said has
 
-  gently_hears : (outcome : Outcome) → w.a.upper.profile.client.cause ≡ Some outcome → is_said outcome ≡ true → CameGently (client_profile scenario.settings) sides.A (all_entries done) w.a.upper → HearsOf outcome (talk link)
-  gently_hears outcome is said gentle =
+  gently_hears : (decision : Decision) → Decides w decision → CameGently (client_profile scenario.settings) sides.A (all_entries done) w.a.upper → IsHeard scenario.settings decision (talk link)
+  gently_hears decision decides gentle =
       let fed = hosts_talk_fed D asking gentle.came.talk w.a.upper gentle.came.over gentle.gently in
       let lives = fed.so.lives in
       let timely : AreTimely false (all_marks lives.spans lives.now) = subst (AreTimely false) (sym lives.marks_are) fed.so.timely in
@@ -327,17 +330,17 @@ module _ (scenario : Scenario) (content : Option Contents) (done : List Happenin
       so.talk_is
       ∙ (ap (λ (l : List Pdu). flat_map said_by l ++ so.waits) pdus_are
       ∙ (ap (λ (l : List Saying). l ++ so.waits) (flat_map-append said_by (pdus link) (map out_of unsent)) ∙ append_assoc (talk link) left so.waits)) in
-      with_last outcome is said lives.now (left ++ so.waits) talk_is (all_both left so.waits (unsent_out unsent) so.go_out)
+      with_last decision decides lives.now (left ++ so.waits) talk_is (all_both left so.waits (unsent_out unsent) so.go_out)
       (ap (λ (v : Channels). v.events) (sym lives.channels_run) ∙ lives.all_told)
-      (last_link scenario.settings false lives.spans lives.now lives.feeds D.first w.a.upper.profile fed.fed timely refl)
+      (last_link scenario.settings false lives.spans lives.now lives.feeds D.first w.a.upper.profile fed.fed timely refl (first_over scenario.settings))
     where
-      with_last : (outcome : Outcome) → w.a.upper.profile.client.cause ≡ Some outcome → is_said outcome ≡ true → (now : List Occurrence) (outs : List Saying) → spoken_of (run_of (policy scenario.settings false) now).said ≡ talk link ++ outs → AllByRecursion GoesOut outs
-          → (run_of (policy scenario.settings false) now).value.events ≡ [] → IsOff w.a.upper.profile ⊎ LastLink scenario.settings now w.a.upper.profile → HearsOf outcome (talk link)
-      with_last outcome is said now outs talk_is out none (inl off) = on_never off
-      with_last outcome is said now outs talk_is out none (inr here) =
-          in_talk outcome now (clients_keep_on scenario.settings asking now here.first w.a.upper.profile here.so.woven none goes_on) outs talk_is out (came_on outcome now is said (known_on now w.a.upper.profile here))
+      with_last : (decision : Decision) → Decides w decision → (now : List Occurrence) (outs : List Saying) → spoken_of (run_of (policy scenario.settings false) now).said ≡ talk link ++ outs → AllByRecursion GoesOut outs
+          → (run_of (policy scenario.settings false) now).value.events ≡ [] → IsOff w.a.upper.profile ⊎ LastLink scenario.settings now w.a.upper.profile → IsHeard scenario.settings decision (talk link)
+      with_last decision decides now outs talk_is out none (inl off) = on_never off
+      with_last decision decides now outs talk_is out none (inr here) =
+          in_talk decision now (clients_keep_on scenario.settings asking now here.first w.a.upper.profile here.so.woven none goes_on) outs talk_is out (came_on decision now decides (known_on now w.a.upper.profile here))
 
-  pub rest_hears : (outcome : Outcome) → w.a.upper.profile.client.cause ≡ Some outcome → is_said outcome ≡ true → HearsOf outcome (talk link)
-  rest_hears outcome is said =
+  pub rest_hears : (decision : Decision) → Decides w decision → IsHeard scenario.settings decision (talk link)
+  rest_hears decision decides =
       let ran : Ran scenario content (all_entries done) = record { happenings = done; world = w; happened = there; ends = []; last = tt; capture_is = sym (append-nil (all_entries done)) } in
-      gently_hears outcome is said (free_runs_are_gentle scenario content (all_entries done) ran).a
+      gently_hears decision decides (free_runs_are_gentle scenario content (all_entries done) ran).a

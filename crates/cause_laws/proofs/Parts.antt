@@ -2,24 +2,16 @@
 use Rattle.std.proofs.Common.{◌≡◌, ℕ, Bool, true, false, not, ◌||◌, ◌==◌, List, [], ◌∷◌, ◌++◌, Option, Some, None, refl, sym, ap, subst, ◌∙◌, append_assoc, inl, inr}
 use Rattle.std.proofs.lemmas.Bool.{eqb-true}
 use Rattle.scenario_laws.specs.push_terms.specs.declared.outcome.Outcome.{Outcome}
-use Rattle.scenario_laws.specs.push_terms.specs.declared.outcome.Outcome.TheVariants.{Done, LinkLost, RetryLimit, Refused, NoService, ShelfFault, Cancelled as PushCancelled, PeerClosed, PeerFault, ScriptEnded}
+use Rattle.scenario_laws.specs.push_terms.specs.declared.outcome.Outcome.TheVariants.{LinkLost, RetryLimit, ShelfFault, Cancelled as PushCancelled, PeerClosed, PeerFault, ScriptEnded}
 use Rattle.scenario_laws.specs.capture.specs.Entries.{Entry}
-use Rattle.cause_laws.specs.FirstCauses.{is_cancel, is_piece, end_reason, is_turned, IsLoss, BringsAbout, IsNoCause, AreNoCauses, AreNotCancelled, IsBroughtAbout, HasCause}
-use Rattle.cause_laws.proofs.Clients.{is_any, is_heard, is_shelf, Came, HasCome}
+use Rattle.cause_laws.specs.FirstCauses.{is_cancel, is_piece, end_reason, is_firing, IsLoss, BringsAbout, IsNoCause, AreNoCauses, AreNotCancelled, IsBroughtAbout, HasCause}
+use Rattle.cause_laws.proofs.Clients.{never, is_any, is_heard, is_shelf, Came, HasCome}
 use Rattle.cause_laws.proofs.Driving.{is_timed, is_gone}
 
 -- what it shows of an outcome that came before the script ended
 abbrev Shown : Outcome → List Entry → Type 0
-Shown Done part = IsBroughtAbout Done part
-Shown (Refused code) part = IsBroughtAbout (Refused code) part
-Shown NoService part = IsBroughtAbout NoService part
-Shown LinkLost part = IsBroughtAbout LinkLost part
-Shown PushCancelled part = IsBroughtAbout PushCancelled part
-Shown RetryLimit part = IsBroughtAbout RetryLimit part
-Shown ShelfFault part = AreNotCancelled part
-Shown PeerClosed part = IsBroughtAbout PeerClosed part
-Shown (PeerFault layer reason) part = IsBroughtAbout (PeerFault layer reason) part
 Shown ScriptEnded part = ⊥
+Shown outcome part = HasCause outcome part
 
 -- as the outcome of its push is so far
 abbrev pub Stood : List Entry → Option Outcome → Type 0
@@ -27,16 +19,8 @@ Stood part None = AreNoCauses part
 Stood part (Some outcome) = Shown outcome part
 
 pub shown_cause : (outcome : Outcome) (part : List Entry) → Shown outcome part → HasCause outcome part
-shown_cause Done part shown = shown
-shown_cause (Refused code) part shown = shown
-shown_cause NoService part shown = shown
-shown_cause LinkLost part shown = shown
-shown_cause PushCancelled part shown = shown
-shown_cause RetryLimit part shown = shown
-shown_cause ShelfFault part shown = shown
-shown_cause PeerClosed part shown = shown
-shown_cause (PeerFault layer reason) part shown = shown
 shown_cause ScriptEnded part shown = absurd shown
+shown_cause outcome part shown = shown
 
 not_cancelled_of : (part : List Entry) → AreNoCauses part → AreNotCancelled part
 not_cancelled_of [] all = tt
@@ -46,7 +30,7 @@ all_more : (part : List Entry) (entry : Entry) → is_cancel entry ≡ false →
 all_more [] entry plain all = (plain, tt)
 all_more (one ∷ part) entry plain all = (all.0, all_more part entry plain all.1)
 
-none_more : (part : List Entry) (entry : Entry) → IsNoCause entry → AreNoCauses part → AreNoCauses (part ++ entry ∷ [])
+pub none_more : (part : List Entry) (entry : Entry) → IsNoCause entry → AreNoCauses part → AreNoCauses (part ++ entry ∷ [])
 none_more [] entry none all = (none, tt)
 none_more (one ∷ part) entry none all = (all.0, none_more part entry none all.1)
 
@@ -62,36 +46,18 @@ brought_more outcome part entry plain about = record {
 }
 
 shown_more : (outcome : Outcome) (part : List Entry) (entry : Entry) → is_cancel entry ≡ false → Shown outcome part → Shown outcome (part ++ entry ∷ [])
-shown_more Done part entry plain shown = brought_more Done part entry plain shown
-shown_more (Refused code) part entry plain shown = brought_more (Refused code) part entry plain shown
-shown_more NoService part entry plain shown = brought_more NoService part entry plain shown
-shown_more LinkLost part entry plain shown = brought_more LinkLost part entry plain shown
-shown_more PushCancelled part entry plain shown = brought_more PushCancelled part entry plain shown
-shown_more RetryLimit part entry plain shown = brought_more RetryLimit part entry plain shown
 shown_more ShelfFault part entry plain shown = all_more part entry plain shown
-shown_more PeerClosed part entry plain shown = brought_more PeerClosed part entry plain shown
-shown_more (PeerFault layer reason) part entry plain shown = brought_more (PeerFault layer reason) part entry plain shown
 shown_more ScriptEnded part entry plain shown = absurd shown
+shown_more outcome part entry plain shown = brought_more outcome part entry plain shown
 
 pub stood_more : (part : List Entry) (entry : Entry) (cause : Option Outcome) → IsNoCause entry → Stood part cause → Stood (part ++ entry ∷ []) cause
 stood_more part entry None none stood = none_more part entry none stood
 stood_more part entry (Some outcome) none stood = shown_more outcome part entry none.not_cancelled stood
 
-pub never : {X : Type 0} → false ≡ true → X
-never is = absurd cc
-
 -- the fault of the shelf needs no entry
 shelf_shown : (outcome : Outcome) (part : List Entry) → is_shelf outcome ≡ true → AreNotCancelled part → Shown outcome part
-shelf_shown Done part is all = never is
-shelf_shown (Refused code) part is all = never is
-shelf_shown NoService part is all = never is
-shelf_shown LinkLost part is all = never is
-shelf_shown PushCancelled part is all = never is
-shelf_shown RetryLimit part is all = never is
 shelf_shown ShelfFault part is all = all
-shelf_shown PeerClosed part is all = never is
-shelf_shown (PeerFault layer reason) part is all = never is
-shelf_shown ScriptEnded part is all = never is
+shelf_shown outcome part is all = never is
 
 -- where one of them comes of the entry, it brings it about
 abbrev Brings : (Outcome → Bool) → Entry → Type 0
@@ -119,55 +85,35 @@ shelf_brings entry plain outcome part is all = shelf_shown outcome (part ++ entr
 pub brought_by : (outcome : Outcome) (part : List Entry) (entry : Entry) → AreNoCauses part → BringsAbout outcome entry → IsBroughtAbout outcome (part ++ entry ∷ [])
 brought_by outcome part entry all brings = record { before = part; entry = entry; after = []; part_is = refl; first = all; brings = brings; none_after = tt }
 
-pub turned_brings : (entry : Entry) → is_cancel entry ≡ false → (is_piece entry || is_turned entry) ≡ true → Brings is_timed entry
-turned_brings entry plain turned Done part is all = never is
-turned_brings entry plain turned (Refused code) part is all = never is
-turned_brings entry plain turned NoService part is all = never is
-turned_brings entry plain turned LinkLost part is all = never is
-turned_brings entry plain turned PushCancelled part is all = never is
-turned_brings entry plain turned RetryLimit part is all = brought_by RetryLimit part entry all turned
-turned_brings entry plain turned ShelfFault part is all = all_more part entry plain (not_cancelled_of part all)
-turned_brings entry plain turned PeerClosed part is all = never is
-turned_brings entry plain turned (PeerFault layer reason) part is all = brought_by (PeerFault layer reason) part entry all turned
-turned_brings entry plain turned ScriptEnded part is all = never is
+pub fired_brings : (entry : Entry) → is_cancel entry ≡ false → (is_piece entry || is_firing entry) ≡ true → Brings is_timed entry
+fired_brings entry plain fires RetryLimit part is all = brought_by RetryLimit part entry all fires
+fired_brings entry plain fires (PeerFault layer reason) part is all = brought_by (PeerFault layer reason) part entry all fires
+fired_brings entry plain fires ShelfFault part is all = all_more part entry plain (not_cancelled_of part all)
+fired_brings entry plain fires outcome part is all = never is
 
 pub piece_brings : (entry : Entry) → is_cancel entry ≡ false → is_piece entry ≡ true → Brings is_heard entry
-piece_brings entry plain piece Done part is all = brought_by Done part entry all piece
-piece_brings entry plain piece (Refused code) part is all = brought_by (Refused code) part entry all piece
-piece_brings entry plain piece NoService part is all = brought_by NoService part entry all piece
 piece_brings entry plain piece LinkLost part is all = never is
 piece_brings entry plain piece PushCancelled part is all = never is
-piece_brings entry plain piece RetryLimit part is all = brought_by RetryLimit part entry all (ap (λ (b : Bool). b || is_turned entry) piece)
-piece_brings entry plain piece ShelfFault part is all = all_more part entry plain (not_cancelled_of part all)
-piece_brings entry plain piece PeerClosed part is all = brought_by PeerClosed part entry all (inl piece)
-piece_brings entry plain piece (PeerFault layer reason) part is all = brought_by (PeerFault layer reason) part entry all (ap (λ (b : Bool). b || is_turned entry) piece)
 piece_brings entry plain piece ScriptEnded part is all = never is
+piece_brings entry plain piece RetryLimit part is all = brought_by RetryLimit part entry all (ap (λ (b : Bool). b || is_firing entry) piece)
+piece_brings entry plain piece (PeerFault layer reason) part is all = brought_by (PeerFault layer reason) part entry all (ap (λ (b : Bool). b || is_firing entry) piece)
+piece_brings entry plain piece PeerClosed part is all = brought_by PeerClosed part entry all (inl piece)
+piece_brings entry plain piece ShelfFault part is all = all_more part entry plain (not_cancelled_of part all)
+piece_brings entry plain piece outcome part is all = brought_by outcome part entry all piece
 
 not_true : (b : Bool) → not b ≡ true → b ≡ false
 not_true true is = never is
 not_true false is = refl
 
-pub gone_brings : (handle reason : ℕ) (entry : Entry) → is_cancel entry ≡ false → end_reason entry ≡ Some reason → Brings (is_gone (reason == 0x13)) entry
-gone_brings handle reason entry plain ends LinkLost part is all = brought_by LinkLost part entry all (subst IsLoss (sym ends) (not_true (reason == 0x13) is))
-gone_brings handle reason entry plain ends Done part is all = never is
-gone_brings handle reason entry plain ends (Refused code) part is all = never is
-gone_brings handle reason entry plain ends NoService part is all = never is
-gone_brings handle reason entry plain ends PushCancelled part is all = never is
-gone_brings handle reason entry plain ends RetryLimit part is all = never is
-gone_brings handle reason entry plain ends ShelfFault part is all = all_more part entry plain (not_cancelled_of part all)
-gone_brings handle reason entry plain ends PeerClosed part is all = brought_by PeerClosed part entry all (inr (ends ∙ ap Some (eqb-true reason 0x13 is)))
-gone_brings handle reason entry plain ends (PeerFault layer r) part is all = never is
-gone_brings handle reason entry plain ends ScriptEnded part is all = never is
+pub gone_brings : (reason : ℕ) (entry : Entry) → is_cancel entry ≡ false → end_reason entry ≡ Some reason → Brings (is_gone (reason == 0x13)) entry
+gone_brings reason entry plain ends LinkLost part is all = brought_by LinkLost part entry all (subst IsLoss (sym ends) (not_true (reason == 0x13) is))
+gone_brings reason entry plain ends PeerClosed part is all = brought_by PeerClosed part entry all (inr (ends ∙ ap Some (eqb-true reason 0x13 is)))
+gone_brings reason entry plain ends ShelfFault part is all = all_more part entry plain (not_cancelled_of part all)
+gone_brings reason entry plain ends outcome part is all = never is
 
 -- as outcomes that come of more
 pub timed_any : (outcome : Outcome) → is_timed outcome ≡ true → is_any outcome ≡ true
-timed_any Done is = never is
-timed_any (Refused code) is = never is
-timed_any NoService is = never is
-timed_any LinkLost is = never is
-timed_any PushCancelled is = never is
 timed_any RetryLimit is = refl
 timed_any ShelfFault is = refl
-timed_any PeerClosed is = refl
 timed_any (PeerFault layer reason) is = refl
-timed_any ScriptEnded is = never is
+timed_any outcome is = never is

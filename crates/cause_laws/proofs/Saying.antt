@@ -1,18 +1,19 @@
 -- What an SDU says with which a push has an outcome.
-use Rattle.std.proofs.Common.{◌≡◌, ℕ, zero, suc, Bool, true, false, not, ◌&&◌, ◌==◌, List, [], ◌∷◌, ◌++◌, length, Option, Some, None, is_none, Result, Ok, Err, take, drop, refl, sym, ap, ap₂, subst, ◌∙◌, inl, inr, append_assoc, if◌then◌else◌}
-use Rattle.std.specs.Prelude.{nat_lt}
-use Rattle.std.proofs.lemmas.Bool.{eqb-true}
+use Rattle.std.proofs.Common.{◌≡◌, ℕ, ◌+◌, zero, suc, Bool, true, false, not, ◌&&◌, ◌==◌, List, [], ◌∷◌, ◌++◌, length, Option, Some, None, is_none, Result, Ok, Err, take, drop, refl, sym, ap, ap₂, subst, ◌∙◌, inl, inr, append_assoc, arith, if◌then◌else◌}
+use Rattle.std.specs.Prelude.{nat_lt, slice_index, IfSome}
+use Rattle.std.proofs.lemmas.Bool.{eqb-true, le-ltb}
 use Rattle.std.proofs.lemmas.List.{take-append-drop}
 use Rattle.scenario_laws.specs.bt_base.specs.declared.settings.Transport.{Transport}
 use Rattle.scenario_laws.specs.bt_base.specs.declared.settings.Transport.TheVariants.{L2cap, Rfcomm}
 use Rattle.scenario_laws.specs.push_terms.specs.declared.outcome.Outcome.{Outcome}
-use Rattle.scenario_laws.specs.push_terms.specs.declared.outcome.Outcome.TheVariants.{Done, LinkLost, RetryLimit, Refused, NoService, ShelfFault, Cancelled, PeerClosed, PeerFault, ScriptEnded}
+use Rattle.scenario_laws.specs.push_terms.specs.declared.outcome.Outcome.TheVariants.{Done, Refused, NoService}
 use Rattle.scenario_laws.specs.obex_headers.specs.declared.fault.ObexRefusal.{ObexRefusal}
-use Rattle.scenario_laws.specs.obex_headers.specs.declared.fault.ObexRefusal.TheVariants.{AboveMaximum, BadLength}
+use Rattle.scenario_laws.specs.obex_headers.specs.declared.fault.ObexRefusal.TheVariants.{AboveMaximum, BadLength, Short}
+use Rattle.scenario_laws.specs.obex_headers.specs.declared.packet.Phase.{Phase}
 use Rattle.scenario_laws.specs.obex_headers.specs.declared.packet.Phase.TheVariants.{Response}
 use Rattle.scenario_laws.specs.obex_headers.specs.Assembling.{stated_len}
-use Rattle.scenario_laws.specs.obex_headers.specs.Packets.{PlainPacket}
-use Rattle.scenario_laws.specs.obex_headers.specs.Reading.{packet_in}
+use Rattle.scenario_laws.specs.obex_headers.specs.Packets.{PlainPacket, PlainHeader, fields_len}
+use Rattle.scenario_laws.specs.obex_headers.specs.Reading.{◌>>=◌, headers_in, front_at, packet_in}
 use Rattle.scenario_laws.specs.obex_session.specs.declared.asking.Request.{Request}
 use Rattle.scenario_laws.specs.obex_session.specs.declared.asking.Request.TheVariants as requests
 use Rattle.scenario_laws.specs.obex_session.specs.declared.client.Answered.{Answered}
@@ -40,22 +41,46 @@ use Rattle.scenario_laws.specs.sdp_client.specs.Hearing.{found_at, found_when, f
 use Rattle.scenario_laws.specs.sdp_client.specs.Replies.{PlainPart, PlainSaid, Gives, Failed, Nothing, said_in, is_of_another}
 use Rattle.scenario_laws.specs.sdp_elements.specs.Targets.{target_in, is_service_psm, is_server_channel}
 use Rattle.scenario_laws.specs.push_model.specs.declared.course.Stage.{Stage}
-use Rattle.scenario_laws.specs.push_model.specs.declared.course.Stage.TheVariants.{Rest, Link, SearchChannel, Search, SearchEnd, Features, ObjectChannel, Object, ObjectEnd, LinkEnd, Over}
+use Rattle.scenario_laws.specs.push_model.specs.declared.course.Stage.TheVariants.{Search, ObjectChannel, Object, ObjectEnd}
 use Rattle.scenario_laws.specs.push_model.specs.Causes.{cause_of_query, cause_of_mux, unawaited_response}
 use Rattle.scenario_laws.specs.push_model.specs.Client.{Client}
 use Rattle.scenario_laws.specs.push_model.specs.Events.{search_psm, kept_of}
 use Rattle.scenario_laws.specs.push_model.specs.Responding.{is_early, is_success, is_left, hears_response}
 use Rattle.scenario_laws.specs.push_model.specs.Streams.{Front, Whole, Partial, Broken, front_of}
 use Rattle.scenario_laws.specs.push_model.specs.Shown.{first_of, way_of, found_shows, says, answer_shows, response_shows, front_shows, stream_shows, up_shows, object_shows, outside_shows, sdu_shows}
-use Rattle.cause_laws.specs.Said.{IsResponse, HasCode, IsCarried, LacksService, Brings}
+use Rattle.scenario_laws.specs.push_laws.proofs.Opening.{Walk, HasChannel, At, psm_over, course_of}
+use Rattle.cause_laws.specs.Said.{IsResponse, HasCode, IsCarried, LacksService, decision_of, Brings}
 
-abbrev pub Says : (psm : ℕ) → List ℕ → Option Outcome → Type 0
-Says psm octets None = Unit {0}
-Says psm octets (Some outcome) = Brings outcome psm octets
+-- what an SDU on a channel with that PSM says with which this outcome is shown
+abbrev pub Says : Transport → (psm : ℕ) → List ℕ → Option Outcome → Type 0
+Says transport psm octets None = Unit {0}
+Says transport psm octets (Some outcome) = IfSome (decision_of outcome) (λ decision. Brings transport decision psm octets)
 
-either : (psm : ℕ) (octets : List ℕ) (test : Bool) (a b : Option Outcome) → Says psm octets a → Says psm octets b → Says psm octets (if test then a else b)
-either psm octets true a b x y = x
-either psm octets false a b x y = y
+either : (transport : Transport) (psm : ℕ) (octets : List ℕ) (test : Bool) (a b : Option Outcome) → Says transport psm octets a → Says transport psm octets b → Says transport psm octets (if test then a else b)
+either transport psm octets true a b x y = x
+either transport psm octets false a b x y = y
+
+-- over a transport the channel of the object has such a PSM
+abbrev FitsOver : Transport → (psm : ℕ) → Type 0
+FitsOver L2cap psm = is_service_psm psm ≡ true
+FitsOver Rfcomm psm = psm ≡ 0x0003
+
+kept_fits : (test : ℕ → Bool) (found : Option ℕ) (number : ℕ) → kept_of test found ≡ Some number → test number ≡ true
+kept_fits test None number is = cc
+kept_fits test (Some one) number is = by (test one) refl is
+  where
+    by : (held : Bool) → test one ≡ held → (if held then Some one else None) ≡ Some number → test number ≡ true
+    by true holds same = let it : one ≡ number = cc in subst (λ (n : ℕ). test n ≡ true) it holds
+    by false fails same = cc
+
+way_fits : (transport : Transport) (target : Target) (number : ℕ) → way_of transport target ≡ Some number → FitsOver transport (psm_over transport number)
+way_fits L2cap target number is = kept_fits is_service_psm target.l2cap number is
+way_fits Rfcomm target number is = refl
+
+channel_fits : (transport : Transport) (walk : Walk) (client : Client) → client.transport ≡ transport → HasChannel walk (course_of client) → FitsOver transport client.psm
+channel_fits transport walk client same channel =
+    let names = channel.names in
+    subst (λ (t : Transport). FitsOver t client.psm) (sym names.same ∙ same) (subst (FitsOver walk.transport) (sym names.psm_is) (way_fits walk.transport names.target names.number names.named))
 
 -- ---- answers of service discovery
 
@@ -109,28 +134,28 @@ when_ends stages.Again asking reply = by_ends asking reply
 when_ends stages.Answered asking reply = tt
 when_ends (stages.Refused reason) asking reply = tt
 
-query_says : (psm : ℕ) (octets : List ℕ) (reason : QueryReason) → Says psm octets (cause_of_query reason)
-query_says psm octets BadReply = tt
-query_says psm octets (ErrorCode code) = tt
-query_says psm octets WrongTransaction = tt
-query_says psm octets TooLong = tt
+query_says : (transport : Transport) (psm : ℕ) (octets : List ℕ) (reason : QueryReason) → Says transport psm octets (cause_of_query reason)
+query_says transport psm octets BadReply = tt
+query_says transport psm octets (ErrorCode code) = tt
+query_says transport psm octets WrongTransaction = tt
+query_says transport psm octets TooLong = tt
 
-lacks : (reply : List ℕ) (target : Target) (transport : Transport) → IsAnswerOf reply target → is_none (way_of transport target) ≡ true → LacksService reply
-lacks reply target transport answered none = record { part = answered.part; is = answered.is; last = answered.last; so_far = answered.so_far; target = target; read = answered.read; transport = transport; none = none }
+lacks : (reply : List ℕ) (target : Target) (transport : Transport) → IsAnswerOf reply target → is_none (way_of transport target) ≡ true → LacksService transport reply
+lacks reply target transport answered none = record { part = answered.part; is = answered.is; last = answered.last; so_far = answered.so_far; target = target; read = answered.read; none = none }
 
 no_way : (transport : Transport) (target : Target) → target.l2cap ≡ None → target.rfcomm ≡ None → is_none (way_of transport target) ≡ true
 no_way L2cap target one two = ap (λ (o : Option ℕ). is_none (kept_of is_service_psm o)) one
 no_way Rfcomm target one two = ap (λ (o : Option ℕ). is_none (kept_of is_server_channel o)) two
 
-found_says : (transport : Transport) (psm : ℕ) (reply : List ℕ) (what : Found) → psm ≡ 0x0001 → EndsSearch reply what → Says psm reply (found_shows transport what)
+found_says : (transport : Transport) (psm : ℕ) (reply : List ℕ) (what : Found) → psm ≡ 0x0001 → EndsSearch reply what → Says transport psm reply (found_shows transport what)
 found_says transport psm reply found.More here ends = tt
 found_says transport psm reply (found.Service target) here ends = by (is_none (way_of transport target)) refl
   where
-    by : (none : Bool) → is_none (way_of transport target) ≡ none → Says psm reply (if none then Some NoService else None)
+    by : (none : Bool) → is_none (way_of transport target) ≡ none → Says transport psm reply (if none then Some NoService else None)
     by true is = (here, lacks reply target transport ends is)
     by false is = tt
 found_says transport psm reply found.NoService here (target, answered, one, two) = (here, lacks reply target transport answered (no_way transport target one two))
-found_says transport psm reply (found.Refused reason) here ends = query_says psm reply reason
+found_says transport psm reply (found.Refused reason) here ends = query_says transport psm reply reason
 
 -- ---- responses
 
@@ -140,33 +165,48 @@ Speaks packet None = Unit {0}
 Speaks packet (Some Done) = IsResponse Response 0xA0 packet
 Speaks packet (Some (Refused code)) = HasCode code packet
 Speaks packet (Some NoService) = ⊥
-Speaks packet (Some LinkLost) = Unit {0}
-Speaks packet (Some RetryLimit) = Unit {0}
-Speaks packet (Some ShelfFault) = Unit {0}
-Speaks packet (Some Cancelled) = Unit {0}
-Speaks packet (Some PeerClosed) = Unit {0}
-Speaks packet (Some (PeerFault layer reason)) = Unit {0}
-Speaks packet (Some ScriptEnded) = Unit {0}
+Speaks packet (Some outcome) = Unit {0}
+
+-- no packet is read in another way by one that takes longer ones
+front_any : (phase : Phase) (maximum : ℕ) (octets : List ℕ) (front : List ℕ × List ℕ) → front_at phase maximum octets ≡ Ok front → front_at phase (length octets) octets ≡ Ok front
+unfolding front_at
+front_any phase maximum octets front is =
+    by _ (nat_lt (length octets) (3 + fields_len phase (slice_index octets 0))) (nat_lt maximum (length octets)) (nat_lt (length octets) (length octets)) (le-ltb (length octets) (length octets) (omega arith)) is
+  where
+    by : (rest : Result (List ℕ × List ℕ) ObexRefusal) (short over own : Bool) → own ≡ false → (if short then Err Short else if over then Err AboveMaximum else rest) ≡ Ok front → (if short then Err Short else if own then Err AboveMaximum else rest) ≡ Ok front
+    by rest true over own none same = cc
+    by rest false true own none same = cc
+    by rest false false own none same = ap (λ (b : Bool). if b then Err AboveMaximum else rest) none ∙ same
+
+abbrev behind : List ℕ → Result (List ℕ × List ℕ) ObexRefusal → Result PlainPacket ObexRefusal
+behind octets front = front >>= (λ (f : List ℕ × List ℕ). headers_in f.1 >>= (λ (headers : List PlainHeader). Ok (record { code = slice_index octets 0; extra = f.0; headers = headers })))
+
+packet_any : (phase : Phase) (maximum : ℕ) (octets : List ℕ) (read : PlainPacket) → packet_in phase maximum octets ≡ Ok read → packet_in phase (length octets) octets ≡ Ok read
+unfolding packet_in
+packet_any phase maximum octets read is = by (front_at phase maximum octets) refl is
+  where
+    by : (front : Result (List ℕ × List ℕ) ObexRefusal) → front_at phase maximum octets ≡ front → behind octets front ≡ Ok read → behind octets (front_at phase (length octets) octets) ≡ Ok read
+    by (Ok front) at same = ap (behind octets) (front_any phase maximum octets front at) ∙ same
+    by (Err refusal) at same = cc
+
+coded : (request : Request) (code : ℕ) (octets : List ℕ) → IsResponse (phase_of request) code octets → HasCode code octets
+coded requests.Connect code octets response = inl response
+coded request code octets response = inr response
 
 answer_speaks : (maximum : ℕ) (request : Request) (octets : List ℕ) → Speaks octets (says (answer_to maximum request octets))
 answer_speaks maximum request octets = by (packet_in (phase_of request) maximum octets) refl
   where
-    succeeds : (read : PlainPacket) (one : Request) → one ≡ request → packet_in (phase_of request) maximum octets ≡ Ok read → read.code ≡ awaited_code one → Speaks octets (says (success_of one))
-    succeeds read requests.Connect same is code = tt
-    succeeds read requests.FirstPut same is code = tt
-    succeeds read requests.Put same is code = tt
-    succeeds read requests.Stream same is code = tt
-    succeeds read requests.FinalPut same is code = record { maximum = maximum; read = read; is = subst (λ (r : Request). packet_in (phase_of r) maximum octets ≡ Ok read) (sym same) is; code_is = code }
-    succeeds read requests.Abort same is code = tt
-    succeeds read requests.Disconnect same is code = tt
+    succeeds : (read : PlainPacket) (one : Request) → one ≡ request → packet_in (phase_of request) (length octets) octets ≡ Ok read → read.code ≡ awaited_code one → Speaks octets (says (success_of one))
+    succeeds read requests.FinalPut same is code = record { read = read; is = subst (λ (r : Request). packet_in (phase_of r) (length octets) octets ≡ Ok read) (sym same) is; code_is = code }
+    succeeds read one same is code = tt
 
-    tests : (read : PlainPacket) (parameters awaited : Bool) → packet_in (phase_of request) maximum octets ≡ Ok read → (read.code == awaited_code request) ≡ awaited → Speaks octets (says (if parameters then answer.Srmp else if awaited then success_of request else answer.Refused read.code))
+    tests : (read : PlainPacket) (parameters awaited : Bool) → packet_in (phase_of request) (length octets) octets ≡ Ok read → (read.code == awaited_code request) ≡ awaited → Speaks octets (says (if parameters then answer.Srmp else if awaited then success_of request else answer.Refused read.code))
     tests read true awaited is code = tt
     tests read false true is code = succeeds read request refl is (eqb-true read.code (awaited_code request) code)
-    tests read false false is code = (phase_of request, record { maximum = maximum; read = read; is = is; code_is = refl })
+    tests read false false is code = coded request read.code octets (record { read = read; is = is; code_is = refl })
 
     by : (read : Result PlainPacket ObexRefusal) → packet_in (phase_of request) maximum octets ≡ read → Speaks octets (says (answer_read request read))
-    by (Ok read) is = tests read (marks_of read.headers).parameters (read.code == awaited_code request) is refl
+    by (Ok read) is = tests read (marks_of read.headers).parameters (read.code == awaited_code request) (packet_any (phase_of request) maximum octets read is) refl
     by (Err refusal) is = tt
 
 response_speaks : (octets : List ℕ) (client : Client) → Speaks octets (response_shows octets client)
@@ -181,18 +221,13 @@ response_speaks octets client = by client.session.awaited
     by (Some request) =
         let answered = answer_to client.session.maximum request octets in early (is_success answered && is_early client) answered (answer_speaks client.session.maximum request octets)
 
-speaks_says : (psm : ℕ) (packet : List ℕ) (shown : Option Outcome) → Speaks packet shown → Says psm packet shown
-speaks_says psm packet None speaks = tt
-speaks_says psm packet (Some Done) speaks = inl speaks
-speaks_says psm packet (Some (Refused code)) speaks = inl speaks
-speaks_says psm packet (Some NoService) speaks = absurd speaks
-speaks_says psm packet (Some LinkLost) speaks = tt
-speaks_says psm packet (Some RetryLimit) speaks = tt
-speaks_says psm packet (Some ShelfFault) speaks = tt
-speaks_says psm packet (Some Cancelled) speaks = tt
-speaks_says psm packet (Some PeerClosed) speaks = tt
-speaks_says psm packet (Some (PeerFault layer reason)) speaks = tt
-speaks_says psm packet (Some ScriptEnded) speaks = tt
+-- over L2CAP the SDU is the packet
+speaks_says : (psm : ℕ) (packet : List ℕ) (shown : Option Outcome) → is_service_psm psm ≡ true → Speaks packet shown → Says L2cap psm packet shown
+speaks_says psm packet None fits speaks = tt
+speaks_says psm packet (Some Done) fits speaks = (fits, speaks)
+speaks_says psm packet (Some (Refused code)) fits speaks = (fits, speaks)
+speaks_says psm packet (Some NoService) fits speaks = absurd speaks
+speaks_says psm packet (Some outcome) fits speaks = tt
 
 -- ---- a stream of packets
 
@@ -301,49 +336,46 @@ carried_in Is sdu octets held reads earlier packet later is read = record {
   read = read;
 }
 
-stands_says : (psm : ℕ) (sdu octets held : List ℕ) (shown : Option Outcome) → Reads sdu octets → StandsIn shown (held ++ octets) → Says psm sdu shown
-stands_says psm sdu octets held None reads stands = tt
-stands_says psm sdu octets held (Some Done) reads stands = inr (carried_in (IsResponse Response 0xA0) sdu octets held reads stands.earlier stands.packet stands.later stands.is stands.speaks)
-stands_says psm sdu octets held (Some (Refused code)) reads stands = inr (carried_in (HasCode code) sdu octets held reads stands.earlier stands.packet stands.later stands.is stands.speaks)
-stands_says psm sdu octets held (Some NoService) reads stands = absurd stands.speaks
-stands_says psm sdu octets held (Some LinkLost) reads stands = tt
-stands_says psm sdu octets held (Some RetryLimit) reads stands = tt
-stands_says psm sdu octets held (Some ShelfFault) reads stands = tt
-stands_says psm sdu octets held (Some Cancelled) reads stands = tt
-stands_says psm sdu octets held (Some PeerClosed) reads stands = tt
-stands_says psm sdu octets held (Some (PeerFault layer reason)) reads stands = tt
-stands_says psm sdu octets held (Some ScriptEnded) reads stands = tt
+stands_says : (psm : ℕ) (sdu octets held : List ℕ) (shown : Option Outcome) → psm ≡ 0x0003 → Reads sdu octets → StandsIn shown (held ++ octets) → Says Rfcomm psm sdu shown
+stands_says psm sdu octets held None fits reads stands = tt
+stands_says psm sdu octets held (Some Done) fits reads stands = (fits, carried_in (IsResponse Response 0xA0) sdu octets held reads stands.earlier stands.packet stands.later stands.is stands.speaks)
+stands_says psm sdu octets held (Some (Refused code)) fits reads stands = (fits, carried_in (HasCode code) sdu octets held reads stands.earlier stands.packet stands.later stands.is stands.speaks)
+stands_says psm sdu octets held (Some NoService) fits reads stands = absurd stands.speaks
+stands_says psm sdu octets held (Some outcome) fits reads stands = tt
 
-up_says : (psm : ℕ) (sdu : List ℕ) (m : Mux) (brought : Up) (client : Client) → up sdu m ≡ brought → Says psm sdu (up_shows brought client)
-up_says psm sdu m nothing client is = tt
-up_says psm sdu m opened client is = tt
-up_says psm sdu m (bytes octets) client is =
-    let stream = client.held ++ octets in stands_says psm sdu octets client.held (stream_shows (length stream) stream client) (up_reads sdu m octets is) (stream_stands (length stream) stream client)
-up_says psm sdu m (closed reason) client is = either psm sdu (is_left client.contact reason) None (Some (cause_of_mux reason)) tt tt
+up_says : (psm : ℕ) (sdu : List ℕ) (m : Mux) (brought : Up) (client : Client) → psm ≡ 0x0003 → up sdu m ≡ brought → Says Rfcomm psm sdu (up_shows brought client)
+up_says psm sdu m nothing client fits is = tt
+up_says psm sdu m opened client fits is = tt
+up_says psm sdu m (bytes octets) client fits is =
+    let stream = client.held ++ octets in stands_says psm sdu octets client.held (stream_shows (length stream) stream client) fits (up_reads sdu m octets is) (stream_stands (length stream) stream client)
+up_says psm sdu m (closed reason) client fits is = either Rfcomm psm sdu (is_left client.contact reason) None (Some (cause_of_mux reason)) tt tt
 
 -- ---- an SDU
 
-object_says : (transport : Transport) (psm : ℕ) (sdu : List ℕ) (client : Client) → Says psm sdu (object_shows transport sdu client)
-object_says L2cap psm sdu client = speaks_says psm sdu (response_shows sdu client) (response_speaks sdu client)
-object_says Rfcomm psm sdu client = up_says psm sdu client.mux (up sdu client.mux) (record client { mux = hears sdu client.mux }) refl
+object_says : (transport : Transport) (psm : ℕ) (sdu : List ℕ) (client : Client) → FitsOver transport psm → Says transport psm sdu (object_shows transport sdu client)
+object_says L2cap psm sdu client fits = speaks_says psm sdu (response_shows sdu client) fits (response_speaks sdu client)
+object_says Rfcomm psm sdu client fits = up_says psm sdu client.mux (up sdu client.mux) (record client { mux = hears sdu client.mux }) fits refl
 
-outside_says : (transport : Transport) (psm : ℕ) (sdu : List ℕ) → Says psm sdu (outside_shows transport)
-outside_says L2cap psm sdu = tt
-outside_says Rfcomm psm sdu = tt
+outside_says : (over transport : Transport) (psm : ℕ) (sdu : List ℕ) → Says over psm sdu (outside_shows transport)
+outside_says over L2cap psm sdu = tt
+outside_says over Rfcomm psm sdu = tt
 
-search_says : (psm : ℕ) (sdu : List ℕ) (client : Client) (here : Bool) → (psm == search_psm) ≡ here → Says psm sdu (if here then found_shows client.transport (found_at client.query sdu) else None)
-search_says psm sdu client true is = found_says client.transport psm sdu (found_at client.query sdu) (eqb-true psm search_psm is) (when_ends client.query.stage client.query sdu)
-search_says psm sdu client false is = tt
+-- of a client over that transport, which stands so on its way
+module _ (transport : Transport) (psm : ℕ) (sdu : List ℕ) (client : Client) (same : client.transport ≡ transport) (walk : Walk) where
+  search_says : (here : Bool) → (psm == search_psm) ≡ here → Says transport psm sdu (if here then found_shows client.transport (found_at client.query sdu) else None)
+  search_says true is =
+      subst (λ (t : Transport). Says transport psm sdu (found_shows t (found_at client.query sdu))) (sym same) (found_says transport psm sdu (found_at client.query sdu) (eqb-true psm search_psm is) (when_ends client.query.stage client.query sdu))
+  search_says false is = tt
 
-pub sdu_says : (stage : Stage) (psm : ℕ) (sdu : List ℕ) (client : Client) → Says psm sdu (sdu_shows stage psm sdu client)
-sdu_says Rest psm sdu client = tt
-sdu_says (Link point) psm sdu client = tt
-sdu_says (SearchChannel point) psm sdu client = tt
-sdu_says Search psm sdu client = search_says psm sdu client (psm == search_psm) refl
-sdu_says (SearchEnd point) psm sdu client = tt
-sdu_says (Features point) psm sdu client = tt
-sdu_says (ObjectChannel point) psm sdu client = either psm sdu (psm == client.psm) (outside_shows client.transport) None (outside_says client.transport psm sdu) tt
-sdu_says Object psm sdu client = either psm sdu (psm == client.psm) (object_shows client.transport sdu client) None (object_says client.transport psm sdu client) tt
-sdu_says (ObjectEnd point) psm sdu client = either psm sdu (psm == client.psm) (outside_shows client.transport) None (outside_says client.transport psm sdu) tt
-sdu_says (LinkEnd point) psm sdu client = tt
-sdu_says Over psm sdu client = tt
+  carries_says : HasChannel walk (course_of client) → (here : Bool) → (psm == client.psm) ≡ here → Says transport psm sdu (if here then object_shows client.transport sdu client else None)
+  carries_says channel true is =
+      subst (λ (t : Transport). Says transport psm sdu (object_shows t sdu client)) (sym same)
+      (object_says transport psm sdu client (subst (FitsOver transport) (sym (eqb-true psm client.psm is)) (channel_fits transport walk client same channel)))
+  carries_says channel false is = tt
+
+  pub sdu_says : (stage : Stage) → At walk stage (course_of client) → Says transport psm sdu (sdu_shows stage psm sdu client)
+  sdu_says Search at = search_says (psm == search_psm) refl
+  sdu_says (ObjectChannel point) at = either transport psm sdu (psm == client.psm) (outside_shows client.transport) None (outside_says transport client.transport psm sdu) tt
+  sdu_says Object at = carries_says at (psm == client.psm) refl
+  sdu_says (ObjectEnd point) at = either transport psm sdu (psm == client.psm) (outside_shows client.transport) None (outside_says transport client.transport psm sdu) tt
+  sdu_says stage at = tt

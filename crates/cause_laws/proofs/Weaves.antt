@@ -1,5 +1,6 @@
 -- Through what happens on a link: an outcome that an SDU brings about comes with one.
-use Rattle.std.proofs.Common.{◌≡◌, ℕ, Bool, true, false, not, List, [], ◌∷◌, ◌++◌, fold, Option, Some, None, Result, Ok, Err, refl, sym, ap, subst, ◌∙◌, ◌⊎◌, inl, inr, append_assoc, append-nil, if◌then◌else◌}
+use Rattle.std.proofs.Common.{◌≡◌, ℕ, Bool, true, false, List, [], ◌∷◌, ◌++◌, fold, Option, Some, None, Result, Ok, Err, refl, sym, ap, subst, ◌∙◌, ◌⊎◌, inl, inr, append_assoc, append-nil, arith, if◌then◌else◌}
+use Rattle.std.specs.Prelude.{IfSome}
 use Rattle.std.specs.List.{AllByRecursion}
 use Rattle.std.proofs.lemmas.List.Sums.{fold-append}
 use Rattle.scenario_laws.specs.bt_base.specs.declared.ports.PortFault.{PortFault}
@@ -7,7 +8,7 @@ use Rattle.scenario_laws.specs.bt_base.specs.declared.ports.PortFault.TheVariant
 use Rattle.scenario_laws.specs.bt_base.specs.declared.settings.Settings.{Settings}
 use Rattle.scenario_laws.specs.acl_fragments.specs.Pieces.{channel_of}
 use Rattle.scenario_laws.specs.push_terms.specs.declared.outcome.Outcome.{Outcome}
-use Rattle.scenario_laws.specs.push_terms.specs.declared.outcome.Outcome.TheVariants.{Done, LinkLost, RetryLimit, Refused, NoService, ShelfFault, Cancelled as PushCancelled, PeerClosed, PeerFault, ScriptEnded}
+use Rattle.scenario_laws.specs.push_terms.specs.declared.outcome.Outcome.TheVariants.{Cancelled as PushCancelled}
 use Rattle.scenario_laws.specs.channel_model.specs.Carrying.{Up as Handed, Nothing, Received}
 use Rattle.scenario_laws.specs.channel_model.specs.Hearing.{up}
 use Rattle.scenario_laws.specs.channel_model.specs.declared.event.ChannelEvent.{ChannelEvent}
@@ -31,46 +32,18 @@ use Rattle.scenario_laws.specs.host_model.specs.Hosts.{handed}
 use Rattle.scenario_laws.specs.host_model.specs.Profiles.{Profile}
 use Rattle.scenario_laws.specs.host_laws.specs.Calls.{Asks, values_after}
 use Rattle.scenario_laws.specs.host_laws.specs.Feeds.{Feed, Learns, Happens, Sent, Steps, fed, tidings_by}
-use Rattle.scenario_laws.specs.host_laws.specs.Pushing.{Affair, client_behind, then_ends, then_calls, pushed_with}
+use Rattle.scenario_laws.specs.host_laws.specs.Pushing.{Affair, Begins, Does, client_behind, then_ends, then_calls, pushed_with}
 use Rattle.scenario_laws.specs.host_laws.proofs.Pushing.{feed_so}
 use Rattle.scenario_laws.specs.host_laws.specs.Woven.{Strand, Hearing, Giving, Firing, Telling, Gifting, Learning, Checking, Stepping, IsOnLink, told_next, strand_list, strand_profile, woven_list, woven_profile}
+use Rattle.scenario_laws.specs.host_laws.proofs.FramesSent.{IsOver, stays_over}
 use Rattle.scenario_laws.specs.host_laws.proofs.Links.{value_run}
-use Rattle.cause_laws.specs.Said.{Brings}
-use Rattle.cause_laws.proofs.Clients.{is_any, Within, ShowsWithin, more_shown, timer_shown, Came, came_same, IsWithin, came_behind, none_later}
-use Rattle.cause_laws.proofs.Profiles.{any_more, end_within, call_within, event_within, sent_within, step_within, came_fed}
+use Rattle.scenario_laws.specs.push_laws.specs.Opening.{whole_way}
+use Rattle.scenario_laws.specs.push_laws.proofs.Opening.{Walk, Stands, behind_deed, deed_stands}
+use Rattle.cause_laws.specs.Said.{Decision, decision_of, Brings}
+use Rattle.cause_laws.proofs.Clients.{is_unsaid, any_unsaid, unsaid_says, some_goes, Within, ShowsWithin, more_shown, timer_shown, Came, IsWithin, came_behind, none_later}
+use Rattle.cause_laws.proofs.Profiles.{any_more, end_within, call_within, event_within, sent_within, step_within}
 use Rattle.cause_laws.proofs.Off.{IsOff, strand_off}
 use Rattle.cause_laws.proofs.Saying.{Says, sdu_says}
-
--- an SDU brings it about
-abbrev pub is_said : Outcome → Bool
-is_said Done = true
-is_said LinkLost = false
-is_said RetryLimit = false
-is_said (Refused code) = true
-is_said NoService = true
-is_said ShelfFault = false
-is_said PushCancelled = false
-is_said PeerClosed = false
-is_said (PeerFault layer reason) = false
-is_said ScriptEnded = false
-
-abbrev is_unsaid : Outcome → Bool
-is_unsaid outcome = not (is_said outcome)
-
-any_unsaid : (outcome : Outcome) → is_any outcome ≡ true → is_unsaid outcome ≡ true
-any_unsaid Done is = is
-any_unsaid LinkLost is = refl
-any_unsaid RetryLimit is = refl
-any_unsaid (Refused code) is = is
-any_unsaid NoService is = is
-any_unsaid ShelfFault is = refl
-any_unsaid PushCancelled is = refl
-any_unsaid PeerClosed is = refl
-any_unsaid (PeerFault layer reason) is = refl
-any_unsaid ScriptEnded is = refl
-
-unsaid_never : {X : Type 0} (outcome : Outcome) → is_unsaid outcome ≡ true → is_said outcome ≡ true → X
-unsaid_never outcome not_said said = let never : false ≡ true = sym (ap not said) ∙ not_said in absurd cc
 
 module _ (settings : Settings) where
   abbrev wanted : Policy
@@ -80,7 +53,7 @@ module _ (settings : Settings) where
   C = client_profile settings
 
   -- a PDU came in, with which this SDU was handed up
-  pub record CameIn (outcome : Outcome) (list : List Occurrence) : Type 0 where
+  pub record CameIn (decision : Decision) (list : List Occurrence) : Type 0 where
     pub front : List Occurrence
     pub pdu : List ℕ
     pub back : List Occurrence
@@ -89,14 +62,14 @@ module _ (settings : Settings) where
     pub psm : ℕ
     pub sdu : List ℕ
     pub brought : up (channel_of pdu) pdu (run_of (policy settings false) front).value ≡ Received own psm sdu
-    pub brings : Brings outcome psm sdu
+    pub brings : Brings settings.transport decision psm sdu
 
   abbrev pub HasCame : Option Outcome → List Occurrence → Type 0
   HasCame None list = Unit {0}
-  HasCame (Some outcome) list = is_said outcome ≡ true → CameIn outcome list
+  HasCame (Some outcome) list = IfSome (decision_of outcome) (λ decision. CameIn decision list)
 
-  came_more : (outcome : Outcome) (list more : List Occurrence) → CameIn outcome list → CameIn outcome (list ++ more)
-  came_more outcome list more came = record {
+  came_more : (list more : List Occurrence) (decision : Decision) → CameIn decision list → CameIn decision (list ++ more)
+  came_more list more decision came = record {
     front = came.front;
     pdu = came.pdu;
     back = came.back ++ more;
@@ -110,17 +83,44 @@ module _ (settings : Settings) where
 
   has_more : (cause : Option Outcome) (list more : List Occurrence) → HasCame cause list → HasCame cause (list ++ more)
   has_more None list more has = tt
-  has_more (Some outcome) list more has = λ said. came_more outcome list more (has said)
+  has_more (Some outcome) list more has = some_goes (λ decision. CameIn decision list) (λ decision. CameIn decision (list ++ more)) (came_more list more) (decision_of outcome) has
 
   unsaid_has : (old new : Option Outcome) (list more : List Occurrence) → Came is_unsaid old new → HasCame old list → HasCame new (list ++ more)
   unsaid_has None None list more came has = tt
-  unsaid_has None (Some outcome) list more came has = λ said. unsaid_never outcome came said
+  unsaid_has None (Some outcome) list more came has = unsaid_says (λ decision. CameIn decision (list ++ more)) outcome came
   unsaid_has (Some outcome) new list more came has = subst (λ (c : Option Outcome). HasCame c (list ++ more)) (sym came) (has_more (Some outcome) list more has)
+
+  -- ---- what is known of a client on its link
+
+  -- its transport and how it stands on its way, and the SDU that its outcome came of
+  pub record Known (c : Client) (past : List Occurrence) : Type 0 where
+    pub over : IsOver settings.transport c
+    pub walk : Walk
+    pub stands : Stands walk c
+    pub has : HasCame c.cause past
+
+  known_more : (c : Client) (past more : List Occurrence) → Known c past → Known c (past ++ more)
+  known_more c past more known = record { over = known.over; walk = known.walk; stands = known.stands; has = has_more c.cause past more known.has }
+
+  walks_behind : (affairs : List Affair) (c : Client) → AllByRecursion (IsWithin is_unsaid) affairs → (walk : Walk) → Stands walk c → (later : Walk) × Stands later (client_behind affairs c)
+  walks_behind [] c all walk stands = (walk, stands)
+  walks_behind (Begins size name ∷ affairs) c all walk stands = absurd all.0
+  walks_behind (Does deed ∷ affairs) c all walk stands = walks_behind affairs (done deed c) all.1 (behind_deed walk deed c) (deed_stands walk deed c stands)
+
+  known_behind : (affairs : List Affair) (c : Client) (past more : List Occurrence) → AllByRecursion (IsWithin is_unsaid) affairs → Known c past → Known (client_behind affairs c) (past ++ more)
+  known_behind affairs c past more all known =
+      let (walk, stands) = walks_behind affairs c all known.walk known.stands in
+      record {
+        over = stays_over settings.transport affairs c known.over;
+        walk = walk;
+        stands = stands;
+        has = unsaid_has c.cause (client_behind affairs c).cause past more (came_behind is_unsaid affairs c all) known.has;
+      }
 
   -- ---- it is told something else
 
-  fed_has : (p : ClientProfile) (feed : Feed) (list more : List Occurrence) → AllByRecursion (IsWithin is_unsaid) (pushed_with p feed) → HasCame p.client.cause list → HasCame (fed (client_profile settings) p feed).client.cause (list ++ more)
-  fed_has p feed list more all has = unsaid_has p.client.cause (fed C p feed).client.cause list more (came_fed settings is_unsaid p.client.cause p feed all (came_same is_unsaid p.client.cause)) has
+  fed_known : (p : ClientProfile) (feed : Feed) (past more : List Occurrence) → AllByRecursion (IsWithin is_unsaid) (pushed_with p feed) → Known p.client past → Known (fed (client_profile settings) p feed).client (past ++ more)
+  fed_known p feed past more all known = subst (λ (c : Client). Known c (past ++ more)) (sym (feed_so settings p feed)) (known_behind (pushed_with p feed) p.client past more all known)
 
   cancels_unsaid : ShowsWithin is_unsaid Cancels
   cancels_unsaid client = by (may_cancel client)
@@ -136,93 +136,103 @@ module _ (settings : Settings) where
       by true = refl
       by false = tt
 
-  -- a push that begins has no outcome yet, or one that no SDU brings about
-  begun_has : (size : Result ℕ PortFault) (name : List ℕ) (c : Client) (list : List Occurrence) → HasCame c.cause list → HasCame (begins size name c).cause list
-  begun_has size name c list has = on c.failed
+  -- a push that begins has no outcome yet, or one that no SDU brings about, and stands where its way begins
+  begun_known : (size : Result ℕ PortFault) (name : List ℕ) (c : Client) (past : List Occurrence) → Known c past → Known (begins size name c) past
+  begun_known size name c past known = on c.failed (stays_over settings.transport (Begins size name ∷ []) c known.over)
     where
-      by : (answered : Result ℕ PortFault) → HasCame (begun_by answered name c).cause list
-      by (Ok n) = tt
-      by (Err fault.Failed) = λ said. let never : false ≡ true = said in absurd cc
-      by (Err fault.NoMemory) = has
+      fresh : Walk
+      fresh = record { transport = c.transport; targets = []; taken = [] }
 
-      on : (failed : Bool) → HasCame (if failed then c else begun_by size name c).cause list
-      on true = has
-      on false = by size
+      by : (answered : Result ℕ PortFault) → IsOver settings.transport (begun_by answered name c) → Known (begun_by answered name c) past
+      by (Ok n) over = record { over = over; walk = fresh; stands = record { same = refl; none = refl; is = refl }; has = tt }
+      by (Err fault.Failed) over = record { over = over; walk = fresh; stands = record { one = omega arith; behind = whole_way c.transport []; way = refl }; has = tt }
+      by (Err fault.NoMemory) over = record { over = over; walk = known.walk; stands = known.stands; has = known.has }
+
+      on : (failed : Bool) → (let d = if failed then c else begun_by size name c in IsOver settings.transport d → Known d past)
+      on true over = known
+      on false over = by size over
 
   both_within : (one two : List Affair) → AllByRecursion (IsWithin is_unsaid) one → AllByRecursion (IsWithin is_unsaid) two → AllByRecursion (IsWithin is_unsaid) (one ++ two)
   both_within [] two x y = y
   both_within (affair ∷ one) two x y = (x.0, both_within one two x.1 y)
 
-  opening_has : (circumstances : List Circumstance) (name : List ℕ) (p : ClientProfile) (list : List Occurrence) → HasCame p.client.cause list → HasCame ((client_profile settings).told circumstances (Opening name) p).client.cause (list ++ [])
-  opening_has circumstances name p list has =
+  opening_known : (circumstances : List Circumstance) (name : List ℕ) (p : ClientProfile) (past : List Occurrence) → Known p.client past → Known ((client_profile settings).told circumstances (Opening name) p).client (past ++ [])
+  opening_known circumstances name p past known =
       let size = size_for circumstances name in
       let begun = begins size (name_for name) p.client in
       let rest = then_ends begun ++ then_calls (ended begun) in
       let within = both_within (then_ends begun) (then_calls (ended begun)) (any_more is_unsaid any_unsaid (then_ends begun) (end_within (steps begun []).step)) (any_more is_unsaid any_unsaid (then_calls (ended begun)) (call_within (steps (ended begun) []).step)) in
-      subst (λ (c : Client). HasCame c.cause (list ++ [])) (sym (feed_so settings p (Learns circumstances (Opening name))))
-      (unsaid_has begun.cause (client_behind rest begun).cause list [] (came_behind is_unsaid rest begun within) (begun_has size (name_for name) p.client list has))
+      subst (λ (c : Client). Known c (past ++ [])) (sym (feed_so settings p (Learns circumstances (Opening name)))) (known_behind rest begun past [] within (begun_known size (name_for name) p.client past known))
 
-  news_has : (circumstances : List Circumstance) (news : News) (p : ClientProfile) (list : List Occurrence) → tidings_by news ≡ [] → HasCame p.client.cause list → HasCame ((client_profile settings).told circumstances news p).client.cause (list ++ [])
-  news_has circumstances (Linked event) p list of has = cc
-  news_has circumstances (Failed status) p list of has =
+  news_known : (circumstances : List Circumstance) (news : News) (p : ClientProfile) (past : List Occurrence) → tidings_by news ≡ [] → Known p.client past → Known ((client_profile settings).told circumstances news p).client (past ++ [])
+  news_known circumstances (Linked event) p past of known = cc
+  news_known circumstances (Failed status) p past of known =
       let failed = hears_news (events.LinkFailed status) p.client in
-      fed_has p (Learns circumstances (Failed status)) list [] (fails_unsaid status, any_more is_unsaid any_unsaid (then_ends failed) (end_within (steps failed []).step)) has
-  news_has circumstances (Heard pdu) p list of has = has_more p.client.cause list [] has
-  news_has circumstances TimerFired p list of has = fed_has p (Learns circumstances TimerFired) list [] (more_shown is_unsaid any_unsaid (Hears events.Timer) timer_shown, tt) has
-  news_has circumstances Cancelled p list of has =
-      fed_has p (Learns circumstances Cancelled) list [] (cancels_unsaid, any_more is_unsaid any_unsaid (then_ends (cancelled p.client)) (end_within (steps (cancelled p.client) []).step)) has
-  news_has circumstances (Opening name) p list of has = opening_has circumstances name p list has
+      fed_known p (Learns circumstances (Failed status)) past [] (fails_unsaid status, any_more is_unsaid any_unsaid (then_ends failed) (end_within (steps failed []).step)) known
+  news_known circumstances (Heard pdu) p past of known = known_more p.client past [] known
+  news_known circumstances TimerFired p past of known = fed_known p (Learns circumstances TimerFired) past [] (more_shown is_unsaid any_unsaid (Hears events.Timer) timer_shown, tt) known
+  news_known circumstances Cancelled p past of known =
+      fed_known p (Learns circumstances Cancelled) past [] (cancels_unsaid, any_more is_unsaid any_unsaid (then_ends (cancelled p.client)) (end_within (steps (cancelled p.client) []).step)) known
+  news_known circumstances (Opening name) p past of known = opening_known circumstances name p past known
 
-  next_has : (event_list : List ChannelEvent) (v : Channels) (p : ClientProfile) (list more : List Occurrence) → HasCame p.client.cause list → HasCame (told_next (client_profile settings) event_list v p).client.cause (list ++ more)
-  next_has [] v p list more has = has_more p.client.cause list more has
-  next_has (event ∷ rest) v p list more has =
-      let u : Channels = record v { events = rest } in fed_has p (Happens event u) list more (any_more is_unsaid any_unsaid _ (event_within event u)) has
+  next_known : (event_list : List ChannelEvent) (v : Channels) (p : ClientProfile) (past more : List Occurrence) → Known p.client past → Known (told_next (client_profile settings) event_list v p).client (past ++ more)
+  next_known [] v p past more known = known_more p.client past more known
+  next_known (event ∷ rest) v p past more known =
+      let u : Channels = record v { events = rest } in fed_known p (Happens event u) past more (any_more is_unsaid any_unsaid _ (event_within event u)) known
 
   -- ---- an SDU comes in
 
-  shown_has : (past : List Occurrence) (pdu : List ℕ) (own psm : ℕ) (sdu : List ℕ) (shown : Option Outcome) → up (channel_of pdu) pdu (run_of (policy settings false) past).value ≡ Received own psm sdu → Says psm sdu shown → HasCame shown (past ++ Comes pdu ∷ [])
-  shown_has past pdu own psm sdu None is says = tt
-  shown_has past pdu own psm sdu (Some outcome) is says = λ said. record { front = past; pdu = pdu; back = []; list_is = refl; own = own; psm = psm; sdu = sdu; brought = is; brings = says }
+  module _ (past : List Occurrence) (pdu : List ℕ) (own psm : ℕ) (sdu : List ℕ) (is : up (channel_of pdu) pdu (run_of (policy settings false) past).value ≡ Received own psm sdu) where
+    came_now : (decision : Decision) → Brings settings.transport decision psm sdu → CameIn decision (past ++ Comes pdu ∷ [])
+    came_now decision brings = record { front = past; pdu = pdu; back = []; list_is = refl; own = own; psm = psm; sdu = sdu; brought = is; brings = brings }
 
-  received_has : (past : List Occurrence) (pdu : List ℕ) (own psm : ℕ) (sdu : List ℕ) (c : Client) → up (channel_of pdu) pdu (run_of (policy settings false) past).value ≡ Received own psm sdu → HasCame c.cause past
-      → HasCame (done (Hears (events.Sdu psm sdu)) c).cause (past ++ Comes pdu ∷ [])
-  received_has past pdu own psm sdu c is has = by c.cause refl has
-    where
-      by : (cause : Option Outcome) → c.cause ≡ cause → HasCame cause past → HasCame (done (Hears (events.Sdu psm sdu)) c).cause (past ++ Comes pdu ∷ [])
-      by None none has' =
-          subst (λ (x : Option Outcome). HasCame x (past ++ Comes pdu ∷ [])) (sym (outcomes_are_shown (Hears (events.Sdu psm sdu) ∷ []) c none ∙ none_later (sdu_shows c.stage psm sdu c)))
-          (shown_has past pdu own psm sdu (sdu_shows c.stage psm sdu c) is (sdu_says c.stage psm sdu c))
-      by (Some outcome) some has' =
-          subst (λ (x : Option Outcome). HasCame x (past ++ Comes pdu ∷ [])) (sym (first_causes_stay (Hears (events.Sdu psm sdu) ∷ []) c outcome some)) (has_more (Some outcome) past (Comes pdu ∷ []) has')
+    shown_has : (shown : Option Outcome) → Says settings.transport psm sdu shown → HasCame shown (past ++ Comes pdu ∷ [])
+    shown_has None says = tt
+    shown_has (Some outcome) says = some_goes (λ decision. Brings settings.transport decision psm sdu) (λ decision. CameIn decision (past ++ Comes pdu ∷ [])) came_now (decision_of outcome) says
 
-  handed_has : (past : List Occurrence) (pdu : List ℕ) (brought : Handed) (p : ClientProfile) → up (channel_of pdu) pdu (run_of (policy settings false) past).value ≡ brought → HasCame p.client.cause past
-      → HasCame (handed (client_profile settings) brought p).client.cause (past ++ Comes pdu ∷ [])
-  handed_has past pdu Nothing p is has = has_more p.client.cause past (Comes pdu ∷ []) has
-  handed_has past pdu (Received own psm sdu) p is has = received_has past pdu own psm sdu p.client is has
+    received_known : (c : Client) → Known c past → Known (done (Hears (events.Sdu psm sdu)) c) (past ++ Comes pdu ∷ [])
+    received_known c known = record {
+      over = stays_over settings.transport (Does (Hears (events.Sdu psm sdu)) ∷ []) c known.over;
+      walk = behind_deed known.walk (Hears (events.Sdu psm sdu)) c;
+      stands = deed_stands known.walk (Hears (events.Sdu psm sdu)) c known.stands;
+      has = by c.cause refl known.has;
+    }
+      where
+        by : (cause : Option Outcome) → c.cause ≡ cause → HasCame cause past → HasCame (done (Hears (events.Sdu psm sdu)) c).cause (past ++ Comes pdu ∷ [])
+        by None none has =
+            subst (λ (x : Option Outcome). HasCame x (past ++ Comes pdu ∷ [])) (sym (outcomes_are_shown (Hears (events.Sdu psm sdu) ∷ []) c none ∙ none_later (sdu_shows c.stage psm sdu c)))
+            (shown_has (sdu_shows c.stage psm sdu c) (sdu_says settings.transport psm sdu c known.over.0 known.walk c.stage known.stands))
+        by (Some outcome) some has =
+            subst (λ (x : Option Outcome). HasCame x (past ++ Comes pdu ∷ [])) (sym (first_causes_stay (Hears (events.Sdu psm sdu) ∷ []) c outcome some)) (has_more (Some outcome) past (Comes pdu ∷ []) has)
+
+  handed_known : (past : List Occurrence) (pdu : List ℕ) (brought : Handed) (p : ClientProfile) → up (channel_of pdu) pdu (run_of (policy settings false) past).value ≡ brought → Known p.client past
+      → Known (handed (client_profile settings) brought p).client (past ++ Comes pdu ∷ [])
+  handed_known past pdu Nothing p is known = known_more p.client past (Comes pdu ∷ []) known
+  handed_known past pdu (Received own psm sdu) p is known = received_known past pdu own psm sdu is p.client known
 
   -- ---- all that happens
 
   module _ (asks : Asks (client_profile settings)) where
-    strand_has : (strand : Strand) (past : List Occurrence) (p : ClientProfile) → IsOnLink strand → HasCame p.client.cause past
-        → (let v = (run_of (policy settings false) past).value in HasCame (strand_profile (client_profile settings) strand v p).client.cause (past ++ strand_list (client_profile settings) asks strand v p))
-    strand_has (Hearing pdu) past p none has = handed_has past pdu (up (channel_of pdu) pdu (run_of wanted past).value) p refl has
-    strand_has (Giving pdu) past p none has = has_more p.client.cause past _ has
-    strand_has Firing past p none has = has_more p.client.cause past _ has
-    strand_has Telling past p none has = next_has (run_of wanted past).value.events (run_of wanted past).value p past _ has
-    strand_has (Gifting circumstances) past p none has = has_more p.client.cause past [] has
-    strand_has (Learning circumstances news) past p none has = news_has circumstances news p past none has
-    strand_has Checking past p none has = fed_has p (Sent (run_of wanted past).value) past [] (any_more is_unsaid any_unsaid _ (sent_within p.submitted (run_of wanted past).value)) has
-    strand_has Stepping past p none has =
-        fed_has p (Steps (run_of wanted past).value) past _ (any_more is_unsaid any_unsaid _ (step_within (steps p.client (fitted p)).step (fitted p))) has
+    strand_known : (strand : Strand) (past : List Occurrence) (p : ClientProfile) → IsOnLink strand → Known p.client past
+        → (let v = (run_of (policy settings false) past).value in Known (strand_profile (client_profile settings) strand v p).client (past ++ strand_list (client_profile settings) asks strand v p))
+    strand_known (Hearing pdu) past p on known = handed_known past pdu (up (channel_of pdu) pdu (run_of wanted past).value) p refl known
+    strand_known (Giving pdu) past p on known = known_more p.client past _ known
+    strand_known Firing past p on known = known_more p.client past _ known
+    strand_known Telling past p on known = next_known (run_of wanted past).value.events (run_of wanted past).value p past _ known
+    strand_known (Gifting circumstances) past p on known = known_more p.client past [] known
+    strand_known (Learning circumstances news) past p on known = news_known circumstances news p past on known
+    strand_known Checking past p on known = fed_known p (Sent (run_of wanted past).value) past [] (any_more is_unsaid any_unsaid _ (sent_within p.submitted (run_of wanted past).value)) known
+    strand_known Stepping past p on known =
+        fed_known p (Steps (run_of wanted past).value) past _ (any_more is_unsaid any_unsaid _ (step_within (steps p.client (fitted p)).step (fitted p))) known
 
     -- no push goes on, or what came is known
     abbrev pub Knows : ClientProfile → List Occurrence → Type 0
-    Knows p past = IsOff p ⊎ HasCame p.client.cause past
+    Knows p past = IsOff p ⊎ Known p.client past
 
     strand_knows : (strand : Strand) (past : List Occurrence) (p : ClientProfile) → IsOnLink strand → Knows p past
         → (let v = (run_of (policy settings false) past).value in Knows (strand_profile (client_profile settings) strand v p) (past ++ strand_list (client_profile settings) asks strand v p))
     strand_knows strand past p on (inl off) = inl (strand_off settings strand (run_of wanted past).value p on off)
-    strand_knows strand past p on (inr has) = inr (strand_has strand past p on has)
+    strand_knows strand past p on (inr known) = inr (strand_known strand past p on known)
 
     pub weave_knows : (weave : List Strand) (past : List Occurrence) (p : ClientProfile) (v : Channels) → (run_of (policy settings false) past).value ≡ v → AllByRecursion IsOnLink weave → Knows p past
         → Knows (woven_profile (client_profile settings) asks weave v p) (past ++ woven_list (client_profile settings) asks weave v p)

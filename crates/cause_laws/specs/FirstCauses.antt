@@ -1,21 +1,22 @@
 -- Why each push ended, as its part of the capture shows it: the first thing in it that ends a push (Core 5.1, Volume 2 Part D, 1.3, and Part E, 7.7.5;
 -- IrOBEX 1.5, 3.2 and 3.4).
-use Rattle.std.specs.Prelude.{ℕ, ◌≡◌, ◌==◌, ◌&&◌, ◌||◌, ◌⊎◌, Bool, true, false, List, [], ◌∷◌, ◌++◌, fold, slice_index, Option, Some, None, if◌then◌else◌}
+use Rattle.std.specs.Prelude.{ℕ, ◌≡◌, ◌==◌, ◌&&◌, ◌||◌, ◌⊎◌, Bool, true, false, List, [], ◌∷◌, ◌++◌, fold, slice_index, Option, Some, None, IfSome, if◌then◌else◌}
 use Rattle.std.specs.List.{AllByRecursion}
-use Rattle.scenario_laws.specs.h4_framing.specs.Packets.{Packet, Command, Acl, Sync, Event}
+use Rattle.scenario_laws.specs.bt_base.specs.declared.settings.Settings.{Settings}
+use Rattle.scenario_laws.specs.h4_framing.specs.Packets.{Packet, Acl, Event}
 use Rattle.scenario_laws.specs.push_terms.specs.declared.outcome.Outcome.{Outcome}
-use Rattle.scenario_laws.specs.push_terms.specs.declared.outcome.Outcome.TheVariants.{Done, LinkLost, RetryLimit, Refused, NoService, ShelfFault, Cancelled, PeerClosed, PeerFault, ScriptEnded}
+use Rattle.scenario_laws.specs.push_terms.specs.declared.outcome.Outcome.TheVariants.{LinkLost, RetryLimit, ShelfFault, Cancelled, PeerClosed, PeerFault, ScriptEnded}
 use Rattle.scenario_laws.specs.push_terms.specs.declared.word.Side.{Side}
-use Rattle.scenario_laws.specs.push_terms.specs.declared.word.Side.TheVariants.{A, B}
+use Rattle.scenario_laws.specs.push_terms.specs.declared.word.Side.TheVariants.{A}
 use Rattle.scenario_laws.specs.push_terms.specs.declared.word.Word.{Word}
-use Rattle.scenario_laws.specs.push_terms.specs.declared.word.Word.TheVariants.{Pass, Lose, Repeat, Damage, Cut, Timer, Drop, Cancel}
+use Rattle.scenario_laws.specs.push_terms.specs.declared.word.Word.TheVariants.{Pass, Timer, Cancel}
 use Rattle.scenario_laws.specs.capture.specs.declared.flow.Flow.{Flow}
-use Rattle.scenario_laws.specs.capture.specs.declared.flow.Flow.TheVariants.{Out, Into}
+use Rattle.scenario_laws.specs.capture.specs.declared.flow.Flow.TheVariants.{Into}
 use Rattle.scenario_laws.specs.capture.specs.Entries.{Entry, Moved, Acted, Begun, Ended}
 use Rattle.scenario_laws.specs.capture.specs.Histories.{EachAfter}
 use Rattle.scenario_laws.specs.capture.specs.Links.{Link, link_up}
 use Rattle.scenario_laws.specs.link_talk.specs.Sayings.{talk}
-use Rattle.cause_laws.specs.Said.{IsHeard}
+use Rattle.cause_laws.specs.Said.{Decision, decision_of, IsHeard}
 
 -- ---- the part of a push
 
@@ -33,65 +34,51 @@ since_begun past = fold since_more [] past
 -- ---- what an entry is
 
 abbrev pub is_cancel_word : Word → Bool
-is_cancel_word Pass = false
-is_cancel_word (Lose way) = false
-is_cancel_word (Repeat way) = false
-is_cancel_word (Damage way at mask) = false
-is_cancel_word (Cut way packets) = false
-is_cancel_word (Timer side) = false
-is_cancel_word Drop = false
 is_cancel_word Cancel = true
+is_cancel_word word = false
 
 -- the word `cancel`, which found a push to be cancelled
 abbrev pub is_cancel : Entry → Bool
-is_cancel (Moved side flow packet) = false
 is_cancel (Acted ordinal word) = is_cancel_word word
-is_cancel (Begun push) = false
-is_cancel (Ended push outcome) = false
+is_cancel entry = false
 
 abbrev pub is_piece_packet : Packet → Bool
-is_piece_packet (Command opcode params) = false
 is_piece_packet (Acl word octets) = true
-is_piece_packet (Sync word octets) = false
-is_piece_packet (Event code params) = false
+is_piece_packet packet = false
 
 abbrev pub is_piece_into : Side → Flow → Packet → Bool
 is_piece_into A Into packet = is_piece_packet packet
-is_piece_into A Out packet = false
-is_piece_into B flow packet = false
+is_piece_into side flow packet = false
 
 -- a piece of a PDU that came into host a
 abbrev pub is_piece : Entry → Bool
 is_piece (Moved side flow packet) = is_piece_into side flow packet
-is_piece (Acted ordinal word) = false
-is_piece (Begun push) = false
-is_piece (Ended push outcome) = false
+is_piece entry = false
 
 -- Disconnection Complete with status 0, and its reason
 abbrev pub reason_told : Packet → Option ℕ
-reason_told (Command opcode params) = None
-reason_told (Acl word octets) = None
-reason_told (Sync word octets) = None
 reason_told (Event code params) = if (code == 0x05) && (slice_index params 0 == 0) then Some (slice_index params 3) else None
+reason_told packet = None
 
 abbrev pub reason_into : Side → Flow → Packet → Option ℕ
 reason_into A Into packet = reason_told packet
-reason_into A Out packet = None
-reason_into B flow packet = None
+reason_into side flow packet = None
 
 -- host a was told that its link ended, for this reason
 abbrev pub end_reason : Entry → Option ℕ
 end_reason (Moved side flow packet) = reason_into side flow packet
-end_reason (Acted ordinal word) = None
-end_reason (Begun push) = None
-end_reason (Ended push outcome) = None
+end_reason entry = None
 
--- a word was turned, with which a timer may have fired
-abbrev pub is_turned : Entry → Bool
-is_turned (Moved side flow packet) = false
-is_turned (Acted ordinal word) = true
-is_turned (Begun push) = false
-is_turned (Ended push outcome) = false
+-- `timer a` fires the timer of host a, and `pass` fires it where no frame waits
+abbrev pub is_firing_word : Word → Bool
+is_firing_word Pass = true
+is_firing_word (Timer A) = true
+is_firing_word word = false
+
+-- a word was turned with which the timer of host a may have fired
+abbrev pub is_firing : Entry → Bool
+is_firing (Acted ordinal word) = is_firing_word word
+is_firing entry = false
 
 -- ---- what ends a push
 
@@ -102,18 +89,16 @@ IsLoss (Some reason) = (reason == 0x13) ≡ false
 
 -- The entry that brings an outcome about. A response, and what service discovery answers, come in a piece of a PDU; the link of host a is lost where it is
 -- told so; and a push is cancelled by that word. The peer closes a channel by a PDU too, or it ends the link as its user; and a limit is met, or the peer at fault,
--- with a PDU or where a word is turned with which the timer fires.
+-- with a PDU or where a word is turned with which the timer of host a fires. The shelf's fault, and the end of the script, need none.
 abbrev pub BringsAbout : Outcome → Entry → Type 0
-BringsAbout Done entry = is_piece entry ≡ true
-BringsAbout (Refused code) entry = is_piece entry ≡ true
-BringsAbout NoService entry = is_piece entry ≡ true
 BringsAbout LinkLost entry = IsLoss (end_reason entry)
 BringsAbout Cancelled entry = is_cancel entry ≡ true
-BringsAbout RetryLimit entry = (is_piece entry || is_turned entry) ≡ true
-BringsAbout ShelfFault entry = ⊥
+BringsAbout RetryLimit entry = (is_piece entry || is_firing entry) ≡ true
+BringsAbout (PeerFault layer reason) entry = (is_piece entry || is_firing entry) ≡ true
 BringsAbout PeerClosed entry = (is_piece entry ≡ true) ⊎ (end_reason entry ≡ Some 0x13)
-BringsAbout (PeerFault layer reason) entry = (is_piece entry || is_turned entry) ≡ true
+BringsAbout ShelfFault entry = ⊥
 BringsAbout ScriptEnded entry = ⊥
+BringsAbout outcome entry = is_piece entry ≡ true
 
 -- it did not cancel the push, and did not end the link of host a
 pub record IsNoCause (entry : Entry) : Type 0 where
@@ -139,72 +124,49 @@ pub record IsBroughtAbout (outcome : Outcome) (part : List Entry) : Type 0 where
 -- What the part of a push shows where its outcome is this: the entry that brought it about; where the script ended first, no cause; and where the shelf failed
 -- that it was not cancelled.
 abbrev pub HasCause : Outcome → List Entry → Type 0
-HasCause Done part = IsBroughtAbout Done part
-HasCause (Refused code) part = IsBroughtAbout (Refused code) part
-HasCause NoService part = IsBroughtAbout NoService part
-HasCause LinkLost part = IsBroughtAbout LinkLost part
-HasCause Cancelled part = IsBroughtAbout Cancelled part
-HasCause RetryLimit part = IsBroughtAbout RetryLimit part
 HasCause ShelfFault part = AreNotCancelled part
-HasCause PeerClosed part = IsBroughtAbout PeerClosed part
-HasCause (PeerFault layer reason) part = IsBroughtAbout (PeerFault layer reason) part
 HasCause ScriptEnded part = AreNoCauses part
+HasCause outcome part = IsBroughtAbout outcome part
 
 -- ---- what was heard
 
 -- on the link that is up, if there is one
-abbrev pub IsHeardOn : Outcome → Option Link → Type 0
-IsHeardOn outcome None = Unit {0}
-IsHeardOn outcome (Some link) = IsHeard outcome (talk link)
+abbrev pub IsHeardOn : Settings → Decision → Option Link → Type 0
+IsHeardOn settings decision None = Unit {0}
+IsHeardOn settings decision (Some link) = IsHeard settings decision (talk link)
 
 -- by the time that a word is turned host a has heard it there
-abbrev pub IsHeardBefore : Outcome → (past : List Entry) → Entry → Type 0
-IsHeardBefore outcome past (Moved side flow packet) = Unit {0}
-IsHeardBefore outcome past (Acted ordinal word) = IsHeardOn outcome (link_up A past)
-IsHeardBefore outcome past (Begun push) = Unit {0}
-IsHeardBefore outcome past (Ended push other) = Unit {0}
+abbrev pub IsHeardBefore : Settings → Decision → (past : List Entry) → Entry → Type 0
+IsHeardBefore settings decision past (Acted ordinal word) = IsHeardOn settings decision (link_up A past)
+IsHeardBefore settings decision past entry = Unit {0}
 
 abbrev pub IsNoBegin : Entry → Type 0
-IsNoBegin (Moved side flow packet) = Unit {0}
-IsNoBegin (Acted ordinal word) = Unit {0}
 IsNoBegin (Begun push) = ⊥
-IsNoBegin (Ended push outcome) = Unit {0}
+IsNoBegin entry = Unit {0}
 
--- Since the push was begun a piece of a PDU came into host a, and at each word behind it host a has heard, on the link that is up, what brings the outcome about.
-pub record HasHeard (outcome : Outcome) (past : List Entry) : Type 0 where
+-- Since the push was begun a piece of a PDU came into host a, ahead of which nothing in its part was a cause, and at each word behind it host a has heard, on the link that
+-- is up, what brings the outcome about.
+pub record HasHeard (settings : Settings) (decision : Decision) (past : List Entry) : Type 0 where
   pub before : List Entry
   pub entry : Entry
   pub after : List Entry
   pub past_is : past ≡ before ++ entry ∷ after
   pub piece : is_piece entry ≡ true
+  pub first : AreNoCauses (since_begun before)
   pub none_begun : AllByRecursion IsNoBegin after
-  pub heard : EachAfter (IsHeardBefore outcome) (before ++ entry ∷ []) after
-
--- where an SDU brings it about
-abbrev pub HearsCause : Outcome → (past : List Entry) → Type 0
-HearsCause Done past = HasHeard Done past
-HearsCause (Refused code) past = HasHeard (Refused code) past
-HearsCause NoService past = HasHeard NoService past
-HearsCause LinkLost past = Unit {0}
-HearsCause RetryLimit past = Unit {0}
-HearsCause ShelfFault past = Unit {0}
-HearsCause Cancelled past = Unit {0}
-HearsCause PeerClosed past = Unit {0}
-HearsCause (PeerFault layer reason) past = Unit {0}
-HearsCause ScriptEnded past = Unit {0}
+  pub heard : EachAfter (IsHeardBefore settings decision) (before ++ entry ∷ []) after
 
 -- ---- a capture
 
-pub record ShowsWhy (outcome : Outcome) (past : List Entry) : Type 0 where
+-- The push ended with this outcome, and where an SDU brings that about host a has heard one.
+pub record ShowsWhy (settings : Settings) (outcome : Outcome) (past : List Entry) : Type 0 where
   pub cause : HasCause outcome (since_begun past)
-  pub heard : HearsCause outcome past
+  pub heard : IfSome (decision_of outcome) (λ decision. HasHeard settings decision past)
 
-abbrev pub EndsByCause : List Entry → Entry → Type 0
-EndsByCause past (Moved side flow packet) = Unit {0}
-EndsByCause past (Acted ordinal word) = Unit {0}
-EndsByCause past (Begun push) = Unit {0}
-EndsByCause past (Ended push outcome) = ShowsWhy outcome past
+abbrev pub EndsByCause : Settings → List Entry → Entry → Type 0
+EndsByCause settings past (Ended push outcome) = ShowsWhy settings outcome past
+EndsByCause settings past entry = Unit {0}
 
 -- Each push of a capture that ended has the cause of its outcome in its part.
-abbrev pub CausesAreShown : List Entry → Type 0
-CausesAreShown capture = EachAfter EndsByCause [] capture
+abbrev pub CausesAreShown : Settings → List Entry → Type 0
+CausesAreShown settings capture = EachAfter (EndsByCause settings) [] capture

@@ -9,6 +9,6 @@ use Rattle.cause_laws.specs.FirstCauses.{CausesAreShown}
 
 -- So it is of each run, wherever it broke off, whose client did not lack memory; and with the end of the push that goes on behind it.
 pub record RunsShowCauses : Type 0 where
-  pub moments : (scenario : Scenario) (content : Option Contents) (happenings : List Happening) (world : BothHosts) → Happened scenario content happenings world → world.a.upper.profile.client.failed ≡ false → CausesAreShown (all_entries happenings)
+  pub moments : (scenario : Scenario) (content : Option Contents) (happenings : List Happening) (world : BothHosts) → Happened scenario content happenings world → world.a.upper.profile.client.failed ≡ false → CausesAreShown scenario.settings (all_entries happenings)
   pub ends : (scenario : Scenario) (content : Option Contents) (happenings : List Happening) (world : BothHosts) → Happened scenario content happenings world → world.a.upper.profile.client.failed ≡ false
-      → CausesAreShown (all_entries happenings ++ last_entries ((client_of scenario).outcome world.a.upper) world.pushes)
+      → CausesAreShown scenario.settings (all_entries happenings ++ last_entries ((client_of scenario).outcome world.a.upper) world.pushes)

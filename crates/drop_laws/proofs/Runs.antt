@@ -4,13 +4,12 @@ use Rattle.std.specs.Prelude.{is_some, is_none, slice_get}
 use Rattle.std.specs.List.{AllByRecursion}
 use Rattle.std.proofs.lemmas.Bool.{eqb-true, eq-eqb}
 use Rattle.std.proofs.lemmas.List.{append-nil}
-use Rattle.std.proofs.lemmas.List.Sums.{fold-append}
 use Rattle.cause_laws.specs.bt_base.specs.Objects.{Contents}
 use Rattle.cause_laws.specs.bt_base.specs.declared.settings.Settings.{Settings}
 use Rattle.cause_laws.specs.acl_fragments.specs.Pieces.{Piece}
 use Rattle.cause_laws.specs.push_script.specs.declared.scenario.Scenario.{Scenario}
 use Rattle.cause_laws.specs.push_terms.specs.declared.outcome.Outcome.{Outcome}
-use Rattle.cause_laws.specs.push_terms.specs.declared.outcome.Outcome.TheVariants.{Done, LinkLost, RetryLimit, Refused, NoService, ShelfFault, Cancelled as PushCancelled, PeerClosed, PeerFault, ScriptEnded}
+use Rattle.cause_laws.specs.push_terms.specs.declared.outcome.Outcome.TheVariants.{LinkLost, Cancelled as PushCancelled, ScriptEnded}
 use Rattle.cause_laws.specs.push_terms.specs.declared.word.Side.{Side}
 use Rattle.cause_laws.specs.push_terms.specs.declared.word.Side.TheVariants.{A, B}
 use Rattle.cause_laws.specs.push_terms.specs.declared.word.Way.{Way}
@@ -26,7 +25,7 @@ use Rattle.cause_laws.specs.radio_air.specs.declared.deed.Deed.{Deed}
 use Rattle.cause_laws.specs.radio_air.specs.declared.deed.Deed.TheVariants.{Nothing, Meets, Fires, FiresBoth, Breaks, Cancels}
 use Rattle.cause_laws.specs.radio_air.specs.declared.fate.Fate.{Fate}
 use Rattle.cause_laws.specs.radio_air.specs.declared.fate.Fate.TheVariants.{Delivered, Lost, Repeated, CutOff, Changed}
-use Rattle.cause_laws.specs.radio_air.specs.Controllers.{Answer, Returned, Stated, Called, LinkMade, LinkGone, GivenBack, Controller, answer_packet, piece_packet, after_handing, after_giving_back, after_telling}
+use Rattle.cause_laws.specs.radio_air.specs.Controllers.{Answer, LinkMade, LinkGone, Controller, answer_packet, piece_packet, after_handing, after_giving_back, after_telling}
 use Rattle.cause_laws.specs.radio_air.specs.Fates.{first_can_meet}
 use Rattle.cause_laws.specs.radio_air.specs.Radio.{Radio, knows_link, is_together, after_offer, after_meeting}
 use Rattle.cause_laws.specs.radio_air.specs.Words.{meets_on, passing, deed_of}
@@ -39,19 +38,9 @@ use Rattle.cause_laws.specs.radio_world.specs.Standing.{last_entries}
 use Rattle.cause_laws.specs.turn_laws.proofs.Coming.{handed_piece, handed_answer}
 use Rattle.cause_laws.specs.turn_laws.proofs.Departing.{gives_back_tidings}
 use Rattle.cause_laws.specs.turn_laws.proofs.Keeping.{Kept}
-use Rattle.cause_laws.specs.turn_laws.proofs.Leading.{Tiding, Went, tidings, Led}
 use Rattle.cause_laws.specs.turn_laws.proofs.Wiring.{has_end}
 use Rattle.cause_laws.specs.air_laws.proofs.Following.{Keeps as KeepsRun, reached_first, along}
 use Rattle.cause_laws.specs.air_laws.proofs.Turning.{acts_pushes}
-use Rattle.cause_laws.specs.world_model.specs.Carriages.{Carriage, Doing, Carries, first_carriage}
-use Rattle.cause_laws.specs.turn_laws.proofs.Advancing.{Both, advances}
-use Rattle.cause_laws.specs.turn_laws.proofs.Coming.{owed_first}
-use Rattle.cause_laws.specs.turn_laws.proofs.Finishing.{nothing_more}
-use Rattle.cause_laws.specs.turn_laws.proofs.Running.{first_both}
-use Rattle.cause_laws.specs.turn_laws.proofs.Stationing.{linked_handle}
-use Rattle.cause_laws.specs.host_laws.proofs.OnwardSteps.{IsSo}
-use Rattle.cause_laws.specs.scenario_laws.proofs.Carrying.{carried}
-use Rattle.cause_laws.specs.scenario_laws.proofs.Onward.{IsOnto, done_onto}
 use Rattle.cause_laws.specs.host_model.specs.Circumstances.{Circumstance}
 use Rattle.cause_laws.specs.host_model.specs.Clients.{ClientProfile, client_profile, is_at_end}
 use Rattle.cause_laws.specs.host_model.specs.Hosts.{Host, hear}
@@ -60,17 +49,18 @@ use Rattle.cause_laws.specs.host_model.specs.Servers.{ServerProfile}
 use Rattle.cause_laws.specs.scenario_laws.specs.Captures.{client_of, server_of, BothHosts, beginning, Happened}
 use Rattle.cause_laws.specs.scenario_laws.proofs.Fronts.{fits}
 use Rattle.cause_laws.specs.FirstCauses.{since_more, since_begun, is_cancel, end_reason, IsNoCause, AreNoCauses}
-use Rattle.cause_laws.proofs.Clients.{is_any, is_heard, is_ended, Within, Came, came_same, came_then, HasCome, has_come}
-use Rattle.cause_laws.proofs.Profiles.{heard_came, next_came, up_came, timer_came, down_came, down_comes, may_none, cancel_came, lame_next, lame_hear, opens_came}
+use Rattle.cause_laws.proofs.Clients.{never, is_any, is_heard, is_shelf, shelf_any, Within, Came, came_same, came_then, came_more, HasCome, has_come}
+use Rattle.cause_laws.proofs.Driving.{is_timed, is_gone, next_shelf, up_shelf, timer_timed, down_gone, down_comes, cancel_came, opens_shelf}
+use Rattle.cause_laws.proofs.Links.{none_told}
+use Rattle.cause_laws.proofs.Parts.{none_more, timed_any}
+use Rattle.cause_laws.proofs.Runs.{since_then, well_before, effort_lame, IsOn, is_on}
+use Rattle.cause_laws.proofs.Profiles.{heard_came, may_none, lame_hear}
 use Rattle.drop_laws.specs.Dropped.{is_drop, is_drop_word, IsLostByDrop, LossIs, EndsByDrop, LossesAreDrops, RunsLoseByDrops}
 use Rattle.drop_laws.proofs.Leaves.{LeavesByCause}
 use Rattle.drop_laws.proofs.Owing.{GoneSo, TidingSo, Owes, owes_more, owes_same, owes_on, drop_more, drop_now, ordered, owes_rest}
 use Rattle.drop_laws.proofs.Profiles.{hear_leaves, next_leaves, leaving_has_cause}
 
 -- ---- outcomes
-
-never : {X : Type 0} → false ≡ true → X
-never is = absurd cc
 
 -- without one none came before
 none_before : (q : Outcome → Bool) (old new : Option Outcome) → Came q old new → new ≡ None → old ≡ None
@@ -91,10 +81,6 @@ comes_not None comes none = comes
 comes_not (Some outcome) comes none = let e : Some outcome ≡ None = none in cc
 
 -- ---- a part
-
-none_more : (part : List Entry) (entry : Entry) → IsNoCause entry → AreNoCauses part → AreNoCauses (part ++ entry ∷ [])
-none_more [] entry none all = (none, tt)
-none_more (one ∷ part) entry none all = (all.0, none_more part entry none all.1)
 
 lost_more : (part : List Entry) (entry : Entry) → IsLostByDrop part → IsLostByDrop (part ++ entry ∷ [])
 lost_more part entry lost = record {
@@ -150,13 +136,6 @@ broken_no_cancel true is = let e = is in cc
 broken_no_cancel false is = let e = is in cc
 
 -- ---- a moment of a run
-
-since_then : (past : List Entry) (entry : Entry) → since_begun (past ++ entry ∷ []) ≡ since_more (since_begun past) entry
-since_then past entry = fold-append since_more [] past (entry ∷ [])
-
-well_before : (old new : Bool) → (old ≡ true → new ≡ true) → new ≡ false → old ≡ false
-well_before true new goes well = never (sym well ∙ goes refl)
-well_before false new goes well = refl
 
 -- how the part of the push that goes on stands: what it shows, and what host a is to be told
 record IsNow (part : List Entry) (cause : Option Outcome) (owed : List Answer) : Type 0 where
@@ -238,19 +217,12 @@ module _ {T H : Type 0} (settings : Settings) (V : Upper T H) where
 
   -- ---- by itself
 
-  effort_came : (effort : Effort) (one two : Station (Host ClientProfile)) → MakesEffort U A effort one two → Came is_any one.upper.profile.client.cause two.upper.profile.client.cause
-  effort_came Taking one two makes = subst (λ (s : Station (Host ClientProfile)). Came is_any one.upper.profile.client.cause s.upper.profile.client.cause) (sym makes.new_is) (next_came settings one.upper makes.pdu makes.after makes.next)
-  effort_came Putting one two makes = subst (λ (s : Station (Host ClientProfile)). Came is_any one.upper.profile.client.cause s.upper.profile.client.cause) (sym makes.new_is) (came_same is_any one.upper.profile.client.cause)
-  effort_came Asking one two makes = subst (λ (s : Station (Host ClientProfile)). Came is_any one.upper.profile.client.cause s.upper.profile.client.cause) (sym makes.new_is) (came_same is_any one.upper.profile.client.cause)
-  effort_came Leaving one two makes = subst (λ (s : Station (Host ClientProfile)). Came is_any one.upper.profile.client.cause s.upper.profile.client.cause) (sym makes.new_is) (came_same is_any one.upper.profile.client.cause)
-  effort_came Commanding one two makes = subst (λ (s : Station (Host ClientProfile)). Came is_any one.upper.profile.client.cause s.upper.profile.client.cause) (sym makes.new_is) (came_same is_any one.upper.profile.client.cause)
-
-  effort_lame : (effort : Effort) (one two : Station (Host ClientProfile)) → MakesEffort U A effort one two → one.upper.profile.client.failed ≡ true → two.upper.profile.client.failed ≡ true
-  effort_lame Taking one two makes lame = subst (λ (s : Station (Host ClientProfile)). s.upper.profile.client.failed ≡ true) (sym makes.new_is) (lame_next settings one.upper makes.pdu makes.after makes.next lame)
-  effort_lame Putting one two makes lame = subst (λ (s : Station (Host ClientProfile)). s.upper.profile.client.failed ≡ true) (sym makes.new_is) lame
-  effort_lame Asking one two makes lame = subst (λ (s : Station (Host ClientProfile)). s.upper.profile.client.failed ≡ true) (sym makes.new_is) lame
-  effort_lame Leaving one two makes lame = subst (λ (s : Station (Host ClientProfile)). s.upper.profile.client.failed ≡ true) (sym makes.new_is) lame
-  effort_lame Commanding one two makes lame = subst (λ (s : Station (Host ClientProfile)). s.upper.profile.client.failed ≡ true) (sym makes.new_is) lame
+  effort_came : (effort : Effort) (one two : Station (Host ClientProfile)) → one.upper.channels.events ≡ [] → MakesEffort U A effort one two → Came is_any one.upper.profile.client.cause two.upper.profile.client.cause
+  effort_came Taking one two none makes = subst (λ (s : Station (Host ClientProfile)). Came is_any one.upper.profile.client.cause s.upper.profile.client.cause) (sym makes.new_is) (came_more is_shelf is_any shelf_any one.upper.profile.client.cause makes.after.profile.client.cause (next_shelf settings one.upper makes.pdu makes.after none makes.next))
+  effort_came Putting one two none makes = subst (λ (s : Station (Host ClientProfile)). Came is_any one.upper.profile.client.cause s.upper.profile.client.cause) (sym makes.new_is) (came_same is_any one.upper.profile.client.cause)
+  effort_came Asking one two none makes = subst (λ (s : Station (Host ClientProfile)). Came is_any one.upper.profile.client.cause s.upper.profile.client.cause) (sym makes.new_is) (came_same is_any one.upper.profile.client.cause)
+  effort_came Leaving one two none makes = subst (λ (s : Station (Host ClientProfile)). Came is_any one.upper.profile.client.cause s.upper.profile.client.cause) (sym makes.new_is) (came_same is_any one.upper.profile.client.cause)
+  effort_came Commanding one two none makes = subst (λ (s : Station (Host ClientProfile)). Came is_any one.upper.profile.client.cause s.upper.profile.client.cause) (sym makes.new_is) (came_same is_any one.upper.profile.client.cause)
 
   effort_leaves : (effort : Effort) (one two : Station (Host ClientProfile)) → MakesEffort U A effort one two → LeavesSo one.upper → LeavesSo two.upper
   effort_leaves Taking one two makes l = subst (λ (s : Station (Host ClientProfile)). LeavesSo s.upper) (sym makes.new_is) (next_leaves settings one.upper makes.pdu makes.after makes.next l)
@@ -290,41 +262,37 @@ module _ {T H : Type 0} (settings : Settings) (V : Upper T H) where
       by true = each_on g (gives longest_pdu s.joining piece) s.upper
       by false = on_same is_heard s.upper
 
-  timer_on : (g : List Circumstance) (host : Host ClientProfile) → On is_any host (U.hear g TimerFired host)
-  timer_on g host = record { came = timer_came settings g host; lame = λ lame. lame_hear settings g TimerFired host lame; leaves = λ l. hear_leaves settings g TimerFired host l }
+  timer_on : (g : List Circumstance) (host : Host ClientProfile) → host.channels.events ≡ [] → On is_any host (U.hear g TimerFired host)
+  timer_on g host none = record { came = came_more is_timed is_any timed_any host.profile.client.cause (U.hear g TimerFired host).profile.client.cause (timer_timed settings g host none); lame = λ lame. lame_hear settings g TimerFired host lame; leaves = λ l. hear_leaves settings g TimerFired host l }
 
-  fired_on : (g : List Circumstance) (s : Station (Host ClientProfile)) → On is_any s.upper (fired U g s).upper
-  fired_on g s = by (U.armed s.upper)
+  fired_on : (g : List Circumstance) (s : Station (Host ClientProfile)) → s.upper.channels.events ≡ [] → On is_any s.upper (fired U g s).upper
+  fired_on g s none = by (U.armed s.upper)
     where
       by : (armed : Bool) → On is_any s.upper (if armed then told U g TimerFired s else s).upper
-      by true = timer_on g s.upper
+      by true = timer_on g s.upper none
       by false = on_same is_any s.upper
 
-  made_on : (g : List Circumstance) (here : Bool) (host : Host ClientProfile) → On is_any host (upper_told U g (if here then Some Up else None) host)
-  made_on g true host = record { came = up_came settings g host; lame = λ lame. lame_hear settings g (Linked Up) host lame; leaves = λ l. hear_leaves settings g (Linked Up) host l }
-  made_on g false host = on_same is_any host
+  made_on : (g : List Circumstance) (here : Bool) (host : Host ClientProfile) → host.channels.events ≡ [] → On is_any host (upper_told U g (if here then Some Up else None) host)
+  made_on g true host none = record { came = came_more is_shelf is_any shelf_any host.profile.client.cause (U.hear g (Linked Up) host).profile.client.cause (up_shelf settings g host none); lame = λ lame. lame_hear settings g (Linked Up) host lame; leaves = λ l. hear_leaves settings g (Linked Up) host l }
+  made_on g false host none = on_same is_any host
 
-  down_on : (g : List Circumstance) (reason : ℕ) (host : Host ClientProfile) → On (is_ended (reason == 0x13)) host (U.hear g (Linked (Down reason)) host)
-  down_on g reason host = record { came = down_came settings g reason host; lame = λ lame. lame_hear settings g (Linked (Down reason)) host lame; leaves = λ l. hear_leaves settings g (Linked (Down reason)) host l }
+  down_on : (g : List Circumstance) (reason : ℕ) (host : Host ClientProfile) → host.channels.events ≡ [] → On (is_gone (reason == 0x13)) host (U.hear g (Linked (Down reason)) host)
+  down_on g reason host none = record { came = down_gone settings g reason host none; lame = λ lame. lame_hear settings g (Linked (Down reason)) host lame; leaves = λ l. hear_leaves settings g (Linked (Down reason)) host l }
 
   -- ---- it is told that its link ended
 
-  -- what it is told of is its own link, and its push is on it
-  abbrev IsOn : W → Type 0
-  IsOn w = (handle reason : ℕ) (rest : List Answer) → w.radio.a.owed ≡ LinkGone handle reason ∷ rest → (is_handle handle w.a.link ≡ true) × IsSo true w.a.upper.profile
-
   -- what it is told, by why it is owed
-  gone_now : (reason : ℕ) (part : List Entry) (entry : Entry) (old new : Host ClientProfile) (owed : List Answer) → end_reason entry ≡ Some reason → On (is_ended (reason == 0x13)) old new → HasCome new.profile.client.cause
+  gone_now : (reason : ℕ) (part : List Entry) (entry : Entry) (old new : Host ClientProfile) (owed : List Answer) → end_reason entry ≡ Some reason → On (is_gone (reason == 0x13)) old new → HasCome new.profile.client.cause
       → GoneSo part old.profile.client.cause reason → Owes part old.profile.client.cause owed → IsNow part old.profile.client.cause owed → IsNow (part ++ entry ∷ []) new.profile.client.cause owed
   gone_now reason part entry old new owed ends on comes gone rest now = record {
     none = λ none. absurd (comes_not new.profile.client.cause comes none);
     lost = λ is. lost gone old.profile.client.cause refl is;
-    owes = owes_on part (part ++ entry ∷ []) old.profile.client.cause new.profile.client.cause owed (drop_more part entry) (has_come (is_ended (reason == 0x13)) old.profile.client.cause new.profile.client.cause on.came) rest;
+    owes = owes_on part (part ++ entry ∷ []) old.profile.client.cause new.profile.client.cause owed (drop_more part entry) (has_come (is_gone (reason == 0x13)) old.profile.client.cause new.profile.client.cause on.came) rest;
   }
     where
       lost : GoneSo part old.profile.client.cause reason → (cause : Option Outcome) → old.profile.client.cause ≡ cause → new.profile.client.cause ≡ Some LinkLost → IsLostByDrop (part ++ entry ∷ [])
       lost gone (Some outcome) was is =
-          let came : new.profile.client.cause ≡ Some outcome = subst (λ (c : Option Outcome). Came (is_ended (reason == 0x13)) c new.profile.client.cause) was on.came in
+          let came : new.profile.client.cause ≡ Some outcome = subst (λ (c : Option Outcome). Came (is_gone (reason == 0x13)) c new.profile.client.cause) was on.came in
           lost_more part entry (now.lost (was ∙ (sym came ∙ is)))
       lost (inl (eight, dropped)) None was is = record {
         before = part;
@@ -336,8 +304,8 @@ module _ {T H : Type 0} (settings : Settings) (V : Upper T H) where
         told = ends ∙ ap (λ (n : ℕ). let r : Option ℕ = Some n in r) eight;
       }
       lost (inr (inl peer)) None was is =
-          let came : Within (is_ended (reason == 0x13)) (Some LinkLost) = subst (Within (is_ended (reason == 0x13))) is (subst (λ (c : Option Outcome). Came (is_ended (reason == 0x13)) c new.profile.client.cause) was on.came) in
-          never (subst (λ (n : ℕ). is_ended (n == 0x13) LinkLost ≡ true) peer came)
+          let came : Within (is_gone (reason == 0x13)) (Some LinkLost) = subst (Within (is_gone (reason == 0x13))) is (subst (λ (c : Option Outcome). Came (is_gone (reason == 0x13)) c new.profile.client.cause) was on.came) in
+          never (subst (λ (n : ℕ). is_gone (n == 0x13) LinkLost ≡ true) peer came)
       lost (inr (inr own)) None was is = absurd (comes_not old.profile.client.cause own.1 was)
 
   -- ---- whatever happens
@@ -346,9 +314,9 @@ module _ {T H : Type 0} (settings : Settings) (V : Upper T H) where
   plain_entry entry cancels ends = record { not_cancelled = cancels; not_ended = ends }
 
   -- what comes in, but for the end of its link
-  answer_now : (past : List Entry) (answer : Answer) (rest : List Answer) (g : List Circumstance) (old to : W) → old.radio.a.owed ≡ answer ∷ rest → IsOn old → to.pushes ≡ old.pushes → to.a ≡ hears_answer U g A answer old.a
+  answer_now : (past : List Entry) (answer : Answer) (rest : List Answer) (g : List Circumstance) (old to : W) → old.a.upper.channels.events ≡ [] → old.radio.a.owed ≡ answer ∷ rest → IsOn settings V old → to.pushes ≡ old.pushes → to.a ≡ hears_answer U g A answer old.a
       → to.radio.a.owed ≡ (after_telling answer (record old.radio.a { owed = rest })).owed → At past old → At (past ++ Moved A Into (answer_packet A answer) ∷ []) to
-  answer_now past answer rest g old to first on pushes same owed at =
+  answer_now past answer rest g old to quiet first on pushes same owed at =
       let entry = Moved A Into (answer_packet A answer) in
       let upper : to.a.upper ≡ upper_told U g (event_in answer old.a) old.a.upper = ap (λ (s : Station (Host ClientProfile)). s.upper) same in
       let so = by answer first in
@@ -377,16 +345,12 @@ module _ {T H : Type 0} (settings : Settings) (V : Upper T H) where
           × (failed_in old ≡ true → new.profile.client.failed ≡ true) × (LeavesSo old.a.upper → LeavesSo new)
 
       by : (one : Answer) → old.radio.a.owed ≡ one ∷ rest → Told one
-      by (Returned number params) is = ((λ now. other (Returned number params) old.a.upper is (record { not_cancelled = refl; not_ended = refl }) (on_same is_any old.a.upper) refl now), (λ lame. lame), (λ l. l))
-      by (Stated number) is = ((λ now. other (Stated number) old.a.upper is (record { not_cancelled = refl; not_ended = refl }) (on_same is_any old.a.upper) refl now), (λ lame. lame), (λ l. l))
-      by Called is = ((λ now. other Called old.a.upper is (record { not_cancelled = refl; not_ended = refl }) (on_same is_any old.a.upper) refl now), (λ lame. lame), (λ l. l))
       by (LinkMade handle) is =
-          let goes = made_on g (old.a.asked && is_none old.a.link) old.a.upper in
+          let goes = made_on g (old.a.asked && is_none old.a.link) old.a.upper quiet in
           ((λ now. other (LinkMade handle) (upper_told U g (event_in (LinkMade handle) old.a) old.a.upper) is (record { not_cancelled = refl; not_ended = refl }) goes refl now), (λ lame. goes.lame lame), (λ l. goes.leaves l))
-      by (GivenBack handle count) is = ((λ now. other (GivenBack handle count) old.a.upper is (record { not_cancelled = refl; not_ended = refl }) (on_same is_any old.a.upper) refl now), (λ lame. lame), (λ l. l))
       by (LinkGone handle reason) is =
           let here = on handle reason rest is in
-          let goes = down_on g reason old.a.upper in
+          let goes = down_on g reason old.a.upper quiet in
           let new = U.hear g (Linked (Down reason)) old.a.upper in
           let entry = Moved A Into (answer_packet A (LinkGone handle reason)) in
           subst (λ (b : Bool). let after = upper_told U g (if b then Some (Down reason) else None) old.a.upper in
@@ -398,6 +362,7 @@ module _ {T H : Type 0} (settings : Settings) (V : Upper T H) where
             (λ lame. goes.lame lame),
             (λ l. goes.leaves l),
           )
+      by answer is = ((λ now. other answer old.a.upper is (record { not_cancelled = refl; not_ended = refl }) (on_same is_any old.a.upper) refl now), (λ lame. lame), (λ l. l))
 
   -- at an end of its own link that goes out, its push has an outcome
   ends_by_cause : (order : Order) (rest : List Order) (w : W) → w.a.out ≡ order ∷ rest → Kept U V w.radio w.a w.b w.pushes.going → LeavesSo w.a.upper
@@ -454,40 +419,40 @@ module _ {T H : Type 0} (settings : Settings) (V : Upper T H) where
   acted_to : (entry : Entry) (part : List Entry) (old mid to : W) → mid ≡ to → Acted_so entry part old to → Acted_so entry part old mid
   acted_to entry part old mid to same so = subst (λ (w : W). Acted_so entry part old w) (sym same) so
 
-  acts_so : (entry : Entry) (part : List Entry) (deed : Deed) (old mid : W) → (deed ≡ Breaks → is_drop entry ≡ true) → (deed ≡ Cancels → ⊥) → Acts U V deed old mid → Acted_so entry part old mid
-  acts_so entry part Nothing old mid drops other acts = absurd acts
-  acts_so entry part (Meets Ab fate) old mid drops other acts =
+  acts_so : (entry : Entry) (part : List Entry) (deed : Deed) (old mid : W) → old.a.upper.channels.events ≡ [] → (deed ≡ Breaks → is_drop entry ≡ true) → (deed ≡ Cancels → ⊥) → Acts U V deed old mid → Acted_so entry part old mid
+  acts_so entry part Nothing old mid quiet drops other acts = absurd acts
+  acts_so entry part (Meets Ab fate) old mid quiet drops other acts =
       acted_to entry part old mid _ acts (record { on = on_same is_any old.a.upper; owes = λ so. subst (λ (l : List Answer). Owes (part ++ entry ∷ []) (cause_in old) l) (sym (met_same Ab fate _ old.radio.a.waiting old.radio)) so })
-  acts_so entry part (Meets Ba fate) old mid drops other acts =
+  acts_so entry part (Meets Ba fate) old mid quiet drops other acts =
       acted_to entry part old mid _ acts (record { on = on_same is_any old.a.upper; owes = λ so. subst (λ (l : List Answer). Owes (part ++ entry ∷ []) (cause_in old) l) (sym (met_same Ba fate _ old.radio.b.waiting old.radio)) so })
-  acts_so entry part (Fires A) old mid drops other (armed, g, same) = acted_to entry part old mid _ same (record { on = timer_on g old.a.upper; owes = λ so. so })
-  acts_so entry part (Fires B) old mid drops other (armed, h, same) = acted_to entry part old mid _ same (record { on = on_same is_any old.a.upper; owes = λ so. so })
-  acts_so entry part FiresBoth old mid drops other (armed, g, h, same) = acted_to entry part old mid _ same (record { on = fired_on g old.a; owes = λ so. so })
-  acts_so entry part Breaks old mid drops other acts =
+  acts_so entry part (Fires A) old mid quiet drops other (armed, g, same) = acted_to entry part old mid _ same (record { on = timer_on g old.a.upper quiet; owes = λ so. so })
+  acts_so entry part (Fires B) old mid quiet drops other (armed, h, same) = acted_to entry part old mid _ same (record { on = on_same is_any old.a.upper; owes = λ so. so })
+  acts_so entry part FiresBoth old mid quiet drops other (armed, g, h, same) = acted_to entry part old mid _ same (record { on = fired_on g old.a quiet; owes = λ so. so })
+  acts_so entry part Breaks old mid quiet drops other acts =
       acted_to entry part old mid _ acts (record {
         on = on_same is_any old.a.upper;
         owes = λ so. owes_more (part ++ entry ∷ []) (cause_in old) old.radio.a.owed (LinkGone old.radio.number 0x08 ∷ []) so (inl (refl, drop_now part entry (drops refl)), tt);
       })
-  acts_so entry part Cancels old mid drops other acts = absurd (other refl)
+  acts_so entry part Cancels old mid quiet drops other acts = absurd (other refl)
 
   both_true : (a b : Bool) → (a && b) ≡ true → b ≡ true
   both_true true b is = is
   both_true false b is = never is
 
   -- whether it cancels is told by the deed
-  turned_at : (past : List Entry) (ordinal : ℕ) (word : Word) (deed : Deed) (old mid : W) → (deed ≡ Breaks → is_drop_word word ≡ true) → (deed ≡ Cancels → ⊥) → is_cancel (Acted ordinal word) ≡ false → Acts U V deed old mid → At past old → At (past ++ Acted ordinal word ∷ []) (one_turned mid)
-  turned_at past ordinal word deed old mid drops other plain acts at =
+  turned_at : (past : List Entry) (ordinal : ℕ) (word : Word) (deed : Deed) (old mid : W) → old.a.upper.channels.events ≡ [] → (deed ≡ Breaks → is_drop_word word ≡ true) → (deed ≡ Cancels → ⊥) → is_cancel (Acted ordinal word) ≡ false → Acts U V deed old mid → At past old → At (past ++ Acted ordinal word ∷ []) (one_turned mid)
+  turned_at past ordinal word deed old mid quiet drops other plain acts at =
       let entry = Acted ordinal word in
-      let so = acts_so entry (since_begun past) deed old mid drops other acts in
+      let so = acts_so entry (since_begun past) deed old mid quiet drops other acts in
       entry_at past entry old (one_turned mid) tt refl (acts_pushes U V deed old mid acts) so.on.lame so.on.leaves
       (λ leaves now. now_more is_any (since_begun past) entry (cause_in old) (cause_in mid) old.radio.a.owed mid.radio.a.owed refl (λ none. record { not_cancelled = plain; not_ended = refl }) so.on.came so.owes now) at
 
-  cancelled_at : (past : List Entry) (ordinal : ℕ) (word : Word) (old mid : W) → Acts U V Cancels old mid → At past old → At (past ++ Acted ordinal word ∷ []) (one_turned mid)
-  cancelled_at past ordinal word old mid (may, g, same) at =
+  cancelled_at : (past : List Entry) (ordinal : ℕ) (word : Word) (old mid : W) → old.a.upper.channels.events ≡ [] → Acts U V Cancels old mid → At past old → At (past ++ Acted ordinal word ∷ []) (one_turned mid)
+  cancelled_at past ordinal word old mid quiet (may, g, same) at =
       let entry = Acted ordinal word in
       let to : W = record old { a = told U g Cancelled old.a } in
       let may_now = both_true old.pushes.going (may_cancel old.a.upper.profile.client) may in
-      let is_now = cancel_came settings g old.a.upper may_now in
+      let is_now = cancel_came settings g old.a.upper quiet may_now in
       let none = may_none settings old.a.upper.profile.client may_now in
       at_same (past ++ entry ∷ []) (one_turned mid) (one_turned to) (ap one_turned same)
       (entry_at past entry old (one_turned to) tt refl refl (λ lame. lame_hear settings g Cancelled old.a.upper lame) (λ l. hear_leaves settings g Cancelled old.a.upper l)
@@ -497,59 +462,59 @@ module _ {T H : Type 0} (settings : Settings) (V : Upper T H) where
         owes = owes_on (since_begun past) (since_begun past ++ entry ∷ []) (cause_in old) (cause_in to) old.radio.a.owed (drop_more (since_begun past) entry) (λ comes. absurd (comes_not (cause_in old) comes none)) now.owes;
       }) at)
 
-  met_at : (past : List Entry) (ordinal : ℕ) (word : Word) (way : Way) (fate : Fate) (ab ba : List (List ℕ)) (old mid : W) → is_cancel (Acted ordinal word) ≡ false → Acts U V (meets_on way fate ab ba) old mid → At past old → At (past ++ Acted ordinal word ∷ []) (one_turned mid)
-  met_at past ordinal word way fate ab ba old mid plain acts at = turned_at past ordinal word (meets_on way fate ab ba) old mid (λ is. absurd (on_no_break way fate ab ba is)) (λ is. on_no_cancel way fate ab ba is) plain acts at
+  met_at : (past : List Entry) (ordinal : ℕ) (word : Word) (way : Way) (fate : Fate) (ab ba : List (List ℕ)) (old mid : W) → old.a.upper.channels.events ≡ [] → is_cancel (Acted ordinal word) ≡ false → Acts U V (meets_on way fate ab ba) old mid → At past old → At (past ++ Acted ordinal word ∷ []) (one_turned mid)
+  met_at past ordinal word way fate ab ba old mid quiet plain acts at = turned_at past ordinal word (meets_on way fate ab ba) old mid quiet (λ is. absurd (on_no_break way fate ab ba is)) (λ is. on_no_cancel way fate ab ba is) plain acts at
 
-  word_at : (past : List Entry) (ordinal : ℕ) (word : Word) (old mid : W) (served : Option Way) (ab ba : List (List ℕ)) (linked : Bool) → Acts U V (deed_of word served ab ba linked) old mid → At past old → At (past ++ Acted ordinal word ∷ []) (one_turned mid)
-  word_at past ordinal Pass old mid served ab ba linked acts at = turned_at past ordinal Pass (passing (way_served served ab ba) ab ba) old mid (λ is. absurd (pass_no_break (way_served served ab ba) ab ba is)) (λ is. pass_no_cancel (way_served served ab ba) ab ba is) refl acts at
-  word_at past ordinal (Lose way) old mid served ab ba linked acts at = met_at past ordinal (Lose way) way Lost ab ba old mid refl acts at
-  word_at past ordinal (Repeat way) old mid served ab ba linked acts at = met_at past ordinal (Repeat way) way Repeated ab ba old mid refl acts at
-  word_at past ordinal (Damage way at_octet mask) old mid served ab ba linked acts at = met_at past ordinal (Damage way at_octet mask) way (Changed at_octet mask) ab ba old mid refl acts at
-  word_at past ordinal (Cut way packets) old mid served ab ba linked acts at = met_at past ordinal (Cut way packets) way (CutOff packets) ab ba old mid refl acts at
-  word_at past ordinal (Timer side) old mid served ab ba linked acts at = turned_at past ordinal (Timer side) (Fires side) old mid (λ is. absurd (fires_no_break side is)) (λ is. fires_no_cancel side is) refl acts at
-  word_at past ordinal Drop old mid served ab ba linked acts at = turned_at past ordinal Drop (if linked then Breaks else Nothing) old mid (λ is. refl) (λ is. broken_no_cancel linked is) refl acts at
-  word_at past ordinal Cancel old mid served ab ba linked acts at = cancelled_at past ordinal Cancel old mid acts at
+  word_at : (past : List Entry) (ordinal : ℕ) (word : Word) (old mid : W) → old.a.upper.channels.events ≡ [] → (served : Option Way) (ab ba : List (List ℕ)) (linked : Bool) → Acts U V (deed_of word served ab ba linked) old mid → At past old → At (past ++ Acted ordinal word ∷ []) (one_turned mid)
+  word_at past ordinal Pass old mid quiet served ab ba linked acts at = turned_at past ordinal Pass (passing (way_served served ab ba) ab ba) old mid quiet (λ is. absurd (pass_no_break (way_served served ab ba) ab ba is)) (λ is. pass_no_cancel (way_served served ab ba) ab ba is) refl acts at
+  word_at past ordinal (Lose way) old mid quiet served ab ba linked acts at = met_at past ordinal (Lose way) way Lost ab ba old mid quiet refl acts at
+  word_at past ordinal (Repeat way) old mid quiet served ab ba linked acts at = met_at past ordinal (Repeat way) way Repeated ab ba old mid quiet refl acts at
+  word_at past ordinal (Damage way at_octet mask) old mid quiet served ab ba linked acts at = met_at past ordinal (Damage way at_octet mask) way (Changed at_octet mask) ab ba old mid quiet refl acts at
+  word_at past ordinal (Cut way packets) old mid quiet served ab ba linked acts at = met_at past ordinal (Cut way packets) way (CutOff packets) ab ba old mid quiet refl acts at
+  word_at past ordinal (Timer side) old mid quiet served ab ba linked acts at = turned_at past ordinal (Timer side) (Fires side) old mid quiet (λ is. absurd (fires_no_break side is)) (λ is. fires_no_cancel side is) refl acts at
+  word_at past ordinal Drop old mid quiet served ab ba linked acts at = turned_at past ordinal Drop (if linked then Breaks else Nothing) old mid quiet (λ is. refl) (λ is. broken_no_cancel linked is) refl acts at
+  word_at past ordinal Cancel old mid quiet served ab ba linked acts at = cancelled_at past ordinal Cancel old mid quiet acts at
 
-  does_at : (happening : Happening) (past : List Entry) (old new : W) → IsOn old → Kept U V old.radio old.a old.b old.pushes.going → Does U V happening old new → At past old → At (past ++ entries_of happening) new
-  does_at (Tries A effort) past old new on kept (station, makes, same) at =
-      at_same (past ++ []) new (record old { a = station }) same (still_at past old (record old { a = station }) refl (effort_lame effort old.a station makes) (effort_leaves effort old.a station makes) (effort_came effort old.a station makes) (λ so. so) at)
-  does_at (Tries B effort) past old new on kept (station, makes, same) at =
+  does_at : (happening : Happening) (past : List Entry) (old new : W) → old.a.upper.channels.events ≡ [] → IsOn settings V old → Kept U V old.radio old.a old.b old.pushes.going → Does U V happening old new → At past old → At (past ++ entries_of happening) new
+  does_at (Tries A effort) past old new quiet on kept (station, makes, same) at =
+      at_same (past ++ []) new (record old { a = station }) same (still_at past old (record old { a = station }) refl (effort_lame settings V effort old.a station makes) (effort_leaves effort old.a station makes) (effort_came effort old.a station quiet makes) (λ so. so) at)
+  does_at (Tries B effort) past old new quiet on kept (station, makes, same) at =
       at_same (past ++ []) new (record old { b = station }) same (still_at past old (record old { b = station }) refl (λ lame. lame) (λ l. l) (came_same is_any (cause_in old)) (λ so. so) at)
-  does_at (Departure A order) past old new on kept (rest, first, same) at =
+  does_at (Departure A order) past old new quiet on kept (rest, first, same) at =
       at_same (past ++ Moved A Out (order_packet A order) ∷ []) new _ same (departs_at A order past old (record old { radio = after_order A order old.radio; a = record old.a { out = rest } }) refl refl refl (λ leaves. ends_by_cause order rest old first kept leaves) tt (out_plain A order) at)
-  does_at (Departure B order) past old new on kept (rest, first, same) at =
+  does_at (Departure B order) past old new quiet on kept (rest, first, same) at =
       at_same (past ++ Moved B Out (order_packet B order) ∷ []) new _ same (departs_at B order past old (record old { radio = after_order B order old.radio; b = record old.b { out = rest } }) refl refl refl (λ leaves handle is side test. absurd (let e = side in cc)) tt (out_plain B order) at)
-  does_at (GivingBack side) past old new on kept same at =
+  does_at (GivingBack side) past old new quiet on kept same at =
       at_same (past ++ []) new _ same (still_at past old (record old { radio = after_offer side old.radio }) refl (λ lame. lame) (λ l. l) (came_same is_any (cause_in old)) (λ so. offered (since_begun past) (cause_in old) side old.radio so) at)
-  does_at (Piecemeal A handle piece) past old new on kept (rest, first, here, g, same) at =
+  does_at (Piecemeal A handle piece) past old new quiet on kept (rest, first, here, g, same) at =
       let entry = Moved A Into (piece_packet handle piece) in
       let goes = piece_on g handle piece old.a in
       let owed : (after_handing old.radio.a).owed ≡ old.radio.a.owed = ap (λ (one : Controller). one.owed) (handed_piece old.radio.a piece rest first) in
       at_same (past ++ entry ∷ []) new _ same (entry_at past entry old _ tt refl refl goes.lame goes.leaves
       (λ leaves now. now_more is_heard (since_begun past) entry (cause_in old) (hears_piece U g handle piece old.a).upper.profile.client.cause old.radio.a.owed (after_handing old.radio.a).owed refl (λ none. record { not_cancelled = refl; not_ended = refl }) goes.came
       (λ so. subst (λ (l : List Answer). Owes (since_begun past ++ entry ∷ []) (hears_piece U g handle piece old.a).upper.profile.client.cause l) (sym owed) so) now) at)
-  does_at (Piecemeal B handle piece) past old new on kept (rest, first, here, h, same) at =
+  does_at (Piecemeal B handle piece) past old new quiet on kept (rest, first, here, h, same) at =
       let entry = Moved B Into (piece_packet handle piece) in
       at_same (past ++ entry ∷ []) new _ same (quiet_at past entry old _ tt refl refl (record { not_cancelled = refl; not_ended = refl }) refl (λ leaves so. so) at)
-  does_at (Answering A answer) past old new on kept (rest, none, first, g, same) at =
-      at_same (past ++ Moved A Into (answer_packet A answer) ∷ []) new _ same (answer_now past answer rest g old _ first on refl refl (ap (λ (one : Controller). one.owed) (handed_answer old.radio.a answer rest none first)) at)
-  does_at (Answering B answer) past old new on kept (rest, none, first, h, same) at =
+  does_at (Answering A answer) past old new quiet on kept (rest, none, first, g, same) at =
+      at_same (past ++ Moved A Into (answer_packet A answer) ∷ []) new _ same (answer_now past answer rest g old _ quiet first on refl refl (ap (λ (one : Controller). one.owed) (handed_answer old.radio.a answer rest none first)) at)
+  does_at (Answering B answer) past old new quiet on kept (rest, none, first, h, same) at =
       let entry = Moved B Into (answer_packet B answer) in
       at_same (past ++ entry ∷ []) new _ same (quiet_at past entry old _ tt refl refl (record { not_cancelled = refl; not_ended = refl }) refl (λ leaves so. so) at)
-  does_at (Turns ordinal word) past old new on kept (rest, is_word, ordinal_is, mid, acts, same) at =
-      at_same (past ++ Acted ordinal word ∷ []) new (one_turned mid) same (word_at past ordinal word old mid old.radio.served old.radio.a.waiting old.radio.b.waiting _ acts at)
-  does_at (Misses word) past old new on kept (rest, nothing, same) at = at_same (past ++ []) new _ same (still_at past old _ refl (λ lame. lame) (λ l. l) (came_same is_any (cause_in old)) (λ so. so) at)
-  does_at (Opens push name) past old new on kept (idle, next, push_is, g, same) at =
+  does_at (Turns ordinal word) past old new quiet on kept (rest, is_word, ordinal_is, mid, acts, same) at =
+      at_same (past ++ Acted ordinal word ∷ []) new (one_turned mid) same (word_at past ordinal word old mid quiet old.radio.served old.radio.a.waiting old.radio.b.waiting _ acts at)
+  does_at (Misses word) past old new quiet on kept (rest, nothing, same) at = at_same (past ++ []) new _ same (still_at past old _ refl (λ lame. lame) (λ l. l) (came_same is_any (cause_in old)) (λ so. so) at)
+  does_at (Opens push name) past old new quiet on kept (idle, next, push_is, g, same) at =
       let to : W = record old { pushes = one_begun old.pushes; a = told U g (Opening name) old.a } in
       at_same (past ++ Begun push ∷ []) new to same (λ well.
       let so = at (well_before (failed_in old) (failed_in to) (λ lame. lame_hear settings g (Opening name) old.a.upper lame) well) in
-      let came : Came is_any None (cause_in to) = opens_came settings g name old.a.upper well in
+      let came : Came is_shelf None (cause_in to) = opens_shelf settings g name old.a.upper quiet well in
       record {
         each = each_after-more EndsByDrop past (Begun push) so.each tt;
         leaves = hear_leaves settings g (Opening name) old.a.upper so.leaves;
         now = λ going. subst (λ (l : List Entry). IsNow l (cause_in to) old.radio.a.owed) (sym (since_then past (Begun push))) (record {
           none = λ is. tt;
-          lost = λ is. let e : None ≡ Some LinkLost = lost_before is_any None (cause_in to) refl came is in absurd cc;
+          lost = λ is. let e : None ≡ Some LinkLost = lost_before is_shelf None (cause_in to) refl came is in absurd cc;
           owes = subst (AllByRecursion (TidingSo [] (cause_in to))) (sym (kept.rests (idle_by old.pushes next)).none_a) tt;
         });
       })
@@ -560,7 +525,7 @@ module _ {T H : Type 0} (settings : Settings) (V : Upper T H) where
           by : (going : Bool) → (if going then None else slice_get pushes.names pushes.begun) ≡ Some name → going ≡ false
           by true is = absurd (let e = is in cc)
           by false is = refl
-  does_at (Closes push outcome) past old new on kept (going, push_is, idle, is, apart, none_a, none_b, quiet_a, quiet_b, same) at =
+  does_at (Closes push outcome) past old new quiet on kept (going, push_is, idle, is, apart, none_a, none_b, quiet_a, quiet_b, same) at =
       let to : W = record old { pushes = one_ended outcome old.pushes } in
       at_same (past ++ Ended push outcome ∷ []) new to same (λ well.
       let so = at well in
@@ -572,29 +537,13 @@ module _ {T H : Type 0} (settings : Settings) (V : Upper T H) where
     where
       loss_shown : (outcome : Outcome) (part : List Entry) (cause : Option Outcome) → cause ≡ Some outcome → IsNow part cause old.radio.a.owed → LossIs outcome part
       loss_shown LinkLost part cause is now = now.lost is
-      loss_shown Done part cause is now = tt
-      loss_shown RetryLimit part cause is now = tt
-      loss_shown (Refused code) part cause is now = tt
-      loss_shown NoService part cause is now = tt
-      loss_shown ShelfFault part cause is now = tt
-      loss_shown PushCancelled part cause is now = tt
-      loss_shown PeerClosed part cause is now = tt
-      loss_shown (PeerFault layer reason) part cause is now = tt
-      loss_shown ScriptEnded part cause is now = tt
+      loss_shown outcome part cause is now = tt
 
   -- with the end of the push that goes on
   last_loss : (cause : Option Outcome) (part : List Entry) (owed : List Answer) → IsNow part cause owed → LossIs (unwrap_or cause ScriptEnded) part
   last_loss None part owed now = tt
   last_loss (Some LinkLost) part owed now = now.lost refl
-  last_loss (Some Done) part owed now = tt
-  last_loss (Some RetryLimit) part owed now = tt
-  last_loss (Some (Refused code)) part owed now = tt
-  last_loss (Some NoService) part owed now = tt
-  last_loss (Some ShelfFault) part owed now = tt
-  last_loss (Some PushCancelled) part owed now = tt
-  last_loss (Some PeerClosed) part owed now = tt
-  last_loss (Some (PeerFault layer reason)) part owed now = tt
-  last_loss (Some ScriptEnded) part owed now = tt
+  last_loss (Some outcome) part owed now = tt
 
   last_at : (past : List Entry) (w : W) → Stands past w → LossesAreDrops (past ++ last_entries (cause_in w) w.pushes)
   last_at past w stands = by w.pushes.going refl
@@ -612,28 +561,8 @@ module _ (scenario : Scenario) (content : Option Contents) where
   abbrev R : Upper (Host ServerProfile) Circumstance
   R = server_of scenario content
 
-  carries_onto : (doings : List Doing) (old new : Carriage (Host ClientProfile) (Host ServerProfile)) → Carries S R doings old new → Both S R old → IsOnto old.a → IsOnto new.a
-  carries_onto [] old new same sound onto = subst (λ (c : Carriage (Host ClientProfile) (Host ServerProfile)). IsOnto c.a) (sym same) onto
-  carries_onto (doing ∷ doings) old new (mid, does, runs) sound onto =
-      carries_onto doings mid new runs (advances S R doing old nothing_more nothing_more mid does sound).both (done_onto scenario.settings R doing old mid does sound onto)
-
-  -- its push is on its link while that is up
-  on_link : (happenings : List Happening) (w : BothHosts) → Happened scenario content happenings w → IsSo w.radio.a.up w.a.upper.profile
-  on_link happenings w happened =
-      let all = carried S R scenario.acl_length scenario.acl_count scenario.names happenings w (fits scenario content) happened in
-      (carries_onto all.doings (first_carriage S R scenario.acl_length scenario.names) _ all.carries (first_both S R scenario.acl_length scenario.names) (record { so = record { suits = refl; linked = λ on. cc }; owed = tt })).so
-
-  is_on : (done : List Happening) (w : BothHosts) → Happened scenario content done w → Kept S R w.radio w.a w.b w.pushes.going → IsOn scenario.settings R w
-  is_on done w happened kept handle reason rest first =
-      let owed = owed_first w.radio.a.owed rest (LinkGone handle reason) (Went handle reason) first refl in
-      let led : Led w.radio.a.told w.radio.a.up (Went handle reason ∷ tidings rest) w.radio.number (is_together w.radio.phase) = subst (λ (l : List Tiding). Led w.radio.a.told w.radio.a.up l w.radio.number (is_together w.radio.phase)) owed kept.one.led in
-      let link : w.a.link ≡ Some w.radio.a.told = kept.one.link ∙ ap (λ (b : Bool). linked_handle b w.radio.a.told) led.0 in (
-        ap (is_handle handle) link ∙ eq-eqb w.radio.a.told handle (sym led.1),
-        subst (λ (up : Bool). IsSo up w.a.upper.profile) led.0 (on_link done w happened),
-      )
-
   keeps_at : (happenings : List Happening) → KeepsRun S R happenings (beginning scenario content) (λ past words w. At scenario.settings R past w)
-  keeps_at happenings happening ahead past words old new reached does next at = does_at scenario.settings R happening past old new (is_on reached.done old reached.runs reached.kept) reached.kept does at
+  keeps_at happenings happening ahead past words old new reached does next at = does_at scenario.settings R happening past old new (none_told scenario content reached.done old reached.runs) (is_on scenario content reached.done old reached.runs reached.kept) reached.kept does at
 
   arrives : (happenings : List Happening) (w : BothHosts) → Happened scenario content happenings w → At scenario.settings R (all_entries happenings) w
   arrives happenings w happened =

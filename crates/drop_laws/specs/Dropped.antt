@@ -3,10 +3,10 @@ use Rattle.std.specs.Prelude.{◌≡◌, ◌⊎◌, Bool, true, false, List, [],
 use Rattle.cause_laws.specs.bt_base.specs.Objects.{Contents}
 use Rattle.cause_laws.specs.push_script.specs.declared.scenario.Scenario.{Scenario}
 use Rattle.cause_laws.specs.push_terms.specs.declared.outcome.Outcome.{Outcome}
-use Rattle.cause_laws.specs.push_terms.specs.declared.outcome.Outcome.TheVariants.{Done, LinkLost, RetryLimit, Refused, NoService, ShelfFault, Cancelled, PeerClosed, PeerFault, ScriptEnded}
+use Rattle.cause_laws.specs.push_terms.specs.declared.outcome.Outcome.TheVariants.{LinkLost}
 use Rattle.cause_laws.specs.push_terms.specs.declared.word.Word.{Word}
-use Rattle.cause_laws.specs.push_terms.specs.declared.word.Word.TheVariants.{Pass, Lose, Repeat, Damage, Cut, Timer, Drop, Cancel}
-use Rattle.cause_laws.specs.capture.specs.Entries.{Entry, Moved, Acted, Begun, Ended}
+use Rattle.cause_laws.specs.push_terms.specs.declared.word.Word.TheVariants.{Drop}
+use Rattle.cause_laws.specs.capture.specs.Entries.{Entry, Acted, Ended}
 use Rattle.cause_laws.specs.capture.specs.Histories.{EachAfter}
 use Rattle.cause_laws.specs.world_model.specs.Worlds.{Happening, all_entries}
 use Rattle.cause_laws.specs.radio_world.specs.Standing.{last_entries}
@@ -14,21 +14,13 @@ use Rattle.cause_laws.specs.scenario_laws.specs.Captures.{client_of, BothHosts, 
 use Rattle.cause_laws.specs.FirstCauses.{since_begun, end_reason, AreNoCauses}
 
 abbrev pub is_drop_word : Word → Bool
-is_drop_word Pass = false
-is_drop_word (Lose way) = false
-is_drop_word (Repeat way) = false
-is_drop_word (Damage way at mask) = false
-is_drop_word (Cut way packets) = false
-is_drop_word (Timer side) = false
 is_drop_word Drop = true
-is_drop_word Cancel = false
+is_drop_word word = false
 
 -- the word `drop`, which found a link to break
 abbrev pub is_drop : Entry → Bool
-is_drop (Moved side flow packet) = false
 is_drop (Acted ordinal word) = is_drop_word word
-is_drop (Begun push) = false
-is_drop (Ended push outcome) = false
+is_drop entry = false
 
 abbrev pub HasDrop : List Entry → Type 0
 HasDrop [] = ⊥
@@ -47,21 +39,11 @@ pub record IsLostByDrop (part : List Entry) : Type 0 where
 -- so it is where the link was lost
 abbrev pub LossIs : Outcome → List Entry → Type 0
 LossIs LinkLost part = IsLostByDrop part
-LossIs Done part = Unit {0}
-LossIs RetryLimit part = Unit {0}
-LossIs (Refused code) part = Unit {0}
-LossIs NoService part = Unit {0}
-LossIs ShelfFault part = Unit {0}
-LossIs Cancelled part = Unit {0}
-LossIs PeerClosed part = Unit {0}
-LossIs (PeerFault layer reason) part = Unit {0}
-LossIs ScriptEnded part = Unit {0}
+LossIs outcome part = Unit {0}
 
 abbrev pub EndsByDrop : List Entry → Entry → Type 0
-EndsByDrop past (Moved side flow packet) = Unit {0}
-EndsByDrop past (Acted ordinal word) = Unit {0}
-EndsByDrop past (Begun push) = Unit {0}
 EndsByDrop past (Ended push outcome) = LossIs outcome (since_begun past)
+EndsByDrop past entry = Unit {0}
 
 -- Each push of a capture that ended with `link-lost` shows in its part that `drop` broke its link.
 abbrev pub LossesAreDrops : List Entry → Type 0

@@ -101,7 +101,7 @@ pub record StopsSo (scenario : Scenario) (old new : Ports) (past next : List Ent
   pub each : AllByRecursion IsEntry (past ++ next)
   pub written : GainedFront (gained old.trace.content (capture_octets past)) new.trace.content (capture_octets next)
   pub keeps : KeepsBroken scenario (past ++ next)
-  pub causes : CausesAreShown past
+  pub causes : CausesAreShown scenario.settings past
   pub drops : LossesAreDrops past
   pub pushed : HasPushed scenario old past
   pub gains : HasGained scenario old new past

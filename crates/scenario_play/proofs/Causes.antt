@@ -15,13 +15,13 @@ use Rattle.scenario_play.specs.Breaking.{IsBroken}
 use Rattle.scenario_play.specs.Playing.{IsPlayed}
 
 pub causes_shown : (scenario : Scenario) (shelf : Option (List Object)) (before after : Option Contents) (trace trace' : Option (List ℕ)) (outcomes : List Outcome) (peaks : Peaks) (counts counts' : Counts) (played : IsPlayed scenario shelf before after trace trace' outcomes peaks counts counts')
-    → CausesAreShown played.capture
+    → CausesAreShown scenario.settings played.capture
 causes_shown scenario shelf before after trace trace' outcomes peaks counts counts' played =
     let ran = played.finished.ran in
-    subst CausesAreShown (sym (ran.capture_is ∙ ap (λ (ends : List Entry). all_entries ran.happenings ++ ends) played.ends)) (runs_show_causes.ends scenario before ran.happenings ran.world ran.happened played.able)
+    subst (CausesAreShown scenario.settings) (sym (ran.capture_is ∙ ap (λ (ends : List Entry). all_entries ran.happenings ++ ends) played.ends)) (runs_show_causes.ends scenario before ran.happenings ran.world ran.happened played.able)
 
 -- as far as it came
-pub causes_so_far : (scenario : Scenario) (shelf : Option (List Object)) (before after : Option Contents) (trace trace' : Option (List ℕ)) (counts counts' : Counts) (broken : IsBroken scenario shelf before after trace trace' counts counts') → CausesAreShown (all_entries broken.happenings)
+pub causes_so_far : (scenario : Scenario) (shelf : Option (List Object)) (before after : Option Contents) (trace trace' : Option (List ℕ)) (counts counts' : Counts) (broken : IsBroken scenario shelf before after trace trace' counts counts') → CausesAreShown scenario.settings (all_entries broken.happenings)
 causes_so_far scenario shelf before after trace trace' counts counts' broken = runs_show_causes.moments scenario before broken.happenings broken.world broken.happened broken.able
 
 -- and that a link is lost only where `drop` broke it

@@ -92,7 +92,7 @@ pub record KeepsPlayed (scenario : Scenario) (outcomes : List Outcome) (capture 
   pub all_ended : AllHaveEnded capture
   pub outcomes_are : outcomes ≡ outcomes_of scenario capture
   pub outcomes_are_all : length outcomes ≡ length scenario.names
-  pub causes : CausesAreShown capture
+  pub causes : CausesAreShown scenario.settings capture
   pub drops : LossesAreDrops capture
   pub obeys : Obeys (hosts_of scenario.settings) scenario.acl_length (words_of scenario.script) capture
 
