@@ -6,4 +6,6 @@ pub mod Servers
 pub mod Walks
 pub mod Kept
 pub mod Lasts
+pub mod Off
 pub mod Runs
+pub mod Ends

@@ -1,13 +1,16 @@
 -- In each run over L2CAP the object of each push of host a that is done is stored.
-use Rattle.std.proofs.Common.{arith, ◌≡◌, ◌<◌, ◌^◌, ℕ, Bool, false, List, [], ◌∷◌, ◌++◌, length, Option, Some, None, inl, inr, refl, sym, ap, subst, ◌∙◌}
+use Rattle.std.proofs.Common.{arith, ◌≡◌, ◌<◌, ◌^◌, ◌⊎◌, ℕ, Bool, false, List, [], ◌∷◌, ◌++◌, length, Option, Some, None, inl, inr, refl, sym, ap, subst, ◌∙◌}
 use Rattle.std.specs.List.{AllByRecursion}
 use Rattle.tape_laws.specs.bt_base.specs.declared.settings.Transport.TheVariants.{L2cap}
 use Rattle.std.proofs.lemmas.Str.{IsUtf8-from_is_utf8}
 use Rattle.std.specs.Option.{option_map}
+use Rattle.tape_laws.specs.bt_base.specs.declared.settings.Settings.{Settings}
 use Rattle.tape_laws.specs.bt_base.specs.Objects.{Object, octets_of}
 use Rattle.tape_laws.specs.obex_session.specs.PutPackets.{units_in}
 use Rattle.tape_laws.specs.obex_session.proofs.UnitLaws.{names-have_units}
 use Rattle.tape_laws.specs.push_script.specs.Names.{IsName}
+use Rattle.tape_laws.specs.push_terms.specs.declared.outcome.Outcome.TheVariants.{Done}
+use Rattle.tape_laws.specs.push_model.specs.Client.{new_client}
 use Rattle.tape_laws.specs.push_model.specs.Laws.{Deed}
 use Rattle.tape_laws.specs.obex_session.specs.InboxCalls.{Answer}
 use Rattle.tape_laws.specs.push_script.specs.declared.scenario.Scenario.{Scenario}
@@ -25,7 +28,7 @@ use Rattle.tape_laws.specs.push_laws.proofs.Among.{all_among, ahead_among, among
 use Rattle.tape_laws.specs.world_model.specs.Pushes.{Pushes}
 use Rattle.tape_laws.specs.air_laws.specs.AirLaws.{IsLastEnd}
 use Rattle.tape_laws.specs.alike_laws.specs.Twins.{IsOther}
-use Rattle.tape_laws.specs.host_model.specs.Clients.{client_profile}
+use Rattle.tape_laws.specs.host_model.specs.Clients.{ClientProfile, client_profile}
 use Rattle.tape_laws.specs.host_model.specs.Hosts.{Host, first_host}
 use Rattle.tape_laws.specs.host_model.specs.Servers.{ServerProfile, server_profile}
 use Rattle.tape_laws.specs.host_laws.specs.Openings.{names_told, names_begun}
@@ -33,7 +36,7 @@ use Rattle.tape_laws.specs.host_laws.specs.Pushing.{pushed_from}
 use Rattle.tape_laws.specs.host_laws.specs.ShelfAnswers.{AnswersOf}
 use Rattle.tape_laws.specs.host_laws.proofs.Openings.{clients_begin_what_is_told}
 use Rattle.tape_laws.specs.host_laws.proofs.ShelfAnswers.{clients_are_given_objects}
-use Rattle.tape_laws.specs.scenario_laws.specs.Captures.{client_of, Ran}
+use Rattle.tape_laws.specs.scenario_laws.specs.Captures.{client_of, BothHosts, Ran}
 use Rattle.tape_laws.specs.scenario_laws.specs.Gains.{holding}
 use Rattle.tape_laws.specs.scenario_laws.specs.Parties.{party_of}
 use Rattle.tape_laws.specs.shelf_model.specs.Held.{held_by, longest_octets}
@@ -42,14 +45,15 @@ use Rattle.tape_laws.specs.pair_laws.specs.Served.{holding_on}
 use Rattle.tape_laws.specs.pair_laws.proofs.Pairing.{answers_allowed}
 use Rattle.tape_laws.specs.request_laws.specs.Losing.{served_in}
 use Rattle.tape_laws.specs.request_laws.proofs.AllSizes.{run_offered}
-use Rattle.tape_laws.specs.request_laws.proofs.Heard.{Offered, links_pushed, all_offered}
+use Rattle.tape_laws.specs.request_laws.proofs.Heard.{Offered, links_tied, all_offered}
+use Rattle.tape_laws.specs.request_laws.proofs.Latest.{IsIdle, IsLast}
 use Rattle.tape_laws.specs.request_laws.proofs.Lending.{serve_all}
 use Rattle.tape_laws.specs.request_laws.proofs.Objects.{IsOfObject}
 use Rattle.tape_laws.specs.request_laws.proofs.Summing.{both_ask}
 use Rattle.tape_laws.specs.request_laws.proofs.Told.{none_longer, all_answer}
 use Rattle.tape_laws.specs.Once.{once, SpendsOnce}
 use Rattle.tape_laws.specs.Own.{own_server}
-use Rattle.tape_laws.specs.OwnPairs.{own_beginning}
+use Rattle.tape_laws.specs.OwnPairs.{own_beginning, IsThereToo}
 use Rattle.tape_laws.specs.Pairs.{TapedHosts, HappenedTapedHeld}
 use Rattle.tape_laws.specs.Runs.{untaped_world}
 use Rattle.tape_laws.proofs.Once.{servers_spend_once}
@@ -57,8 +61,9 @@ use Rattle.tape_laws.proofs.Own.{own_servers_are_taped}
 use Rattle.tape_laws.proofs.OwnPairs.{there_so, bare_so}
 use Rattle.tape_laws.proofs.Pairs.{takes_turns}
 use Rattle.done_laws.specs.Kept.{AreKept, KeepsDone}
-use Rattle.done_laws.specs.Runs.{KeepsPushes, OwnServersKeepDone}
+use Rattle.done_laws.specs.Runs.{EndsDone, IsDoneAt, KeepsPushes, OwnServersKeepDone}
 use Rattle.done_laws.proofs.Kept.{done-pushes_are_kept}
+use Rattle.done_laws.proofs.Off.{HasDone, between_off, turned_off}
 
 -- ---- of a shelf
 
@@ -90,15 +95,23 @@ module _ (shelf : List Object) where
       let cut = ahead_units (name_of push) (names_of (pushes ++ last ∷ [])) units in
       (one_of_shelf push (client_side push.moves) refl cut.0 all.0.2, pushed_of_shelf most pushes last all.1 over cut.1)
 
+-- ---- the last push
+
+-- a new client is not done
+ended : (settings : Settings) (pushes : List Push) → (HasDone (new_client settings) × AllByRecursion IsIdle pushes) ⊎ IsLast HasDone pushes → EndsDone pushes
+ended settings pushes (inl first) = absurd (let never : None ≡ Some Done = first.0 in cc)
+ended settings pushes (inr last) = record { ahead = last.ahead; one = last.one; behind = last.behind; pushes_are = last.is; cause = last.so; idle = last.idle }
+
 -- ---- a run
 
 module _ (scenario : Scenario) (shelf before : List Object) (answers : List Answer) (capture : List Entry) (enough : NoneShort answers) (direct : scenario.settings.transport ≡ L2cap) (ran : Ran scenario (holding before) capture) where
   abbrev Keeps : Type 0
-  Keeps = KeepsPushes scenario shelf before answers (objects_heard (party_of scenario.settings sides.B) sides.B capture) (stored_in ran.world.b.upper.profile.inbox.content)
+  Keeps = KeepsPushes scenario shelf before answers (objects_heard (party_of scenario.settings sides.B) sides.B capture) (stored_in ran.world.b.upper.profile.inbox.content) (IsDoneAt ran.world)
 
   -- of hosts that go through it side by side
-  keeps_so : (turns : PairsInTurn both_ask scenario (holding before) capture ran) → AllByRecursion (AnswersOf (Some shelf)) turns.pairs.a.fed.so.lives.feeds → SpendsOnce scenario.settings (holding before) answers turns.pairs.b.fed.so.lives.feeds → Keeps
-  keeps_so turns told spends =
+  keeps_so : (turns : PairsInTurn both_ask scenario (holding before) capture ran) → AllByRecursion (AnswersOf (Some shelf)) turns.pairs.a.fed.so.lives.feeds → SpendsOnce scenario.settings (holding before) answers turns.pairs.b.fed.so.lives.feeds
+      → (ran.world.radio.a.owed ≡ [] → ran.world.radio.b.owed ≡ [] → length turns.pairs.a.fed.so.lives.spans ≡ length turns.pairs.b.fed.so.lives.spans) → Keeps
+  keeps_so turns told spends level =
       let settings = scenario.settings in
       let pairs = turns.pairs in
       let A = client_profile settings in
@@ -109,8 +122,9 @@ module _ (scenario : Scenario) (shelf before : List Object) (answers : List Answ
       let answered = all_answer NoneShort far (spends.enough enough) in
       let served = served_in both_ask scenario before capture ran pairs in
       let run = run_offered NoneShort scenario before capture ran turns direct small answered in
-      let all = links_pushed (Some shelf) longest_octets (omega arith) both_ask settings before direct pairs.a.came.talk pairs.b.came.talk ran.world.a.upper ran.world.b.upper pairs.a.fed pairs.b.fed run.offered.twined small
+      let tied = links_tied HasDone (Some shelf) longest_octets (omega arith) both_ask settings before direct (between_off settings (both_ask.clients settings)) (turned_off settings) pairs.a.came.talk pairs.b.came.talk ran.world.a.upper ran.world.b.upper pairs.a.fed pairs.b.fed run.offered.twined small
       (clients_are_given_objects (Some shelf) settings A.first near tt told) in
+      let all = tied.all in
       let told_names = names_told near in
       let begun : AreAmong (names_begun (pushed_from settings A.first near)) scenario.names =
       subst (AreAmong (names_begun (pushed_from settings A.first near))) (sym turns.named.1)
@@ -134,19 +148,28 @@ module _ (scenario : Scenario) (shelf before : List Object) (answers : List Answ
             let same = ap length spells in
             let spent = ap (spent_from (new_over settings before)) all.is in
             omega (arith, few, less, same, spent));
+        ends = λ done. ended settings (all.pushes ++ all.last ∷ []) (tied.ties (level done.none_a done.none_b) done.cause);
       }
 
   -- of the tape of its answers
   taped_so : (world : TapedHosts Bool) → HappenedTapedHeld scenario (Some shelf) (holding before) (once answers) ran.happenings world → ran.world ≡ untaped_world world → Keeps
   taped_so world happened is =
       let so = takes_turns false both_ask scenario (holding before) (once answers) (held_by (Some shelf)) (AnswersOf (Some shelf)) (answers_allowed (Some shelf)) capture ran world happened is (λ on. cc) in
-      keeps_so so.turns so.told (subst (SpendsOnce scenario.settings (holding before) answers) (sym so.given.2) (servers_spend_once scenario.settings (holding before) answers so.given.0 so.given.1))
+      keeps_so so.turns so.told (subst (SpendsOnce scenario.settings (holding before) answers) (sym so.given.2) (servers_spend_once scenario.settings (holding before) answers so.given.0 so.given.1)) so.level
 
 -- what both servers have stored is the same
 stored_so : (scenario : Scenario) (before : List Object) (answers : List Answer) (own plain : Host ServerProfile)
     → IsOther (first_host (own_server scenario.settings (holding before) answers)) (first_host (server_profile scenario.settings (holding before))) own plain → stored_in own.profile.inbox.content ≡ stored_in plain.profile.inbox.content
 stored_so scenario before answers own plain (inl is) = ap (λ (h : Host ServerProfile). stored_in h.profile.inbox.content) (sym is)
 stored_so scenario before answers own plain (inr (is, first)) = ap (λ (h : Host ServerProfile). stored_in h.profile.inbox.content) is ∙ sym (ap (λ (h : Host ServerProfile). stored_in h.profile.inbox.content) first)
+
+-- what is so of the world of the one is so of that of the other
+plainly : (scenario : Scenario) (before : List Object) (answers : List Answer) (own plain : BothHosts) → IsThereToo scenario (holding before) answers own plain → IsDoneAt own → IsDoneAt plain
+plainly scenario before answers own plain there done = record {
+  none_a = ap (λ (w : BothHosts). w.radio.a.owed) there.same ∙ done.none_a;
+  none_b = ap (λ (w : BothHosts). w.radio.b.owed) there.same ∙ done.none_b;
+  cause = ap (λ (h : Host ClientProfile). h.profile.client.cause) there.a ∙ done.cause;
+}
 
 pub own_servers_keep_done : OwnServersKeepDone
 own_servers_keep_done scenario shelf before answers capture own direct enough =
@@ -163,4 +186,5 @@ own_servers_keep_done scenario shelf before answers capture own direct enough =
       stored_is = stored_so scenario before answers own.world.b.upper (untaped_world there).b.upper (there_so both_ask scenario (Some shelf) (holding before) answers capture own there alike).b ∙ so.stored_is;
       kept = so.kept;
       few = so.few;
+      ends = λ done. so.ends (plainly scenario before answers own.world (untaped_world there) (there_so both_ask scenario (Some shelf) (holding before) answers capture own there alike) done);
     }

@@ -1,6 +1,7 @@
 //! Laws of pushes that are done: the object of each is stored, whatever the inbox answers besides.
 #![tactic(auto)]
 
+ghost use Rattle.done_laws.specs.Ends.{OwnServersEndDone};
 ghost use Rattle.done_laws.specs.Kept.{DoneIsLast, DonePushesAreKept, KeptLeaveOut};
 ghost use Rattle.done_laws.specs.Runs.{OwnServersKeepDone};
 
@@ -21,7 +22,14 @@ pub fn kept_leave_out()
 {}
 
 /// So it is of the pushes of host a in each run over L2CAP, wherever it broke off, with a server that keeps its answers, none of which is want of memory: push
-/// by push, what the capture spells is the shelf's object or nothing, and the inbox gained that or left it out, and that of each push that is done it gained.
+/// by push, what the capture spells is the shelf's object or nothing, and the inbox gained that or left it out, and that of each push that is done it gained. Where nothing
+/// is owed to either host and host a's client is done, the last push in which it did anything is.
 pub fn own_servers_keep_done()
     ensures { OwnServersKeepDone }
+{}
+
+/// Wherever a push ends in such a run that is done, by the time of its end host a's pushes are so by a reading of the run, and the last one of them in which its
+/// client did anything is done; where that went to PSM 1001, the last object that the inbox has gained by then is the last one that the packets spell.
+pub fn own_servers_end_done()
+    ensures { OwnServersEndDone }
 {}

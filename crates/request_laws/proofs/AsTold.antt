@@ -6,7 +6,7 @@ use Rattle.pair_laws.specs.push_terms.specs.declared.word.Side.TheVariants as si
 use Rattle.pair_laws.specs.capture.specs.Links.{links}
 use Rattle.pair_laws.specs.capture.specs.Pdus.{Pdu, pdus}
 use Rattle.pair_laws.specs.link_talk.specs.declared.party.Party.{Party}
-use Rattle.pair_laws.specs.link_talk.specs.Sayings.{Saying, said_by, talk}
+use Rattle.pair_laws.specs.link_talk.specs.Sayings.{Saying, said_by}
 use Rattle.pair_laws.specs.channel_model.specs.Calls.{link_down}
 use Rattle.pair_laws.specs.channel_model.specs.Policies.{Policy, policy}
 use Rattle.pair_laws.specs.channel_model.specs.Value.{Channels, no_channels}

@@ -1,9 +1,10 @@
 -- What happened to both hosts over their links is a list of pushes, so no request is ignored.
-use Rattle.std.proofs.Common.{◌≡◌, ℕ, ◌≤◌, ◌<◌, ◌^◌, Some, Bool, true, false, List, [], ◌∷◌, ◌++◌, map, Option, None, Result, Ok, inl, inr, refl, sym, ap, ap₂, subst, ◌∙◌, append-nil, arith}
+use Rattle.std.proofs.Common.{◌≡◌, ◌⊎◌, ℕ, ◌≤◌, ◌<◌, ◌^◌, length, Some, Bool, true, false, List, [], ◌∷◌, ◌++◌, map, Option, None, Result, Ok, inl, inr, refl, sym, ap, ap₂, subst, ◌∙◌, append-nil, arith}
 use Rattle.std.specs.List.{AllByRecursion, flat_map}
 use Rattle.pair_laws.specs.bt_base.specs.declared.ports.PortFault.{PortFault}
 use Rattle.pair_laws.specs.bt_base.specs.declared.settings.Transport.TheVariants.{L2cap}
-use Rattle.pair_laws.specs.channel_model.specs.Value.{no_channels}
+use Rattle.pair_laws.specs.channel_model.specs.Value.{Channels, no_channels}
+use Rattle.pair_laws.specs.channel_laws.specs.Runs as channels
 use Rattle.pair_laws.specs.push_model.specs.Client.{Client, with_object, new_client}
 use Rattle.pair_laws.specs.push_model.specs.Events as events
 use Rattle.pair_laws.specs.push_model.specs.Events.{hears_news}
@@ -22,7 +23,9 @@ use Rattle.pair_laws.specs.push_laws.proofs.Losing.{pushes-gain_all}
 use Rattle.pair_laws.specs.push_laws.proofs.Parties.{requests-are_heard}
 use Rattle.pair_laws.specs.bt_base.specs.Objects.{Object}
 use Rattle.pair_laws.specs.bt_base.specs.declared.settings.Settings.{Settings}
+use Rattle.pair_laws.specs.world_model.specs.Machines.{LinkEvent}
 use Rattle.pair_laws.specs.world_model.specs.Talks.{Talk}
+use Rattle.pair_laws.specs.host_model.specs.Circumstances.{Circumstance}
 use Rattle.pair_laws.specs.host_model.specs.Hosts.{Host}
 use Rattle.pair_laws.specs.host_laws.specs.Calls.{HostsAsk}
 use Rattle.pair_laws.specs.host_model.specs.Clients.{ClientProfile, client_profile}
@@ -30,27 +33,29 @@ use Rattle.pair_laws.specs.host_model.specs.Servers.{ServerProfile, server_profi
 use Rattle.pair_laws.specs.shelf_model.specs.Held.{longest_octets}
 use Rattle.pair_laws.specs.host_laws.specs.Answered.{IsSmall, IsAnswered, BeginsAtMost}
 use Rattle.pair_laws.specs.host_laws.specs.Gaining.{IsDirect}
-use Rattle.pair_laws.specs.host_laws.specs.Fed.{strand_feeds, woven_feeds, TalksFed}
+use Rattle.pair_laws.specs.host_laws.specs.Fed.{strand_feeds, woven_feeds, WovenFed, TalksFed}
+use Rattle.pair_laws.specs.host_laws.specs.Feeds.{Feed}
 use Rattle.pair_laws.specs.host_laws.specs.OverLinks.{AreTimely}
 use Rattle.pair_laws.specs.host_laws.specs.Openings.{names_begun}
 use Rattle.pair_laws.specs.host_laws.specs.Pushing.{Affair, Begins, Does, client_after, client_behind, pushed_from, AllAsked}
 use Rattle.pair_laws.specs.host_laws.specs.ShelfAnswers.{IsGiven}
 use Rattle.pair_laws.specs.host_laws.specs.Serving.{served_from}
-use Rattle.pair_laws.specs.host_laws.specs.Woven.{Strand}
+use Rattle.pair_laws.specs.host_laws.specs.Woven.{Strand, turned}
 use Rattle.pair_laws.specs.host_laws.proofs.Answered.{clients_are_answered}
 use Rattle.pair_laws.specs.host_laws.proofs.Pushing.{all_pushed}
-use Rattle.request_laws.specs.BothFed.{most_octets, ComesNone, AreTwined, over_stored, RequestsOfLinksAreHeard}
+use Rattle.request_laws.specs.BothFed.{most_octets, AreTwined, over_stored, RequestsOfLinksAreHeard}
 use Rattle.pair_laws.specs.host_laws.proofs.StrandsFed.{strand_so}
 use Rattle.request_laws.specs.AllSizes.{BothAreOffered, LinksGainAll}
 use Rattle.request_laws.specs.Twists.{Twist, AtClient, AtServer, of_client, of_server, Both, new_both, Set, both_after, all_deeds, moves_by, all_moves, taken_in, carried_by, pipes_behind, AllStayPiped, NoneBehind, OpensNone, Twined}
 use Rattle.request_laws.proofs.Asking.{even_of, strand_makes}
 use Rattle.request_laws.proofs.Carrying.{Carries, pipes_carried, carries_none, carries_client, carries_server}
 use Rattle.request_laws.proofs.Beginning.{Good, may_push, no_units, good_all, good_affair, good_first}
-use Rattle.request_laws.proofs.Silent.{IsStill}
-use Rattle.request_laws.proofs.Feeding.{pushed-both, served-both, IsDeed, strand_client, strand_shape}
+use Rattle.request_laws.proofs.Timely.{HearsNothing}
+use Rattle.request_laws.proofs.Feeding.{pushed-both, served-both, IsDeed, behind_deeds, strand_client, strand_shape}
 use Rattle.request_laws.proofs.Lending.{serve_all}
 use Rattle.request_laws.proofs.Objects.{IsOfObject, given_any, answers_both}
-use Rattle.request_laws.proofs.Pushes.{map_deeds, all_does, asked_ahead, asked_behind, pushed_on, served_on, server_on, client_on, deeds_on, Started, OnePush, Pushes, silent_up, done_both, made}
+use Rattle.request_laws.proofs.Latest.{IsIdle, IsLast, Tied, IsOneTied, IsNoneTied, latest}
+use Rattle.request_laws.proofs.Pushes.{map_deeds, all_does, asked_ahead, asked_behind, pushed_on, served_on, server_on, client_on, deeds_on, Pushes, silent_up, done_both}
 use Rattle.request_laws.proofs.Piping.{moved, pipes_both, stay_both, server_both, client_both, by_client, by_server, client_moved, server_moved, client_of_client, server_of_client, server_of_server, client_of_server, stay_client, stay_quiet, stay_server, still_pipes, silent_pipes, still_quiet, no_pipes_are, closed_client, come_cut, quiet_after}
 
 -- ---- deeds of affairs
@@ -164,9 +169,9 @@ module _ (shelf : Option (List Object)) (set : Set) (maximum : ℕ) (wanted : Bo
       (λ closed. come_cut occurrences rest (here closed)))
       (stay_on twists next channel_after after opens good answered then_carries piped.0 piped.1 then_quiet.0 then_quiet.1)
 
-  one_push : (client : ClientProfile) (server : ServerProfile) (names : List (List ℕ)) (ahead tail : List Occurrence) (near far : List Strand) → Started (IsAskedSo shelf most) G client names → G client.client → AllByRecursion IsStill ahead → AllByRecursion ComesNone tail → Twined set near far client server
-      → AllAsked (IsAskedSo shelf most) (pushed_on set near no_channels client) client.client → OnePush (Offered shelf most) (ahead ++ (served_on set far no_channels server ++ tail)) names
-  one_push client server names ahead tail near far start good still quiet twined answered =
+  -- the push on a link, with its client as the link left it
+  one_tied : IsOneTied set (IsAskedSo shelf most) G (Offered shelf most) (Twined set)
+  one_tied client server names ahead tail near far start good still quiet twined answered =
       let begun = with_object start.name start.size start.old in
       let both = new_both client server in
       let deeds = start.deeds ++ Hears events.LinkUp ∷ [] in
@@ -204,6 +209,9 @@ module _ (shelf : Option (List Object)) (set : Set) (maximum : ℕ) (wanted : Bo
       subst (λ (l : List Deed). AllAnswer shelf l begun) (sym client_is)
       (answers_both shelf deeds (all_deeds affairs) begun (answers_both shelf start.deeds (Hears events.LinkUp ∷ []) begun answers_old (tt, tt))
       (subst (λ (c : Client). AllAnswer shelf (all_deeds affairs) c) now (answered_deeds shelf most affairs client.client (deeds_on set near no_channels client twined.opens) answered))) in
+      let ends : all_done (client_side moves) begun ≡ client_behind affairs client.client =
+      ap (λ (l : List Deed). all_done l begun) client_is
+      ∙ (done_both deeds (all_deeds affairs) begun ∙ (ap (all_done (all_deeds affairs)) (sym now) ∙ sym (behind_deeds affairs client.client (deeds_on set near no_channels client twined.opens)))) in
       -- what is the server's
       let server_is : server_side moves ≡ ahead ++ (served_on set far no_channels server ++ tail) =
       server_both first (second ++ (third ++ last)) ∙ (ap₂ (λ (a b : List Occurrence). a ++ b) (server_of_server ahead)
@@ -212,26 +220,32 @@ module _ (shelf : Option (List Object)) (set : Set) (maximum : ℕ) (wanted : Bo
       record {
         push = record { client = start.old; name = start.name; size = start.size; content = shelf; moves = moves };
         named = name_among (client_side moves) start.name names start.named;
-        pushed = (record { direct = start.good.direct; may = may_push L2cap maximum wanted most fits start.old start.name start.size start.good start.begins.0; answers = answers; carried = stay_first }, start.begins.0.bounded start.size refl, inr (refl, start.begins.1 start.size refl));
+        pushed = (
+          (record { direct = start.good.direct; may = may_push L2cap maximum wanted most fits start.old start.name start.size start.good start.begins.0; answers = answers; carried = stay_first }, start.begins.0.bounded start.size refl, inr (refl, start.begins.1 start.size refl)),
+          ends,
+        );
         is = server_is;
       }
 
--- a push of its own, on which nothing comes
-no_push : (shelf : Option (List Object)) (maximum : ℕ) (wanted : Bool) (most : ℕ) → most < 2 ^ 32 → (client : Client) (occurrences : List Occurrence) → Good L2cap maximum wanted client → AllByRecursion ComesNone occurrences → OnePush (Offered shelf most) occurrences []
-no_push shelf maximum wanted most fits client occurrences good quiet =
+-- a push of its own, on which nothing comes: its client does nothing
+none_tied : (shelf : Option (List Object)) (maximum : ℕ) (wanted : Bool) (most : ℕ) → most < 2 ^ 32 → IsNoneTied (Good L2cap maximum wanted) (Offered shelf most)
+none_tied shelf maximum wanted most fits client occurrences good quiet =
     let small : IsSmall most (Ok 0) [] = record { short = no_units; bounded = λ count is. none_left count is } in
     record {
       push = record { client = client; name = []; size = 0; content = shelf; moves = by_server occurrences };
       named = ap (λ (l : List Deed). name_by l []) (client_of_server occurrences);
       pushed = (
-        record {
-          direct = good.direct;
-          may = may_push L2cap maximum wanted most fits client [] 0 good small;
-          answers = subst (λ (l : List Deed). AllAnswer shelf l (with_object [] 0 client)) (sym (client_of_server occurrences)) tt;
-          carried = stay_quiet occurrences (with_object [] 0 client) no_pipes no_pipes_are quiet;
-        },
-        omega arith,
-        inl (client_of_server occurrences),
+        (
+          record {
+            direct = good.direct;
+            may = may_push L2cap maximum wanted most fits client [] 0 good small;
+            answers = subst (λ (l : List Deed). AllAnswer shelf l (with_object [] 0 client)) (sym (client_of_server occurrences)) tt;
+            carried = stay_quiet occurrences (with_object [] 0 client) no_pipes no_pipes_are quiet;
+          },
+          omega arith,
+          inl (client_of_server occurrences),
+        ),
+        client_of_server occurrences,
       );
       is = server_of_server occurrences;
     }
@@ -244,7 +258,31 @@ no_push shelf maximum wanted most fits client occurrences good quiet =
 
 -- ---- over all links
 
--- what happened to the server is a list of pushes
+-- What happened to the server is a list of pushes; and where both hosts are level, and a client that is so came so on a link alone, it came so in the last one of them
+-- in which it did anything.
+pub links_tied : (D : Client → Type 0) (shelf : Option (List Object)) (most : ℕ) → most < 2 ^ 32 → (asks : HostsAsk) (settings : Settings) (before : List Object) → settings.transport ≡ L2cap →
+    (let set = over_stored asks settings before in
+    let A = client_profile settings in
+    ((list : List channels.Occurrence) (feeds : List Feed) (first last : ClientProfile) → WovenFed A (asks.clients settings) list feeds first last → AllByRecursion HearsNothing list → D last.client → D first.client)
+    → ((circumstances : List Circumstance) (event : LinkEvent) (v : Channels) (p : ClientProfile) → D (turned A circumstances event v p).client → D p.client)
+    → (talk_a talk_b : List Talk) (a : Host ClientProfile) (b : Host ServerProfile)
+    (near : TalksFed A (asks.clients settings) talk_a a) (far : TalksFed (server_profile settings set.content) (asks.servers settings set.content) talk_b b)
+    → AreTwined set (λ k. k) near.so.lives.spans near.so.lives.now near.so.lives.feeds A.first a.profile far.so.lives.spans far.so.lives.now far.so.lives.feeds (server_profile settings set.content).first b.profile near.fed far.fed
+    → AllByRecursion (BeginsAtMost most) near.so.lives.feeds → AllAsked (IsGiven shelf) (pushed_from settings A.first near.so.lives.feeds) (new_client settings)
+    → Tied (Offered shelf most) (λ all. length near.so.lives.spans ≡ length far.so.lives.spans → D a.profile.client → (D (new_client settings) × AllByRecursion IsIdle all) ⊎ IsLast D all)
+    (served_from settings set.content (server_profile settings set.content).first far.so.lives.feeds) (names_begun (pushed_from settings A.first near.so.lives.feeds)))
+links_tied D shelf most fits asks settings before direct off turned_off talk_a talk_b a b near far twined small given =
+    let set = over_stored asks settings before in
+    let maximum = (new_client settings).session.maximum in
+    let wanted = (new_client settings).session.wanted in
+    let A = client_profile settings in
+    let B = server_profile settings set.content in
+    latest set (IsAskedSo shelf most) (Good L2cap maximum wanted) (Offered shelf most) (Twined set) (λ one client asked. good_affair L2cap maximum wanted most fits one client asked.0) (one_tied shelf set maximum wanted most fits) (none_tied shelf maximum wanted most fits) D off turned_off
+    (λ k. k) near.so.lives.spans near.so.lives.now near.so.lives.feeds A.first a.profile
+    far.so.lives.spans far.so.lives.now far.so.lives.feeds B.first b.profile near.fed far.fed twined (subst (AreTimely false) (sym near.so.lives.marks_are) near.so.timely) (subst (AreTimely false) (sym far.so.lives.marks_are) far.so.timely) refl (good_first settings L2cap direct)
+    (both_asked shelf most (pushed_from settings A.first near.so.lives.feeds) A.first.client (clients_are_answered most settings A.first near.so.lives.feeds small) given)
+
+-- whatever the clients are
 pub links_pushed : (shelf : Option (List Object)) (most : ℕ) → most < 2 ^ 32 → (asks : HostsAsk) (settings : Settings) (before : List Object) → settings.transport ≡ L2cap →
     (let set = over_stored asks settings before in (talk_a talk_b : List Talk) (a : Host ClientProfile) (b : Host ServerProfile)
     (near : TalksFed (client_profile settings) (asks.clients settings) talk_a a) (far : TalksFed (server_profile settings set.content) (asks.servers settings set.content) talk_b b)
@@ -252,15 +290,7 @@ pub links_pushed : (shelf : Option (List Object)) (most : ℕ) → most < 2 ^ 32
     → AllByRecursion (BeginsAtMost most) near.so.lives.feeds → AllAsked (IsGiven shelf) (pushed_from settings (client_profile settings).first near.so.lives.feeds) (new_client settings)
     → Pushes (Offered shelf most) (served_from settings set.content (server_profile settings set.content).first far.so.lives.feeds) (names_begun (pushed_from settings (client_profile settings).first near.so.lives.feeds)))
 links_pushed shelf most fits asks settings before direct talk_a talk_b a b near far twined small given =
-    let set = over_stored asks settings before in
-    let maximum = (new_client settings).session.maximum in
-    let wanted = (new_client settings).session.wanted in
-    let A = client_profile settings in
-    let B = server_profile settings set.content in
-    made set (IsAskedSo shelf most) (Good L2cap maximum wanted) (Offered shelf most) (Twined set) (λ one client asked. good_affair L2cap maximum wanted most fits one client asked.0) (one_push shelf set maximum wanted most fits) (no_push shelf maximum wanted most fits)
-    (λ k. k) near.so.lives.spans near.so.lives.now near.so.lives.feeds A.first a.profile
-    far.so.lives.spans far.so.lives.now far.so.lives.feeds B.first b.profile near.fed far.fed twined (subst (AreTimely false) (sym near.so.lives.marks_are) near.so.timely) (subst (AreTimely false) (sym far.so.lives.marks_are) far.so.timely) refl (good_first settings L2cap direct)
-    (both_asked shelf most (pushed_from settings A.first near.so.lives.feeds) A.first.client (clients_are_answered most settings A.first near.so.lives.feeds small) given)
+    (links_tied (λ client. ⊥) shelf most fits asks settings before direct (λ list feeds first last so deaf never. never) (λ circumstances event v p never. never) talk_a talk_b a b near far twined small given).all
 
 -- whatever the shelf holds
 links_any : (most : ℕ) → most < 2 ^ 32 → (asks : HostsAsk) (settings : Settings) (before : List Object) → settings.transport ≡ L2cap →

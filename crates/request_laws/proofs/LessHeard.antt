@@ -1,7 +1,6 @@
 -- In each run over RFCOMM the inbox gains what the capture spells, but for one object at most for each fault.
-use Rattle.std.proofs.Common.{arith, ◌≡◌, List, ◌++◌, Some, sym, ap, subst, ◌∙◌}
+use Rattle.std.proofs.Common.{arith, ◌≡◌, List, sym, ap, subst, ◌∙◌}
 use Rattle.std.specs.List.{flat_map}
-use Rattle.std.proofs.lemmas.List.{append_cancel_left}
 use Rattle.pair_laws.specs.bt_base.specs.declared.settings.Transport.TheVariants.{Rfcomm}
 use Rattle.pair_laws.specs.bt_base.specs.Objects.{Object}
 use Rattle.pair_laws.specs.push_script.specs.declared.scenario.Scenario.{Scenario}

@@ -12,6 +12,7 @@ pub mod Between
 pub mod Opening
 pub mod Objects
 pub mod Pushes
+pub mod Latest
 pub mod Heard
 pub mod Joining
 pub mod Runs

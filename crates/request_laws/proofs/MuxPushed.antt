@@ -1,5 +1,5 @@
 -- What happened to both hosts over their links is a list of pushes over RFCOMM whose clients find the server's channel in its own answers.
-use Rattle.std.proofs.Common.{◌≡◌, ℕ, ◌≤◌, ◌&&◌, List, [], ◌∷◌, ◌++◌, map, ◌-◌, Option, None, Result, Ok, inl, inr, refl, sym, ap, ap₂, subst, ◌∙◌, append-nil, arith}
+use Rattle.std.proofs.Common.{◌≡◌, ℕ, ◌≤◌, ◌&&◌, List, [], ◌∷◌, ◌++◌, map, ◌-◌, Option, Result, Ok, inl, inr, refl, sym, ap, ap₂, subst, ◌∙◌, append-nil, arith}
 use Rattle.std.specs.List.{AllByRecursion, flat_map}
 use Rattle.pair_laws.specs.bt_base.specs.declared.ports.PortFault.{PortFault}
 use Rattle.pair_laws.specs.bt_base.specs.Objects.{Object}

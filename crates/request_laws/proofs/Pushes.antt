@@ -192,13 +192,13 @@ module _ (set : Set) (Is : Affair → Client → Type 0) (G : Client → Type 0)
   and_left false b is = is
 
   -- between two links the next one comes up for both, as the client wants it
-  record Between (near far : Span) (client : ClientProfile) (server : ServerProfile) (a : FedSpan (client_profile set.settings) (set.asks.clients set.settings) near client)
+  pub record Between (near far : Span) (client : ClientProfile) (server : ServerProfile) (a : FedSpan (client_profile set.settings) (set.asks.clients set.settings) near client)
       (b : FedSpan (server_profile set.settings set.content) (set.asks.servers set.settings set.content) far server) : Type 0 where
-    near_up : near.event ≡ Up
-    far_up : far.event ≡ Up
-    wants : WantsLink set near client a
+    pub near_up : near.event ≡ Up
+    pub far_up : far.event ≡ Up
+    pub wants : WantsLink set near client a
 
-  started : (near far : Span) (client : ClientProfile) (server : ServerProfile) (a : FedSpan (client_profile set.settings) (set.asks.clients set.settings) near client) (b : FedSpan (server_profile set.settings set.content) (set.asks.servers set.settings set.content) far server)
+  pub started : (near far : Span) (client : ClientProfile) (server : ServerProfile) (a : FedSpan (client_profile set.settings) (set.asks.clients set.settings) near client) (b : FedSpan (server_profile set.settings set.content) (set.asks.servers set.settings set.content) far server)
       → Between near far client server a b → AllByRecursion HearsNothing near.list → is_paging client.bid ≡ false → G client.client → AllAsked Is (pushed_from set.settings client a.here) client.client
       → Started Is G (behind_span (client_profile set.settings) (set.asks.clients set.settings) near client a) (names_begun (pushed_from set.settings client a.here))
   started near far client server a b between deaf free good answered =
@@ -288,7 +288,7 @@ module _ (set : Set) (Is : Affair → Client → Type 0) (G : Client → Type 0)
       }
 
   -- so do the names of pushes that begin
-  names_split : (near : Span) (client : ClientProfile) (a : FedSpan (client_profile set.settings) (set.asks.clients set.settings) near client) (later feeds : List Feed) → feeds ≡ span_feeds (client_profile set.settings) (set.asks.clients set.settings) near client a ++ later
+  pub names_split : (near : Span) (client : ClientProfile) (a : FedSpan (client_profile set.settings) (set.asks.clients set.settings) near client) (later feeds : List Feed) → feeds ≡ span_feeds (client_profile set.settings) (set.asks.clients set.settings) near client a ++ later
       → AreAmong (names_begun (pushed_from set.settings client a.here) ++ names_begun (pushed_from set.settings (behind_span (client_profile set.settings) (set.asks.clients set.settings) near client a) later)) (names_begun (pushed_from set.settings client feeds))
   names_split near client a later feeds is =
       let A = client_profile set.settings in
@@ -326,11 +326,11 @@ module _ (set : Set) (Is : Affair → Client → Type 0) (G : Client → Type 0)
       (served-both set.settings set.content b.here news server ∙ ap (λ (p : ServerProfile). served_from set.settings set.content server b.here ++ served_from set.settings set.content p news) (here_so B asks far server b))
       (ap (λ (p : ServerProfile). served_from set.settings set.content p later) (span_so B asks far server b)))
 
-  woven_served : (far : List channels.Occurrence) (feeds : List Feed) (server last : ServerProfile) (b : WovenFed (server_profile set.settings set.content) (set.asks.servers set.settings set.content) far feeds server last)
+  pub woven_served : (far : List channels.Occurrence) (feeds : List Feed) (server last : ServerProfile) (b : WovenFed (server_profile set.settings set.content) (set.asks.servers set.settings set.content) far feeds server last)
       → served_from set.settings set.content server feeds ≡ served_on set b.woven.weave no_channels server
   woven_served far feeds server last b = ap (served_from set.settings set.content server) b.feeds_are
 
-  down_of : (event : LinkEvent) (circumstances : List Circumstance) (v : Channels) (p : ServerProfile) → IsDown event → DownServed (served_from set.settings set.content p (turned_feeds circumstances event v))
+  pub down_of : (event : LinkEvent) (circumstances : List Circumstance) (v : Channels) (p : ServerProfile) → IsDown event → DownServed (served_from set.settings set.content p (turned_feeds circumstances event v))
   down_of Up circumstances v p down = absurd down
   down_of (Down reason) circumstances v p down = down_served set.settings set.content circumstances reason v p
 
@@ -351,7 +351,7 @@ module _ (set : Set) (Is : Affair → Client → Type 0) (G : Client → Type 0)
       (between_still set.settings set.content (set.asks.servers set.settings set.content) far.list here_b.here server here_b.mid here_b.so far_deaf) quiet twined answered_up.1
 
   -- what the server is told as its link comes up is nothing
-  served_up : (near far : Span) (feeds_b later_b : List Feed) (client : ClientProfile) (server : ServerProfile)
+  pub served_up : (near far : Span) (feeds_b later_b : List Feed) (client : ClientProfile) (server : ServerProfile)
       (here_a : FedSpan (client_profile set.settings) (set.asks.clients set.settings) near client) (here_b : FedSpan (server_profile set.settings set.content) (set.asks.servers set.settings set.content) far server)
       → Between near far client server here_a here_b → feeds_b ≡ span_feeds (server_profile set.settings set.content) (set.asks.servers set.settings set.content) far server here_b ++ later_b
       → (let server_up = behind_span (server_profile set.settings set.content) (set.asks.servers set.settings set.content) far server here_b in
@@ -381,6 +381,34 @@ module _ (set : Set) (Is : Affair → Client → Type 0) (G : Client → Type 0)
       ∙ ap (λ (l : List Occurrence). ahead ++ l) (woven_served now_b later_b server_up last_b b ∙ sym (append-nil (served_on set b.woven.weave no_channels server_up))) in
       alone (served_from set.settings set.content server feeds_b) (ahead ++ (served_on set b.woven.weave no_channels server_up ++ [])) (names_begun (pushed_from set.settings client here_a.here)) is one
 
+  -- what happened to the server by the time that a link went down, and behind it
+  pub whole_served : (near far far_link : Span) (feeds_b later_b rest_b : List Feed) (client : ClientProfile) (server : ServerProfile)
+      (here_a : FedSpan (client_profile set.settings) (set.asks.clients set.settings) near client) (here_b : FedSpan (server_profile set.settings set.content) (set.asks.servers set.settings set.content) far server)
+      (link_b : FedSpan (server_profile set.settings set.content) (set.asks.servers set.settings set.content) far_link (behind_span (server_profile set.settings set.content) (set.asks.servers set.settings set.content) far server here_b))
+      → feeds_b ≡ span_feeds (server_profile set.settings set.content) (set.asks.servers set.settings set.content) far server here_b ++ later_b
+      → later_b ≡ span_feeds (server_profile set.settings set.content) (set.asks.servers set.settings set.content) far_link (behind_span (server_profile set.settings set.content) (set.asks.servers set.settings set.content) far server here_b) link_b ++ rest_b
+      → Between near far client server here_a here_b
+      → (goes : DownServed (served_from set.settings set.content link_b.mid (turned_feeds link_b.circumstances far_link.event (values_after (server_profile set.settings set.content).policy no_channels far_link.list))))
+      → (let B = server_profile set.settings set.content in
+      let asks = set.asks.servers set.settings set.content in
+      let server_up = behind_span B asks far server here_b in
+      served_from set.settings set.content server feeds_b
+      ≡ ((served_from set.settings set.content server here_b.here ++ (served_on set link_b.so.woven.weave no_channels server_up ++ goes.ahead)) ++ LinkDown ∷ []) ++ served_from set.settings set.content (behind_span B asks far_link server_up link_b) rest_b)
+  whole_served near far far_link feeds_b later_b rest_b client server here_a here_b link_b is_b are_b between goes =
+      let B = server_profile set.settings set.content in
+      let asks = set.asks.servers set.settings set.content in
+      let server_up = behind_span B asks far server here_b in
+      let ahead = served_from set.settings set.content server here_b.here in
+      let served = served_on set link_b.so.woven.weave no_channels server_up in
+      let rest = served_from set.settings set.content (behind_span B asks far_link server_up link_b) rest_b in
+      let later_is : served_from set.settings set.content server_up later_b ≡ (served ++ (goes.ahead ++ LinkDown ∷ [])) ++ rest =
+      served_split far_link server_up link_b rest_b later_b are_b
+      ∙ ap (λ (l : List Occurrence). l ++ rest) (ap₂ (λ (a b : List Occurrence). a ++ b) (woven_served far_link.list link_b.here server_up link_b.mid link_b.so) goes.is) in
+      served_up near far feeds_b later_b client server here_a here_b between is_b
+      ∙ (ap (λ (l : List Occurrence). ahead ++ l) later_is
+      ∙ (sym (append_assoc ahead (served ++ (goes.ahead ++ LinkDown ∷ [])) rest)
+      ∙ ap (λ (l : List Occurrence). l ++ rest) (ap (λ (l : List Occurrence). ahead ++ l) (sym (append_assoc served goes.ahead (LinkDown ∷ []))) ∙ sym (append_assoc ahead (served ++ goes.ahead) (LinkDown ∷ [])))))
+
   -- one that went down for the server
   whole_link : (near far far_link : Span) (feeds_b later_b rest_b : List Feed) (client : ClientProfile) (server : ServerProfile) (weave_a : List Strand)
       (here_a : FedSpan (client_profile set.settings) (set.asks.clients set.settings) near client) (here_b : FedSpan (server_profile set.settings set.content) (set.asks.servers set.settings set.content) far server)
@@ -405,36 +433,29 @@ module _ (set : Set) (Is : Affair → Client → Type 0) (G : Client → Type 0)
       let served = served_on set link_b.so.woven.weave no_channels server_up in
       let rest = served_from set.settings set.content server_down rest_b in
       let first = link_push near far feeds_b later_b client server weave_a link_b.so.woven.weave goes.ahead here_a here_b between twined near_deaf far_deaf free good answered answered_up goes.quiet in
-      let later_is : served_from set.settings set.content server_up later_b ≡ (served ++ (goes.ahead ++ LinkDown ∷ [])) ++ rest =
-      served_split far_link server_up link_b rest_b later_b are_b
-      ∙ ap (λ (l : List Occurrence). l ++ rest) (ap₂ (λ (a b : List Occurrence). a ++ b) (woven_served far_link.list link_b.here server_up link_b.mid link_b.so) goes.is) in
-      let is : served_from set.settings set.content server feeds_b ≡ ((ahead ++ (served ++ goes.ahead)) ++ LinkDown ∷ []) ++ rest =
-      served_up near far feeds_b later_b client server here_a here_b between is_b
-      ∙ (ap (λ (l : List Occurrence). ahead ++ l) later_is
-      ∙ (sym (append_assoc ahead (served ++ (goes.ahead ++ LinkDown ∷ [])) rest)
-      ∙ ap (λ (l : List Occurrence). l ++ rest) (ap (λ (l : List Occurrence). ahead ++ l) (sym (append_assoc served goes.ahead (LinkDown ∷ []))) ∙ sym (append_assoc ahead (served ++ goes.ahead) (LinkDown ∷ []))))) in
+      let is = whole_served near far far_link feeds_b later_b rest_b client server here_a here_b link_b is_b are_b between goes in
       in_front (ahead ++ (served ++ goes.ahead)) rest (served_from set.settings set.content server feeds_b) (names_begun (pushed_from set.settings client here_a.here)) more first later is
 
   no_more : (client : Client) (occurrences : List Occurrence) (names : List (List ℕ)) → G client → AllByRecursion ComesNone occurrences → Pushes IsP occurrences names
   no_more client occurrences names good quiet = wider occurrences [] names (none_among names) (alone occurrences occurrences [] refl (no_push client occurrences good quiet))
 
   -- where no link is up at the end nothing came
-  quiet_now : (now : List channels.Occurrence) (feeds : List Feed) (server last : ServerProfile) → WovenFed (server_profile set.settings set.content) (set.asks.servers set.settings set.content) now feeds server last → AreTimely false (all_marks [] now)
+  pub quiet_now : (now : List channels.Occurrence) (feeds : List Feed) (server last : ServerProfile) → WovenFed (server_profile set.settings set.content) (set.asks.servers set.settings set.content) now feeds server last → AreTimely false (all_marks [] now)
       → AllByRecursion ComesNone (served_from set.settings set.content server feeds)
   quiet_now now feeds server last so timely =
       still_quiet (served_from set.settings set.content server feeds) (between_still set.settings set.content (set.asks.servers set.settings set.content) now feeds server last so (is_deaf_now now timely))
 
-  quiet_last : (spans : List Span) (now : List channels.Occurrence) (feeds : List Feed) (server last : ServerProfile) → spans ≡ [] → AreFed (server_profile set.settings set.content) (set.asks.servers set.settings set.content) spans now feeds server last
+  pub quiet_last : (spans : List Span) (now : List channels.Occurrence) (feeds : List Feed) (server last : ServerProfile) → spans ≡ [] → AreFed (server_profile set.settings set.content) (set.asks.servers set.settings set.content) spans now feeds server last
       → AreTimely false (all_marks spans now) → AllByRecursion ComesNone (served_from set.settings set.content server feeds)
   quiet_last [] now feeds server last is so timely = quiet_now now feeds server last so timely
   quiet_last (span ∷ spans) now feeds server last is so timely = cc
 
   -- of what stands there on a link, all was answered
-  answered_on : (list : List channels.Occurrence) (feeds : List Feed) (p last : ClientProfile) (a : WovenFed (client_profile set.settings) (set.asks.clients set.settings) list feeds p last)
+  pub answered_on : (list : List channels.Occurrence) (feeds : List Feed) (p last : ClientProfile) (a : WovenFed (client_profile set.settings) (set.asks.clients set.settings) list feeds p last)
       → AllAsked Is (pushed_from set.settings p feeds) p.client → AllAsked Is (pushed_on set a.woven.weave no_channels p) p.client
   answered_on list feeds p last a answered = subst (λ (l : List Feed). AllAsked Is (pushed_from set.settings p l) p.client) a.feeds_are answered
 
-  names_ahead : (near : Span) (client : ClientProfile) (a : FedSpan (client_profile set.settings) (set.asks.clients set.settings) near client) (later feeds : List Feed) → feeds ≡ span_feeds (client_profile set.settings) (set.asks.clients set.settings) near client a ++ later
+  pub names_ahead : (near : Span) (client : ClientProfile) (a : FedSpan (client_profile set.settings) (set.asks.clients set.settings) near client) (later feeds : List Feed) → feeds ≡ span_feeds (client_profile set.settings) (set.asks.clients set.settings) near client a ++ later
       → AreAmong (names_begun (pushed_from set.settings client a.here)) (names_begun (pushed_from set.settings client feeds))
   names_ahead near client a later feeds is =
       let here = names_begun (pushed_from set.settings client a.here) in

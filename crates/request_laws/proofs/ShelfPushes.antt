@@ -20,26 +20,24 @@ use Rattle.pair_laws.specs.push_laws.specs.Laws.{new_over}
 use Rattle.pair_laws.specs.push_laws.specs.Occurrences.{Occurrence, Came, Went, Closed, LinkDown, Asked, Answering}
 use Rattle.pair_laws.specs.push_laws.specs.Parties.{client_side, Push, over_pushes}
 use Rattle.pair_laws.specs.push_laws.specs.Premises.{NoneShort}
-use Rattle.pair_laws.specs.push_laws.specs.Readings.{passed_by}
 use Rattle.pair_laws.specs.push_laws.specs.Searches.{AllServe}
-use Rattle.pair_laws.specs.push_laws.specs.Spelled.{ArePushed, AreAmong, IsOfShelf, IsOfShelfOrStill, PassesNone, name_by, name_of, names_of}
+use Rattle.pair_laws.specs.push_laws.specs.Spelled.{ArePushed, AreAmong, IsOfShelfOrStill, PassesNone, name_by, name_of, names_of}
 use Rattle.pair_laws.specs.push_laws.proofs.Among.{among_all, among_trans, among_pushed, ahead_among, all_among}
 use Rattle.pair_laws.specs.push_laws.proofs.Pushed.{pushed-spell_once}
 use Rattle.pair_laws.specs.push_laws.proofs.SpeltDirect.{pushes-spell_once}
 use Rattle.pair_laws.specs.world_model.specs.Worlds.{all_words}
 use Rattle.pair_laws.specs.host_model.specs.Circumstances.{Circumstance}
 use Rattle.pair_laws.specs.host_model.specs.Clients.{client_profile}
-use Rattle.pair_laws.specs.shelf_model.specs.Held.{longest_octets, length_of}
+use Rattle.pair_laws.specs.shelf_model.specs.Held.{longest_octets}
 use Rattle.pair_laws.specs.host_laws.specs.Feeds.{Feed, Gifts, Learns, Receives, Happens, Sent, Steps}
 use Rattle.pair_laws.specs.host_laws.specs.Gaining.{IsDirect}
 use Rattle.pair_laws.specs.host_laws.specs.Openings.{names_told, names_begun}
 use Rattle.pair_laws.specs.host_laws.specs.Pushing.{pushed_from}
-use Rattle.pair_laws.specs.host_laws.specs.Serving.{served_from}
 use Rattle.pair_laws.specs.host_laws.specs.ShelfAnswers.{AnswersOf}
 use Rattle.pair_laws.specs.host_laws.proofs.Openings.{clients_begin_what_is_told}
 use Rattle.pair_laws.specs.host_laws.proofs.ShelfAnswers.{clients_are_given_objects}
 use Rattle.pair_laws.specs.scenario_laws.specs.Captures.{client_of, server_of, beginning, Ran}
-use Rattle.pair_laws.specs.scenario_laws.specs.Gains.{holding, serving}
+use Rattle.pair_laws.specs.scenario_laws.specs.Gains.{holding}
 use Rattle.pair_laws.specs.Enough.{remembered, HappenedEnough}
 use Rattle.pair_laws.specs.InTurn.{PairsInTurn}
 use Rattle.pair_laws.specs.Keeping.{LosesNothing}

@@ -1,6 +1,6 @@
 -- What the inbox gains over L2CAP where it grants all calls, of objects of any size: also where requests are ignored, behind a refusal in single response
 -- mode (Object Push Profile 1.2, 4.3; Generic Object Exchange Profile 2.1, 4.6).
-use Rattle.std.specs.Prelude.{ℕ, ◌≡◌, List, ◌++◌, Some}
+use Rattle.std.specs.Prelude.{◌≡◌, List, ◌++◌, Some}
 use Rattle.std.specs.List.{AllByRecursion}
 use Rattle.pair_laws.specs.bt_base.specs.declared.settings.Settings.{Settings}
 use Rattle.pair_laws.specs.bt_base.specs.declared.settings.Transport.TheVariants.{L2cap}

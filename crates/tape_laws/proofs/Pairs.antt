@@ -9,6 +9,7 @@ use Rattle.inbox_laws.specs.push_terms.specs.declared.word.Side.TheVariants as s
 use Rattle.inbox_laws.specs.capture.specs.Entries.{Entry}
 use Rattle.inbox_laws.specs.capture.specs.Links.{linking}
 use Rattle.inbox_laws.specs.capture.specs.Moves.{moves}
+use Rattle.inbox_laws.specs.world_model.specs.radio_air.specs.Controllers.{Answer}
 use Rattle.inbox_laws.specs.air_laws.specs.AirLaws.{IsLastEnd}
 use Rattle.inbox_laws.specs.channel_laws.specs.Frames.{AreUttered}
 use Rattle.inbox_laws.specs.channel_laws.specs.Runs.{Occurrence}
@@ -16,6 +17,7 @@ use Rattle.inbox_laws.specs.world_model.specs.Carriages as carriages
 use Rattle.inbox_laws.specs.world_model.specs.Machines.{News, Upper}
 use Rattle.inbox_laws.specs.world_model.specs.Worlds.{Happening, Runs, IsAtRest, all_entries, all_words}
 use Rattle.inbox_laws.specs.turn_laws.specs.WorldLaws.{Fits}
+use Rattle.inbox_laws.specs.turn_laws.proofs.Leading.{tidings, events}
 use Rattle.inbox_laws.specs.turn_laws.proofs.Ordering.{at}
 use Rattle.inbox_laws.specs.turn_laws.proofs.Recounting.{HoldsAtRests}
 use Rattle.inbox_laws.specs.host_model.specs.Circumstances.{Circumstance}
@@ -141,6 +143,8 @@ module _ {T : Type 0} (whole : Bool) (asks : HostsAsk) (scenario : Scenario) (co
     pub told : AllByRecursion E turns.pairs.a.fed.so.lives.feeds
     pub given : AreOfTape scenario.settings content tape turns.pairs.b.fed.so.lives.feeds
     pub kept : (number : ℕ) → AllKept whole (turns.pairs.pairs number).turns
+    -- where nothing is owed to either host both have been told as often that their link came up or went down
+    pub level : ran.world.radio.a.owed ≡ [] → ran.world.radio.b.owed ≡ [] → length turns.pairs.a.fed.so.lives.spans ≡ length turns.pairs.b.fed.so.lives.spans
 
   -- of the run that it comes to
   module _ (capture : List Entry) (happenings : List Happening) (world : TapedHosts T) (happened : Happened scenario content happenings (untaped_world world)) (ends : List Entry) (last : IsLastEnd world.pushes ends) (capture_is : capture ≡ all_entries happenings ++ ends) where
@@ -200,6 +204,9 @@ module _ {T : Type 0} (whole : Bool) (asks : HostsAsk) (scenario : Scenario) (co
           told = sane.pairs.a.given;
           given = (lived_b.fed.so.lives.feeds, begins_given S tape asks_s lived_b.came.talk c.b.upper lived_b.came.over lived_b.fed, bare_feeds S tape alone asks_s sides.B capture c.b.upper lived_b);
           kept = λ number. (sane.pairs.links number).pair.kept;
+          level = λ none_a none_b.
+              same_number whole most A asks_a B asks_b to_a E allows_a as_it_is Always any_allowed Always Always c.a c.b sane.pairs (ap (λ (owed : List Answer). events (tidings owed)) none_a) (ap (λ (owed : List Answer). events (tidings owed)) none_b)
+              ∙ number_b;
         }
 
   pub takes_turns : (capture : List Entry) (ran : Ran scenario content capture) (world : TapedHosts T) → Runs U V ran.happenings (taped_beginning scenario content tape) world → ran.world ≡ untaped_world world → (whole ≡ true → LosesNothing (all_words ran.happenings)) → TurnsSo capture ran

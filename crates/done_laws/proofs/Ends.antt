@@ -1,0 +1,84 @@
+-- Wherever a push of a run ends that is done, it is the last one in which its client did anything.
+use Rattle.std.proofs.Common.{◌≡◌, ℕ, List, [], ◌∷◌, ◌++◌, Some, refl, sym, ap, subst, ◌∙◌, append_assoc, append-nil}
+use Rattle.std.proofs.lemmas.List.Concat.{flat_map-append}
+use Rattle.tape_laws.specs.bt_base.specs.declared.settings.Transport.TheVariants.{L2cap}
+use Rattle.tape_laws.specs.bt_base.specs.Objects.{Object}
+use Rattle.tape_laws.specs.obex_session.specs.InboxCalls.{Answer}
+use Rattle.tape_laws.specs.push_script.specs.declared.scenario.Scenario.{Scenario}
+use Rattle.tape_laws.specs.push_terms.specs.declared.outcome.Outcome.{Outcome}
+use Rattle.tape_laws.specs.push_terms.specs.declared.outcome.Outcome.TheVariants.{Done}
+use Rattle.tape_laws.specs.push_terms.specs.declared.word.Side.TheVariants as sides
+use Rattle.tape_laws.specs.capture.specs.Entries.{Entry}
+use Rattle.tape_laws.specs.capture.specs.Histories.{EachAfter}
+use Rattle.tape_laws.specs.capture.proofs.HistoryLaws.{each_after-both}
+use Rattle.tape_laws.specs.world_model.specs.Machines.{Upper}
+use Rattle.tape_laws.specs.world_model.specs.Worlds.{Happening, Tries, Departure, GivingBack, Piecemeal, Answering, Turns, Misses, Opens, Closes, entries_of, all_entries, Does, Runs}
+use Rattle.tape_laws.specs.air_laws.proofs.Following.{runs_then}
+use Rattle.tape_laws.specs.host_model.specs.Circumstances.{Circumstance}
+use Rattle.tape_laws.specs.host_model.specs.Clients.{ClientProfile}
+use Rattle.tape_laws.specs.host_model.specs.Hosts.{Host}
+use Rattle.tape_laws.specs.host_model.specs.Servers.{ServerProfile}
+use Rattle.tape_laws.specs.link_talk.specs.Captures.{objects_heard}
+use Rattle.tape_laws.specs.push_laws.specs.Parties.{Push}
+use Rattle.tape_laws.specs.push_laws.specs.Premises.{NoneShort}
+use Rattle.tape_laws.specs.scenario_laws.specs.Captures.{client_of, BothHosts}
+use Rattle.tape_laws.specs.scenario_laws.specs.Gains.{holding}
+use Rattle.tape_laws.specs.scenario_laws.specs.Parties.{party_of}
+use Rattle.tape_laws.specs.pair_laws.specs.Served.{holding_on}
+use Rattle.tape_laws.specs.OwnPairs.{own_of, own_beginning, RanOwn}
+use Rattle.done_laws.specs.Ends.{HasDone, IsDoneSo, OwnServersEndDone}
+use Rattle.done_laws.specs.Kept.{AreKept}
+use Rattle.done_laws.proofs.Lasts.{done_is_last}
+use Rattle.done_laws.proofs.Runs.{own_servers_keep_done}
+
+module _ (scenario : Scenario) (shelf before : List Object) (answers : List Answer) (direct : scenario.settings.transport ≡ L2cap) (enough : NoneShort answers) where
+  abbrev U : Upper (Host ClientProfile) Circumstance
+  U = holding_on (Some shelf) (client_of scenario)
+
+  abbrev V : Upper (Host ServerProfile) Circumstance
+  V = own_of scenario (holding before) answers
+
+  abbrev first : BothHosts
+  first = own_beginning scenario (holding before) answers
+
+  abbrev So : List Entry → Entry → Type 0
+  So = IsDoneSo scenario shelf before answers
+
+  -- as a push ends
+  closed : (done : List Happening) (old new : BothHosts) (push : ℕ) (outcome : Outcome) → Runs U V done first old → Does U V (Closes push outcome) old new → outcome ≡ Done → HasDone scenario shelf before answers (all_entries done)
+  closed done old new push outcome runs (going, push_is, idle, is, apart, none_a, none_b, quiet_a, quiet_b, same) done_is =
+      let own : RanOwn scenario (Some shelf) (holding before) answers (all_entries done) = record { happenings = done; world = old; happened = runs; ends = []; last = tt; capture_is = sym (append-nil (all_entries done)) } in
+      let keeps = own_servers_keep_done scenario shelf before answers (all_entries done) own direct enough in
+      let ends = keeps.ends (record { none_a = none_a; none_b = none_b; cause = is ∙ ap (λ (o : Outcome). Some o) done_is }) in
+      let spelled = objects_heard (party_of scenario.settings sides.B) sides.B (all_entries done) in
+      record {
+        own = own;
+        keeps = keeps;
+        ends = ends;
+        stored = λ here. done_is_last ends.ahead ends.one ends.behind keeps.gain spelled (subst (λ (pushes : List Push). AreKept pushes keeps.gain spelled) ends.pushes_are keeps.kept) (record { cause = ends.cause; psm = here }) ends.idle;
+      }
+
+  one : (happening : Happening) (done : List Happening) (old new : BothHosts) → Runs U V done first old → Does U V happening old new → EachAfter So (all_entries done) (entries_of happening)
+  one (Tries side effort) done old new runs does = tt
+  one (Departure side order) done old new runs does = (tt, tt)
+  one (GivingBack side) done old new runs does = tt
+  one (Piecemeal side handle piece) done old new runs does = (tt, tt)
+  one (Answering side answer) done old new runs does = (tt, tt)
+  one (Turns ordinal word) done old new runs does = (tt, tt)
+  one (Misses word) done old new runs does = tt
+  one (Opens push name) done old new runs does = (tt, tt)
+  one (Closes push outcome) done old new runs does = (closed done old new push outcome runs does, tt)
+
+  entries_then : (done : List Happening) (happening : Happening) → all_entries done ++ entries_of happening ≡ all_entries (done ++ happening ∷ [])
+  entries_then done happening = sym (flat_map-append entries_of done (happening ∷ []) ∙ ap (λ (l : List Entry). all_entries done ++ l) (append-nil (entries_of happening)))
+
+  along : (done rest : List Happening) (now new : BothHosts) → Runs U V done first now → Runs U V rest now new → EachAfter So [] (all_entries done) → EachAfter So [] (all_entries (done ++ rest))
+  along done [] now new runs later each = subst (λ (hs : List Happening). EachAfter So [] (all_entries hs)) (sym (append-nil done)) each
+  along done (happening ∷ rest) now new runs (mid, does, later) each =
+      subst (λ (hs : List Happening). EachAfter So [] (all_entries hs)) (append_assoc done (happening ∷ []) rest)
+      (along (done ++ happening ∷ []) rest mid new (runs_then U V done happening first now mid runs does) later
+      (subst (EachAfter So []) (entries_then done happening) (each_after-both So [] (all_entries done) (entries_of happening) each (one happening done now mid runs does))))
+
+pub own_servers_end_done : OwnServersEndDone
+own_servers_end_done scenario shelf before answers capture own direct enough =
+    along scenario shelf before answers direct enough [] own.happenings (own_beginning scenario (holding before) answers) own.world refl own.happened tt
