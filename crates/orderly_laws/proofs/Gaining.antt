@@ -56,7 +56,7 @@ use Rattle.unit_laws.specs.Units.{units, lone_capture}
 use Rattle.unit_laws.proofs.Living.{servers-gently}
 use Rattle.unit_laws.proofs.Running.{units_are_talk}
 use Rattle.orderly_laws.specs.Answered.{AreAnswered}
-use Rattle.orderly_laws.specs.Orderly.{ServersGainAsked}
+use Rattle.orderly_laws.specs.Orderly.{IsGrant, ServersGainAsked}
 use Rattle.orderly_laws.proofs.Counting.{none-ignored}
 use Rattle.orderly_laws.proofs.Given.{lives-given, nothing-given_up}
 use Rattle.orderly_laws.proofs.Granting.{act_so, runs-same, frames-same, over-so, over-acts}
@@ -128,7 +128,7 @@ all_of settings [] utter plain only none told = tt
 all_of settings (list ∷ lists) utter plain only none told =
     (record { uttered = utter.0; plain = plain.0; only = only.0; none = none.0; told = told.0 }, all_of settings lists utter.1 plain.1 only.1 none.1 told.1)
 
-on_each : (Q : List Occurrence → Type 0) (spans : List Span) (now : List Occurrence) → AllByRecursion (λ (span : Span). Q span.list) spans → Q now → AllByRecursion Q (map (λ (span : Span). span.list) spans ++ now ∷ [])
+pub on_each : (Q : List Occurrence → Type 0) (spans : List Span) (now : List Occurrence) → AllByRecursion (λ (span : Span). Q span.list) spans → Q now → AllByRecursion Q (map (λ (span : Span). span.list) spans ++ now ∷ [])
 on_each Q [] now before last = (last, tt)
 on_each Q (span ∷ spans) now before last = (before.0, on_each Q spans now before.1 last)
 
@@ -140,18 +140,17 @@ parts_read : (settings : Settings) (spans : List Span) (now : List Occurrence) �
 parts_read settings [] now all = record { before = tt; last = all.0 }
 parts_read settings (span ∷ spans) now all = let rest = parts_read settings spans now all.1 in record { before = (all.0, rest.before); last = rest.last }
 
-all_served : (settings : Settings) (lists : List (List Occurrence)) (talks : List (List Talk)) → AllZip (IsTalkOf (policy settings true)) lists talks → AllByRecursion (AllByRecursion AsksForNoChannel) lists → AllByRecursion (λ part. AsksForOneObject L2cap (moved_in part)) talks
+pub all_served : (transport : Transport) (settings : Settings) (lists : List (List Occurrence)) (talks : List (List Talk)) → AllZip (IsTalkOf (policy settings true)) lists talks → AllByRecursion (AllByRecursion AsksForNoChannel) lists → AllByRecursion (λ part. AsksForOneObject transport (moved_in part)) talks
     → AllByRecursion (λ part. IsServed (moved_in part)) talks
-all_served settings [] [] are none sought = tt
-all_served settings [] (part ∷ talks) are none sought = absurd are
-all_served settings (list ∷ lists) [] are none sought = tt
-all_served settings (list ∷ lists) (part ∷ talks) are none sought =
-    (is-served L2cap (policy settings true) list (moved_in part) are.0.waits (record { none = none.0; talk_is = are.0.talk_is; go_out = are.0.go_out; sought = sought.0 }), all_served settings lists talks are.1 none.1 sought.1)
+all_served transport settings [] [] are none sought = tt
+all_served transport settings [] (part ∷ talks) are none sought = absurd are
+all_served transport settings (list ∷ lists) [] are none sought = tt
+all_served transport settings (list ∷ lists) (part ∷ talks) are none sought = (
+  is-served transport (policy settings true) list (moved_in part) are.0.waits (record { none = none.0; talk_is = are.0.talk_is; go_out = are.0.go_out; sought = sought.0 }),
+  all_served transport settings lists talks are.1 none.1 sought.1,
+)
 
 -- ---- what its ports gave it
-
-abbrev IsGrant : List Circumstance → Type 0
-IsGrant gift = AllGranted (answers_in gift)
 
 grant_same : (gift : List Circumstance) → AllGranted (answers_in gift) → map granted gift ≡ gift
 grant_same [] all = refl
@@ -159,7 +158,7 @@ grant_same (Size answer ∷ gift) all = ap (λ (l : List Circumstance). Size ans
 grant_same (Part excerpt ∷ gift) all = ap (λ (l : List Circumstance). Part excerpt ∷ l) (grant_same gift all)
 grant_same (Stored answer ∷ gift) all = ap₂ (λ (a : Answer) (l : List Circumstance). Stored a ∷ l) (sym all.0) (grant_same gift all.1)
 
-all_same : (gifts : List (List Circumstance)) → AllByRecursion IsGrant gifts → AllByRecursion (λ (gift : List Circumstance). map granted gift ≡ gift) gifts
+pub all_same : (gifts : List (List Circumstance)) → AllByRecursion IsGrant gifts → AllByRecursion (λ (gift : List Circumstance). map granted gift ≡ gift) gifts
 all_same [] all = tt
 all_same (gift ∷ gifts) all = (grant_same gift all.0, all_same gifts all.1)
 
@@ -169,7 +168,7 @@ granted_all (Size answer ∷ gift) = granted_all gift
 granted_all (Part excerpt ∷ gift) = granted_all gift
 granted_all (Stored answer ∷ gift) = (refl, granted_all gift)
 
-acts_granted : {S : Type 0} (U : Upper S Circumstance) (acts : List (Act Circumstance)) → AllByRecursion (λ (act : Act Circumstance). AllByRecursion IsGrant (gifts_with act)) (map (act_so U (map granted)) acts)
+pub acts_granted : {S : Type 0} (U : Upper S Circumstance) (acts : List (Act Circumstance)) → AllByRecursion (λ (act : Act Circumstance). AllByRecursion IsGrant (gifts_with act)) (map (act_so U (map granted)) acts)
 acts_granted U [] = tt
 acts_granted U (Hears gifts news ∷ acts) = ((granted_all gifts, tt), acts_granted U acts)
 acts_granted U (Says pdu ∷ acts) = (tt, acts_granted U acts)
@@ -207,7 +206,7 @@ servers_gain_asked settings before occasions now transport did granted' orderly 
     let turns = all-turns settings content spans list feeds A.first now.upper.profile lives.fed.fed refl timely reads.before reads.last 0 in
     let heard = none-ignored settings before (served_from settings content A.first feeds) (serve_all AllGranted settings content feeds A.first (all_granted feeds lives.given) direct) turns.0 in
     let carry = all-carry settings spans list reads.before reads.last timely (turns.1 heard.1) in
-    let served = all_served settings lists (parts told.talk) so.talks_are none_all sought in
+    let served = all_served L2cap settings lists (parts told.talk) so.talks_are none_all sought in
     let read = hosts_read_over_links settings content party asks told.talk now.upper so (states_frame settings true sides.B) (ap (λ (t : Transport). own_maximum t settings) transport) direct carry.carried carry.carries served in
     hosts_gain settings before asks marks now.upper so.lives heard.0
     ∙ ap (λ (l : List Object). Some (before ++ l)) (read ∙ (all_spell party (parts told.talk) (map pdus (links sides.B capture)) told.fall served ∙ link_talks party (links sides.B capture)))

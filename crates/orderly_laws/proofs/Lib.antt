@@ -6,3 +6,4 @@ pub mod Linking
 pub mod Granting
 pub mod Given
 pub mod Gaining
+pub mod Served

@@ -30,10 +30,14 @@ pub record IsOrderlyInput (settings : Settings) (capture : List Entry) : Type 0 
   pub one_channel : AllByRecursion (AsksForOneObject L2cap) (talks sides.B capture)
   pub answered : AllByRecursion (AreAnswered (party_of settings sides.B)) (talks sides.B capture)
 
+-- of what the ports are to answer, the inbox grants all
+abbrev pub IsGrant : List Circumstance → Type 0
+IsGrant gift = AllGranted (answers_in gift)
+
 -- its timer never fires, and its inbox grants all that it is asked
 pub record IsGranted (occasions : List (Occasion Circumstance)) : Type 0 where
   pub untimed : AllByRecursion FiresNone occasions
-  pub granted : AllByRecursion (λ (gift : List Circumstance). AllGranted (answers_in gift)) (gifts_in occasions)
+  pub granted : AllByRecursion IsGrant (gifts_in occasions)
 
 -- On orderly input the inbox of such a server gains exactly the objects that the packets spell which its host heard, as its own units have them, in the
 -- order of their last packets, over L2CAP: where it hears one thing at a time.

@@ -2,8 +2,15 @@
 #![tactic(auto)]
 
 ghost use Rattle.orderly_laws.specs.Orderly.{ServersGainAsked};
+ghost use Rattle.orderly_laws.specs.Served.{ServersGainServed};
 
 /// On input that is orderly by its own units the inbox of a server gains exactly the objects that these spell, over L2CAP.
 pub fn servers_gain_asked()
     ensures { ServersGainAsked }
+{}
+
+/// A server over RFCOMM or over L2CAP came to its units by a talk, and lived so through it; and if nothing that came was lost so, its inbox gained exactly the
+/// objects that its own units spell.
+pub fn servers_gain_served()
+    ensures { ServersGainServed }
 {}

@@ -37,7 +37,7 @@ may_by true false buffer waiting on has free off = absurd (true≢false (sym has
 may_by true true false waiting on has free off = absurd (true≢false (sym free))
 may_by true true true true on has free off = absurd (true≢false off)
 
-lets_say : {S : Type 0} (A : Profile S) (now : Standing S) → Rests A now → now.line.out ≡ [] → IsFree now → SaidAll now
+pub lets_say : {S : Type 0} (A : Profile S) (now : Standing S) → Rests A now → now.line.out ≡ [] → IsFree now → SaidAll now
 lets_say A now rests none free =
     let line = now.line in
     let room : has_room line ≡ true = ap (λ (out : List ℕ). nat_lt (length out) 65536) none in
@@ -59,7 +59,7 @@ takes_free A None now rests none free = tt
 takes_free A (Some packet) now rests none free = λ rest. told_free A (news_of packet (now rest).line) (now rest) (rests rest) (none rest) (free rest)
 
 -- behind a turn that left room the host rests
-rests_behind : {S : Type 0} (A : Profile S) (packet : Option Packet) (full : Bool) (before after : Stand S) (said : List ℕ) → full ≡ false → HearsIn A packet full before after → ((rest : List Circumstance) → (after rest).line.out ≡ said) → is_full said ≡ false
+pub rests_behind : {S : Type 0} (A : Profile S) (packet : Option Packet) (full : Bool) (before after : Stand S) (said : List ℕ) → full ≡ false → HearsIn A packet full before after → ((rest : List Circumstance) → (after rest).line.out ≡ said) → is_full said ≡ false
     → HasRest A (λ rest. emptied (after rest))
 rests_behind A None full before after said off hears says room = absurd (true≢false (sym hears.0 ∙ off))
 rests_behind A (Some packet) full before after said off hears says room =

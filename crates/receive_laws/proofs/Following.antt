@@ -36,7 +36,7 @@ pub writable_emptied : (line : Line) → IsWritable line → IsWritable (record 
 writable_emptied line writable =
     record { long = writable.long; off = writable.off; low = writable.low; size = writable.size; pieces = writable.pieces; commands = writable.commands }
 
-split_all : {X : Type 0} (P : X → Type 0) (first : Option X) (rest : List X) → AllByRecursion P (option_to_list first ++ rest) → AllByRecursion P (option_to_list first) × AllByRecursion P rest
+pub split_all : {X : Type 0} (P : X → Type 0) (first : Option X) (rest : List X) → AllByRecursion P (option_to_list first ++ rest) → AllByRecursion P (option_to_list first) × AllByRecursion P rest
 split_all P None rest all = (tt, all)
 split_all P (Some x) rest all = ((all.0, tt), all.1)
 
@@ -79,7 +79,7 @@ module _ (settings : Settings) (content : Option Contents) where
         after = goes.there;
         alike = goes.alike;
         runs = runs_then U (ComesInTurn U) by.occasions (Waits ∷ []) (lined old.line there) (lined new.line goes.there) (lined (emptied new).line goes.there) by.runs
-            (lined (emptied new).line goes.there, tt, record { upper_is = refl; line_is = refl }, refl);
+            (lined (emptied new).line goes.there, tt, record { upper_is = refl; line_is = refl; awaited_is = refl }, refl);
         moves = record {
           went = by.went;
           said = record { each = by.each; octets_are = sym said ∙ (by.out ∙ ap (λ (out : List ℕ). out ++ spellings by.went) none) };
@@ -106,7 +106,7 @@ module _ (settings : Settings) (content : Option Contents) where
       taken_behind turn gifts (before all) there (after rest) (subst (λ (p : Option Packet). Goes settings content gifts (option_to_list p) (lined (before all).line there) (after rest)) (sym is) goes)
       (λ granting. ((left_granted settings content (before all).host granting, tt), packet_granting settings content packet before after hears.0 rest granting)) none said
 
-  turn_runs : (turn : Turn) (old new : Posture (Noted ServerProfile)) (one : HasTurn (noted_server settings) turn old new) → old.full ≡ false → TakesInTurn turn.packet old.stands → AllByRecursion (IsPacket acl_limit) (option_to_list turn.packet) → (rest : List Circumstance)
+  pub turn_runs : (turn : Turn) (old new : Posture (Noted ServerProfile)) (one : HasTurn (noted_server settings) turn old new) → old.full ≡ false → TakesInTurn turn.packet old.stands → AllByRecursion (IsPacket acl_limit) (option_to_list turn.packet) → (rest : List Circumstance)
       → From (MovesWith turn) old.stands (used_by (noted_server settings) turn.packet old.full one.between one.after one.hears ++ rest) (new.stands rest)
   turn_runs turn old new one off takes each rest =
       let still = one.none_back off in
@@ -117,14 +117,14 @@ module _ (settings : Settings) (content : Option Contents) where
 
   -- ---- one after the other
 
-  pub then_runs : (turn : Turn) (turns : List Turn) (old : Standing (Noted ServerProfile)) (there : Host ServerProfile) (mid new : Standing (Noted ServerProfile)) (first : RunsTo (MovesWith turn) old there mid) → RunsTo (MoveInTurns turns) mid first.after new
-      → RunsTo (MoveInTurns (turn ∷ turns)) old there new
-  then_runs turn turns old there mid new first second = record {
+  pub joined_runs : (First Second Both : List Move → Type 0) → ((xs ys : List Move) → First xs → Second ys → Both (xs ++ ys)) → (old : Standing (Noted ServerProfile)) (there : Host ServerProfile) (mid new : Standing (Noted ServerProfile)) (first : RunsTo First old there mid) → RunsTo Second mid first.after new
+      → RunsTo Both old there new
+  joined_runs First Second Both joins old there mid new first second = record {
     occasions = first.occasions ++ second.occasions;
     after = second.after;
     alike = second.alike;
     runs = runs_then U (ComesInTurn U) first.occasions second.occasions (lined old.line there) (lined mid.line first.after) (lined new.line second.after) first.runs second.runs;
-    moves = (units first.occasions, units second.occasions, first.moves, second.moves, flat_map-append units_of first.occasions second.occasions);
+    moves = subst Both (sym (flat_map-append units_of first.occasions second.occasions)) (joins (units first.occasions) (units second.occasions) first.moves second.moves);
     granting = λ all.
         let one = first.granting all in
         let two = second.granting one.1 in
@@ -134,11 +134,18 @@ module _ (settings : Settings) (content : Option Contents) where
     taken = second.taken;
   }
 
+  pub then_runs : (turn : Turn) (turns : List Turn) (old : Standing (Noted ServerProfile)) (there : Host ServerProfile) (mid new : Standing (Noted ServerProfile)) (first : RunsTo (MovesWith turn) old there mid) → RunsTo (MoveInTurns turns) mid first.after new
+      → RunsTo (MoveInTurns (turn ∷ turns)) old there new
+  then_runs turn turns old there mid new first second = joined_runs (MovesWith turn) (MoveInTurns turns) (MoveInTurns (turn ∷ turns)) (λ xs ys one more. (xs, ys, one, more, refl)) old there mid new first second
+
+  -- nothing happens
+  pub rests_there : (old : Standing (Noted ServerProfile)) (there : Host ServerProfile) → IsAlike settings content old.host there → IsWritable old.line → old.line.out ≡ [] → RunsTo (MoveInTurns []) old there old
+  rests_there old there alike writable none = record { occasions = []; after = there; alike = alike; runs = refl; moves = refl; granting = λ all. (tt, all); untimed = tt; writable = writable; taken = none }
+
   pub turns_run : (turns : List Turn) (old new : Posture (Noted ServerProfile)) (runs : HasTurns (noted_server settings) turns old new) → AllByRecursion (IsPacket acl_limit) (packets_in turns) → AreInTurn (noted_server settings) turns old new runs → (rest : List Circumstance)
       → From (MoveInTurns turns) old.stands (used_in (noted_server settings) turns old new runs ++ rest) (new.stands rest)
   turns_run [] old new runs each turn rest = λ there alike writable none.
-      subst (λ (p : Posture (Noted ServerProfile)). RunsTo (MoveInTurns []) (old.stands rest) there (p.stands rest)) (sym runs)
-      (record { occasions = []; after = there; alike = alike; runs = refl; moves = refl; granting = λ all. (tt, all); untimed = tt; writable = writable; taken = none })
+      subst (λ (p : Posture (Noted ServerProfile)). RunsTo (MoveInTurns []) (old.stands rest) there (p.stands rest)) (sym runs) (rests_there (old.stands rest) there alike writable none)
   turns_run (turn ∷ turns) old new (mid, one, more) each (off, takes, behind) rest =
       let parts = split_all (IsPacket acl_limit) turn.packet (packets_in turns) each in
       let later = used_in (noted_server settings) turns mid new more in

@@ -3,3 +3,5 @@ pub mod Deeds
 pub mod Following
 pub mod Buffers
 pub mod Streams
+pub mod Freely
+pub mod Spelled

@@ -1,15 +1,10 @@
--- A stream is a run of the server that hears it, and its inbox gains what its packets spell.
-use Rattle.std.proofs.Common.{◌≡◌, ◌≢◌, ℕ, List, [], ◌∷◌, ◌++◌, Option, inr, refl, sym, ap, subst, ◌∙◌}
-use Rattle.std.specs.Prelude.{Result, Ok, Err}
+-- A stream is a run of the server that hears it.
+use Rattle.std.proofs.Common.{List, [], ◌∷◌, ◌++◌, inr, refl, sym, subst}
 use Rattle.std.proofs.lemmas.List.{append-nil}
 use Rattle.receiving.specs.bt_base.specs.declared.settings.Settings.{Settings}
-use Rattle.receiving.specs.bt_base.specs.declared.settings.Transport.TheVariants.{L2cap}
-use Rattle.receiving.specs.bt_base.specs.Objects.{Object, Contents}
-use Rattle.receiving.specs.btpush_forms.specs.declared.status.Status.{Status}
-use Rattle.receiving.specs.btpush_forms.specs.declared.status.Status.TheVariants as status
+use Rattle.receiving.specs.bt_base.specs.Objects.{Object}
 use Rattle.receiving.specs.host_link.specs.declared.role.Role.TheVariants.{Server}
 use Rattle.receiving.specs.host_link.specs.Lines.{fresh}
-use Rattle.noting_laws.specs.push_laws.specs.Laws.{stored_in}
 use Rattle.noting_laws.specs.push_laws.specs.Premises.{AllGranted}
 use Rattle.receiving.specs.host_model.specs.Circumstances.{Circumstance, answers_in}
 use Rattle.receiving.specs.host_model.specs.Hosts.{Host, first_host}
@@ -20,15 +15,10 @@ use Rattle.receiving.specs.bt_host.specs.Noting.{Noted}
 use Rattle.receiving.specs.bt_host.specs.NotedHosts.{noted_server}
 use Rattle.receiving.specs.bt_host.specs.Stacks.{Standing}
 use Rattle.orderly_laws.specs.unit_laws.proofs.Doing.{calls_are_runs}
-use Rattle.orderly_laws.specs.unit_laws.specs.Units.{units}
-use Rattle.orderly_laws.proofs.Gaining.{servers_gain_asked}
-use Rattle.receiving.specs.declared.fault.ListenFault.{ListenFault}
-use Rattle.receiving.specs.declared.fault.ListenFault.TheVariants.{Refused, ReadFault, WriteFault, NoMemory}
-use Rattle.receiving.specs.Coming.{Unless}
-use Rattle.receiving.specs.Receiving.{Tells, new_server_host, stored_by}
+use Rattle.receiving.specs.Receiving.{new_server_host}
 use Rattle.receiving.specs.Turns.{Posture, Turn, HasTurns, emptied}
 use Rattle.receive_laws.specs.Answers.{used_in}
-use Rattle.receive_laws.specs.Streams.{new_server, IsRunOverUnits, StreamsAreRuns, IsOrderlyStream, GainsSpelled, ReceivesSpelled}
+use Rattle.receive_laws.specs.Streams.{new_server, IsRunOverUnits, StreamsAreRuns}
 use Rattle.receive_laws.specs.Moving.{opening, MovesWith, MoveInTurns}
 use Rattle.receive_laws.proofs.Alike.{IsAlike, holds_alike}
 use Rattle.receive_laws.proofs.Deeds.{lined, calls_at}
@@ -37,7 +27,7 @@ use Rattle.receive_laws.proofs.Following.{RunsTo, taken_behind, then_runs, turns
 -- ---- the beginning
 
 module _ (settings : Settings) (before : List Object) where
-  abbrev first_there : Host ServerProfile
+  abbrev pub first_there : Host ServerProfile
   first_there = first_host (serving settings before)
 
   abbrev begins_at : List Circumstance → Standing (Noted ServerProfile)
@@ -47,10 +37,10 @@ module _ (settings : Settings) (before : List Object) where
   new_alike rest = inr (record { there_is = refl; answers = answers_in rest; host_is = refl })
 
   -- before its first command went out
-  abbrev fresh_at : List Circumstance → Standing (Noted ServerProfile)
+  abbrev pub fresh_at : List Circumstance → Standing (Noted ServerProfile)
   fresh_at rest = record (begins_at rest) { line = fresh Server }
 
-  opens : (rest : List Circumstance) → RunsTo settings (holding before) (MovesWith (opening (new_server settings before).said)) (fresh_at rest) first_there (emptied (begins_at rest))
+  pub opens : (rest : List Circumstance) → RunsTo settings (holding before) (MovesWith (opening (new_server settings before).said)) (fresh_at rest) first_there (emptied (begins_at rest))
   opens rest =
       let U = upper (serving settings before) in
       taken_behind settings (holding before) (opening (new_server settings before).said) [] (fresh_at rest) first_there (begins_at rest)
@@ -77,32 +67,3 @@ streams_are_runs settings before turns last runs each turn =
     let behind = turns_run settings (holding before) turns (new_server settings before).posture last runs each turn [] first.after first.alike first.writable first.taken in
     ends_in settings before turns last runs
     (then_runs settings (holding before) (opening (new_server settings before).said) turns (fresh_at settings before all) (first_there settings before) (emptied (new_server_host settings (holding before) all)) (last.stands []) first behind)
-
--- ---- what its inbox gains
-
--- the status tells want of memory
-stored_there : (end : Result (Unit {0}) ListenFault) (trace trace' : Option (List ℕ)) (result : Status) (told : Type 0) → Tells end trace trace' result → result ≢ status.NoMemory → Unless end told → told
-stored_there (Ok done) trace trace' result told tells not is = is
-stored_there (Err (Refused refusal place)) trace trace' result told tells not is = is
-stored_there (Err ReadFault) trace trace' result told tells not is = is
-stored_there (Err WriteFault) trace trace' result told tells not is = is
-stored_there (Err NoMemory) trace trace' result told tells not is = absurd (not tells.0)
-
-module _ (settings : Settings) (before : List Object) (turns : List Turn) (last : Posture (Noted ServerProfile)) (runs : HasTurns (noted_server settings) turns (new_server settings before).posture last) where
-  gains_spelled : (inbox' : Option Contents) (run : IsRunOverUnits settings before turns last runs) → settings.transport ≡ L2cap → IsOrderlyStream settings before turns last runs
-      → inbox' ≡ stored_by last.stands → GainsSpelled settings before turns inbox'
-  gains_spelled inbox' run transport orderly is = record {
-    moves = units run.occasions;
-    move = run.moves;
-    gains = ap stored_in (is ∙ sym run.inbox_is)
-        ∙ servers_gain_asked settings before run.occasions run.now transport run.did (record { untimed = run.untimed; granted = run.granted orderly.granted }) (orderly.orderly (units run.occasions) run.moves);
-  }
-
-pub receives_spelled : ReceivesSpelled
-receives_spelled source source' sink sink' trace trace' before inbox' result received not orderly =
-    let settings = received.settings in
-    let halts = received.comes.halts in
-    let run = streams_are_runs settings before halts.turns halts.last halts.runs halts.each orderly.in_turn in
-    let stands_are = stored_there received.end trace trace' result _ received.tells not halts.there in
-    let stored = stored_there received.end trace trace' result _ received.tells not received.stored in
-    gains_spelled settings before halts.turns halts.last halts.runs inbox' run received.plain.transport orderly (stored ∙ ap stored_by stands_are)

@@ -1,4 +1,5 @@
 pub mod Moving
 pub mod Answers
 pub mod InTurn
+pub mod Freely
 pub mod Streams

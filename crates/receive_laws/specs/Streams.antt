@@ -2,6 +2,7 @@
 use Rattle.std.specs.Prelude.{ℕ, ◌≡◌, ◌≢◌, List, ◌++◌, Option, Some}
 use Rattle.std.specs.List.{AllByRecursion}
 use Rattle.receiving.specs.bt_base.specs.declared.settings.Settings.{Settings}
+use Rattle.receiving.specs.bt_base.specs.declared.settings.Transport.TheVariants.{Rfcomm}
 use Rattle.receiving.specs.bt_base.specs.Objects.{Object, Contents}
 use Rattle.receiving.specs.btpush_forms.specs.declared.status.Status.{Status}
 use Rattle.receiving.specs.btpush_forms.specs.declared.status.Status.TheVariants as status
@@ -9,12 +10,14 @@ use Rattle.receiving.specs.h4_framing.specs.Packets.{IsPacket}
 use Rattle.receiving.specs.capture.specs.Moves.{Move}
 use Rattle.receiving.specs.push_terms.specs.declared.word.Side.TheVariants as sides
 use Rattle.noting_laws.specs.link_talk.specs.Captures.{objects_heard}
+use Rattle.noting_laws.specs.link_talk.specs.declared.party.Party.{Party}
 use Rattle.receiving.specs.host_link.specs.declared.role.Role.TheVariants.{Server}
 use Rattle.noting_laws.specs.push_laws.specs.Laws.{stored_in}
 use Rattle.noting_laws.specs.push_laws.specs.Premises.{AllGranted}
 use Rattle.receiving.specs.host_model.specs.Circumstances.{Circumstance, answers_in}
 use Rattle.receiving.specs.host_model.specs.Hosts.{Host}
 use Rattle.receiving.specs.host_model.specs.Servers.{ServerProfile}
+use Rattle.noting_laws.specs.host_laws.specs.Calls.{HostsAsk}
 use Rattle.noting_laws.specs.scenario_laws.specs.Gains.{holding, serving}
 use Rattle.noting_laws.specs.scenario_laws.specs.Parties.{party_of}
 use Rattle.receiving.specs.bt_host.specs.Noting.{Noted}
@@ -24,10 +27,12 @@ use Rattle.orderly_laws.specs.unit_laws.specs.Units.{Lined, Occasion, units, lon
 use Rattle.orderly_laws.specs.unit_laws.specs.Calls.{gifts_in}
 use Rattle.orderly_laws.specs.unit_laws.specs.Living.{Did}
 use Rattle.orderly_laws.specs.unit_laws.specs.Laws.{FiresNone}
+use Rattle.orderly_laws.specs.Served.{IsAskedOver, GainsAsItLived}
 use Rattle.orderly_laws.specs.Orderly.{IsOrderlyInput}
 use Rattle.receiving.specs.Turns.{Begun, begun, Posture, Turn, HasTurns, packets_in}
 use Rattle.receiving.specs.Receiving.{new_server_host, stored_by, Receives}
 use Rattle.receive_laws.specs.Answers.{GrantsAllAsked}
+use Rattle.receive_laws.specs.Freely.{IsFreeStream}
 use Rattle.receive_laws.specs.InTurn.{AreInTurn}
 use Rattle.receive_laws.specs.Moving.{MoveFromStart}
 
@@ -51,19 +56,49 @@ abbrev pub StreamsAreRuns : Type 0
 StreamsAreRuns = (settings : Settings) (before : List Object) (turns : List Turn) (last : Posture (Noted ServerProfile)) (runs : HasTurns (noted_server settings) turns (new_server settings before).posture last)
     → AllByRecursion (IsPacket acl_limit) (packets_in turns) → AreInTurn (noted_server settings) turns (new_server settings before).posture last runs → IsRunOverUnits settings before turns last runs
 
--- What `receive` heard comes in turn, no call of its inbox fails, and the packets that move, those that it heard and behind each those that it put out, are
--- orderly input.
-pub record IsOrderlyStream (settings : Settings) (before : List Object) (turns : List Turn) (last : Posture (Noted ServerProfile)) (runs : HasTurns (noted_server settings) turns (new_server settings before).posture last) : Type 0 where
-  pub in_turn : AreInTurn (noted_server settings) turns (new_server settings before).posture last runs
-  pub granted : GrantsAllAsked (noted_server settings) turns (new_server settings before).posture last runs
-  pub orderly : (moves : List Move) → MoveFromStart (new_server settings before).said turns moves → IsOrderlyInput settings (lone_capture sides.B moves)
+-- And each does where its controller has a buffer free at each PDU that it brings, by the packets that move alone.
+abbrev pub FreeStreamsComeInTurn : Type 0
+FreeStreamsComeInTurn = (settings : Settings) (before : List Object) (turns : List Turn) (last : Posture (Noted ServerProfile)) (runs : HasTurns (noted_server settings) turns (new_server settings before).posture last)
+    → AllByRecursion (IsPacket acl_limit) (packets_in turns) → IsFreeStream (new_server settings before).said turns → AreInTurn (noted_server settings) turns (new_server settings before).posture last runs
 
--- Then its inbox gains exactly the objects that these packets spell, in the order of their last packets, over L2CAP.
-pub record GainsSpelled (settings : Settings) (before : List Object) (turns : List Turn) (inbox' : Option Contents) : Type 0 where
+-- The packets that `receive` heard, and behind each those that it put out: at each PDU that comes a buffer is free by them, they are orderly input, and no
+-- call of the inbox fails.
+pub record IsOrderlyStream (settings : Settings) (before : List Object) (turns : List Turn) (last : Posture (Noted ServerProfile)) (runs : HasTurns (noted_server settings) turns (new_server settings before).posture last) : Type 0 where
+  pub free : IsFreeStream (new_server settings before).said turns
+  pub orderly : (moves : List Move) → MoveFromStart (new_server settings before).said turns moves → IsOrderlyInput settings (lone_capture sides.B moves)
+  pub granted : GrantsAllAsked (noted_server settings) turns (new_server settings before).posture last runs
+
+-- The inbox gains exactly the objects that the packets spell which moved, in the order of their last packets, as this party reads them.
+pub record GainsSpelled (party : Party) (settings : Settings) (before : List Object) (turns : List Turn) (inbox' : Option Contents) : Type 0 where
   pub moves : List Move
   pub move : MoveFromStart (new_server settings before).said turns moves
-  pub gains : stored_in inbox' ≡ Some (before ++ objects_heard (party_of settings sides.B) sides.B (lone_capture sides.B moves))
+  pub gains : stored_in inbox' ≡ Some (before ++ objects_heard party sides.B (lone_capture sides.B moves))
 
+-- So it is of such a stream, over L2CAP.
 abbrev pub ReceivesSpelled : Type 0
 ReceivesSpelled = (source source' sink sink' trace trace' : Option (List ℕ)) (before : List Object) (inbox' : Option Contents) (result : Status) (received : Receives source source' sink sink' trace trace' (holding before) inbox' result) → result ≢ status.NoMemory
-    → IsOrderlyStream received.settings before received.comes.halts.turns received.comes.halts.last received.comes.halts.runs → GainsSpelled received.settings before received.comes.halts.turns inbox'
+    → IsOrderlyStream received.settings before received.comes.halts.turns received.comes.halts.last received.comes.halts.runs → GainsSpelled (party_of received.settings sides.B) received.settings before received.comes.halts.turns inbox'
+
+-- ---- over RFCOMM
+
+-- At each PDU that comes a buffer is free by the packets that move, on each link one channel is asked for, that of the multiplexer, besides that of service
+-- discovery, and no call of the inbox fails.
+pub record IsCarriedStream (settings : Settings) (before : List Object) (turns : List Turn) (last : Posture (Noted ServerProfile)) (runs : HasTurns (noted_server settings) turns (new_server settings before).posture last) : Type 0 where
+  pub free : IsFreeStream (new_server settings before).said turns
+  pub asked : (moves : List Move) → MoveFromStart (new_server settings before).said turns moves → IsAskedOver Rfcomm (lone_capture sides.B moves)
+  pub granted : GrantsAllAsked (noted_server settings) turns (new_server settings before).posture last runs
+
+-- These packets are a run of the server over units, by which its inbox came to this; and if nothing that came over RFCOMM was lost as it lived through them, it
+-- gained what they spell.
+pub record StoresCarried (asks : HostsAsk) (settings : Settings) (before : List Object) (turns : List Turn) (inbox' : Option Contents) : Type 0 where
+  pub occasions : List (Occasion Circumstance)
+  pub now : Lined (Host ServerProfile)
+  pub did : Did (serving settings before) Server occasions now
+  pub move : MoveFromStart (new_server settings before).said turns (units occasions)
+  pub inbox_is : now.upper.profile.inbox.content ≡ inbox'
+  pub lives : GainsAsItLived asks settings before Rfcomm occasions now.upper
+
+pub record ReceivesCarried : Type 0 where
+  pub asks : HostsAsk
+  pub stores : (source source' sink sink' trace trace' : Option (List ℕ)) (before : List Object) (inbox' : Option Contents) (result : Status) (received : Receives source source' sink sink' trace trace' (holding before) inbox' result) → result ≢ status.NoMemory
+      → IsCarriedStream received.settings before received.comes.halts.turns received.comes.halts.last received.comes.halts.runs → StoresCarried asks received.settings before received.comes.halts.turns inbox'

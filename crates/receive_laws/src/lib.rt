@@ -2,7 +2,7 @@
 #![tactic(auto)]
 
 ghost use Rattle.receive_laws.specs.InTurn.{FreeBuffersSuffice};
-ghost use Rattle.receive_laws.specs.Streams.{ReceivesSpelled, StreamsAreRuns};
+ghost use Rattle.receive_laws.specs.Streams.{FreeStreamsComeInTurn, ReceivesCarried, ReceivesSpelled, StreamsAreRuns};
 
 /// Each packet of a stream comes in turn where at each PDU that the host is told of its controller takes one packet more.
 pub fn free_buffers_suffice<S>()
@@ -14,7 +14,17 @@ pub fn streams_are_runs()
     ensures { StreamsAreRuns }
 {}
 
+/// Each packet of a stream comes in turn where by the packets that move a buffer is free at each PDU that comes, and what the host puts out leaves room.
+pub fn free_streams_come_in_turn()
+    ensures { FreeStreamsComeInTurn }
+{}
+
 /// What `receive` stores is exactly what the packets of its stream spell, on input that is orderly by these packets alone, over L2CAP.
 pub fn receives_spelled()
     ensures { ReceivesSpelled }
+{}
+
+/// Over RFCOMM its packets are a run of its server; and if nothing that came was lost as that lived through them, it stores exactly what they spell.
+pub fn receives_carried()
+    ensures { ReceivesCarried }
 {}

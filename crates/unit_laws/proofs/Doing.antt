@@ -26,6 +26,7 @@ use Rattle.scenario_laws.specs.world_model.specs.Machines.{Upper}
 use Rattle.unit_laws.specs.Units.{Lined, Occasion, Comes, Says, Puts, Commands, Waits, units_of, units, after_unit, Happens, Runs, IsToldInTurn, ComesInTurn}
 use Rattle.unit_laws.specs.Laws.{FiresNone}
 use Rattle.unit_laws.specs.Calls.{FitsPacket, CanGo, gifts_of, gifts_in, IsWritable, GoesBy, SaysInOctets, CallsGo, CallsAreRuns}
+use Rattle.unit_laws.proofs.Capacity.{flow_awaited}
 use Rattle.unit_laws.proofs.Written.{starts_go, ends_go, call_goes, flow_more, cut_short, heard_writes}
 
 -- ---- one run behind the other
@@ -166,7 +167,7 @@ module _ {S G : Type 0} (U : Upper S G) where
 
   waits_more : (command : HostCommand) (ending : Bool) (now : Lined S) → CanGo command → IsWritable now.line → GoesBy U [] [] now (record now { line = record now.line { commands = with_command command now.line.commands; ending = ending } })
   waits_more command ending now go writable =
-      goes_aside Waits now (record now { line = record now.line { commands = with_command command now.line.commands; ending = ending } }) refl refl tt tt (record { upper_is = refl; line_is = refl }) refl
+      goes_aside Waits now (record now { line = record now.line { commands = with_command command now.line.commands; ending = ending } }) refl refl tt tt (record { upper_is = refl; line_is = refl; awaited_is = flow_awaited command now.line.commands }) refl
       (record { long = writable.long; off = writable.off; low = writable.low; size = writable.size; pieces = writable.pieces; commands = flow_more now.line.commands command writable.commands go })
 
   ends_by : (link : Option ℕ) (now : Lined S) → now.line.link ≡ link → IsWritable now.line → GoesBy U [] [] now (record now { line = leaving link now.line })

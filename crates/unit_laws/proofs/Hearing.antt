@@ -1,5 +1,5 @@
 -- What a unit that comes in is to a host: the same to its line as to the links that its units show.
-use Rattle.std.proofs.Common.{◌≡◌, ℕ, not, Bool, true, false, cond, eqb, List, [], ◌∷◌, ◌++◌, drop, slice_index, Option, Some, None, is_none, if◌then◌else◌, refl, sym, ap, subst, ◌∙◌, inl, inr}
+use Rattle.std.proofs.Common.{◌≡◌, ℕ, Bool, true, false, cond, eqb, List, [], ◌∷◌, ◌++◌, drop, slice_index, Option, Some, None, is_none, if◌then◌else◌, refl, sym, ap, subst, ◌∙◌, inl, inr}
 use Rattle.std.specs.Option.{option_map}
 use Rattle.std.proofs.lemmas.Bool.{cases_Bool, eqb-true}
 use Rattle.std.proofs.lemmas.List.{map-append}
@@ -10,7 +10,7 @@ use Rattle.scenario_laws.specs.acl_fragments.specs.Pieces.{Piece, starts}
 use Rattle.scenario_laws.specs.acl_fragments.specs.Answers.{Answer, Pdu as Whole, More, Dropped, answer}
 use Rattle.scenario_laws.specs.capture.specs.declared.flow.Flow.TheVariants.{Out, Into}
 use Rattle.scenario_laws.specs.capture.specs.Moves.{Move}
-use Rattle.scenario_laws.specs.capture.specs.Links.{Link, Linking, Answered, longer, gone_on, made, ends_with, after_news, after_move, linking}
+use Rattle.scenario_laws.specs.capture.specs.Links.{Link, Linking, Answered, longer, gone_on, ends_with, after_news, after_move, linking}
 use Rattle.scenario_laws.specs.capture.specs.Pdus.{Pdu, piece_of, piece_in, pdus}
 use Rattle.scenario_laws.specs.capture.proofs.MoreLaws.{links-more}
 use Rattle.scenario_laws.specs.host_link.specs.Lines.{Line, longest_pdu}

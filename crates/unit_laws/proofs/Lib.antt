@@ -2,6 +2,8 @@ pub mod Shown
 pub mod Hearing
 pub mod Lining
 pub mod Running
+pub mod Capacity
+pub mod Taking
 pub mod Written
 pub mod Doing
 pub mod Living

@@ -1,10 +1,9 @@
 -- What a host was told and said is what its units have of its links.
 use Rattle.std.proofs.Common.{◌≡◌, ◌≢◌, ℕ, ◌+◌, ◌*◌, ◌==◌, ◌||◌, ◌&&◌, Bool, true, false, cond, List, [], ◌∷◌, ◌++◌, map, length, Option, Some, None, is_some, is_none, if◌then◌else◌, refl, sym, ap, ap₂, subst, ◌∙◌, append_assoc, length-append, arith}
-use Rattle.std.specs.List.{AllByRecursion, flat_map}
+use Rattle.std.specs.List.{AllByRecursion}
 use Rattle.std.specs.Option.{option_map}
 use Rattle.std.proofs.lemmas.Bool.{eq-eqb}
 use Rattle.std.proofs.lemmas.List.{append-nil, append_cancel_left}
-use Rattle.std.proofs.lemmas.List.Concat.{flat_map-append}
 use Rattle.scenario_laws.specs.bt_base.specs.Numbers.{IsHandle}
 use Rattle.scenario_laws.specs.h4_framing.specs.Packets.{Packet, Acl, spelling, spellings, IsPacket}
 use Rattle.scenario_laws.specs.h4_framing.proofs.ExtentLemmas.{packet_long}
@@ -21,7 +20,6 @@ use Rattle.scenario_laws.specs.capture.specs.declared.flow.Flow.TheVariants.{Out
 use Rattle.scenario_laws.specs.capture.specs.Moves.{Move, moves}
 use Rattle.scenario_laws.specs.capture.specs.Links.{links, Link, Linking, Asked, NoNews, longer, gone_on, after_news, after_move, linking}
 use Rattle.scenario_laws.specs.capture.specs.Pdus.{pdu_limit, piece_of, pdus}
-use Rattle.scenario_laws.specs.capture.specs.Pdus as moves_of
 use Rattle.scenario_laws.specs.capture.proofs.MoreLaws.{links-more}
 use Rattle.scenario_laws.specs.host_link.specs.declared.role.Role.{Role}
 use Rattle.scenario_laws.specs.host_link.specs.declared.host_command.HostCommand.{HostCommand}
@@ -43,13 +41,12 @@ use Rattle.scenario_laws.specs.turn_laws.proofs.Linkages.{linkage_one, linkage_e
 use Rattle.scenario_laws.specs.turn_laws.proofs.Showing.{piece_packet_is}
 use Rattle.scenario_laws.specs.turn_laws.specs.Premises.{SaysFrames}
 use Rattle.scenario_laws.specs.host_laws.specs.Acts.{Act, Hears}
-use Rattle.scenario_laws.specs.host_laws.specs.Calm.{pdus_in}
 use Rattle.scenario_laws.specs.host_laws.specs.OverLinks.{IsTimely, parts}
 use Rattle.scenario_laws.specs.host_laws.specs.Turning.{IsHeardInQuiet}
 use Rattle.scenario_laws.specs.Coming.{FallTo, LastIsUp}
 use Rattle.scenario_laws.proofs.Acting.{Anyhow, Acted, IsAside, IsNewsSo, first_acted, went_all, hears_acted, moves_acted, says_acted, tells_acted}
 use Rattle.scenario_laws.proofs.Coming.{captured_links, up_last}
-use Rattle.scenario_laws.proofs.Parting.{all_links, all_fall, past_from, now_from, parts_are, now_more, unsent_aside, unsent_pdus}
+use Rattle.scenario_laws.proofs.Parting.{all_links, all_fall}
 use Rattle.unit_laws.specs.Units.{Lined, Occasion, Comes, Learns, Says, Puts, Commands, Waits, units_of, units, lone_capture, hears_line, IsOwnNews, SaysNext, PutsPiece, PutsCommand, OnlyWaits, Happens, Runs, Whatever, starting, HasSaidAll, IsToldInTurn, ComesInTurn}
 use Rattle.unit_laws.specs.Laws.{LinesAreRead, IsUntimed, IsUnfired, FiresNone, UnitsAreTalk}
 use Rattle.unit_laws.proofs.Shown.{shown, begun_on, OnUp, always_up, Completes, completes_none, completes_one, goes_on, begun_stays, begun_more}

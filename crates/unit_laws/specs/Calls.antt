@@ -1,6 +1,6 @@
 -- What a host does by itself, and what it makes of a unit, as a run of it over units: behind the unit that comes in others go out, and the octets that
 -- it puts out are those of these (Core 5.1, Volume 4 Part A, 2).
-use Rattle.std.specs.Prelude.{ℕ, ◌≡◌, ◌≤◌, true, List, [], ◌∷◌, ◌++◌, map, length, Option, Some, None}
+use Rattle.std.specs.Prelude.{ℕ, ◌≡◌, ◌≤◌, true, List, [], ◌∷◌, ◌++◌, map, length, Some, None}
 use Rattle.std.specs.List.{AllByRecursion, flat_map}
 use Rattle.scenario_laws.specs.bt_base.specs.Numbers.{IsHandle}
 use Rattle.scenario_laws.specs.bt_base.specs.Octets.{IsOctets}

@@ -1,16 +1,14 @@
 -- What a host holds, and what it was told and said, is read off its units (this project's own).
-use Rattle.std.specs.Prelude.{ℕ, ◌≡◌, List, [], ◌∷◌, ◌++◌, map, Option, Some, None}
-use Rattle.std.specs.List.{AllByRecursion, flat_map}
+use Rattle.std.specs.Prelude.{List, map}
+use Rattle.std.specs.List.{AllByRecursion}
 use Rattle.scenario_laws.specs.push_terms.specs.declared.word.Side.{Side}
-use Rattle.scenario_laws.specs.capture.specs.Entries.{Entry}
-use Rattle.scenario_laws.specs.capture.specs.Links.{Link, links, link_up}
-use Rattle.scenario_laws.specs.capture.specs.Pdus.{Pdu, pdus}
+use Rattle.scenario_laws.specs.capture.specs.Links.{links, link_up}
+use Rattle.scenario_laws.specs.capture.specs.Pdus.{pdus}
 use Rattle.scenario_laws.specs.host_link.specs.declared.role.Role.{Role}
 use Rattle.scenario_laws.specs.host_link.specs.Stands.{Stands}
 use Rattle.scenario_laws.specs.world_model.specs.Machines.{News, Linked, Failed, Heard, TimerFired, Cancelled, Opening, Upper}
 use Rattle.scenario_laws.specs.world_model.specs.Talks.{Talk, Told, Said, Unsent, Met, Done}
 use Rattle.scenario_laws.specs.turn_laws.specs.Premises.{SaysFrames}
-use Rattle.scenario_laws.specs.host_laws.specs.Calm.{pdus_in}
 use Rattle.scenario_laws.specs.host_laws.specs.OverLinks.{OverLinks, parts}
 use Rattle.scenario_laws.specs.Coming.{FallTo, LastIsUp}
 use Rattle.unit_laws.specs.Units.{Lined, starting, Occasion, Comes, Learns, Says, Puts, Commands, Waits, units, lone_capture, Runs, Whatever, ComesInTurn}

@@ -102,10 +102,11 @@ pub record PutsCommand {S : Type 0} (command : HostCommand) (old new : Lined S) 
   pub upper_is : new.upper ≡ old.upper
   pub line_is : new.line ≡ with_next (Some command) old.line
 
--- no more of its line changes than the commands that wait, and what was not taken
+-- no more of its line changes than the commands that wait, and what was not taken; the same command is awaited
 pub record OnlyWaits {S : Type 0} (old new : Lined S) : Type 0 where
   pub upper_is : new.upper ≡ old.upper
   pub line_is : new.line ≡ record old.line { commands = new.line.commands; ending = new.line.ending; out = new.line.out }
+  pub awaited_is : new.line.commands.awaited ≡ old.line.commands.awaited
 
 abbrev pub Happens : {S G : Type 0} → Upper S G → Occasion G → (old new : Lined S) → Type 0
 Happens U (Comes gifts unit) old new = (fault_of unit old.line ≡ None) × (new ≡ after_unit U gifts unit old)

@@ -1,9 +1,10 @@
 //! What a whole host holds, was told and said is read off its own units: the packets that move between it and its controller. So are the channels of
-//! both hosts, what the inbox of a server gains, and what a client comes to.
+//! both hosts, and what a client comes to.
 #![tactic(auto)]
 
 ghost use Rattle.unit_laws.specs.Calls.{CallsAreRuns};
-ghost use Rattle.unit_laws.specs.Gaining.{ClientsCome, ServersGain};
+ghost use Rattle.unit_laws.specs.Capacity.{BuffersAreRead};
+ghost use Rattle.unit_laws.specs.Gaining.{ClientsCome};
 ghost use Rattle.unit_laws.specs.Holding.{ChannelsAreSeen};
 ghost use Rattle.unit_laws.specs.Laws.{LinesAreRead, UnitsAreTalk};
 ghost use Rattle.unit_laws.specs.Living.{HostsLiveByUnits};
@@ -12,6 +13,11 @@ ghost use Rattle.scenario_laws.specs.world_model.specs.Machines.{Upper};
 /// Whatever comes to a host, and whatever it does, its ledger is what its units say, and so are its link and the PDU that is coming in.
 pub fn lines_are_read<S, G>()
     ensures { (U : Upper S G) → LinesAreRead U }
+{}
+
+/// And its controller takes one packet more exactly where its units say so.
+pub fn buffers_are_read<S, G>()
+    ensures { (U : Upper S G) → BuffersAreRead U }
 {}
 
 /// Where a host hears one thing at a time, what it was told and said is what its units have of its links.
@@ -35,11 +41,6 @@ pub fn hosts_live_by_units()
 #[tactic(auto, using(crate::proofs::Holding::channels_are_seen))]
 pub fn channels_are_seen()
     ensures { ChannelsAreSeen }
-{}
-
-/// Where nothing that comes to a server is lost, its inbox gains exactly the objects that its own units spell, over L2CAP.
-pub fn servers_gain()
-    ensures { ServersGain }
 {}
 
 /// A client is what it is of what happened to it on the links that its own units have.

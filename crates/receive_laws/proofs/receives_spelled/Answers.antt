@@ -1,4 +1,4 @@
-use Rattle.receive_laws.proofs.Streams.{receives_spelled}
+use Rattle.receive_laws.proofs.Spelled.{receives_spelled}
 use Rattle.receive_laws.proofs.receives_spelled.Goals as goal
 
 pub returns : goal.returns
