@@ -1,0 +1,11 @@
+pub mod Readable
+pub mod Hearing
+pub mod Concluding
+pub mod Occurring
+pub mod Going
+pub mod Asking
+pub mod Keeping
+pub mod Parting
+pub mod Leaving
+pub mod Reaching
+pub mod Meeting
