@@ -1,0 +1,2 @@
+pub mod Upsetting
+pub mod EndingNone

@@ -1,0 +1,3 @@
+pub use Rattle.lasting_laws
+pub mod Upsets
+pub mod EndsNone
