@@ -1,11 +1,9 @@
 -- How a reader goes over the SDUs of RFCOMM.
-use Rattle.std.proofs.Common.{◌≡◌, ℕ, ◌+◌, ◌<◌, List, [], ◌∷◌, ◌++◌, length, take, drop, get_or, map, Bool, false, cond, eqb, true, refl, sym, ap, subst, ◌∙◌, append_assoc, append-nil}
-use Rattle.std.proofs.lemmas.Bool.{eqb-true}
+use Rattle.std.proofs.Common.{◌≡◌, ℕ, ◌+◌, ◌<◌, List, [], ◌∷◌, ◌++◌, length, take, drop, get_or, map, sym, ap, subst, ◌∙◌, append_assoc, append-nil}
 use Rattle.std.proofs.lemmas.List.{take-append-drop}
 use Rattle.std.specs.List.{flat_map, AllByRecursion}
 use Rattle.bt_base.specs.Octets.{IsOctets}
 use Rattle.capture.specs.declared.flow.Flow.{Flow}
-use Rattle.capture.specs.Histories.{each_after, given_by}
 use Rattle.capture.proofs.HistoryLaws.{front-more}
 use Rattle.rfcomm_frames.specs.declared.connection.Role.{Role}
 use Rattle.rfcomm_frames.specs.Answers.{Answer, IsAnswer}
@@ -19,8 +17,8 @@ use Rattle.rfcomm_frames.proofs.ObexSplits.{obex_packets-one}
 use Rattle.link_talk.specs.declared.party.Party.{Party}
 use Rattle.link_readers.specs.declared.Spoken.{Spoken as LentSpoken}
 use Rattle.link_talk.specs.Gains.{beyond, gained}
-use Rattle.link_talk.specs.Sdus.{Spoken, spoken_as}
-use Rattle.link_talk.specs.Packets.{OverL2cap, OverRfcomm, OverNothing, passed, packets_over_rfcomm, packet_with, packets_spoken}
+use Rattle.link_talk.specs.Sdus.{spoken_as}
+use Rattle.link_talk.specs.Packets.{OverRfcomm, passed, packets_over_rfcomm, packet_with}
 use Rattle.link_talk.specs.Frames.{frame_in}
 use Rattle.link_readers.specs.Lent.{plain_spoken}
 

@@ -1,6 +1,5 @@
 -- A saying that is nothing for channels changes nothing of what is held of them.
-use Rattle.std.proofs.Common.{◌≡◌, List, [], ◌∷◌, map, Bool, true, false, cond, fold, refl, sym, ap, ◌∙◌}
-use Rattle.std.specs.Prelude.{option_to_list}
+use Rattle.std.proofs.Common.{◌≡◌, List, [], ◌∷◌, map, Bool, true, false, cond, refl, sym, ap, ◌∙◌}
 use Rattle.link_talk.specs.Sayings.{Saying}
 use Rattle.link_talk.specs.Senses.{sense, Quiet}
 use Rattle.link_talk.specs.Requests.{requests_after}

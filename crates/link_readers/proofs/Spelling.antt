@@ -1,22 +1,13 @@
 -- Objects of one saying more.
-use Rattle.std.proofs.Common.{◌≡◌, ℕ, ◌+◌, ◌<◌, ◌≤◌, List, [], ◌∷◌, ◌++◌, length, take, get_or, map, Bool, true, false, cond, eqb, not, Option, None, Result, Ok, Err, ltb, refl, sym, ap, ◌∙◌, append_assoc, add-one, drop-cons, arith}
-use Rattle.std.specs.Prelude.{slice_index, drop}
-use Rattle.std.proofs.lemmas.Bool.{ltb-true, ltb-false}
+use Rattle.std.proofs.Common.{◌≡◌, ℕ, ◌+◌, ◌<◌, List, [], ◌∷◌, ◌++◌, length, take, get_or, map, sym, ap, ◌∙◌, append_assoc, add-one, drop-cons}
+use Rattle.std.specs.Prelude.{drop}
 use Rattle.std.specs.List.{flat_map}
-use Rattle.byteorder.specs.Endian.{big_number}
 use Rattle.capture.proofs.HistoryLaws.{front-more}
 use Rattle.bt_base.specs.Objects.{Object}
-use Rattle.obex_headers.specs.declared.fault.ObexRefusal.{ObexRefusal}
-use Rattle.obex_headers.specs.declared.fault.ObexRefusal.TheVariants.{Short, AboveMaximum, BadLength}
-use Rattle.obex_headers.specs.declared.packet.Phase.TheVariants.{Request}
-use Rattle.obex_headers.specs.Packets.{PlainPacket, fields_len}
-use Rattle.obex_headers.specs.Reading.{◌>>=◌, packet_in, front_at, behind_length, headers_in}
-use Rattle.obex_headers.specs.Runs.{put_of, put_in, objects_from, spelled}
 use Rattle.link_talk.specs.declared.party.Party.{Party}
 use Rattle.link_readers.specs.declared.Saying.{Saying as LentSaying}
 use Rattle.link_talk.specs.Channels.{Entry, Reading, reading}
-use Rattle.link_talk.specs.ObjectsHeard.{put_within, spelled_within, objects_between, objects_with}
-use Rattle.link_talk.specs.Shortening.{shortened}
+use Rattle.link_talk.specs.ObjectsHeard.{objects_between, objects_with}
 use Rattle.link_readers.specs.Lent.{plain_saying, plain_sayings}
 
 pub objects_are : (party : Party) (said : List LentSaying) (i : ℕ) (d : LentSaying) (held : Reading) (entries : List Entry) (more : List Object) → i < length said

@@ -4,3 +4,4 @@ pub use Rattle.talk_laws
 pub mod Lent
 pub mod Spans
 pub mod Frames
+pub mod Lending

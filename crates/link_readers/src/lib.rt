@@ -2,31 +2,23 @@
 #![tactic(auto)]
 
 mod carrying;
-#[cfg(test)]
-mod enhanced_samples;
 mod entries;
 mod joining;
+mod lending;
 mod meaning;
-#[cfg(test)]
-mod mixed_samples;
 mod multiplexing;
 mod objects;
 mod packing;
 mod reading;
-#[cfg(test)]
-mod rfcomm_samples;
-#[cfg(test)]
-mod samples;
 mod sayings;
 mod sdus;
 mod sensing;
-#[cfg(test)]
-mod tests;
 
 use capture::Flow;
 pub use carrying::{mode_of, passages, stretch};
 pub use entries::{Entry, Setup};
 use l2cap_signal::{Signal, SignalRefusal};
+pub use lending::{LinkPdu, link_pdus};
 pub use meaning::Requests;
 pub use objects::{channel_objects, link_objects, objects_heard, spelled_within};
 pub use packing::{packets, packets_heard, packets_spoken};

@@ -14,12 +14,13 @@ ghost use Rattle.link_talk.specs.Shortening.{shortened};
 
 use crate::Saying;
 use crate::entries::Entry;
+use crate::lending::link_pdus;
 use crate::packing::packets_heard;
 use crate::reading::reading_of;
 use crate::sayings::sayings_of;
 use bt_base::NoMemory;
 use capture::Entry as Happening;
-use capture::readers::{Link, links, pdus};
+use capture::readers::{Link, links};
 use link_talk::{Channel, Party};
 use obex_headers::runs::{SpelledObject, objects_in};
 use push_terms::Side;
@@ -146,7 +147,7 @@ pub fn link_objects(
 fn objects_on(alloc: Global, party: &Party, link: &Link<'_>) -> Result<Vec<SpelledObject>, NoMemory>
     ensures { IfOk result (λ found. objects_seen found.items ≡ objects party.now (talk (plain_link link.now))) }
 {
-    let pdus = pdus(alloc, link)?;
+    let pdus = link_pdus(alloc, link)?;
     let said = sayings_of(alloc, &pdus)?;
     link_objects(alloc, party, &said)
 }

@@ -4,15 +4,14 @@ ghost use Rattle.std.specs.Prelude.{◌≡◌, ◌++◌, IfOk, OnOk, map, slice_
 ghost use Rattle.std.specs.List.{flat_map};
 ghost use Rattle.talk_laws.specs.acl_fragments.specs.Pieces.{channel_of};
 ghost use Rattle.l2cap_signal.specs.Reading.{answer, answers};
-ghost use Rattle.capture.specs.Lent.{plain_pdu};
-ghost use Rattle.capture.specs.ReadPdus.{plain_pdus};
 ghost use Rattle.link_talk.specs.Sayings.{Command as Says, said_by};
+ghost use Rattle.link_readers.specs.Lending.{plain_link_pdu, plain_link_pdus};
 ghost use Rattle.link_readers.specs.Lent.{plain_sayings};
 
 use crate::Saying;
+use crate::lending::LinkPdu;
 use bt_base::NoMemory;
 use capture::Flow;
-use capture::readers::Pdu;
 use l2cap_signal::signals_of;
 use std::alloc::Global;
 
@@ -49,21 +48,22 @@ fn push_signals<'a>(
 }
 
 /// Adds what a PDU says.
-fn push_pdu<'a>(found: &mut Vec<Saying<'a>>, pdu: &'a Pdu) -> Result<(), NoMemory>
-    ensures { OnOk result (plain_sayings found.new.items ≡ plain_sayings found.old.items ++ said_by (plain_pdu pdu.now)) }
+fn push_pdu<'a>(found: &mut Vec<Saying<'a>>, pdu: &'a LinkPdu<'_>) -> Result<(), NoMemory>
+    ensures { OnOk result (plain_sayings found.new.items ≡ plain_sayings found.old.items ++ said_by (plain_link_pdu pdu.now)) }
 {
-    if channel_of(&pdu.octets) == SIGNALLING {
-        push_signals(found, pdu.flow, pdu.octets.get(4..).unwrap_or(&[]))?;
+    let octets = pdu.octets();
+    if channel_of(octets) == SIGNALLING {
+        push_signals(found, pdu.flow, octets.get(4..).unwrap_or(&[]))?;
     } else {
-        found.push(Saying::Carried(pdu.flow, &pdu.octets))?;
+        found.push(Saying::Carried(pdu.flow, octets))?;
     }
     Ok(())
 }
 
 /// What PDUs say: each command of the signalling channel, and each PDU of another channel
 /// (Core 5.1, Volume 3 Part A, 2.1, 3.1 and 4).
-pub fn sayings_of<'a>(alloc: Global, pdus: &'a [Pdu]) -> Result<Vec<Saying<'a>>, NoMemory>
-    ensures { IfOk result (λ found. plain_sayings found.items ≡ flat_map said_by (plain_pdus pdus.now)) }
+pub fn sayings_of<'a>(alloc: Global, pdus: &'a [LinkPdu<'_>]) -> Result<Vec<Saying<'a>>, NoMemory>
+    ensures { IfOk result (λ found. plain_sayings found.items ≡ flat_map said_by (plain_link_pdus pdus.now)) }
 {
     let mut found = Vec::new(alloc);
     for pdu in pdus {

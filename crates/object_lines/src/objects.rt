@@ -12,9 +12,9 @@ ghost use Rattle.object_lines.specs.Lines.{viewed, object_lines};
 use crate::alone::objects_said;
 use crate::line::push_objects;
 use bt_base::NoMemory;
-use capture::readers::{Link, links, pdus};
+use capture::readers::{Link, links};
 use capture::{CaptureFault, Entry as Happening, entries_of};
-use link_readers::sayings_of;
+use link_readers::{link_pdus, sayings_of};
 use link_talk::Party;
 use obex_headers::runs::SpelledObject;
 use push_terms::Side;
@@ -46,7 +46,7 @@ fn append(objects: &mut Vec<SpelledObject>, mut more: Vec<SpelledObject>) -> Res
 fn objects_on(alloc: Global, party: &Party, link: &Link<'_>) -> Result<Vec<SpelledObject>, NoMemory>
     ensures { IfOk result (λ found. objects_seen found.items ≡ objects party.now (talk (plain_link link.now))) }
 {
-    let pdus = pdus(alloc, link)?;
+    let pdus = link_pdus(alloc, link)?;
     let said = sayings_of(alloc, &pdus)?;
     objects_said(alloc, party, &said)
 }
