@@ -1,8 +1,12 @@
-//! What only runs of the program show: scenarios of every kind are pushed, and their reports, captures and stored objects are those that were
-//! worked out by hand.
+//! What only runs of the program show: each form is run over ports in memory, and what it writes and stores is what was worked out by hand. The
+//! rows of each form stand in tables of their own, and one path of owners (`runs`) runs them all.
 
+mod alone;
+mod controllers;
 mod failing;
+mod full_inbox;
 mod losing;
-mod playing;
-mod ports;
-mod words;
+mod moments;
+mod numbers;
+mod pushing;
+mod runs;

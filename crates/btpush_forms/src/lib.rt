@@ -6,12 +6,8 @@ mod alone;
 mod carrying;
 mod gathering;
 mod hosted;
-#[cfg(test)]
-mod long_tests;
 mod snooping;
 mod status;
-#[cfg(test)]
-mod tests;
 mod usage;
 mod viewing;
 

@@ -2,7 +2,6 @@ use bt_base::{Cid, Psm, Settings};
 use channel_model::{ChannelEvent, CloseReason};
 use l2cap_channels::{Channels, SendAnswer, Up};
 use std::alloc::Global;
-use std::test::Fail;
 
 /// Service discovery (Core 5.1, Volume 3 Part A, 4.2), for which basic mode is wished.
 const DISCOVERY: u16 = 0x0001;
@@ -10,20 +9,16 @@ const DISCOVERY: u16 = 0x0001;
 /// Object push, for which retransmission is wished.
 const PUSH: u16 = 0x1001;
 
-/// The channels of a host that sends a thing so often at most.
-fn channels(alloc: Global, tries: u8, server: bool) -> Result<Channels, &'static str> {
-    if !(2..=20).contains(&tries) {
-        return Err("tries");
-    }
+/// The channels of a host that sends a thing so often at most. Nothing where memory is wanting.
+fn channels(alloc: Global, tries: u8, server: bool) -> Option<Channels> {
     let mut settings = Settings::plain();
-    settings.tries = tries;
-    Channels::new(alloc, &settings, server).ok().ok_or("memory")
+    settings.tries = tries.clamp(2, 20);
+    Channels::new(alloc, &settings, server).ok()
 }
 
 /// Asks for a channel.
-fn asks(channels: &mut Channels, psm: u16) -> Result<Cid, &'static str> {
-    let psm = Psm::of(psm).ok_or("a multiplexer")?;
-    channels.connect(psm).ok_or("an endpoint")
+fn asks(channels: &mut Channels, psm: u16) -> Option<Cid> {
+    channels.connect(Psm::of(psm)?)
 }
 
 /// Whether the PDU that is given next has these octets.
@@ -118,13 +113,10 @@ fn asks_four_times(client: &mut Channels, request: &[u8]) -> bool {
     is_given_up(fire(client)) && !client.armed()
 }
 
-#[test]
-fn a_channel_is_asked_for_as_often_as_may_be(rt: HostRuntime) -> Result<(), Fail> {
-    let mut client = channels(rt.alloc(), 4, false)?;
-    let _own = asks(&mut client, DISCOVERY)?;
-    let request = [8, 0, 1, 0, 2, 1, 4, 0, 1, 0, 0x40, 0];
-    assert!(rt; asks_four_times(&mut client, &request));
-    Ok(())
+/// Whether the channel of service discovery is asked for as often as may be.
+fn asks_in_vain(client: &mut Channels) -> bool {
+    asks(client, DISCOVERY).is_some()
+        && asks_four_times(client, &[8, 0, 1, 0, 2, 1, 4, 0, 1, 0, 0x40, 0])
 }
 
 /// Commands at a link on which no channel is.
@@ -157,14 +149,6 @@ fn options_are_answered(server: &mut Channels) -> bool {
         && answers(server, &options, &refusal)
 }
 
-#[test]
-fn signalling_at_an_open_link(rt: HostRuntime) -> Result<(), Fail> {
-    let mut server = channels(rt.alloc(), 4, true)?;
-    assert!(rt; questions_are_answered(&mut server));
-    assert!(rt; options_are_answered(&mut server));
-    Ok(())
-}
-
 /// A channel is set up: each side asks for its options and accepts those of the other.
 fn are_agreed(client: &mut Channels, server: &mut Channels) -> bool {
     passes(client, server, None)
@@ -186,17 +170,6 @@ fn pass_an_sdu(client: &mut Channels, server: &mut Channels, own: Cid) -> bool {
         && !client.waits(own)
 }
 
-#[test]
-fn two_ends_pass_sdus(rt: HostRuntime) -> Result<(), Fail> {
-    for psm in [DISCOVERY, PUSH] {
-        let mut client = channels(rt.alloc(), 4, false)?;
-        let mut server = channels(rt.alloc(), 4, true)?;
-        let own = asks(&mut client, psm)?;
-        assert!(rt; pass_an_sdu(&mut client, &mut server, own));
-    }
-    Ok(())
-}
-
 /// What was given so often as may be is lost: the other end hears it late, and answers the repeat alike.
 fn late_requests_are_answered(late: &[u8], client: &mut Channels, server: &mut Channels) -> bool {
     let response = [12, 0, 1, 0, 3, 1, 8, 0, 0x40, 0, 0x40, 0, 0, 0, 0, 0];
@@ -216,16 +189,12 @@ fn asks_twice(client: &mut Channels, request: &[u8]) -> bool {
         && is_silent(client)
 }
 
-#[test]
-fn two_ends_with_a_timer(rt: HostRuntime) -> Result<(), Fail> {
-    let mut client = channels(rt.alloc(), 2, false)?;
-    let mut server = channels(rt.alloc(), 2, true)?;
-    let _own = asks(&mut client, PUSH)?;
+/// Whether a channel that is asked for twice in vain is given up, and the other end still answers both requests alike.
+fn give_up(client: &mut Channels, server: &mut Channels) -> bool {
     let request = [8, 0, 1, 0, 2, 1, 4, 0, 0x01, 0x10, 0x40, 0];
-    assert!(rt; asks_twice(&mut client, &request));
-    assert!(rt; late_requests_are_answered(&request, &mut client, &mut server));
-    assert!(rt; !client.armed());
-    Ok(())
+    asks_twice(client, &request)
+        && late_requests_are_answered(&request, client, server)
+        && !client.armed()
 }
 
 /// Whether the next event is that a channel's machine closed it.
@@ -253,16 +222,6 @@ fn ends_with_check_words(client: &mut Channels, server: &mut Channels, own: Cid)
         && client.has_fcs(own.get())
         && passes(server, client, None)
         && !client.has_fcs(own.get())
-}
-
-#[test]
-fn check_words_go_on_to_the_end(rt: HostRuntime) -> Result<(), Fail> {
-    let mut client = channels(rt.alloc(), 4, false)?;
-    let mut server = channels(rt.alloc(), 4, true)?;
-    let own = asks(&mut client, PUSH)?;
-    assert!(rt; has_check_words(&mut client, &mut server, own));
-    assert!(rt; ends_with_check_words(&mut client, &mut server, own));
-    Ok(())
 }
 
 /// Whether the next event is that both sides of a channel found no options.
@@ -294,14 +253,127 @@ fn asks_and_leaves(client: &mut Channels, own: Cid) -> bool {
         && gives(client, &end)
 }
 
-#[test]
-fn a_channel_that_is_left_is_not_bargained_over(rt: HostRuntime) -> Result<(), Fail> {
-    let mut client = channels(rt.alloc(), 4, false)?;
-    let own = asks(&mut client, DISCOVERY)?;
+/// Whether a channel that its host leaves is closed by other options that the peer suggests, with nothing said.
+fn leaves_without_bargaining(client: &mut Channels) -> bool {
     let suggestion = [14, 0, 1, 0, 5, 2, 10, 0, 0x40, 0, 0, 0, 1, 0, 1, 2, 0x30, 0];
-    assert!(rt; asks_and_leaves(&mut client, own));
-    assert!(rt; hears(&mut client, 0x0001, &suggestion, None));
-    assert!(rt; is_not_agreed(&mut client));
-    assert!(rt; is_silent(&mut client));
-    Ok(())
+    match asks(client, DISCOVERY) {
+        Some(own) => {
+            asks_and_leaves(client, own)
+                && hears(client, 0x0001, &suggestion, None)
+                && is_not_agreed(client)
+                && is_silent(client)
+        }
+        None => false,
+    }
+}
+
+/// What one host does.
+#[derive(Clone, Copy)]
+enum Course {
+    AsksInVain,
+    AnswersSignals,
+    LeavesWithoutBargaining,
+}
+
+/// Whether the channels of a host go through a course.
+fn goes_through(channels: &mut Channels, course: Course) -> bool {
+    match course {
+        Course::AsksInVain => asks_in_vain(channels),
+        Course::AnswersSignals => questions_are_answered(channels)
+            && options_are_answered(channels),
+        Course::LeavesWithoutBargaining => leaves_without_bargaining(channels),
+    }
+}
+
+/// Whether the channels of a new host do.
+fn is_gone_through(alloc: Global, course: Course) -> bool {
+    match channels(alloc, 4, matches!(course, Course::AnswersSignals)) {
+        Some(mut channels) => goes_through(&mut channels, course),
+        None => false,
+    }
+}
+
+#[test]
+fn a_channel_is_asked_for_as_often_as_may_be(rt: HostRuntime) {
+    assert!(rt; is_gone_through(rt.alloc(), Course::AsksInVain));
+}
+
+#[test]
+fn signalling_at_an_open_link(rt: HostRuntime) {
+    assert!(rt; is_gone_through(rt.alloc(), Course::AnswersSignals));
+}
+
+#[test]
+fn a_channel_that_is_left_is_not_bargained_over(rt: HostRuntime) {
+    assert!(rt; is_gone_through(rt.alloc(), Course::LeavesWithoutBargaining));
+}
+
+/// What two hosts do, of which the client asked for a channel.
+#[derive(Clone, Copy)]
+enum Dialog {
+    PassAnSdu,
+    GiveUp,
+    KeepCheckWords,
+}
+
+/// Whether two hosts go through a dialog on the channel of that endpoint.
+fn go_through(client: &mut Channels, server: &mut Channels, own: Cid, dialog: Dialog) -> bool {
+    match dialog {
+        Dialog::PassAnSdu => pass_an_sdu(client, server, own),
+        Dialog::GiveUp => give_up(client, server),
+        Dialog::KeepCheckWords => {
+            has_check_words(client, server, own) && ends_with_check_words(client, server, own)
+        }
+    }
+}
+
+/// Whether a client that asks for a channel goes through a dialog with that server.
+fn is_gone_through_by(
+    client: &mut Channels,
+    server: &mut Channels,
+    psm: u16,
+    dialog: Dialog,
+) -> bool {
+    match asks(client, psm) {
+        Some(own) => go_through(client, server, own, dialog),
+        None => false,
+    }
+}
+
+/// Whether a new client does, which sends a thing so often at most.
+fn is_gone_through_with(
+    alloc: Global,
+    server: &mut Channels,
+    tries: u8,
+    psm: u16,
+    dialog: Dialog,
+) -> bool {
+    match channels(alloc, tries, false) {
+        Some(mut client) => is_gone_through_by(&mut client, server, psm, dialog),
+        None => false,
+    }
+}
+
+/// Whether two new hosts do.
+fn are_gone_through(alloc: Global, tries: u8, psm: u16, dialog: Dialog) -> bool {
+    match channels(alloc, tries, true) {
+        Some(mut server) => is_gone_through_with(alloc, &mut server, tries, psm, dialog),
+        None => false,
+    }
+}
+
+#[test]
+fn two_ends_pass_sdus(rt: HostRuntime) {
+    assert!(rt; are_gone_through(rt.alloc(), 4, DISCOVERY, Dialog::PassAnSdu));
+    assert!(rt; are_gone_through(rt.alloc(), 4, PUSH, Dialog::PassAnSdu));
+}
+
+#[test]
+fn two_ends_with_a_timer(rt: HostRuntime) {
+    assert!(rt; are_gone_through(rt.alloc(), 2, PUSH, Dialog::GiveUp));
+}
+
+#[test]
+fn check_words_go_on_to_the_end(rt: HostRuntime) {
+    assert!(rt; are_gone_through(rt.alloc(), 4, PUSH, Dialog::KeepCheckWords));
 }

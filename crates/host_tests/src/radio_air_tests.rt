@@ -1,7 +1,7 @@
 use h4_framing::{Leading, first};
 use push_terms::{Side, Way, Word};
 use radio_air::{Deed, Fate, Radio};
-use std::test::*;
+use std::alloc::Global;
 
 /// What is done to a radio, or what it is to do.
 #[derive(Clone, Copy)]
@@ -205,129 +205,139 @@ const ENDED: &[Row<'static>] = &[
     NOTHING_WAITS,
 ];
 
-/// A packet comes out of a host, the last one of what it offers or not.
-fn take(radio: &mut Radio, side: Side, octets: &[u8], is_last: bool) -> Result<(), Fail> {
+/// Whether a packet that comes out of a host is taken, the last one of what it offers or not.
+fn takes(radio: &mut Radio, side: Side, octets: &[u8], is_last: bool) -> bool {
     let Leading::Whole(unit, _) = first(octets, 1_021) else {
-        return Err(Fail::from("a packet"));
+        return false;
     };
-    radio.take(side, &unit).ok().ok_or("there is memory")?;
-    if is_last {
-        radio.offered(side).ok().ok_or("there is memory")?;
-    }
-    Ok(())
+    radio.take(side, &unit).is_ok() && (!is_last || radio.offered(side).is_ok())
 }
 
-/// What a controller hands over next is this.
-fn hand(radio: &mut Radio, side: Side, octets: &[u8]) -> Result<(), Fail> {
+/// Whether a controller hands over this next.
+fn hands(radio: &mut Radio, side: Side, octets: &[u8]) -> bool {
     let mut room = [0; 1026];
     match radio.hand(side, &mut room) {
-        Some(count) if &room[..count] == octets => Ok(()),
-        _ => Err(Fail::from("the packet that comes next")),
+        Some(count) => &room[..count] == octets,
+        None => false,
     }
 }
 
-fn find(radio: &Radio, word: Word, deed: Deed) -> Result<(), Fail> {
-    if !radio.is_quiet() || radio.found(word) != deed {
-        return Err(Fail::from("what the word finds"));
-    }
-    Ok(())
+/// Whether a word finds this, with nothing on its way to a host.
+fn finds(radio: &Radio, word: Word, deed: Deed) -> bool {
+    radio.is_quiet() && radio.found(word) == deed
 }
 
-fn act(radio: &mut Radio, word: Word, checked: bool) -> Result<(), Fail> {
+/// Whether a word acts, with nothing on its way to a host.
+fn acts(radio: &mut Radio, word: Word, checked: bool) -> bool {
     if !radio.is_quiet() {
-        return Err(Fail::from("nothing is on its way to a host"));
+        return false;
     }
     radio.act(word, checked);
-    Ok(())
+    true
 }
 
-fn do_row(radio: &mut Radio, row: Row<'_>) -> Result<(), Fail> {
+/// Whether a row is what the radio does.
+fn follows(radio: &mut Radio, row: Row<'_>) -> bool {
     match row {
-        Out(side, octets) => take(radio, side, octets, true),
-        More(side, octets) => take(radio, side, octets, false),
-        Into(side, octets) => hand(radio, side, octets),
-        Finds(word, deed) => find(radio, word, deed),
-        Acts(word) => act(radio, word, true),
-        Unchecked(word) => act(radio, word, false),
+        Out(side, octets) => takes(radio, side, octets, true),
+        More(side, octets) => takes(radio, side, octets, false),
+        Into(side, octets) => hands(radio, side, octets),
+        Finds(word, deed) => finds(radio, word, deed),
+        Acts(word) => acts(radio, word, true),
+        Unchecked(word) => acts(radio, word, false),
     }
 }
 
-/// All that moves is in these rows, in their order.
-fn replay(radio: &mut Radio, rows: &[Row<'_>]) -> Result<(), Fail> {
+/// Whether all that moves is in these rows, in their order.
+fn replays(radio: &mut Radio, rows: &[Row<'_>]) -> bool {
     for row in rows {
-        do_row(radio, *row)?;
+        if !follows(radio, *row) {
+            return false;
+        }
     }
-    if !radio.is_quiet() {
-        return Err(Fail::from("nothing else comes"));
-    }
-    Ok(())
+    radio.is_quiet()
 }
 
-/// A radio whose controllers take packets of 27 octets, with a link.
-fn linked(rt: &HostRuntime) -> Result<Radio, Fail> {
-    let mut radio = Radio::new(rt.alloc(), 27, 8).ok().ok_or("there is memory")?;
-    replay(&mut radio, START)?;
-    Ok(radio)
-}
-
-/// Frames from a to b, each with its number.
-fn say_many(radio: &mut Radio, count: u16) -> Result<(), Fail> {
+/// Whether so many frames from a to b are taken, each with its number.
+fn says_many(radio: &mut Radio, count: u16) -> bool {
     for number in 0..count {
         let [low, high] = number.to_le_bytes();
-        take(
-            radio,
-            A,
-            &[2, 1, 0, 6, 0, 2, 0, 0x40, 0, low, high],
-            number + 1 == count,
-        )?;
+        let frame = [2, 1, 0, 6, 0, 2, 0, 0x40, 0, low, high];
+        if !takes(radio, A, &frame, number + 1 == count) {
+            return false;
+        }
     }
-    Ok(())
+    true
 }
 
-fn hear_many(radio: &mut Radio, count: u16) -> Result<(), Fail> {
+/// Whether so many come to b, in their order.
+fn hears_many(radio: &mut Radio, count: u16) -> bool {
     for number in 0..count {
         let [low, high] = number.to_le_bytes();
-        act(radio, Word::Pass, true)?;
-        hand(radio, B, &[2, 1, 0x20, 6, 0, 2, 0, 0x40, 0, low, high])?;
+        let frame = [2, 1, 0x20, 6, 0, 2, 0, 0x40, 0, low, high];
+        if !acts(radio, Word::Pass, true) || !hands(radio, B, &frame) {
+            return false;
+        }
     }
-    Ok(())
+    true
+}
+
+/// The frame of 30 octets, which the controller has given back.
+const FRAME: &[Row<'static>] = &[FIRST_PIECE, LAST_PIECE, GIVEN_BACK];
+
+/// With 300 frames on their way to b: they are given back, and a frame to a is neither repeated, nor lost where none waits.
+const CROWDED: &[Row<'static>] = &[
+    Into(A, b"\x04\x13\x05\x01\x01\x00\x2C\x01"),
+    Out(B, b"\x02\x01\x00\x04\x00\x00\x00\x41\x00"),
+    Into(B, b"\x04\x13\x05\x01\x01\x00\x01\x00"),
+    Finds(Word::Repeat(Way::Ba), Deed::Nothing),
+    Acts(Word::Repeat(Way::Ba)),
+    Acts(Word::Lose(Way::Ba)),
+];
+
+/// Whether more frames than memory is reserved for come in their order, and nothing is repeated while 128 frames wait the other way.
+fn carries_many(radio: &mut Radio) -> bool {
+    says_many(radio, 300) && replays(radio, CROWDED) && hears_many(radio, 300)
+}
+
+/// What a radio with a link does: these rows, one behind the other, or many frames.
+#[derive(Clone, Copy)]
+enum Course<'a> {
+    Rows(&'a [Row<'a>], &'a [Row<'a>]),
+    ManyFrames,
+}
+
+/// Whether a new radio comes to a link and goes through a course.
+fn goes_through(radio: &mut Radio, course: Course<'_>) -> bool {
+    replays(radio, START)
+        && match course {
+            Course::Rows(begin, end) => replays(radio, begin) && replays(radio, end),
+            Course::ManyFrames => carries_many(radio),
+        }
+}
+
+/// Whether a radio does whose controllers take packets of 27 octets.
+fn is_gone_through(alloc: Global, course: Course<'_>) -> bool {
+    match Radio::new(alloc, 27, 8) {
+        Ok(mut radio) => goes_through(&mut radio, course),
+        Err(_) => false,
+    }
 }
 
 #[test]
-fn what_comes_of_a_frame(rt: HostRuntime) -> Result<(), Fail> {
-    for rows in FATES {
-        let mut radio = linked(&rt)?;
-        replay(&mut radio, &[FIRST_PIECE, LAST_PIECE, GIVEN_BACK])?;
-        replay(&mut radio, rows)?;
+fn what_comes_of_a_frame(rt: HostRuntime) {
+    for end in FATES {
+        assert!(rt; is_gone_through(rt.alloc(), Course::Rows(FRAME, *end)));
     }
-    Ok(())
 }
 
 #[test]
-fn frames_in_turn_and_links(rt: HostRuntime) -> Result<(), Fail> {
-    for rows in [IN_TURN, ENDED] {
-        let mut radio = linked(&rt)?;
-        replay(&mut radio, rows)?;
-    }
-    Ok(())
+fn frames_in_turn_and_links(rt: HostRuntime) {
+    assert!(rt; is_gone_through(rt.alloc(), Course::Rows(IN_TURN, &[])));
+    assert!(rt; is_gone_through(rt.alloc(), Course::Rows(ENDED, &[])));
 }
 
-/// More frames than memory is reserved for come in their order; and nothing is repeated while 128
-/// frames wait the other way.
 #[test]
-fn many_frames(rt: HostRuntime) -> Result<(), Fail> {
-    let mut radio = linked(&rt)?;
-    say_many(&mut radio, 300)?;
-    hand(&mut radio, A, b"\x04\x13\x05\x01\x01\x00\x2C\x01")?;
-    replay(
-        &mut radio,
-        &[
-            Out(B, b"\x02\x01\x00\x04\x00\x00\x00\x41\x00"),
-            Into(B, b"\x04\x13\x05\x01\x01\x00\x01\x00"),
-            Finds(Word::Repeat(Way::Ba), Deed::Nothing),
-            Acts(Word::Repeat(Way::Ba)),
-            Acts(Word::Lose(Way::Ba)),
-        ],
-    )?;
-    hear_many(&mut radio, 300)
+fn many_frames(rt: HostRuntime) {
+    assert!(rt; is_gone_through(rt.alloc(), Course::ManyFrames));
 }

@@ -11,6 +11,3 @@ pub use ending::{
     plays_stay_solvent, plays_stream, wants_are_told, window_peaks_are_told,
 };
 pub use playing::{Played, play};
-
-#[cfg(test)]
-mod tests;

@@ -15,9 +15,19 @@ mod command_words_tests;
 #[cfg(test)]
 mod converting_tests;
 #[cfg(test)]
+mod enhanced_samples;
+#[cfg(test)]
 mod h4_view_tests;
 #[cfg(test)]
+mod link_samples;
+#[cfg(test)]
+mod link_tests;
+#[cfg(test)]
+mod mixed_samples;
+#[cfg(test)]
 mod push_script_tests;
+#[cfg(test)]
+mod rfcomm_samples;
 #[cfg(test)]
 mod showing;
 #[cfg(test)]

@@ -84,7 +84,7 @@ fn ends_with(alloc: Global, octets: &[u8], lines: &[u8], entries: &[u8]) -> bool
 }
 
 /// Whether the view of the entries alone ends so, and that of the capture is the same with these lines behind it.
-fn has_objects(alloc: Global, octets: &[u8], end: &[u8], lines: &[u8]) -> bool {
+pub(crate) fn has_objects(alloc: Global, octets: &[u8], end: &[u8], lines: &[u8]) -> bool {
     match MemSink::new(alloc, &[]) {
         Ok(mut sink) => {
             is_written_of(alloc, View::Entries, octets, 65_536, &mut sink)

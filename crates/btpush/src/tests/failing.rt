@@ -1,25 +1,30 @@
-ghost use Rattle.std.specs.Prelude.{◌≡◌, ◌≤◌, ◌<◌, ◌⊎◌, None, Err, false};
+//! Pushes over ports that fail, and texts that are no scenario.
 
-use crate::tests::ports::{
-    Content, Failing, Ports, WELL, contains, empty_inbox, ports_of, pushed, pushed_into,
+use crate::tests::full_inbox::FullInbox;
+use crate::tests::pushing::{ABORT, INBOX, SHELF, pushed};
+use crate::tests::runs::{
+    Content, Failing, Judge, Left, Run, Stored, WELL, contains, ends, ends_into, plain, rows,
 };
-use bt_base::{Inbox, MemShelf, MemSink, MemSource, PortFault};
 use btpush_forms::Status;
 use std::alloc::Global;
-use std::test::*;
 
-const HI: Content = Content::Text(b"hi");
-
-/// A scenario whose ports fail, and what comes of it: the status, what the sink has, how many objects are stored, and whether ABORT stands in
-/// the capture.
+/// A scenario whose ports fail, and what comes of it: the status, how the sink begins, what is stored, and whether ABORT stands in the capture.
 struct Row {
     text: &'static str,
-    content: Content,
+    objects: &'static [(&'static str, Content)],
     failing: Failing,
     status: Status,
     said: &'static str,
-    stored: usize,
+    stored: &'static [Stored],
     aborts: bool,
+}
+
+impl Judge for Row {
+    fn judges(&self, _alloc: Global, status: Status, sink: &[u8], trace: &[u8]) -> bool {
+        status == self.status
+            && sink.starts_with(self.said.as_bytes())
+            && contains(trace, ABORT) == self.aborts
+    }
 }
 
 const SMALL: &str = "transport l2cap\nobject a\nradio\n1216 pass\n";
@@ -30,131 +35,128 @@ const ROWS: &[Row] = &[
     // The inbox fails as the object is to be stored: begin, append, commit.
     Row {
         text: SMALL,
-        content: HI,
+        objects: SHELF,
         failing: Failing {
-            source: &[],
-            sink: &[],
-            trace: &[],
-            shelf: &[],
             inbox: &[3],
+            ..WELL
         },
         status: Status::SomeFailed,
         said: "1 refused D0 a\nkept 0\n",
-        stored: 0,
+        stored: &[],
         aborts: false,
     },
     // The shelf fails at the third piece of the object.
     Row {
         text: LARGE,
-        content: Content::Filled(3500),
+        objects: &[("a", Content::Filled(3500))],
         failing: Failing {
-            source: &[],
-            sink: &[],
-            trace: &[],
             shelf: &[4],
-            inbox: &[],
+            ..WELL
         },
         status: Status::SomeFailed,
         said: "1 shelf a\nkept 0\n",
-        stored: 0,
+        stored: &[],
         aborts: true,
     },
     // The shelf fails as it is asked for the length.
     Row {
         text: SMALL,
-        content: HI,
+        objects: SHELF,
         failing: Failing {
-            source: &[],
-            sink: &[],
-            trace: &[],
             shelf: &[1],
-            inbox: &[],
+            ..WELL
         },
         status: Status::SomeFailed,
         said: "1 shelf a\nkept 0\nbuffers 0 0\nwindow 0 0\ncredits 0 0\n",
-        stored: 0,
+        stored: &[],
         aborts: false,
     },
     // The sink fails as the report is written: all else is as it was to be.
     Row {
         text: SMALL,
-        content: HI,
-        failing: Failing {
-            source: &[],
-            sink: &[1],
-            trace: &[],
-            shelf: &[],
-            inbox: &[],
-        },
+        objects: SHELF,
+        failing: Failing { sink: &[1], ..WELL },
         status: Status::WriteFault,
         said: "",
-        stored: 1,
+        stored: INBOX,
         aborts: false,
     },
-    // The trace fails.
+    // The trace fails, at its first call and later.
     Row {
         text: SMALL,
-        content: HI,
+        objects: SHELF,
         failing: Failing {
-            source: &[],
-            sink: &[],
-            trace: &[20],
-            shelf: &[],
-            inbox: &[],
+            trace: &[1],
+            ..WELL
         },
         status: Status::WriteFault,
         said: "",
-        stored: 0,
+        stored: &[],
+        aborts: false,
+    },
+    Row {
+        text: SMALL,
+        objects: SHELF,
+        failing: Failing {
+            trace: &[20],
+            ..WELL
+        },
+        status: Status::WriteFault,
+        said: "",
+        stored: &[],
+        aborts: false,
+    },
+    Row {
+        text: SMALL,
+        objects: SHELF,
+        failing: Failing {
+            trace: &[60],
+            ..WELL
+        },
+        status: Status::WriteFault,
+        said: "",
+        stored: &[],
         aborts: false,
     },
     // The source fails.
     Row {
         text: SMALL,
-        content: HI,
+        objects: SHELF,
         failing: Failing {
             source: &[2],
-            sink: &[],
-            trace: &[],
-            shelf: &[],
-            inbox: &[],
+            ..WELL
         },
         status: Status::ReadFault,
         said: "",
-        stored: 0,
+        stored: &[],
         aborts: false,
     },
     // A push that is given up ahead of its last packet.
     Row {
         text: "transport l2cap\nobject a\nradio\n36 pass\n1 cancel\n30000 pass\n",
-        content: Content::Filled(20_000),
+        objects: &[("a", Content::Filled(20_000))],
         failing: WELL,
         status: Status::SomeFailed,
         said: "1 cancelled a\nkept 0\n",
-        stored: 0,
+        stored: &[],
         aborts: true,
     },
 ];
 
 /// Whether a scenario comes to what its row says.
-fn comes_true(alloc: Global, row: &Row) -> Result<bool, Fail> {
-    let mut inbox = empty_inbox(alloc, row.failing.inbox)?;
-    let mut ports = ports_of(alloc, row.text, &[("a", row.content)], row.failing)?;
-    let status = pushed(alloc, &mut ports, &mut inbox)?;
-    let aborts = contains(ports.trace.octets(), &[0xFF, 0x00, 0x03]);
-    Ok(
-        status == row.status
-            && ports.sink.octets().starts_with(row.said.as_bytes())
-            && inbox.len() == row.stored
-            && aborts == row.aborts,
-    )
+fn comes_true(alloc: Global, row: &Row) -> bool {
+    let given = Run {
+        failing: row.failing,
+        ..pushed(row.text, row.objects)
+    };
+    ends(alloc, &given, row, row.stored)
 }
 
 #[test]
-fn ports_that_fail_are_told(rt: HostRuntime) -> Result<(), Fail> {
-    for row in ROWS {
-        assert!(rt; comes_true(rt.alloc(), row)?, "{}", row.said);
+fn ports_that_fail_are_told(rt: HostRuntime) {
+    for row in rows(ROWS) {
+        assert!(rt; comes_true(rt.alloc(), row));
     }
-    Ok(())
 }
 
 /// Texts that are no scenario, and what is said of them.
@@ -185,140 +187,97 @@ const REFUSED: &[(&str, &str)] = &[
 ];
 
 /// Whether a text is refused with that line, and nothing else is touched.
-fn is_refused(alloc: Global, text: &str, said: &str) -> Result<bool, Fail> {
-    let mut inbox = empty_inbox(alloc, &[])?;
-    let mut ports = ports_of(alloc, text, &[("a", HI)], WELL)?;
-    let status = pushed(alloc, &mut ports, &mut inbox)?;
-    Ok(
-        status == Status::InputRefused
-            && ports.sink.octets() == said.as_bytes()
-            && ports.trace.octets().is_empty()
-            && inbox.is_empty(),
-    )
+fn is_refused(alloc: Global, text: &str, said: &str) -> bool {
+    let left = Left {
+        status: Status::InputRefused,
+        sink: said.as_bytes(),
+        trace: b"",
+    };
+    ends(alloc, &pushed(text, SHELF), &left, &[])
 }
 
 #[test]
-fn texts_are_refused(rt: HostRuntime) -> Result<(), Fail> {
-    for (text, said) in REFUSED {
-        assert!(rt; is_refused(rt.alloc(), *text, *said)?, "{}", *said);
+fn texts_are_refused(rt: HostRuntime) {
+    for (text, said) in rows(REFUSED) {
+        assert!(rt; is_refused(rt.alloc(), *text, *said));
     }
-    Ok(())
 }
 
 /// Comments of a length, read by 65,536 octets at a time, the reads that fail, and what comes of it. A fault behind the octets that are kept is a
 /// fault of reading still.
-const COMMENTS: &[(usize, &[u32], Status, &str)] = &[
+const COMMENTS: &[(usize, &[u32], Left<'static>)] = &[
     (
         1_048_576,
         &[],
-        Status::InputRefused,
-        "refused line 2 NoTransport\n",
+        Left {
+            status: Status::InputRefused,
+            sink: b"refused line 2 NoTransport\n",
+            trace: b"",
+        },
     ),
     (
         1_048_577,
         &[],
-        Status::InputRefused,
-        "refused line 0 TooLong\n",
+        Left {
+            status: Status::InputRefused,
+            sink: b"refused line 0 TooLong\n",
+            trace: b"",
+        },
     ),
-    (1_300_000, &[19], Status::ReadFault, ""),
+    (
+        1_300_000,
+        &[19],
+        Left {
+            status: Status::ReadFault,
+            sink: b"",
+            trace: b"",
+        },
+    ),
 ];
 
-/// Whether a comment of that length comes to this end, and nothing else is touched.
-fn comment_comes_to(
-    alloc: Global,
-    length: usize,
-    failing: &[u32],
-    status: Status,
-    said: &str,
-) -> Result<bool, Fail> {
-    let text = vec![in alloc; b'#'; length]?;
-    let mut inbox = empty_inbox(alloc, &[])?;
-    let mut ports = Ports {
-        source: MemSource::new(alloc, &text, 65_536, failing)?,
-        sink: MemSink::new(alloc, &[])?,
-        trace: MemSink::new(alloc, &[])?,
-        shelf: MemShelf::new(alloc, &[])?,
-    };
-    let now = pushed(alloc, &mut ports, &mut inbox)?;
-    Ok(
-        now == status
-            && ports.sink.octets() == said.as_bytes()
-            && ports.trace.octets().is_empty()
-            && inbox.is_empty(),
-    )
+/// A comment of that length.
+fn comment(alloc: Global, length: usize) -> Option<Vec<u8>> {
+    vec![in alloc; b'#'; length].ok()
+}
+
+/// Whether a comment of that length leaves this where the source fails so, and nothing else is touched.
+fn comment_leaves(alloc: Global, length: usize, source: &'static [u32], left: &Left<'_>) -> bool {
+    match comment(alloc, length) {
+        Some(text) => {
+            let failing = Failing { source, ..WELL };
+            let given = Run {
+                failing,
+                ..plain("push", &text)
+            };
+            ends(alloc, &given, left, &[])
+        }
+        None => false,
+    }
 }
 
 #[test]
-fn lengths_have_their_limits(rt: HostRuntime) -> Result<(), Fail> {
-    for (length, failing, status, said) in COMMENTS {
-        assert!(rt; comment_comes_to(rt.alloc(), *length, *failing, *status, *said)?);
-    }
-    Ok(())
-}
-
-/// An inbox that finds no memory. An object that is pending is dropped then.
-#[derive(Drop)]
-struct Full {
-    pending: bool,
-    shortages: u64,
-}
-
-impl Full {
-    /// It finds no memory once more.
-    fn short(&mut self) -> Result<(), PortFault>
-        ensures dropped { self.new.pending ≡ false }
-        ensures count { (self.old.shortages < self.new.shortages) ⊎ (18446744073709551615 ≤ self.old.shortages) }
-        ensures stays { self.old.shortages ≤ self.new.shortages }
-        ensures answer { result ≡ Err PortFault.NoMemory }
-    {
-        self.pending = false;
-        self.shortages = self.shortages.saturating_add(1);
-        Err(PortFault::NoMemory)
+fn lengths_have_their_limits(rt: HostRuntime) {
+    for (length, failing, left) in rows(COMMENTS) {
+        assert!(rt; comment_leaves(rt.alloc(), *length, *failing, left));
     }
 }
 
-impl Inbox for Full {
-    ghost content = { λ _. None };
+/// A run that wants memory, and says nothing for that.
+struct Short;
 
-    ghost is_pending = { λ inbox. inbox.pending };
-
-    ghost faults = { λ _. 0 };
-
-    ghost shortages = { λ inbox. inbox.shortages };
-
-    fn begin(&mut self, _name: &[u16]) -> Result<(), PortFault> {
-        self.short()
+impl Judge for Short {
+    fn judges(&self, _alloc: Global, status: Status, sink: &[u8], _trace: &[u8]) -> bool {
+        status == Status::NoMemory && sink.is_empty()
     }
-
-    fn append(&mut self, _piece: &[u8]) -> Result<(), PortFault> {
-        self.short()
-    }
-
-    fn commit(&mut self) -> Result<(), PortFault> {
-        self.short()
-    }
-
-    fn abort(&mut self) -> Result<(), PortFault> {
-        self.pending = false;
-        Ok(())
-    }
-
-    ghost told = { λ _. tt };
 }
 
-/// What a push into a full inbox answers, and how much the sink has then.
-fn pushed_full(alloc: Global) -> Result<(Status, usize), Fail> {
-    let mut inbox = Full {
-        pending: false,
-        shortages: 0,
-    };
-    let mut ports = ports_of(alloc, SMALL, &[("a", HI)], WELL)?;
-    let status = pushed_into(alloc, &mut ports, &mut inbox)?;
-    Ok((status, ports.sink.octets().len()))
+/// Whether a push into a full inbox ends so.
+fn is_short(alloc: Global) -> bool {
+    let mut inbox = FullInbox::new();
+    ends_into(alloc, &pushed(SMALL, SHELF), &mut inbox, &Short)
 }
 
 #[test]
-fn a_full_inbox_is_told(rt: HostRuntime) -> Result<(), Fail> {
-    assert_eq!(rt; pushed_full(rt.alloc())?, (Status::NoMemory, 0));
-    Ok(())
+fn a_full_inbox_is_told(rt: HostRuntime) {
+    assert!(rt; is_short(rt.alloc()));
 }

@@ -1,13 +1,12 @@
 //! Links that lose, repeat and damage frames, or break: what both hosts say then, frame by frame.
 
-use crate::tests::playing::{A, B, HI, NOTHING, Row, is_come_to};
-use crate::tests::ports::{Content, WELL, empty_inbox, is_stored, ports_of, pushed};
+use crate::tests::pushing::{A, ABORT, B, HI, NOTHING, Row, pushed};
+use crate::tests::runs::{Content, Judge, ends, rows};
 use btpush_forms::Status;
 use capture::{Entry, Flow, entries_of};
 use h4_framing::Unit;
 use push_terms::Side;
 use std::alloc::Global;
-use std::test::*;
 
 /// A host, whether PDUs went out of it or came to it, how these begin, and how often that was. Each stands in one packet.
 type Count = (Side, Flow, &'static [u8], usize);
@@ -211,93 +210,139 @@ fn times_in(entries: &[Entry<'_>], count: &Count) -> usize {
     times
 }
 
-/// The place of the first count that does not fit a capture.
-fn first_wrong(alloc: Global, capture: &[u8], counts: &[Count]) -> Result<Option<usize>, Fail> {
-    let Ok(entries) = entries_of(alloc, capture) else {
-        return Err(Fail::from("a capture has whole entries"));
+/// Whether everything is counted as often as it should be.
+fn all_fit(entries: &[Entry<'_>], counts: &[Count]) -> bool {
+    for count in counts {
+        if times_in(entries, count) != count.3 {
+            return false;
+        }
+    }
+    true
+}
+
+impl Judge for Case {
+    fn judges(&self, alloc: Global, status: Status, sink: &[u8], trace: &[u8]) -> bool {
+        let fits = match entries_of(alloc, trace) {
+            Ok(entries) => all_fit(&entries, self.counts),
+            Err(_) => false,
+        };
+        fits && self.row.judges(alloc, status, sink, trace)
+    }
+}
+
+/// Whether a scenario comes to what its row says, and everything is counted as often as it should be.
+fn comes_true(alloc: Global, case: &Case) -> bool {
+    ends(
+        alloc,
+        &pushed(case.row.text, case.row.objects),
+        case,
+        case.row.stored,
+    )
+}
+
+#[test]
+fn what_is_lost_is_said_again(rt: HostRuntime) {
+    for case in rows(CASES) {
+        assert!(rt; comes_true(rt.alloc(), case));
+    }
+}
+
+/// Objects of more than 130 I-frames, of which the first copies of the frames 31, 63, 64 and 127 are lost: their numbers wrap twice. In single
+/// response mode, and where each packet waits for its response.
+const WRAPPED: [Row; 2] = [
+    Row {
+        text: "transport l2cap\nsrm on\nwindow 32\ntries 20\nobject a\nradio\n84 pass\n1 lose ab\n96 pass\n2 lose ab\n159 pass\n1 lose ab\n2244800 pass\n",
+        objects: &[("a", Content::Filled(70_000))],
+        status: Status::Ok,
+        begins: "1 done a\nkept 1\nbuffers ",
+        ends: "\nwindow 32 1\ncredits 0 0\n",
+        stored: &[(A, Content::Filled(70_000))],
+        packets: &[],
+        absent: &[ABORT],
+    },
+    Row {
+        text: "transport l2cap\nmtu 32767\nmps 500\nobex 32767\nwindow 32\ntries 20\nobject a\nradio\n81 pass\n1 lose ab\n96 pass\n2 lose ab\n133 pass\n1 lose ab\n20000 pass\n",
+        objects: &[("a", Content::Filled(70_000))],
+        status: Status::Ok,
+        begins: "1 done a\nkept 1\nbuffers ",
+        ends: "\nwindow 32 1\ncredits 0 0\n",
+        stored: &[(A, Content::Filled(70_000))],
+        packets: &[],
+        absent: &[ABORT],
+    },
+];
+
+/// The numbers of I-frames that came to host b one right behind the other, where those between them were lost.
+const JUMPS: [(u8, u8); 3] = [(30, 32), (62, 1), (62, 0)];
+
+/// The number of the I-frame that came to host b on the channel of Object Push, where an entry is one: behind the head of its PDU stands its
+/// control field, whose bit 0 is clear.
+fn number_of(entry: &Entry<'_>) -> Option<u8> {
+    let Entry::Moved {
+        side: Side::B,
+        flow: Flow::Into,
+        unit: Unit::Acl { octets, .. },
+    } = *entry
+    else {
+        return None;
     };
-    for (place, count) in counts.iter().enumerate() {
-        if times_in(&entries, count) != count.3 {
-            return Ok(Some(place));
-        }
-    }
-    Ok(None)
-}
-
-/// Whether a scenario comes to what its row says, and the place of the first count that does not fit its capture.
-fn comes_true(alloc: Global, case: &Case) -> Result<(bool, Option<usize>), Fail> {
-    let mut inbox = empty_inbox(alloc, &[])?;
-    let mut ports = ports_of(alloc, case.row.text, case.row.objects, WELL)?;
-    let status = pushed(alloc, &mut ports, &mut inbox)?;
-    let wrong = first_wrong(alloc, ports.trace.octets(), case.counts)?;
-    Ok((is_come_to(status, &ports, &inbox, &case.row), wrong))
-}
-
-#[test]
-fn what_is_lost_is_said_again(rt: HostRuntime) -> Result<(), Fail> {
-    for case in CASES {
-        assert_eq!(rt;
-            comes_true(rt.alloc(), case)?,
-            (true, None),
-            "{}",
-            case.row.text
-        );
-    }
-    Ok(())
-}
-
-/// What came of an object whose link broke: it is lost and not stored, it is lost and stored, or it is done and stored.
-#[derive(Clone, Copy, PartialEq, Eq)]
-enum Fate {
-    Gone,
-    Kept,
-    Done,
-}
-
-/// What comes of an object whose link breaks behind so many passes. `None` where that is nothing of the three.
-fn fate_behind(alloc: Global, transport: &str, passes: u32) -> Result<Option<Fate>, Fail> {
-    let text = format!(in alloc;
-        "transport {}\nobject a\nradio\n{} pass\n1 drop\n1216 pass\n",
-        transport, passes
-    )?;
-    let mut inbox = empty_inbox(alloc, &[])?;
-    let mut ports = ports_of(alloc, text.as_str(), &[("a", HI)], WELL)?;
-    let status = pushed(alloc, &mut ports, &mut inbox)?;
-    let report = ports.sink.octets();
-    let stored = is_stored(&inbox, 0, A, HI);
-    Ok(match status {
-        Status::Ok if report.starts_with(b"1 done a\nkept 1\n") && stored => Some(Fate::Done),
-        Status::SomeFailed if report.starts_with(b"1 link-lost a\nkept 1\n") && stored => Some(
-            Fate::Kept,
-        ),
-        Status::SomeFailed if report.starts_with(b"1 link-lost a\nkept 0\n") && inbox.is_empty() =>
-            Some(Fate::Gone),
+    match octets {
+        [_, _, 0x41, 0x00, control, ..] if control % 2 == 0 => Some(control / 2 % 64),
         _ => None,
-    })
+    }
 }
 
-/// Whether a link that breaks one pass later may come to this.
-fn may_follow(now: Option<Fate>, last: Fate) -> bool {
-    match (last, now) {
-        (Fate::Gone, Some(Fate::Gone | Fate::Kept)) => true,
-        (Fate::Kept, Some(Fate::Kept | Fate::Done)) => true,
-        (Fate::Done, Some(Fate::Done)) => true,
-        _ => false,
+/// How often the second of two numbers comes right behind the first.
+fn times_behind(entries: &[Entry<'_>], pair: (u8, u8)) -> usize {
+    let (mut last, mut times) = (None, 0usize);
+    for entry in entries {
+        if let Some(number) = number_of(entry) {
+            if last == Some(pair.0) && number == pair.1 {
+                times = times.saturating_add(1);
+            }
+            last = Some(number);
+        }
     }
+    times
+}
+
+/// Whether each jump comes once.
+fn all_jump(entries: &[Entry<'_>]) -> bool {
+    for pair in rows(&JUMPS) {
+        if times_behind(entries, *pair) != 1 {
+            return false;
+        }
+    }
+    true
+}
+
+/// A scenario and what it comes to, where the I-frames of the capture jump.
+#[derive(Clone, Copy)]
+struct Jumping<'a>(&'a Row);
+
+impl<'a> Judge for Jumping<'a> {
+    fn judges(&self, alloc: Global, status: Status, sink: &[u8], trace: &[u8]) -> bool {
+        let jump = match entries_of(alloc, trace) {
+            Ok(entries) => all_jump(&entries),
+            Err(_) => false,
+        };
+        jump && self.0.judges(alloc, status, sink, trace)
+    }
+}
+
+/// Whether a scenario comes to what its row says, and the I-frames of its capture jump where they should.
+fn jumps_true(alloc: Global, row: &Row) -> bool {
+    ends(
+        alloc,
+        &pushed(row.text, row.objects),
+        &Jumping(row),
+        row.stored,
+    )
 }
 
 #[test]
-fn a_broken_push_is_stored_once_or_never(rt: HostRuntime) -> Result<(), Fail> {
-    for transport in ["l2cap", "rfcomm"].iter() {
-        let mut last = Fate::Gone;
-        for passes in 1..80 {
-            let now = fate_behind(rt.alloc(), *transport, passes)?;
-            assert!(rt; may_follow(now, last), "{} {}", *transport, passes);
-            if let Some(fate) = now {
-                last = fate;
-            }
-        }
-        assert!(rt; last == Fate::Done, "{}", *transport);
+fn numbers_of_frames_wrap_over_losses(rt: HostRuntime) {
+    for row in rows(&WRAPPED) {
+        assert!(rt; jumps_true(rt.alloc(), row));
     }
-    Ok(())
 }
