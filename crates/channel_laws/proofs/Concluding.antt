@@ -33,21 +33,21 @@ use Rattle.channel_laws.proofs.Both.{and-left, and-right}
 
 -- ---- nothing waits
 
-none_waits : (e : Errand) (identifier : ℕ) (v : Channels) → request_of e v ≡ None → WaitsNoMore e identifier v
+pub none_waits : (e : Errand) (identifier : ℕ) (v : Channels) → request_of e v ≡ None → WaitsNoMore e identifier v
 none_waits e identifier v none r is = let never : None ≡ Some r = sym none ∙ is in absurd cc
 
 -- the channel goes on to a stage
-placed_at : (f : Stage → Option Request) (v w : Channels) (held : Held) (stage : Stage) → find (has_own held.own) v.held ≡ Some held → w.held ≡ map (in_place_of (staged held stage)) v.held → request_at f (find (has_own held.own) w.held) ≡ f stage
+pub placed_at : (f : Stage → Option Request) (v w : Channels) (held : Held) (stage : Stage) → find (has_own held.own) v.held ≡ Some held → w.held ≡ map (in_place_of (staged held stage)) v.held → request_at f (find (has_own held.own) w.held) ≡ f stage
 placed_at f v w held stage found is = ap (request_at f) (ap (find (has_own held.own)) is ∙ found-placed (staged held stage) held v.held found)
 
 -- or is no more
-gone_at : (f : Stage → Option Request) (v w : Channels) (held : Held) → w.held ≡ filter (λ other. not (eqb other.own held.own)) v.held → request_at f (find (has_own held.own) w.held) ≡ None
+pub gone_at : (f : Stage → Option Request) (v w : Channels) (held : Held) → w.held ≡ filter (λ other. not (eqb other.own held.own)) v.held → request_at f (find (has_own held.own) w.held) ≡ None
 gone_at f v w held is = ap (request_at f) (ap (find (has_own held.own)) is ∙ find-gone own_of held.own v.held)
 
 -- ---- a channel is closed
 
 -- no request for it waits any more, nor one for its options
-closed_none : (v : Channels) (held : Held) (reason : CloseReason) (stage : Stage) → held.stage ≡ stage → find (has_own held.own) v.held ≡ Some held
+pub closed_none : (v : Channels) (held : Held) (reason : CloseReason) (stage : Stage) → held.stage ≡ stage → find (has_own held.own) v.held ≡ Some held
     → (request_at for_channel (find (has_own held.own) (closes_at stage reason held v).held) ≡ None) × (request_at for_options (find (has_own held.own) (closes_at stage reason held v).held) ≡ None)
 closed_none v held reason (Requested request) is found = (gone_at for_channel v (closes_at (Requested request) reason held v) held refl, gone_at for_options v (closes_at (Requested request) reason held v) held refl)
 closed_none v held reason (Connected peer setup) is found =
@@ -63,10 +63,10 @@ closed_none v held reason (Crossed peer request) is found = (ap (request_at for_
 
 -- ---- a channel that was asked for
 
-same_request : (r request : Request) → Some request ≡ Some r → request ≡ r
+pub same_request : (r request : Request) → Some request ≡ Some r → request ≡ r
 same_request r request is = cc
 
-granted_none : (policy : Policy) (destination answer : ℕ) (held : Held) (v : Channels) → find (has_own held.own) v.held ≡ Some held → eqb answer 1 ≡ false → (eqb answer 0 ≡ true → is_fresh_endpoint destination v ≡ true) → (request : Request) → held.stage ≡ Requested request
+pub granted_none : (policy : Policy) (destination answer : ℕ) (held : Held) (v : Channels) → find (has_own held.own) v.held ≡ Some held → eqb answer 1 ≡ false → (eqb answer 0 ≡ true → is_fresh_endpoint destination v ≡ true) → (request : Request) → held.stage ≡ Requested request
     → request_at for_channel (find (has_own held.own) (hears_connected policy destination answer held v).held) ≡ None
 granted_none policy destination answer held v found one fresh request stage_is = by (eqb answer 0) refl
   where
@@ -81,7 +81,7 @@ granted_none policy destination answer held v found one fresh request stage_is =
         ∙ placed_at for_channel v made held (Connected destination (record no_setup { own = Asking (new_request v) (first_options (policy.wish held.psm)) })) found refl
     by false zero = ap (λ b. request_at for_channel (find (has_own held.own) (cond b v refused).held)) one ∙ (closed_none v held (Refused answer) held.stage refl found).0
 
-grant_ends : (policy : Policy) (identifier destination answer : ℕ) (own : ℕ) (r : Request) (v : Channels) → request_of (errands.Connection own) v ≡ Some r → r.identifier ≡ identifier → eqb answer 1 ≡ false → (eqb answer 0 ≡ true → is_fresh_endpoint destination v ≡ true)
+pub grant_ends : (policy : Policy) (identifier destination answer : ℕ) (own : ℕ) (r : Request) (v : Channels) → request_of (errands.Connection own) v ≡ Some r → r.identifier ≡ identifier → eqb answer 1 ≡ false → (eqb answer 0 ≡ true → is_fresh_endpoint destination v ≡ true)
     → request_of (errands.Connection own) (hears_grant (held_at own v) policy identifier destination answer v) ≡ None
 grant_ends policy identifier destination answer own r v is same one fresh = by (held_at own v) refl is
   where
@@ -104,14 +104,14 @@ grant_ends policy identifier destination answer own r v is same one fresh = by (
 
 -- ---- the end of a channel
 
-ended_none : (v : Channels) (held : Held) (reason : CloseReason) (stage : Stage) (r : Request) → for_end stage ≡ Some r → request_at for_end (find (has_own held.own) (ends_at stage reason held v).held) ≡ None
+pub ended_none : (v : Channels) (held : Held) (reason : CloseReason) (stage : Stage) (r : Request) → for_end stage ≡ Some r → request_at for_end (find (has_own held.own) (ends_at stage reason held v).held) ≡ None
 ended_none v held reason (Requested request) r is = cc
 ended_none v held reason (Connected peer setup) r is = cc
 ended_none v held reason (Leaving peer setup request) r is = gone_at for_end v (ends_at (Leaving peer setup request) reason held v) held refl
 ended_none v held reason (Closing peer request checked) r is = gone_at for_end v (ends_at (Closing peer request checked) reason held v) held refl
 ended_none v held reason (Crossed peer request) r is = gone_at for_end v (ends_at (Crossed peer request) reason held v) held refl
 
-end_ends : (own destination : ℕ) (r : Request) (v : Channels) → request_of (errands.Disconnection own) v ≡ Some r → OnHeld (λ held. is_peer destination held.stage ≡ true) (held_at own v)
+pub end_ends : (own destination : ℕ) (r : Request) (v : Channels) → request_of (errands.Disconnection own) v ≡ Some r → OnHeld (λ held. is_peer destination held.stage ≡ true) (held_at own v)
     → request_of (errands.Disconnection own) (hears_end (held_at own v) destination v) ≡ None
 end_ends own destination r v is final = by (held_at own v) refl is final
   where
@@ -123,14 +123,14 @@ end_ends own destination r v is final = by (held_at own v) refl is final
 
 -- ---- the options of a channel
 
-options_with : (after : Setup) (stage : Stage) (setup : Setup) → setup_of stage ≡ Some setup → for_options (stage_with after stage) ≡ own_request after.own
+pub options_with : (after : Setup) (stage : Stage) (setup : Setup) → setup_of stage ≡ Some setup → for_options (stage_with after stage) ≡ own_request after.own
 options_with after (Requested request) setup is = cc
 options_with after (Connected peer before) setup is = refl
 options_with after (Leaving peer before request) setup is = refl
 options_with after (Closing peer request checked) setup is = cc
 options_with after (Crossed peer request) setup is = cc
 
-settled_ends : (now : Settled) (identifier : ℕ) (v : Channels) (held : Held) (setup : Setup) → find (has_own held.own) v.held ≡ Some held → setup_of held.stage ≡ Some setup → IsDecided now identifier v.identifier
+pub settled_ends : (now : Settled) (identifier : ℕ) (v : Channels) (held : Held) (setup : Setup) → find (has_own held.own) v.held ≡ Some held → setup_of held.stage ≡ Some setup → IsDecided now identifier v.identifier
     → WaitsNoMore (errands.Configuration held.own) identifier (hears_settled now held setup v)
 settled_ends Accepted identifier v held setup found is decided = none_waits (errands.Configuration held.own) identifier (grants held setup v) (by (is_some setup.carrier))
   where
@@ -168,25 +168,25 @@ settled_ends (Again options) identifier v held setup found is decided = by (is_l
 settled_ends Wait identifier v held setup found is decided = absurd decided
 settled_ends Never identifier v held setup found is decided = none_waits (errands.Configuration held.own) identifier (closes NoAgreement held v) (closed_none v held NoAgreement held.stage refl found).1
 
-options_end : (given : Result Options ConfigRefusal) (policy : Policy) (answer identifier : ℕ) (v : Channels) (held : Held) (setup : Setup) → find (has_own held.own) v.held ≡ Some held → setup_of held.stage ≡ Some setup → IsDecidedBy given policy answer identifier v.identifier held
+pub options_end : (given : Result Options ConfigRefusal) (policy : Policy) (answer identifier : ℕ) (v : Channels) (held : Held) (setup : Setup) → find (has_own held.own) v.held ≡ Some held → setup_of held.stage ≡ Some setup → IsDecidedBy given policy answer identifier v.identifier held
     → WaitsNoMore (errands.Configuration held.own) identifier (hears_options given policy answer held setup v)
 options_end (Ok options) policy answer identifier v held setup found is decided = settled_ends (settled (policy.wish held.psm) answer options) identifier v held setup found is decided
 options_end (Err refusal) policy answer identifier v held setup found is decided = absurd decided
 
-own_asked : (own : Own) (r : Request) (identifier : ℕ) → own_request own ≡ Some r → r.identifier ≡ identifier → is_asked identifier own ≡ true
+pub own_asked : (own : Own) (r : Request) (identifier : ℕ) → own_request own ≡ Some r → r.identifier ≡ identifier → is_asked identifier own ≡ true
 own_asked Unasked r identifier is same = cc
 own_asked (Asking request options) r identifier is same =
     let it : request ≡ r = same_request r request is in ap (λ (x : Request). eqb x.identifier identifier) it ∙ (ap (λ n. eqb n identifier) same ∙ eqb-same identifier)
 own_asked Granted r identifier is same = cc
 
-stage_asked : (stage : Stage) (r : Request) → for_options stage ≡ Some r → (setup : Setup) × (setup_of stage ≡ Some setup) × (own_request setup.own ≡ Some r)
+pub stage_asked : (stage : Stage) (r : Request) → for_options stage ≡ Some r → (setup : Setup) × (setup_of stage ≡ Some setup) × (own_request setup.own ≡ Some r)
 stage_asked (Requested request) r is = cc
 stage_asked (Connected peer setup) r is = (setup, refl, is)
 stage_asked (Leaving peer setup request) r is = (setup, refl, is)
 stage_asked (Closing peer request checked) r is = cc
 stage_asked (Crossed peer request) r is = cc
 
-response_ends : (policy : Policy) (own answer identifier : ℕ) (octets : List ℕ) (r : Request) (v : Channels) → request_of (errands.Configuration own) v ≡ Some r → r.identifier ≡ identifier
+pub response_ends : (policy : Policy) (own answer identifier : ℕ) (octets : List ℕ) (r : Request) (v : Channels) → request_of (errands.Configuration own) v ≡ Some r → r.identifier ≡ identifier
     → OnHeld (IsDecidedBy (options_read octets) policy answer identifier v.identifier) (held_at own v) → WaitsNoMore (errands.Configuration own) identifier (hears_response (held_at own v) policy identifier answer octets v)
 response_ends policy own answer identifier octets r v is same final = by (held_at own v) refl is final
   where
@@ -203,7 +203,7 @@ response_ends policy own answer identifier octets r v is same final = by (held_a
 
 -- ---- the features
 
-features_end : (identifier : ℕ) (given : Option ℕ) (r : Request) (v : Channels) → v.features ≡ Some r → r.identifier ≡ identifier → (hears_features identifier given v).features ≡ None
+pub features_end : (identifier : ℕ) (given : Option ℕ) (r : Request) (v : Channels) → v.features ≡ Some r → r.identifier ≡ identifier → (hears_features identifier given v).features ≡ None
 features_end identifier given r v is same =
     let known : has_identifier identifier v.features ≡ true = ap (has_identifier identifier) is ∙ (ap (λ n. eqb n identifier) same ∙ eqb-same identifier) in
     let w : Channels = tells (Features given) (forgets errands.Features (record v { features = None })) in
@@ -211,7 +211,7 @@ features_end identifier given r v is same =
 
 -- ---- any of them
 
-content_ends : (policy : Policy) (e : Errand) (identifier : ℕ) (content : Content) (r : Request) (v : Channels) → request_of e v ≡ Some r → r.identifier ≡ identifier → responds_with e content ≡ true → IsFinal policy identifier content v
+pub content_ends : (policy : Policy) (e : Errand) (identifier : ℕ) (content : Content) (r : Request) (v : Channels) → request_of e v ≡ Some r → r.identifier ≡ identifier → responds_with e content ≡ true → IsFinal policy identifier content v
     → WaitsNoMore e identifier (hears_content policy identifier content v)
 content_ends policy (errands.Connection own) identifier (connection_response destination source answer status) r v is same so (one, fresh) =
     let it : source ≡ own = eqb-true source own so in

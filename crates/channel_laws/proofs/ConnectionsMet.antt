@@ -55,24 +55,24 @@ use Rattle.channel_laws.proofs.Recalling.{CallRemembered, heard-so, calls-rememb
 
 -- ---- lists
 
-each_split : {X : Type 0} (P : List X → X → Type 0) (past xs ys : List X) → EachAfter P past (xs ++ ys) → EachAfter P past xs × EachAfter P (past ++ xs) ys
+pub each_split : {X : Type 0} (P : List X → X → Type 0) (past xs ys : List X) → EachAfter P past (xs ++ ys) → EachAfter P past xs × EachAfter P (past ++ xs) ys
 each_split P past [] ys all = (tt, subst (λ before. EachAfter P before ys) (sym (append-nil past)) all)
 each_split P past (x ∷ xs) ys (now, all) =
     let rest = each_split P (past ++ x ∷ []) xs ys all in ((now, rest.0), subst (λ before. EachAfter P before ys) (append_assoc past (x ∷ []) xs) rest.1)
 
-each_within : {X : Type 0} (P : List X → X → Type 0) (past xs : List X) → ((front : List X) (x : X) (rest : List X) → past ++ xs ≡ front ++ x ∷ rest → P front x) → EachAfter P past xs
+pub each_within : {X : Type 0} (P : List X → X → Type 0) (past xs : List X) → ((front : List X) (x : X) (rest : List X) → past ++ xs ≡ front ++ x ∷ rest → P front x) → EachAfter P past xs
 each_within P past [] all = tt
 each_within P past (x ∷ xs) all = (all past x xs refl, each_within P (past ++ x ∷ []) xs (λ front y rest is. all front y rest (sym (append_assoc past (x ∷ []) xs) ∙ is)))
 
 -- ---- a request for a channel that waits
 
 -- the host that it waits at has a channel that is only asked for
-record Due (own : ℕ) (request : Request) (v : Channels) : Type 0 where
-  held : Held
-  found : find (has_own own) v.held ≡ Some held
-  stage_is : held.stage ≡ Requested request
+pub record Due (own : ℕ) (request : Request) (v : Channels) : Type 0 where
+  pub held : Held
+  pub found : find (has_own own) v.held ≡ Some held
+  pub stage_is : held.stage ≡ Requested request
 
-due_at : (own : ℕ) (request : Request) (v : Channels) → request_of (Connection own) v ≡ Some request → Due own request v
+pub due_at : (own : ℕ) (request : Request) (v : Channels) → request_of (Connection own) v ≡ Some request → Due own request v
 due_at own request v is = by (held_at own v) refl is
   where
     at : (held : Held) (stage : Stage) → find (has_own own) v.held ≡ Some held → held.stage ≡ stage → for_channel stage ≡ Some request → Due own request v
@@ -87,7 +87,7 @@ due_at own request v is = by (held_at own v) refl is
     by (Some held) found same = at held held.stage found refl same
 
 -- and it was said
-due_asked : (policy : Policy) (list : List Occurrence) (own : ℕ) (request : Request) → (due : Due own request (run_of policy list).value) → HasAsked request.identifier due.held.psm own (run_of policy list).said
+pub due_asked : (policy : Policy) (list : List Occurrence) (own : ℕ) (request : Request) → (due : Due own request (run_of policy list).value) → HasAsked request.identifier due.held.psm own (run_of policy list).said
 due_asked policy list own request due =
     let run : Run = run_of policy list in
     let sound : IsSound policy run = all-sound policy list in
@@ -99,12 +99,12 @@ due_asked policy list own request due =
 -- ---- the endpoint that is granted is no other channel's
 
 -- a live channel with that endpoint of the peer
-record Live (peer : ℕ) (v : Channels) : Type 0 where
-  held : Held
-  found : find (has_own held.own) v.held ≡ Some held
-  is : is_live_peer peer held.stage ≡ true
+pub record Live (peer : ℕ) (v : Channels) : Type 0 where
+  pub held : Held
+  pub found : find (has_own held.own) v.held ≡ Some held
+  pub is : is_live_peer peer held.stage ≡ true
 
-has_peer_of : (stage : Stage) (peer : ℕ) → is_live_peer peer stage ≡ true → peer_of stage ≡ Some peer
+pub has_peer_of : (stage : Stage) (peer : ℕ) → is_live_peer peer stage ≡ true → peer_of stage ≡ Some peer
 has_peer_of (Requested request) peer is = cc
 has_peer_of (Connected other setup) peer is = ap Some (sym (eqb-true peer other is))
 has_peer_of (Leaving other setup request) peer is = ap Some (sym (eqb-true peer other is))
@@ -112,10 +112,10 @@ has_peer_of (Closing other request checked) peer is = ap Some (sym (eqb-true pee
 has_peer_of (Crossed other request) peer is = cc
 
 -- its talk has it
-abbrev LiveRead : (run : Run) (peer : ℕ) → Live peer run.value → Type 0
+abbrev pub LiveRead : (run : Run) (peer : ℕ) → Live peer run.value → Type 0
 LiveRead run peer live = (entry : Entry) × (read_at live.held.own (reading run.said).entries ≡ Some entry) × (entry.channel ≡ channel_by live.held.psm live.held.own peer)
 
-live_read : (policy : Policy) (list : List Occurrence) (peer : ℕ) (live : Live peer (run_of policy list).value) → LiveRead (run_of policy list) peer live
+pub live_read : (policy : Policy) (list : List Occurrence) (peer : ℕ) (live : Live peer (run_of policy list).value) → LiveRead (run_of policy list) peer live
 live_read policy list peer live = by (read_at live.held.own (reading run.said).entries) refl there
   where
     run : Run
@@ -130,12 +130,12 @@ live_read policy list peer live = by (read_at live.held.own (reading run.said).e
     by None found is = elim is [ ]
     by (Some entry) found is = (entry, found, is.0.channel_is)
 
-is_for_some : (peer : ℕ) (found : Option Entry) → IsFor peer found → (entry : Entry) × (found ≡ Some entry) × (entry.channel.peer ≡ peer)
+pub is_for_some : (peer : ℕ) (found : Option Entry) → IsFor peer found → (entry : Entry) × (found ≡ Some entry) × (entry.channel.peer ≡ peer)
 is_for_some peer None is = elim is [ ]
 is_for_some peer (Some entry) is = (entry, refl, is)
 
 -- it is for one endpoint of the peer
-granted_to_one : (one other endpoint : ℕ) (said : List Saying) → IsFor one (read_at endpoint (reading said).entries) → IsFor other (read_at endpoint (reading said).entries) → one ≡ other
+pub granted_to_one : (one other endpoint : ℕ) (said : List Saying) → IsFor one (read_at endpoint (reading said).entries) → IsFor other (read_at endpoint (reading said).entries) → one ≡ other
 granted_to_one one other endpoint said first second =
     let (entry, found, is) = is_for_some one (read_at endpoint (reading said).entries) first in
     sym is ∙ subst (IsFor other) found second
@@ -299,7 +299,7 @@ module _ (near far : Policy) (past : List Turn) (read : AreRead near far past) (
 -- ---- each turn
 
 -- a response is heard as it comes in
-takes_said : (end' : End) (pdu : List ℕ) (own : ℕ) (command : Command) → eqb (channel_of pdu) 0x0001 ≡ true → answers (drop 4 pdu) ≡ Ok command ∷ [] → responds_with (Connection own) command.content ≡ true → StandsIn (sayings.Command Into (Ok command)) (occurs (Comes pdu) end').run.said
+pub takes_said : (end' : End) (pdu : List ℕ) (own : ℕ) (command : Command) → eqb (channel_of pdu) 0x0001 ≡ true → answers (drop 4 pdu) ≡ Ok command ∷ [] → responds_with (Connection own) command.content ≡ true → StandsIn (sayings.Command Into (Ok command)) (occurs (Comes pdu) end').run.said
 takes_said end' pdu own command signals read responds =
     let said_is : said_in end'.policy (Comes pdu) end'.run.value ≡ said_with_all end'.policy (Ok command ∷ []) end'.run.value =
     ap (λ (b : Bool). cond b (said_with_all end'.policy (answers (drop 4 pdu)) end'.run.value) (sayings.Carried Into pdu ∷ asked_between end'.run.value (takes (channel_of pdu) pdu end'.run.value))) signals ∙ ap (λ list. said_with_all end'.policy list end'.run.value) read in
@@ -323,7 +323,7 @@ takes_said end' pdu own command signals read responds =
         let silent : reply_to end'.policy (Ok command) end'.run.value ≡ None = ap (command_if command.identifier) (ap (λ (c : Content). response_to end'.policy command.identifier c end'.run.value) is ∙ none content so) in
         heard-so end'.policy command end'.run.value _ (ap (λ (r : Option Command). can_say (option_map (λ (c : Command). c.content) r) end'.run.value) silent)
 
-response_pledged : (own : ℕ) (content : Content) → responds_with (Connection own) content ≡ true → is_pledge content ≡ true
+pub response_pledged : (own : ℕ) (content : Content) → responds_with (Connection own) content ≡ true → is_pledge content ≡ true
 response_pledged own (connection_response destination source answer status) so = refl
 response_pledged own (reject reason rest) so = cc
 response_pledged own (connection_request psm source) so = cc
@@ -336,12 +336,12 @@ response_pledged own (echo_response octets) so = cc
 response_pledged own (information_request kind) so = cc
 response_pledged own (information_response kind answer rest) so = cc
 
-second_holds : (a b : Bool) → (a && b) ≡ true → b ≡ true
+pub second_holds : (a b : Bool) → (a && b) ≡ true → b ≡ true
 second_holds true b is = is
 second_holds false b is = cc
 
 -- what came in so is decisive
-decisive_first : (pdu : List ℕ) (coming : List (List ℕ)) (command : Command) → AllPlainly (pdu ∷ coming) → eqb (channel_of pdu) 0x0001 ≡ true → answers (drop 4 pdu) ≡ Ok command ∷ [] → IsDecisive command.content
+pub decisive_first : (pdu : List ℕ) (coming : List (List ℕ)) (command : Command) → AllPlainly (pdu ∷ coming) → eqb (channel_of pdu) 0x0001 ≡ true → answers (drop 4 pdu) ≡ Ok command ∷ [] → IsDecisive command.content
 decisive_first pdu coming command all signals read =
     let (meant, is, decisive) = all pdu (inl refl) signals in
     let same : Ok meant ∷ [] ≡ Ok command ∷ [] = sym is ∙ read in

@@ -17,7 +17,7 @@ use Rattle.channel_model.specs.Calls.{has_fcs}
 use Rattle.channel_model.specs.Changing.{has_own, held_at, same_errand, is_answer}
 use Rattle.channel_model.specs.Giving.{Given, Signal, IsPdu, command_of, connection_at, configuration_by, configuration_at, disconnection_at, on_held, features_command, gives, counted, queue_gives, queue_given, next_given}
 use Rattle.channel_model.proofs.Lookups.{own_of, Distinct, eqb-same, found-has}
-use Rattle.channel_laws.specs.Adverse.{asks_with, asks_for, responds_to, how_many, is_read_so, brings, answers_so, under_way, is_quiet, falls, is_vain, adverse_by, seen_from, adverse_from, AdverseTurnsAreCounted, disturbs, disturbances, IsHeeded, DisturbancesAreCounted}
+use Rattle.channel_laws.specs.Adverse.{asks_with, asks_for, responds_to, how_many, is_read_so, brings, answers_so, under_way, is_quiet, falls, is_vain, adverse_by, seen_from, adverse_from, AdverseTurnsAreCounted, AdverseTurnsAreCountedSince, disturbs, disturbances, IsHeeded, DisturbancesAreCounted, DisturbancesAreCountedSince}
 use Rattle.channel_laws.specs.Belonging.{IsReadAs, IsRead}
 use Rattle.channel_laws.specs.Ends.{DoesSo, end_at}
 use Rattle.channel_laws.specs.Frames.{IsSpelled, IsUttered}
@@ -35,47 +35,47 @@ use Rattle.channel_laws.proofs.Spending.{Kept, pass-less, kept-less, kept-tame, 
 
 -- ---- a copy of a request is read as one
 
-some_is : {X : Type 0} (x y : X) → Some x ≡ Some y → x ≡ y
+pub some_is : {X : Type 0} (x y : X) → Some x ≡ Some y → x ≡ y
 some_is x y is = cc
 
 -- with its identifier, and what it asks for
-copy_of : (e : Errand) (r request : Request) (c command : Command) → request ≡ r → command ≡ c → command.identifier ≡ request.identifier → asks_with e command.content ≡ true → asks_for e r.identifier c ≡ true
+pub copy_of : (e : Errand) (r request : Request) (c command : Command) → request ≡ r → command ≡ c → command.identifier ≡ request.identifier → asks_with e command.content ≡ true → asks_for e r.identifier c ≡ true
 copy_of e r request c command is_r is_c same asks =
     subst (λ (x : Request). asks_for e x.identifier c ≡ true) is_r
     (subst (λ (x : Command). asks_for e request.identifier x ≡ true) is_c
     (ap (λ n. eqb n request.identifier && asks_with e command.content) same ∙ (ap (λ b. b && asks_with e command.content) (eqb-same request.identifier) ∙ asks)))
 
-channel_asks : (own : ℕ) (held : Held) (stage : Stage) (r : Request) (c : Command) → held.own ≡ own → for_channel stage ≡ Some r → connection_at stage held ≡ Some c → asks_for (errands.Connection own) r.identifier c ≡ true
+pub channel_asks : (own : ℕ) (held : Held) (stage : Stage) (r : Request) (c : Command) → held.own ≡ own → for_channel stage ≡ Some r → connection_at stage held ≡ Some c → asks_for (errands.Connection own) r.identifier c ≡ true
 channel_asks own held (Requested request) r c same is command = copy_of (errands.Connection own) r request c _ (some_is request r is) (some_is _ c command) refl (ap (λ n. eqb n own) same ∙ eqb-same own)
 channel_asks own held (Connected peer setup) r c same is command = cc
 channel_asks own held (Leaving peer setup request) r c same is command = cc
 channel_asks own held (Closing peer request checked) r c same is command = cc
 channel_asks own held (Crossed peer request) r c same is command = cc
 
-own_asks : (own peer : ℕ) (asked : Own) (r : Request) (c : Command) → own_request asked ≡ Some r → configuration_by asked peer ≡ Some c → asks_for (errands.Configuration own) r.identifier c ≡ true
+pub own_asks : (own peer : ℕ) (asked : Own) (r : Request) (c : Command) → own_request asked ≡ Some r → configuration_by asked peer ≡ Some c → asks_for (errands.Configuration own) r.identifier c ≡ true
 own_asks own peer Unasked r c is command = cc
 own_asks own peer (Asking request options) r c is command = copy_of (errands.Configuration own) r request c _ (some_is request r is) (some_is _ c command) refl refl
 own_asks own peer Granted r c is command = cc
 
-options_ask : (own : ℕ) (stage : Stage) (r : Request) (c : Command) → for_options stage ≡ Some r → configuration_at stage ≡ Some c → asks_for (errands.Configuration own) r.identifier c ≡ true
+pub options_ask : (own : ℕ) (stage : Stage) (r : Request) (c : Command) → for_options stage ≡ Some r → configuration_at stage ≡ Some c → asks_for (errands.Configuration own) r.identifier c ≡ true
 options_ask own (Requested request) r c is command = cc
 options_ask own (Connected peer setup) r c is command = own_asks own peer setup.own r c is command
 options_ask own (Leaving peer setup request) r c is command = own_asks own peer setup.own r c is command
 options_ask own (Closing peer request checked) r c is command = cc
 options_ask own (Crossed peer request) r c is command = cc
 
-end_asks : (own : ℕ) (held : Held) (stage : Stage) (r : Request) (c : Command) → held.own ≡ own → for_end stage ≡ Some r → disconnection_at stage held ≡ Some c → asks_for (errands.Disconnection own) r.identifier c ≡ true
+pub end_asks : (own : ℕ) (held : Held) (stage : Stage) (r : Request) (c : Command) → held.own ≡ own → for_end stage ≡ Some r → disconnection_at stage held ≡ Some c → asks_for (errands.Disconnection own) r.identifier c ≡ true
 end_asks own held (Requested request) r c same is command = cc
 end_asks own held (Connected peer setup) r c same is command = cc
 end_asks own held (Leaving peer setup request) r c same is command = copy_of (errands.Disconnection own) r request c _ (some_is request r is) (some_is _ c command) refl (ap (λ n. eqb n own) same ∙ eqb-same own)
 end_asks own held (Closing peer request checked) r c same is command = copy_of (errands.Disconnection own) r request c _ (some_is request r is) (some_is _ c command) refl (ap (λ n. eqb n own) same ∙ eqb-same own)
 end_asks own held (Crossed peer request) r c same is command = copy_of (errands.Disconnection own) r request c _ (some_is request r is) (some_is _ c command) refl (ap (λ n. eqb n own) same ∙ eqb-same own)
 
-features_ask : (features : Option Request) (r : Request) (c : Command) → features ≡ Some r → features_command features ≡ Some c → asks_for errands.Features r.identifier c ≡ true
+pub features_ask : (features : Option Request) (r : Request) (c : Command) → features ≡ Some r → features_command features ≡ Some c → asks_for errands.Features r.identifier c ≡ true
 features_ask None r c is command = cc
 features_ask (Some request) r c is command = copy_of errands.Features r request c _ (some_is request r is) (some_is _ c command) refl refl
 
-asks_so : (e : Errand) (v : Channels) (r : Request) (c : Command) → request_of e v ≡ Some r → command_of e v ≡ Some c → asks_for e r.identifier c ≡ true
+pub asks_so : (e : Errand) (v : Channels) (r : Request) (c : Command) → request_of e v ≡ Some r → command_of e v ≡ Some c → asks_for e r.identifier c ≡ true
 asks_so (errands.Connection own) v r c is command = by (held_at own v) refl is command
   where
     by : (held : Option Held) → find (has_own own) v.held ≡ held → request_at for_channel held ≡ Some r → on_held (λ held. connection_at held.stage held) held ≡ Some c → asks_for (errands.Connection own) r.identifier c ≡ true
@@ -94,7 +94,7 @@ asks_so (errands.Disconnection own) v r c is command = by (held_at own v) refl i
 asks_so errands.Features v r c is command = features_ask v.features r c is command
 
 -- a command that is given is read of its octets
-brings_given : (is : Command → Bool) (c : Command) (pdu : List ℕ) → IsPdu (Signal c) pdu → IsReadAs (Some (Signal c)) pdu → is c ≡ true → brings is pdu ≡ true
+pub brings_given : (is : Command → Bool) (c : Command) (pdu : List ℕ) → IsPdu (Signal c) pdu → IsReadAs (Some (Signal c)) pdu → is c ≡ true → brings is pdu ≡ true
 brings_given is c pdu octets read so =
     let to : channel_of pdu ≡ 1 = ap channel_of octets ∙ le16-number 1 (spelling c) (omega arith) in
     let it : Read = Ok c in
@@ -110,7 +110,7 @@ pub record Known (end' : End) : Type 0 where
   pub lone : Distinct own_of end'.run.value.held
   pub stay : (is : Command → Bool) (more : Occurrence) → is_giving more ≡ false → how_many (answers_so is) end'.run.value.queue ≤ how_many (answers_so is) (occurs more end').run.value.queue
 
-known_by : (policy : Policy) (list : List Occurrence) (end' : End) → end'.policy ≡ policy → end'.run ≡ run_of policy list → Known end'
+pub known_by : (policy : Policy) (list : List Occurrence) (end' : End) → end'.policy ≡ policy → end'.run ≡ run_of policy list → Known end'
 known_by policy list end' policy_is run_is =
     let sound : IsSound policy (run_of policy list) = all-sound policy list in
     record {
@@ -126,12 +126,12 @@ known_by policy list end' policy_is run_is =
 
 -- A request of the near end was given no more often than turns were adverse and something is under way for it, and with the copies of it that
 -- wait at most once more often than turns were adverse.
-record Pays (e : Errand) (adverse : ℕ) (pair : Pair) : Type 0 where
-  most : Kept e (1 + adverse) pair.near.run.value
-  way : (r : Request) → request_of e pair.near.run.value ≡ Some r → r.given ≤ adverse + under_way e r.identifier pair
+pub record Pays (e : Errand) (adverse : ℕ) (pair : Pair) : Type 0 where
+  pub most : Kept e (1 + adverse) pair.near.run.value
+  pub way : (r : Request) → request_of e pair.near.run.value ≡ Some r → r.given ≤ adverse + under_way e r.identifier pair
 
 -- where requests are new or as they were
-owes_on : (e : Errand) (cost adverse : ℕ) (before after : Pair) → Tame before.near.run.value after.near.run.value
+pub owes_on : (e : Errand) (cost adverse : ℕ) (before after : Pair) → Tame before.near.run.value after.near.run.value
     → ((r : Request) → request_of e before.near.run.value ≡ Some r → request_of e after.near.run.value ≡ Some r → under_way e r.identifier before ≤ cost + under_way e r.identifier after)
     → Pays e adverse before → Pays e (cost + adverse) after
 owes_on e cost adverse before after tame way pays = record {
@@ -144,7 +144,7 @@ owes_on e cost adverse before after tame way pays = record {
     by r is (inr (was, less)) = let least = way r was is in let so_far = pays.way r was in omega (arith, least, so_far)
 
 -- less is under way with what comes in in vain alone
-vain_costs : (e : Errand) (before after : Pair) (r : Request) → request_of e before.near.run.value ≡ Some r → request_of e after.near.run.value ≡ Some r
+pub vain_costs : (e : Errand) (before after : Pair) (r : Request) → request_of e before.near.run.value ≡ Some r → request_of e after.near.run.value ≡ Some r
     → under_way e r.identifier before ≤ 1 + under_way e r.identifier after → under_way e r.identifier before ≤ one_if (is_vain e before after) + under_way e r.identifier after
 vain_costs e before after r was is less = subst (λ b. under_way e r.identifier before ≤ one_if b + under_way e r.identifier after) (sym vain_is) (by (ltb (under_way e r.identifier after) (under_way e r.identifier before)) refl)
   where
@@ -159,38 +159,38 @@ vain_costs e before after r was is less = subst (λ b. under_way e r.identifier 
 
 -- ---- at the end whose request it is
 
-tame_at : (end' : End) (more : Occurrence) → Known end' → is_firing more ≡ false → is_giving more ≡ false → Tame end'.run.value (occurs more end').run.value
+pub tame_at : (end' : End) (more : Occurrence) → Known end' → is_firing more ≡ false → is_giving more ≡ false → Tame end'.run.value (occurs more end').run.value
 tame_at end' more known fires gives = one-tame end'.policy more end'.run.value fires gives known.none
 
 -- something comes in, or is let go
-lets_owe : (e : Errand) (adverse cost : ℕ) (pair : Pair) (coming : List (List ℕ)) (end' : End) → Tame pair.near.run.value end'.run.value → end'.coming ≡ coming
+pub lets_owe : (e : Errand) (adverse cost : ℕ) (pair : Pair) (coming : List (List ℕ)) (end' : End) → Tame pair.near.run.value end'.run.value → end'.coming ≡ coming
     → ((identifier : ℕ) → under_way e identifier pair ≤ cost + under_way e identifier (with_near end' pair)) → Pays e adverse pair → Pays e (cost + adverse) (with_near end' pair)
 lets_owe e adverse cost pair coming end' tame is way pays = owes_on e cost adverse pair (with_near end' pair) tame (λ r was now. way r.identifier) pays
 
-first_owes : (e : Errand) (identifier : ℕ) (pair : Pair) (end' : End) (pdu : List ℕ) (coming : List (List ℕ)) → pair.near.coming ≡ pdu ∷ coming → end'.coming ≡ coming → under_way e identifier pair ≤ 1 + under_way e identifier (with_near end' pair)
+pub first_owes : (e : Errand) (identifier : ℕ) (pair : Pair) (end' : End) (pdu : List ℕ) (coming : List (List ℕ)) → pair.near.coming ≡ pdu ∷ coming → end'.coming ≡ coming → under_way e identifier pair ≤ 1 + under_way e identifier (with_near end' pair)
 first_owes e identifier pair end' pdu coming is after =
     let before : how_many (brings (responds_to e identifier)) pair.near.coming ≡ one_if (brings (responds_to e identifier) pdu) + how_many (brings (responds_to e identifier)) coming = ap (how_many (brings (responds_to e identifier))) is in
     let later : how_many (brings (responds_to e identifier)) end'.coming ≡ how_many (brings (responds_to e identifier)) coming = ap (how_many (brings (responds_to e identifier))) after in
     let least = one-least (brings (responds_to e identifier) pdu) in
     omega (arith, before, later, least)
 
-takes_owe : (e : Errand) (adverse : ℕ) (pair : Pair) (coming : List (List ℕ)) → pair.near.coming ≡ coming → Known pair.near → Pays e adverse pair
+pub takes_owe : (e : Errand) (adverse : ℕ) (pair : Pair) (coming : List (List ℕ)) → pair.near.coming ≡ coming → Known pair.near → Pays e adverse pair
     → Pays e (one_if (is_vain e pair (with_near (takes_first coming pair.near) pair)) + adverse) (with_near (takes_first coming pair.near) pair)
 takes_owe e adverse pair [] is known pays = owes_on e (one_if (is_vain e pair (with_near pair.near pair))) adverse pair (with_near pair.near pair) (same-tame pair.near.run.value) (λ r was now. omega arith) pays
 takes_owe e adverse pair (pdu ∷ coming) is known pays =
     let after : Pair = with_near (occurs (Comes pdu) (let_go coming pair.near)) pair in
     owes_on e (one_if (is_vain e pair after)) adverse pair after (tame_at pair.near (Comes pdu) known refl refl) (λ r was now. vain_costs e pair after r was now (first_owes e r.identifier pair after.near pdu coming is refl)) pays
 
-repeats_owe : (e : Errand) (adverse : ℕ) (pair : Pair) (coming : List (List ℕ)) → Known pair.near → Pays e adverse pair → Pays e (1 + adverse) (with_near (repeats_first coming pair.near) pair)
+pub repeats_owe : (e : Errand) (adverse : ℕ) (pair : Pair) (coming : List (List ℕ)) → Known pair.near → Pays e adverse pair → Pays e (1 + adverse) (with_near (repeats_first coming pair.near) pair)
 repeats_owe e adverse pair [] known pays = owes_on e 1 adverse pair (with_near pair.near pair) (same-tame pair.near.run.value) (λ r was now. omega arith) pays
 repeats_owe e adverse pair (pdu ∷ coming) known pays = owes_on e 1 adverse pair (with_near (occurs (Comes pdu) pair.near) pair) (tame_at pair.near (Comes pdu) known refl refl) (λ r was now. omega arith) pays
 
-loses_owe : (e : Errand) (adverse : ℕ) (pair : Pair) (coming : List (List ℕ)) → pair.near.coming ≡ coming → Pays e adverse pair → Pays e (1 + adverse) (with_near (loses_first coming pair.near) pair)
+pub loses_owe : (e : Errand) (adverse : ℕ) (pair : Pair) (coming : List (List ℕ)) → pair.near.coming ≡ coming → Pays e adverse pair → Pays e (1 + adverse) (with_near (loses_first coming pair.near) pair)
 loses_owe e adverse pair [] is pays = owes_on e 1 adverse pair (with_near pair.near pair) (same-tame pair.near.run.value) (λ r was now. omega arith) pays
 loses_owe e adverse pair (pdu ∷ coming) is pays =
     owes_on e 1 adverse pair (with_near (let_go coming pair.near) pair) (same-tame pair.near.run.value) (λ r was now. first_owes e r.identifier pair (let_go coming pair.near) pdu coming is refl) pays
 
-damages_owe : (e : Errand) (adverse : ℕ) (pair : Pair) (other : List ℕ) (coming : List (List ℕ)) → pair.near.coming ≡ coming → Known pair.near → Pays e adverse pair → Pays e (1 + adverse) (with_near (damages_first other coming pair.near) pair)
+pub damages_owe : (e : Errand) (adverse : ℕ) (pair : Pair) (other : List ℕ) (coming : List (List ℕ)) → pair.near.coming ≡ coming → Known pair.near → Pays e adverse pair → Pays e (1 + adverse) (with_near (damages_first other coming pair.near) pair)
 damages_owe e adverse pair other [] is known pays = owes_on e 1 adverse pair (with_near pair.near pair) (same-tame pair.near.run.value) (λ r was now. omega arith) pays
 damages_owe e adverse pair other (pdu ∷ coming) is known pays = by (has_fcs (channel_of pdu) pair.near.run.value)
   where
@@ -201,7 +201,7 @@ damages_owe e adverse pair other (pdu ∷ coming) is known pays = by (has_fcs (c
     by false = owes_on e 1 adverse pair (with_near (let_go coming pair.near) pair) (same-tame pair.near.run.value) (λ r was now. first_owes e r.identifier pair (let_go coming pair.near) pdu coming is refl) pays
 
 -- nothing is under way on a quiet link
-quiet_none : (e : Errand) (identifier : ℕ) (pair : Pair) → is_quiet pair ≡ true → under_way e identifier pair ≡ 0
+pub quiet_none : (e : Errand) (identifier : ℕ) (pair : Pair) → is_quiet pair ≡ true → under_way e identifier pair ≡ 0
 quiet_none e identifier pair is =
     let near = none-many (brings (responds_to e identifier)) pair.near.coming (eqb-true (length pair.near.coming) 0 near_none) in
     let far = none-many (brings (asks_for e identifier)) pair.far.coming (eqb-true (length pair.far.coming) 0 far_none) in
@@ -227,7 +227,7 @@ quiet_none e identifier pair is =
     not_so true is = cc
     not_so false is = refl
 
-fires_owe : (e : Errand) (adverse : ℕ) (pair : Pair) (quiet : Bool) → is_quiet pair ≡ quiet → Pays e adverse pair → Pays e (one_if (not quiet) + adverse) (with_near (occurs Fires pair.near) pair)
+pub fires_owe : (e : Errand) (adverse : ℕ) (pair : Pair) (quiet : Bool) → is_quiet pair ≡ quiet → Pays e adverse pair → Pays e (one_if (not quiet) + adverse) (with_near (occurs Fires pair.near) pair)
 fires_owe e adverse pair true is pays = record {
   most = λ r at. let all = fired r at in let bound = all.0 in omega (arith, bound);
   way = λ r at. let all = fired r at in let few = all.1 in omega (arith, few);
@@ -248,7 +248,7 @@ fires_owe e adverse pair false is pays = record {
     by r (inr was) = let so_far = pays.way r was in omega (arith, so_far)
 
 -- what the host does alone
-acts_owe : (e : Errand) (adverse : ℕ) (pair : Pair) (more : Occurrence) → is_alone more ≡ true → Known pair.near → Pays e adverse pair → Pays e (one_if (is_firing more && not (is_quiet pair)) + adverse) (with_near (occurs more pair.near) pair)
+pub acts_owe : (e : Errand) (adverse : ℕ) (pair : Pair) (more : Occurrence) → is_alone more ≡ true → Known pair.near → Pays e adverse pair → Pays e (one_if (is_firing more && not (is_quiet pair)) + adverse) (with_near (occurs more pair.near) pair)
 acts_owe e adverse pair (Comes pdu) alone known pays = cc
 acts_owe e adverse pair (Connects psm) alone known pays = owes_on e 0 adverse pair (with_near (occurs (Connects psm) pair.near) pair) (tame_at pair.near (Connects psm) known refl refl) (λ r was now. omega arith) pays
 acts_owe e adverse pair AsksFeatures alone known pays = owes_on e 0 adverse pair (with_near (occurs AsksFeatures pair.near) pair) (tame_at pair.near AsksFeatures known refl refl) (λ r was now. omega arith) pays
@@ -261,7 +261,7 @@ acts_owe e adverse pair Tells alone known pays = owes_on e 0 adverse pair (with_
 -- ---- its host gives a PDU
 
 -- a copy of the request goes out where it was given once more
-copy_goes : (e : Errand) (v : Channels) (queue : List Queued) (given : Given) (pdu : List ℕ) (r : Request) (given' : ℕ) → request_of e v ≡ Some r → queue_gives queue v ≡ Some given → IsPdu given pdu → IsReadAs (Some given) pdu
+pub copy_goes : (e : Errand) (v : Channels) (queue : List Queued) (given : Given) (pdu : List ℕ) (r : Request) (given' : ℕ) → request_of e v ≡ Some r → queue_gives queue v ≡ Some given → IsPdu given pdu → IsReadAs (Some given) pdu
     → copies e (queue_given queue v).queue + given' ≤ copies e queue + r.given → v.queue ≡ queue → given' ≤ one_if (brings (asks_for e r.identifier) pdu) + r.given
 copy_goes e v [] given pdu r given' is gives octets read less at =
     omega (arith, less)
@@ -288,7 +288,7 @@ copy_goes e v (Ask errand ∷ behind) given pdu r given' is gives octets read le
         let two : one_if (brings (asks_for e r.identifier) pdu) ≡ 1 = ap one_if there in
         omega (arith, one, two, queue_is, less)
 
-puts_owe : (e : Errand) (adverse : ℕ) (pair : Pair) (pdu : List ℕ) (given : Option Given) → next_given pair.near.run.value ≡ given → IsUttered (Gives pdu) pair.near.run.value → IsReadAs given pdu → Known pair.near → Pays e adverse pair → Pays e adverse (puts given pdu pair)
+pub puts_owe : (e : Errand) (adverse : ℕ) (pair : Pair) (pdu : List ℕ) (given : Option Given) → next_given pair.near.run.value ≡ given → IsUttered (Gives pdu) pair.near.run.value → IsReadAs given pdu → Known pair.near → Pays e adverse pair → Pays e adverse (puts given pdu pair)
 puts_owe e adverse pair pdu None is uttered read known pays = pays
 puts_owe e adverse pair pdu (Some given) is uttered read known pays = record {
   most = kept-less e (1 + adverse) v w (omega arith) (λ x r at. pass-less (copies x w.queue) (copies x v.queue) (request_of x v) r (pass x r at)) pays.most;
@@ -319,7 +319,7 @@ puts_owe e adverse pair pdu (Some given) is uttered read known pays = record {
         let more = way_more r'.identifier in
         subst (λ n. r.given ≤ adverse + under_way e n (put pdu pair)) (sym same) (omega (arith, so_far, goes, more))
 
-owner_turn : (e : Errand) (adverse : ℕ) (happening : Happening) (pair : Pair) → Known pair.near → DoesSo IsUttered happening pair.near → IsRead happening pair.near → Pays e adverse pair
+pub owner_turn : (e : Errand) (adverse : ℕ) (happening : Happening) (pair : Pair) → Known pair.near → DoesSo IsUttered happening pair.near → IsRead happening pair.near → Pays e adverse pair
     → Pays e (adverse_by e happening pair (happens_near happening pair) + adverse) (happens_near happening pair)
 owner_turn e adverse (Acts more) pair known uttered read pays = by (is_alone more) refl
   where
@@ -335,13 +335,13 @@ owner_turn e adverse (Damages other) pair known uttered read pays = damages_owe 
 -- ---- at the other end
 
 -- for a request of the far end
-peer_owes : (e : Errand) (cost adverse : ℕ) (pair : Pair) (end' : End)
+pub peer_owes : (e : Errand) (cost adverse : ℕ) (pair : Pair) (end' : End)
     → ((r : Request) → request_of e pair.far.run.value ≡ Some r → under_way e r.identifier (turned pair) ≤ cost + under_way e r.identifier (turned (with_near end' pair)))
     → Pays e adverse (turned pair) → Pays e (cost + adverse) (turned (with_near end' pair))
 peer_owes e cost adverse pair end' way pays = owes_on e cost adverse (turned pair) (turned (with_near end' pair)) (same-tame pair.far.run.value) (λ r was now. way r was) pays
 
 -- one PDU less comes, and no fewer answers wait
-less_comes : (e : Errand) (identifier : ℕ) (pair : Pair) (end' : End) (pdu : List ℕ) (coming : List (List ℕ)) → pair.near.coming ≡ pdu ∷ coming → end'.coming ≡ coming
+pub less_comes : (e : Errand) (identifier : ℕ) (pair : Pair) (end' : End) (pdu : List ℕ) (coming : List (List ℕ)) → pair.near.coming ≡ pdu ∷ coming → end'.coming ≡ coming
     → how_many (answers_so (responds_to e identifier)) pair.near.run.value.queue ≤ how_many (answers_so (responds_to e identifier)) end'.run.value.queue
     → under_way e identifier (turned pair) ≤ 1 + under_way e identifier (turned (with_near end' pair))
 less_comes e identifier pair end' pdu coming is after stay =
@@ -350,7 +350,7 @@ less_comes e identifier pair end' pdu coming is after stay =
     let least = one-least (brings (asks_for e identifier) pdu) in
     omega (arith, before, later, least, stay)
 
-peer_takes : (e : Errand) (adverse : ℕ) (pair : Pair) (coming : List (List ℕ)) → pair.near.coming ≡ coming → Known pair.near → Pays e adverse (turned pair)
+pub peer_takes : (e : Errand) (adverse : ℕ) (pair : Pair) (coming : List (List ℕ)) → pair.near.coming ≡ coming → Known pair.near → Pays e adverse (turned pair)
     → Pays e (one_if (is_vain e (turned pair) (turned (with_near (takes_first coming pair.near) pair))) + adverse) (turned (with_near (takes_first coming pair.near) pair))
 peer_takes e adverse pair [] is known pays = peer_owes e (one_if (is_vain e (turned pair) (turned (with_near pair.near pair)))) adverse pair pair.near (λ r was. omega arith) pays
 peer_takes e adverse pair (pdu ∷ coming) is known pays =
@@ -358,15 +358,15 @@ peer_takes e adverse pair (pdu ∷ coming) is known pays =
     peer_owes e (one_if (is_vain e (turned pair) (turned (with_near end' pair)))) adverse pair end'
     (λ r was. vain_costs e (turned pair) (turned (with_near end' pair)) r was was (less_comes e r.identifier pair end' pdu coming is refl (known.stay (responds_to e r.identifier) (Comes pdu) refl))) pays
 
-peer_repeats : (e : Errand) (adverse : ℕ) (pair : Pair) (coming : List (List ℕ)) → Known pair.near → Pays e adverse (turned pair) → Pays e (1 + adverse) (turned (with_near (repeats_first coming pair.near) pair))
+pub peer_repeats : (e : Errand) (adverse : ℕ) (pair : Pair) (coming : List (List ℕ)) → Known pair.near → Pays e adverse (turned pair) → Pays e (1 + adverse) (turned (with_near (repeats_first coming pair.near) pair))
 peer_repeats e adverse pair [] known pays = peer_owes e 1 adverse pair pair.near (λ r was. omega arith) pays
 peer_repeats e adverse pair (pdu ∷ coming) known pays = peer_owes e 1 adverse pair (occurs (Comes pdu) pair.near) (λ r was. let stay = known.stay (responds_to e r.identifier) (Comes pdu) refl in omega (arith, stay)) pays
 
-peer_loses : (e : Errand) (adverse : ℕ) (pair : Pair) (coming : List (List ℕ)) → pair.near.coming ≡ coming → Pays e adverse (turned pair) → Pays e (1 + adverse) (turned (with_near (loses_first coming pair.near) pair))
+pub peer_loses : (e : Errand) (adverse : ℕ) (pair : Pair) (coming : List (List ℕ)) → pair.near.coming ≡ coming → Pays e adverse (turned pair) → Pays e (1 + adverse) (turned (with_near (loses_first coming pair.near) pair))
 peer_loses e adverse pair [] is pays = peer_owes e 1 adverse pair pair.near (λ r was. omega arith) pays
 peer_loses e adverse pair (pdu ∷ coming) is pays = peer_owes e 1 adverse pair (let_go coming pair.near) (λ r was. less_comes e r.identifier pair (let_go coming pair.near) pdu coming is refl (omega arith)) pays
 
-peer_damages : (e : Errand) (adverse : ℕ) (pair : Pair) (other : List ℕ) (coming : List (List ℕ)) → pair.near.coming ≡ coming → Known pair.near → Pays e adverse (turned pair) → Pays e (1 + adverse) (turned (with_near (damages_first other coming pair.near) pair))
+pub peer_damages : (e : Errand) (adverse : ℕ) (pair : Pair) (other : List ℕ) (coming : List (List ℕ)) → pair.near.coming ≡ coming → Known pair.near → Pays e adverse (turned pair) → Pays e (1 + adverse) (turned (with_near (damages_first other coming pair.near) pair))
 peer_damages e adverse pair other [] is known pays = peer_owes e 1 adverse pair pair.near (λ r was. omega arith) pays
 peer_damages e adverse pair other (pdu ∷ coming) is known pays = by (has_fcs (channel_of pdu) pair.near.run.value)
   where
@@ -376,7 +376,7 @@ peer_damages e adverse pair other (pdu ∷ coming) is known pays = by (has_fcs (
         peer_owes e 1 adverse pair end' (λ r was. less_comes e r.identifier pair end' pdu coming is refl (known.stay (responds_to e r.identifier) (Comes other) refl)) pays
     by false = peer_owes e 1 adverse pair (let_go coming pair.near) (λ r was. less_comes e r.identifier pair (let_go coming pair.near) pdu coming is refl (omega arith)) pays
 
-none_given : (more : Occurrence) → is_alone more ≡ true → is_giving more ≡ false
+pub none_given : (more : Occurrence) → is_alone more ≡ true → is_giving more ≡ false
 none_given (Comes pdu) alone = cc
 none_given (Connects psm) alone = refl
 none_given AsksFeatures alone = refl
@@ -387,7 +387,7 @@ none_given Fires alone = refl
 none_given Tells alone = refl
 
 -- an answer that is given is under way
-answer_goes : (is : Command → Bool) (v : Channels) (queue : List Queued) (given : Given) (pdu : List ℕ) → v.queue ≡ queue → queue_gives queue v ≡ Some given → IsPdu given pdu → IsReadAs (Some given) pdu
+pub answer_goes : (is : Command → Bool) (v : Channels) (queue : List Queued) (given : Given) (pdu : List ℕ) → v.queue ≡ queue → queue_gives queue v ≡ Some given → IsPdu given pdu → IsReadAs (Some given) pdu
     → how_many (answers_so is) queue ≤ one_if (brings is pdu) + how_many (answers_so is) (queue_given queue v).queue
 answer_goes is v [] given pdu at gives octets read = omega arith
 answer_goes is v (Ask errand ∷ behind) given pdu at gives octets read =
@@ -407,7 +407,7 @@ answer_goes is v (Answer command ∷ behind) given pdu at gives octets read = by
         let two : one_if (brings is pdu) ≡ 1 = ap one_if there in
         omega (arith, one, two)
 
-peer_puts : (e : Errand) (adverse : ℕ) (pair : Pair) (pdu : List ℕ) (given : Option Given) → next_given pair.near.run.value ≡ given → IsUttered (Gives pdu) pair.near.run.value → IsReadAs given pdu → Pays e adverse (turned pair) → Pays e (0 + adverse) (turned (puts given pdu pair))
+pub peer_puts : (e : Errand) (adverse : ℕ) (pair : Pair) (pdu : List ℕ) (given : Option Given) → next_given pair.near.run.value ≡ given → IsUttered (Gives pdu) pair.near.run.value → IsReadAs given pdu → Pays e adverse (turned pair) → Pays e (0 + adverse) (turned (puts given pdu pair))
 peer_puts e adverse pair pdu None is uttered read pays = owes_on e 0 adverse (turned pair) (turned pair) (same-tame pair.far.run.value) (λ r was now. omega arith) pays
 peer_puts e adverse pair pdu (Some given) is uttered read pays =
     owes_on e 0 adverse (turned pair) (turned (put pdu pair)) (same-tame pair.far.run.value) (λ r was now. way r.identifier) pays
@@ -421,7 +421,7 @@ peer_puts e adverse pair pdu (Some given) is uttered read pays =
         let whole = many-last (brings (responds_to e identifier)) pair.far.coming pdu in
         omega (arith, goes, whole)
 
-peer_turn : (e : Errand) (adverse : ℕ) (happening : Happening) (pair : Pair) → Known pair.near → DoesSo IsUttered happening pair.near → IsRead happening pair.near → Pays e adverse (turned pair)
+pub peer_turn : (e : Errand) (adverse : ℕ) (happening : Happening) (pair : Pair) → Known pair.near → DoesSo IsUttered happening pair.near → IsRead happening pair.near → Pays e adverse (turned pair)
     → Pays e (adverse_by e happening (turned pair) (turned (happens_near happening pair)) + adverse) (turned (happens_near happening pair))
 peer_turn e adverse (Acts more) pair known uttered read pays = by (is_alone more) refl
   where
@@ -442,7 +442,7 @@ pub known-at : (near far : Policy) (turns : List Turn) (side : Side) → Known (
 known-at near far turns Near = let (list, is) = (each-end_runs near far turns).0 in known_by near list (pair_of near far turns).near (end-policy near far turns Near) is
 known-at near far turns Far = let (list, is) = (each-end_runs near far turns).1 in known_by far list (pair_of near far turns).far (end-policy near far turns Far) is
 
-one_turn : (e : Errand) (side : Side) (adverse : ℕ) (pair : Pair) (turn : Turn) → Known (end_at turn.side pair) → DoesSo IsUttered turn.happening (end_at turn.side pair) → IsRead turn.happening (end_at turn.side pair) → Pays e adverse (seen_from side pair)
+pub one_turn : (e : Errand) (side : Side) (adverse : ℕ) (pair : Pair) (turn : Turn) → Known (end_at turn.side pair) → DoesSo IsUttered turn.happening (end_at turn.side pair) → IsRead turn.happening (end_at turn.side pair) → Pays e adverse (seen_from side pair)
     → Pays e (adverse_by e turn.happening (seen_from side pair) (seen_from side (pair_after pair turn)) + adverse) (seen_from side (pair_after pair turn))
 one_turn e side adverse pair turn known uttered read pays = by side turn.side known uttered read pays
   where
@@ -456,7 +456,7 @@ one_turn e side adverse pair turn known uttered read pays = by side turn.side kn
     by Far Near known uttered read pays = peer_turn e adverse h pair known uttered read pays
     by Far Far known uttered read pays = owner_turn e adverse h (turned pair) known uttered read pays
 
-all_pay : (e : Errand) (side : Side) (near far : Policy) (past turns : List Turn) (adverse : ℕ)
+pub all_pay : (e : Errand) (side : Side) (near far : Policy) (past turns : List Turn) (adverse : ℕ)
     → EachAfter (λ front turn. DoesSo IsUttered turn.happening (end_at turn.side (pair_of near far front))) past turns
     → EachAfter (λ front turn. IsRead turn.happening (end_at turn.side (pair_of near far front))) past turns
     → Pays e adverse (seen_from side (pair_of near far past)) → Pays e (adverse_from e side (pair_of near far past) turns + adverse) (seen_from side (pair_of near far (past ++ turns)))
@@ -483,7 +483,7 @@ all_pay e side near far past (turn ∷ turns) adverse (uttered, utter) (read, re
     whole : adverse_from e side (pair_of near far (past ++ turn ∷ [])) turns + (cost + adverse) ≡ (cost + adverse_from e side (pair_after pair turn) turns) + adverse
     whole = let same : adverse_from e side (pair_of near far (past ++ turn ∷ [])) turns ≡ adverse_from e side (pair_after pair turn) turns = ap (λ p. adverse_from e side p turns) next_is in omega (arith, same)
 
-first_pays : (e : Errand) (side : Side) (near far : Policy) → Pays e 0 (seen_from side (new_pair near far))
+pub first_pays : (e : Errand) (side : Side) (near far : Policy) → Pays e 0 (seen_from side (new_pair near far))
 first_pays e side near far = record { most = λ r is. absurd (none e side r is); way = λ r is. absurd (none e side r is) }
   where
     none : (e : Errand) (side : Side) (r : Request) → request_of e (seen_from side (new_pair near far)).near.run.value ≡ Some r → ⊥
@@ -502,9 +502,19 @@ adverse-turns_are_counted near far turns fair read side errand request is =
     let most = pays.most request is in
     omega (arith, most)
 
+pub each_behind : (P : List Turn → Turn → Type 0) (done past turns : List Turn) → EachAfter P done (past ++ turns) → EachAfter P (done ++ past) turns
+each_behind P done [] turns all = subst (λ before. EachAfter P before turns) (sym (append-nil done)) all
+each_behind P done (turn ∷ past) turns (now, all) = subst (λ before. EachAfter P before turns) (append_assoc done (turn ∷ []) past) (each_behind P (done ++ turn ∷ []) past turns all)
+
+pub adverse-turns_are_counted_since : AdverseTurnsAreCountedSince
+adverse-turns_are_counted_since near far past turns fair read side errand request first is =
+    let pays = all_pay errand side near far past turns 0 (each_behind _ [] past turns fair) (each_behind _ [] past turns read) (record { most = λ was at. (first was at).0; way = λ was at. let few = (first was at).1 in omega (arith, few) }) in
+    let most = pays.most request is in
+    omega (arith, most)
+
 -- ---- where nothing comes in in vain
 
-quiet_turned : (pair : Pair) → is_quiet (turned pair) ≡ is_quiet pair
+pub quiet_turned : (pair : Pair) → is_quiet (turned pair) ≡ is_quiet pair
 quiet_turned pair =
     by (eqb (length pair.near.coming) 0) (eqb (length pair.far.coming) 0) (not (list_any is_answer pair.near.run.value.queue)) (not (list_any is_answer pair.far.run.value.queue))
   where
@@ -517,11 +527,11 @@ quiet_turned pair =
     by false true c d = refl
     by false false c d = refl
 
-quiet_seen : (side : Side) (pair : Pair) → is_quiet (seen_from side pair) ≡ is_quiet pair
+pub quiet_seen : (side : Side) (pair : Pair) → is_quiet (seen_from side pair) ≡ is_quiet pair
 quiet_seen Near pair = refl
 quiet_seen Far pair = quiet_turned pair
 
-heeded_cost : (e : Errand) (side : Side) (happening : Happening) (pair after : Pair) → IsHeeded e happening (seen_from side pair) (seen_from side after) → adverse_by e happening (seen_from side pair) (seen_from side after) ≡ disturbs happening pair
+pub heeded_cost : (e : Errand) (side : Side) (happening : Happening) (pair after : Pair) → IsHeeded e happening (seen_from side pair) (seen_from side after) → adverse_by e happening (seen_from side pair) (seen_from side after) ≡ disturbs happening pair
 heeded_cost e side (Acts more) pair after heeded = ap (λ b. one_if (is_firing more && not b)) (quiet_seen side pair)
 heeded_cost e side (Puts pdu) pair after heeded = refl
 heeded_cost e side Takes pair after heeded = ap one_if heeded
@@ -529,7 +539,7 @@ heeded_cost e side Repeats pair after heeded = refl
 heeded_cost e side Loses pair after heeded = refl
 heeded_cost e side (Damages pdu) pair after heeded = refl
 
-heeded_all : (e : Errand) (side : Side) (near far : Policy) (past turns : List Turn)
+pub heeded_all : (e : Errand) (side : Side) (near far : Policy) (past turns : List Turn)
     → EachAfter (λ front turn. IsHeeded e turn.happening (seen_from side (pair_of near far front)) (seen_from side (pair_after (pair_of near far front) turn))) past turns
     → adverse_from e side (pair_of near far past) turns ≡ disturbances (pair_of near far past) turns
 heeded_all e side near far past [] heeded = refl
@@ -545,4 +555,10 @@ pub disturbances-are_counted : DisturbancesAreCounted
 disturbances-are_counted near far turns fair read side errand request heeded is =
     let most = adverse-turns_are_counted near far turns fair read side errand request is in
     let same = heeded_all errand side near far [] turns heeded in
+    omega (arith, most, same)
+
+pub disturbances-are_counted_since : DisturbancesAreCountedSince
+disturbances-are_counted_since near far past turns fair read side errand request heeded first is =
+    let most = adverse-turns_are_counted_since near far past turns fair read side errand request first is in
+    let same = heeded_all errand side near far past turns heeded in
     omega (arith, most, same)

@@ -51,13 +51,13 @@ no-answers is (Answer command ∷ queue) none = cc
 no-answers is (Ask errand ∷ queue) none = let later = no-answers is queue none in omega (arith, later)
 
 -- so many of them wait, at least
-abbrev Wait : (Command → Bool) → ℕ → List Saying → Channels → Type 0
+abbrev pub Wait : (Command → Bool) → ℕ → List Saying → Channels → Type 0
 Wait is n said v = n ≤ how_many is (answers_of v.queue)
 
-wait_on : (is : Command → Bool) (n : ℕ) (v w : Channels) → answers_of w.queue ≡ answers_of v.queue → n ≤ how_many is (answers_of v.queue) → n ≤ how_many is (answers_of w.queue)
+pub wait_on : (is : Command → Bool) (n : ℕ) (v w : Channels) → answers_of w.queue ≡ answers_of v.queue → n ≤ how_many is (answers_of v.queue) → n ≤ how_many is (answers_of w.queue)
 wait_on is n v w same least = subst (λ cs. n ≤ how_many is cs) (sym same) least
 
-wait_more : (is : Command → Bool) (n : ℕ) (policy : Policy) (v u : Channels) (identifier : ℕ) (response : Option Content) (content : Content) → WaitsSo v u identifier response → n ≤ how_many is (answers_of v.queue) → n ≤ how_many is (answers_of (follows policy content u).queue)
+pub wait_more : (is : Command → Bool) (n : ℕ) (policy : Policy) (v u : Channels) (identifier : ℕ) (response : Option Content) (content : Content) → WaitsSo v u identifier response → n ≤ how_many is (answers_of v.queue) → n ≤ how_many is (answers_of (follows policy content u).queue)
 wait_more is n policy v u identifier response content (inl same) least = wait_on is n v (follows policy content u) ((follows-lasts policy content u).2 ∙ same) least
 wait_more is n policy v u identifier response content (inr (said, is_said, room, more)) least =
     let whole = many-last is (answers_of v.queue) (command_with identifier said) in
@@ -65,10 +65,10 @@ wait_more is n policy v u identifier response content (inr (said, is_said, room,
     omega (arith, whole, all, least)
 
 -- the host gives nothing
-abbrev GivesNone : List Saying → Occurrence → Channels → Type 0
+abbrev pub GivesNone : List Saying → Occurrence → Channels → Type 0
 GivesNone past more v = is_giving more ≡ false
 
-single_waits : (is : Command → Bool) (n : ℕ) (policy : Policy) (v : Channels) (more : Occurrence) → is_single more ≡ true → is_giving more ≡ false → n ≤ how_many is (answers_of v.queue) → n ≤ how_many is (answers_of (value_after policy more v).queue)
+pub single_waits : (is : Command → Bool) (n : ℕ) (policy : Policy) (v : Channels) (more : Occurrence) → is_single more ≡ true → is_giving more ≡ false → n ≤ how_many is (answers_of v.queue) → n ≤ how_many is (answers_of (value_after policy more v).queue)
 single_waits is n policy v (Comes pdu) single none least = cc
 single_waits is n policy v (Connects psm) single none least = wait_on is n v (value_after policy (Connects psm) v) (connects-lasts psm v).2 least
 single_waits is n policy v AsksFeatures single none least = wait_on is n v (value_after policy AsksFeatures v) (asks-same v) least
@@ -78,7 +78,7 @@ single_waits is n policy v (Gives pdu) single none least = cc
 single_waits is n policy v Fires single none least = cc
 single_waits is n policy v Tells single none least = least
 
-waits_converse : (is : Command → Bool) (n : ℕ) (policy : Policy) → ConversesWhile policy GivesNone (λ v. Unit {0}) (Wait is n)
+pub waits_converse : (is : Command → Bool) (n : ℕ) (policy : Policy) → ConversesWhile policy GivesNone (λ v. Unit {0}) (Wait is n)
 waits_converse is n policy = record {
   first = tt;
   kept = λ v more lone known. tt;

@@ -33,7 +33,7 @@ use Rattle.channel_laws.proofs.Saying.{features-same, lost-same, asks-same, give
 
 -- ---- what is answered
 
-result_decides : (policy : Policy) (psm source : ℕ) (v : Channels) → eqb (connection_result policy psm source v) 1 ≡ false
+pub result_decides : (policy : Policy) (psm source : ℕ) (v : Channels) → eqb (connection_result policy psm source v) 1 ≡ false
 result_decides policy psm source v = by (not (policy.offers psm)) (nat_le 4 (length v.held)) (nat_lt 0xFFFF v.next) (nat_lt source 0x0040) (list_any (has_peer source) v.held)
   where
     by : (a b c d e : Bool) → eqb (cond a 2 (cond b 4 (cond c 4 (cond d 6 (cond e 7 0))))) 1 ≡ false
@@ -44,23 +44,23 @@ result_decides policy psm source v = by (not (policy.offers psm)) (nat_le 4 (len
     by false false false false true = refl
     by false false false false false = refl
 
-judged_decides : (answer : ConfigAnswer) (peer : ℕ) (options : Options) → IsDecisive (judged_answer answer peer options)
+pub judged_decides : (answer : ConfigAnswer) (peer : ℕ) (options : Options) → IsDecisive (judged_answer answer peer options)
 judged_decides (Accept given) peer options = refl
 judged_decides (Unacceptable refusal given) peer options = refl
 judged_decides Unknown peer options = refl
 
-options_decide : (now : Verdict) (own : ℕ) → IsDecisive (configuration_answer now own)
+pub options_decide : (now : Verdict) (own : ℕ) → IsDecisive (configuration_answer now own)
 options_decide NoChannel own = tt
 options_decide (TooLate peer) own = refl
 options_decide (Unreadable peer) own = refl
 options_decide (Incomplete peer options) own = refl
 options_decide (Judged peer options answer) own = judged_decides answer peer options
 
-abbrev Decides : Option Content → Type 0
+abbrev pub Decides : Option Content → Type 0
 Decides None = Unit {0}
 Decides (Some content) = IsDecisive content
 
-end_decides : (held : Option Held) (own peer : ℕ) → Decides (disconnection_answer held own peer)
+pub end_decides : (held : Option Held) (own peer : ℕ) → Decides (disconnection_answer held own peer)
 end_decides None own peer = tt
 end_decides (Some held) own peer = by held.stage
   where
@@ -75,7 +75,7 @@ end_decides (Some held) own peer = by held.stage
     by (Closing endpoint request checked) = named (eqb endpoint peer)
     by (Crossed endpoint request) = named (eqb endpoint peer)
 
-answer_decides : (policy : Policy) (content : Content) (v : Channels) → Decides (answer_to policy content v)
+pub answer_decides : (policy : Policy) (content : Content) (v : Channels) → Decides (answer_to policy content v)
 answer_decides policy (reject reason rest) v = tt
 answer_decides policy (connection_request psm source) v = result_decides policy psm source v
 answer_decides policy (connection_response destination source answer status) v = tt
@@ -95,37 +95,37 @@ answer_decides policy (information_response kind answer rest) v = tt
 
 -- ---- what waits, and what is remembered
 
-abbrev AllDecide : List Command → Type 0
+abbrev pub AllDecide : List Command → Type 0
 AllDecide [] = Unit {0}
 AllDecide (command ∷ list) = IsDecisive command.content × AllDecide list
 
-more_decide : (list : List Command) (command : Command) → AllDecide list → IsDecisive command.content → AllDecide (list ++ command ∷ [])
+pub more_decide : (list : List Command) (command : Command) → AllDecide list → IsDecisive command.content → AllDecide (list ++ command ∷ [])
 more_decide [] command all one = (one, tt)
 more_decide (first ∷ list) command (now, later) one = (now, more_decide list command later one)
 
-abbrev LastDecides : Option Remembered → Type 0
+abbrev pub LastDecides : Option Remembered → Type 0
 LastDecides None = Unit {0}
 LastDecides (Some last) = Decides last.response
 
-record Decided (v : Channels) : Type 0 where
-  waiting : AllDecide (answers_of v.queue)
-  kept : (kind : RequestKind) → LastDecides (remembered kind v.memory)
+pub record Decided (v : Channels) : Type 0 where
+  pub waiting : AllDecide (answers_of v.queue)
+  pub kept : (kind : RequestKind) → LastDecides (remembered kind v.memory)
 
 -- so it stays
-abbrev Stays : (v w : Channels) → Type 0
+abbrev pub Stays : (v w : Channels) → Type 0
 Stays v w = Decided v → Decided w
 
-by_both : (v w : Channels) → w.memory ≡ v.memory → answers_of w.queue ≡ answers_of v.queue → Stays v w
+pub by_both : (v w : Channels) → w.memory ≡ v.memory → answers_of w.queue ≡ answers_of v.queue → Stays v w
 by_both v w memory queue so = record { waiting = subst AllDecide (sym queue) so.waiting; kept = λ kind. subst (λ (m : Memory). LastDecides (remembered kind m)) (sym memory) (so.kept kind) }
 
-by_lasts : (v w : Channels) → Lasts v w → Stays v w
+pub by_lasts : (v w : Channels) → Lasts v w → Stays v w
 by_lasts v w (features, memory, queue) = by_both v w memory queue
 
-said_decides : (identifier : ℕ) (response : Option Content) (v : Channels) → Decides response → AllDecide (answers_of v.queue) → AllDecide (answers_of (says identifier response v).queue)
+pub said_decides : (identifier : ℕ) (response : Option Content) (v : Channels) → Decides response → AllDecide (answers_of v.queue) → AllDecide (answers_of (says identifier response v).queue)
 said_decides identifier None v one all = all
 said_decides identifier (Some content) v one all = subst AllDecide (sym (answers-more v.queue (command_with identifier content))) (more_decide (answers_of v.queue) (command_with identifier content) all one)
 
-with_last : (kind other : RequestKind) (last : Remembered) (memory : Memory) → Decides last.response → LastDecides (remembered other memory) → LastDecides (remembered other (with_remembered kind last memory))
+pub with_last : (kind other : RequestKind) (last : Remembered) (memory : Memory) → Decides last.response → LastDecides (remembered other memory) → LastDecides (remembered other (with_remembered kind last memory))
 with_last kinds.Connection kinds.Connection last memory one so = one
 with_last kinds.Connection kinds.Configuration last memory one so = so
 with_last kinds.Connection kinds.Disconnection last memory one so = so
@@ -152,7 +152,7 @@ with_last kinds.Information kinds.Disconnection last memory one so = so
 with_last kinds.Information kinds.Echo last memory one so = so
 with_last kinds.Information kinds.Information last memory one so = one
 
-new_stays : (v : Channels) (kind : RequestKind) (identifier : ℕ) (response : Option Content) (more : Channels → Channels) → ((u : Channels) → Lasts u (more u)) → Decides response → Stays v (hears_new kind identifier response more v)
+pub new_stays : (v : Channels) (kind : RequestKind) (identifier : ℕ) (response : Option Content) (more : Channels → Channels) → ((u : Channels) → Lasts u (more u)) → Decides response → Stays v (hears_new kind identifier response more v)
 new_stays v kind identifier response more goes one so = by (can_say response v)
   where
     last : Remembered
@@ -174,7 +174,7 @@ new_stays v kind identifier response more goes one so = by (can_say response v)
     }
     by false = so
 
-again_stays : (v : Channels) (identifier : ℕ) (response : Option Content) → Decides response → Stays v (hears_again identifier response v)
+pub again_stays : (v : Channels) (identifier : ℕ) (response : Option Content) → Decides response → Stays v (hears_again identifier response v)
 again_stays v identifier response one so = by (can_say response v)
   where
     by : (can : Bool) → Decided (cond can (says identifier response v) v)
@@ -184,7 +184,7 @@ again_stays v identifier response one so = by (can_say response v)
     }
     by false = so
 
-kind_stays : (v : Channels) (kind : RequestKind) (identifier : ℕ) (fresh : Option Content) (more : Channels → Channels) → ((u : Channels) → Lasts u (more u)) → Decides fresh → Stays v (hears_kind (remembered kind v.memory) kind identifier fresh more v)
+pub kind_stays : (v : Channels) (kind : RequestKind) (identifier : ℕ) (fresh : Option Content) (more : Channels → Channels) → ((u : Channels) → Lasts u (more u)) → Decides fresh → Stays v (hears_kind (remembered kind v.memory) kind identifier fresh more v)
 kind_stays v kind identifier fresh more goes one so = by (remembered kind v.memory) (so.kept kind)
   where
     by : (last : Option Remembered) → LastDecides last → Decided (hears_kind last kind identifier fresh more v)
@@ -195,7 +195,7 @@ kind_stays v kind identifier fresh more goes one so = by (remembered kind v.memo
         at true = again_stays v identifier last.response told so
         at false = new_stays v kind identifier fresh more goes one so
 
-content_stays : (policy : Policy) (identifier : ℕ) (content : Content) (v : Channels) → Stays v (hears_content policy identifier content v)
+pub content_stays : (policy : Policy) (identifier : ℕ) (content : Content) (v : Channels) → Stays v (hears_content policy identifier content v)
 content_stays policy identifier (reject reason rest) v = by_both v (hears_features identifier None v) (features_memory identifier None v) (features-same identifier None v)
 content_stays policy identifier (connection_request psm source) v =
     let c : Content = connection_request psm source in kind_stays v kinds.Connection identifier (answer_to policy c v) (follows policy c) (follows-lasts policy c) (answer_decides policy c v)
@@ -216,11 +216,11 @@ content_stays policy identifier (information_request kind) v =
 content_stays policy identifier (information_response kind answer rest) v =
     let given = features_in kind answer rest in by_both v (hears_features identifier given v) (features_memory identifier given v) (features-same identifier given v)
 
-malformed_stays : (kind : Option RequestKind) (identifier : ℕ) (v : Channels) → Stays v (hears_malformed kind identifier v)
+pub malformed_stays : (kind : Option RequestKind) (identifier : ℕ) (v : Channels) → Stays v (hears_malformed kind identifier v)
 malformed_stays None identifier v = λ so. so
 malformed_stays (Some kind) identifier v = kind_stays v kind identifier (Some not_understood) (λ w. w) (λ u. (refl, refl, refl)) tt
 
-unread_stays : (code identifier : ℕ) (v : Channels) → Stays v (hears_unread code identifier v)
+pub unread_stays : (code identifier : ℕ) (v : Channels) → Stays v (hears_unread code identifier v)
 unread_stays code identifier v = by (eqb identifier 0) (is_response_code code) (is_kind (kind_of_code code))
   where
     by : (zero response kind : Bool) → Stays v (cond zero v (cond response v (cond kind (hears_malformed (kind_of_code code) identifier v) (hears_again identifier (Some not_understood) v))))
@@ -229,11 +229,11 @@ unread_stays code identifier v = by (eqb identifier 0) (is_response_code code) (
     by false false true = malformed_stays (kind_of_code code) identifier v
     by false false false = again_stays v identifier (Some not_understood) tt
 
-long_stays : (identifier : ℕ) (v : Channels) (zero : Bool) → Stays v (cond zero v (hears_again identifier (Some too_long) v))
+pub long_stays : (identifier : ℕ) (v : Channels) (zero : Bool) → Stays v (cond zero v (hears_again identifier (Some too_long) v))
 long_stays identifier v true = λ so. so
 long_stays identifier v false = again_stays v identifier (Some too_long) tt
 
-command_stays : (policy : Policy) (one : Read) (v : Channels) → Stays v (hears_command policy one v)
+pub command_stays : (policy : Policy) (one : Read) (v : Channels) → Stays v (hears_command policy one v)
 command_stays policy (Ok command) v = content_stays policy command.identifier command.content v
 command_stays policy (Err (ZeroIdentifier code identifier)) v = λ so. so
 command_stays policy (Err (BadLength code None)) v = λ so. so
@@ -243,25 +243,25 @@ command_stays policy (Err (UnknownCode code (Some identifier))) v = unread_stays
 command_stays policy (Err (AboveMtu code None)) v = λ so. so
 command_stays policy (Err (AboveMtu code (Some identifier))) v = long_stays identifier v (eqb identifier 0)
 
-commands_stay : (policy : Policy) (list : List Read) (v : Channels) → Stays v (hears_commands policy list v)
+pub commands_stay : (policy : Policy) (list : List Read) (v : Channels) → Stays v (hears_commands policy list v)
 commands_stay policy [] v so = so
 commands_stay policy (one ∷ list) v so = commands_stay policy list (hears_command policy one v) (command_stays policy one v so)
 
-channels_stay : (tries : ℕ) (owns : List ℕ) (v : Channels) → Stays v (times_channels tries owns v)
+pub channels_stay : (tries : ℕ) (owns : List ℕ) (v : Channels) → Stays v (times_channels tries owns v)
 channels_stay tries [] v so = so
 channels_stay tries (own ∷ owns) v so =
     let u : Channels = times_held (held_at own v) tries v in
     let w : Channels = times_end (held_at own u) tries u in
     channels_stay tries owns w (by_lasts u w (ends-last tries own u) (by_lasts v u (times-last tries own v) so))
 
-given_stays : (v : Channels) (queue : List Queued) → v.queue ≡ queue → (queue_given queue v).memory ≡ v.memory → Stays v (queue_given queue v)
+pub given_stays : (v : Channels) (queue : List Queued) → v.queue ≡ queue → (queue_given queue v).memory ≡ v.memory → Stays v (queue_given queue v)
 given_stays v [] is memory = by_both v (queue_given [] v) memory (ap answers_of (given-held v (find gives v.held)))
 given_stays v (Answer command ∷ behind) is memory = λ so. record { waiting = (subst AllDecide (ap answers_of is) so.waiting).1; kept = so.kept }
 given_stays v (Ask errand ∷ behind) is memory =
     let u : Channels = record v { queue = behind } in
     by_both v (counted errand u) memory (ap answers_of (given-counted u errand) ∙ sym (ap answers_of is))
 
-occurs_stays : (policy : Policy) (more : Occurrence) (v : Channels) → Stays v (value_after policy more v)
+pub occurs_stays : (policy : Policy) (more : Occurrence) (v : Channels) → Stays v (value_after policy more v)
 occurs_stays policy (Comes pdu) v = by (eqb (channel_of pdu) 0x0001)
   where
     by : (signals : Bool) → Stays v (cond signals (hears_commands policy (answers (drop 4 pdu)) v) (takes (channel_of pdu) pdu v))
@@ -277,17 +277,17 @@ occurs_stays policy Fires v = λ so.
     by_both u (timed_out policy v) (features_lost policy.tries u u.features) (lost-same policy.tries u u.features) (channels_stay policy.tries (map (λ held. held.own) v.held) v so)
 occurs_stays policy Tells v = λ so. record { waiting = so.waiting; kept = so.kept }
 
-first_kept : (kind : RequestKind) → LastDecides (remembered kind no_memory)
+pub first_kept : (kind : RequestKind) → LastDecides (remembered kind no_memory)
 first_kept kinds.Connection = tt
 first_kept kinds.Configuration = tt
 first_kept kinds.Disconnection = tt
 first_kept kinds.Echo = tt
 first_kept kinds.Information = tt
 
-all_decided : (policy : Policy) (list : List Occurrence) → Decided (run_of policy list).value
+pub all_decided : (policy : Policy) (list : List Occurrence) → Decided (run_of policy list).value
 all_decided policy list = (along policy (λ run. Decided run.value) (record { waiting = tt; kept = first_kept }) (λ run more sound so. occurs_stays policy more run.value so) list).1
 
-stands_decides : (queue : List Queued) (command : Command) → StandsIn (Answer command) queue → AllDecide (answers_of queue) → IsDecisive command.content
+pub stands_decides : (queue : List Queued) (command : Command) → StandsIn (Answer command) queue → AllDecide (answers_of queue) → IsDecisive command.content
 stands_decides [] command is all = elim is [ ]
 stands_decides (Answer other ∷ queue) command (inl same) all = let it : other ≡ command = cc in subst (λ (c : Command). IsDecisive c.content) it all.0
 stands_decides (Answer other ∷ queue) command (inr later) all = stands_decides queue command later all.1

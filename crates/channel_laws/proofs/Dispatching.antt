@@ -18,11 +18,11 @@ use Rattle.channel_laws.proofs.Sparing.{setup-tame}
 abbrev pub Gave : (after before : ℕ) → Option Request → Request → Type 0
 Gave after before was r = (r' : Request) × (was ≡ Some r') × (r.identifier ≡ r'.identifier) × (after + r.given ≤ before + r'.given)
 
-same_gave : Spares Gave
+pub same_gave : Spares Gave
 same_gave after before was r is less = (r, is, refl, omega (arith, less))
 
 -- one copy less waits, and it was given one time more
-once_more : (errand : Errand) (behind : List Queued) (now was : Option Request) → now ≡ option_map one_more was → Here Gave (copies errand behind) (one_if (same_errand errand errand) + copies errand behind) now was
+pub once_more : (errand : Errand) (behind : List Queued) (now was : Option Request) → now ≡ option_map one_more was → Here Gave (copies errand behind) (one_if (same_errand errand errand) + copies errand behind) now was
 once_more errand behind now None same r is = let never : None ≡ Some r = sym same ∙ is in absurd cc
 once_more errand behind now (Some was) same r is =
     let it : r ≡ one_more was = some_is r (one_more was) (sym is ∙ same) in
@@ -33,47 +33,47 @@ once_more errand behind now (Some was) same r is =
     some_is : (x y : Request) → Some x ≡ Some y → x ≡ y
     some_is x y is = cc
 
-own_once : (own : Own) → own_request (own_given own) ≡ option_map one_more (own_request own)
+pub own_once : (own : Own) → own_request (own_given own) ≡ option_map one_more (own_request own)
 own_once Unasked = refl
 own_once (Asking request options) = refl
 own_once Granted = refl
 
 -- what becomes of the three requests of a channel
-connection_once : (stage : Stage) → (for_channel (connection_given stage) ≡ option_map one_more (for_channel stage)) × (for_options (connection_given stage) ≡ for_options stage) × (for_end (connection_given stage) ≡ for_end stage)
+pub connection_once : (stage : Stage) → (for_channel (connection_given stage) ≡ option_map one_more (for_channel stage)) × (for_options (connection_given stage) ≡ for_options stage) × (for_end (connection_given stage) ≡ for_end stage)
 connection_once (Requested request) = (refl, refl, refl)
 connection_once (Connected peer setup) = (refl, refl, refl)
 connection_once (Leaving peer setup request) = (refl, refl, refl)
 connection_once (Closing peer request checked) = (refl, refl, refl)
 connection_once (Crossed peer request) = (refl, refl, refl)
 
-configuration_once : (stage : Stage) → (for_channel (configuration_given stage) ≡ for_channel stage) × (for_options (configuration_given stage) ≡ option_map one_more (for_options stage)) × (for_end (configuration_given stage) ≡ for_end stage)
+pub configuration_once : (stage : Stage) → (for_channel (configuration_given stage) ≡ for_channel stage) × (for_options (configuration_given stage) ≡ option_map one_more (for_options stage)) × (for_end (configuration_given stage) ≡ for_end stage)
 configuration_once (Requested request) = (refl, refl, refl)
 configuration_once (Connected peer setup) = (refl, own_once setup.own, refl)
 configuration_once (Leaving peer setup request) = (refl, own_once setup.own, refl)
 configuration_once (Closing peer request checked) = (refl, refl, refl)
 configuration_once (Crossed peer request) = (refl, refl, refl)
 
-disconnection_once : (stage : Stage) → (for_channel (disconnection_given stage) ≡ for_channel stage) × (for_options (disconnection_given stage) ≡ for_options stage) × (for_end (disconnection_given stage) ≡ option_map one_more (for_end stage))
+pub disconnection_once : (stage : Stage) → (for_channel (disconnection_given stage) ≡ for_channel stage) × (for_options (disconnection_given stage) ≡ for_options stage) × (for_end (disconnection_given stage) ≡ option_map one_more (for_end stage))
 disconnection_once (Requested request) = (refl, refl, refl)
 disconnection_once (Connected peer setup) = (refl, refl, refl)
 disconnection_once (Leaving peer setup request) = (refl, refl, refl)
 disconnection_once (Closing peer request checked) = (refl, refl, refl)
 disconnection_once (Crossed peer request) = (refl, refl, refl)
 
-fewer : (errand e : Errand) (behind : List Queued) → copies e behind ≤ copies e (Ask errand ∷ behind)
+pub fewer : (errand e : Errand) (behind : List Queued) → copies e behind ≤ copies e (Ask errand ∷ behind)
 fewer errand e behind = omega arith
 
-abbrev waiting : List Queued → Channels → Channels
+abbrev pub waiting : List Queued → Channels → Channels
 waiting queue v = record v { queue = queue }
 
 -- of the three requests of a channel one is given once more
-abbrev GivenOnce : (errand : Errand) (behind : List Queued) (held : Held) (after : Stage) → Type 0
+abbrev pub GivenOnce : (errand : Errand) (behind : List Queued) (held : Held) (after : Stage) → Type 0
 GivenOnce errand behind held after =
     Here Gave (copies (errands.Connection held.own) behind) (copies (errands.Connection held.own) (Ask errand ∷ behind)) (for_channel after) (for_channel held.stage)
     × Here Gave (copies (errands.Configuration held.own) behind) (copies (errands.Configuration held.own) (Ask errand ∷ behind)) (for_options after) (for_options held.stage)
     × Here Gave (copies (errands.Disconnection held.own) behind) (copies (errands.Disconnection held.own) (Ask errand ∷ behind)) (for_end after) (for_end held.stage)
 
-connection_more : (behind : List Queued) (held : Held) → GivenOnce (errands.Connection held.own) behind held (connection_given held.stage)
+pub connection_more : (behind : List Queued) (held : Held) → GivenOnce (errands.Connection held.own) behind held (connection_given held.stage)
 connection_more behind held =
     let errand : Errand = errands.Connection held.own in
     let (one, two, three) = connection_once held.stage in (
@@ -82,7 +82,7 @@ connection_more behind held =
       rests-here Gave same_gave _ _ (for_end (connection_given held.stage)) (for_end held.stage) (fewer errand (errands.Disconnection held.own) behind) (inr three),
     )
 
-configuration_more : (behind : List Queued) (held : Held) → GivenOnce (errands.Configuration held.own) behind held (configuration_given held.stage)
+pub configuration_more : (behind : List Queued) (held : Held) → GivenOnce (errands.Configuration held.own) behind held (configuration_given held.stage)
 configuration_more behind held =
     let errand : Errand = errands.Configuration held.own in
     let (one, two, three) = configuration_once held.stage in (
@@ -91,7 +91,7 @@ configuration_more behind held =
       rests-here Gave same_gave _ _ (for_end (configuration_given held.stage)) (for_end held.stage) (fewer errand (errands.Disconnection held.own) behind) (inr three),
     )
 
-disconnection_more : (behind : List Queued) (held : Held) → GivenOnce (errands.Disconnection held.own) behind held (disconnection_given held.stage)
+pub disconnection_more : (behind : List Queued) (held : Held) → GivenOnce (errands.Disconnection held.own) behind held (disconnection_given held.stage)
 disconnection_more behind held =
     let errand : Errand = errands.Disconnection held.own in
     let (one, two, three) = disconnection_once held.stage in (
@@ -104,10 +104,10 @@ disconnection_more behind held =
 abbrev pub AllGave : Channels → Channels → Type 0
 AllGave v w = (e : Errand) (r : Request) → request_of e w ≡ Some r → Gave (copies e w.queue) (copies e v.queue) (request_of e v) r
 
-still_gave : (v w : Channels) → w.held ≡ v.held → w.features ≡ v.features → ((e : Errand) → copies e w.queue ≤ copies e v.queue) → AllGave v w
+pub still_gave : (v w : Channels) → w.held ≡ v.held → w.features ≡ v.features → ((e : Errand) → copies e w.queue ≤ copies e v.queue) → AllGave v w
 still_gave v w held features less e r is = same_gave (copies e w.queue) (copies e v.queue) (request_of e v) r (sym (same-requests v w held features e) ∙ is) (less e)
 
-stage_counted : (v : Channels) (errand : ℕ → Errand) (given : Stage → Stage) (own : ℕ) (behind : List Queued) (held : Option Held) → ((h : Held) → GivenOnce (errand h.own) behind h (given h.stage)) → find (has_own own) v.held ≡ held
+pub stage_counted : (v : Channels) (errand : ℕ → Errand) (given : Stage → Stage) (own : ℕ) (behind : List Queued) (held : Option Held) → ((h : Held) → GivenOnce (errand h.own) behind h (given h.stage)) → find (has_own own) v.held ≡ held
     → AllGave (waiting (Ask (errand own) ∷ behind) v) (stage_given given held (waiting behind v))
 stage_counted v errand given own behind None more is = still_gave (waiting (Ask (errand own) ∷ behind) v) (waiting behind v) refl refl (λ e. fewer (errand own) e behind)
 stage_counted v errand given own behind (Some held) more is =
@@ -122,7 +122,7 @@ stage_counted v errand given own behind (Some held) more is =
       ending = three;
     }))
 
-counted_features : (v : Channels) (behind : List Queued) → AllGave (waiting (Ask errands.Features ∷ behind) v) (counted errands.Features (waiting behind v))
+pub counted_features : (v : Channels) (behind : List Queued) → AllGave (waiting (Ask errands.Features ∷ behind) v) (counted errands.Features (waiting behind v))
 counted_features v behind e r is = by e r is
   where
     by : (e : Errand) (r : Request) → request_of e (counted errands.Features (waiting behind v)) ≡ Some r → Gave (copies e behind) (copies e (Ask errands.Features ∷ behind)) (request_of e (waiting (Ask errands.Features ∷ behind) v)) r
@@ -131,13 +131,13 @@ counted_features v behind e r is = by e r is
     by (errands.Disconnection own) r is = (r, is, refl, omega arith)
     by errands.Features r is = once_more errands.Features behind (option_map one_more v.features) v.features refl r is
 
-counted_gave : (v : Channels) (errand : Errand) (behind : List Queued) → AllGave (waiting (Ask errand ∷ behind) v) (counted errand (waiting behind v))
+pub counted_gave : (v : Channels) (errand : Errand) (behind : List Queued) → AllGave (waiting (Ask errand ∷ behind) v) (counted errand (waiting behind v))
 counted_gave v (errands.Connection own) behind = stage_counted v errands.Connection connection_given own behind (held_at own v) (connection_more behind) refl
 counted_gave v (errands.Configuration own) behind = stage_counted v errands.Configuration configuration_given own behind (held_at own v) (configuration_more behind) refl
 counted_gave v (errands.Disconnection own) behind = stage_counted v errands.Disconnection disconnection_given own behind (held_at own v) (disconnection_more behind) refl
 counted_gave v errands.Features behind = counted_features v behind
 
-held_tame : (v : Channels) (held : Option Held) → Distinct own_of v.held → find gives v.held ≡ held → Tame v (held_given held v)
+pub held_tame : (v : Channels) (held : Option Held) → Distinct own_of v.held → find gives v.held ≡ held → Tame v (held_given held v)
 held_tame v None lone is = same-tame v
 held_tame v (Some held) lone is = by (setup_of held.stage) refl
   where

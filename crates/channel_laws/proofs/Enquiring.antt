@@ -35,33 +35,33 @@ use Rattle.channel_laws.proofs.Responding.{informed, copies-have_responses}
 
 -- ---- what is remembered of the peer's last question is an answer to it
 
-abbrev InformsLast : Option Remembered → Type 0
+abbrev pub InformsLast : Option Remembered → Type 0
 InformsLast None = Unit {0}
 InformsLast (Some last) = Recalls errands.Features last.response
 
 -- so it stays
-abbrev Informs : (v w : Channels) → Type 0
+abbrev pub Informs : (v w : Channels) → Type 0
 Informs v w = InformsLast v.memory.information → InformsLast w.memory.information
 
-by_memory : (v w : Channels) → w.memory ≡ v.memory → Informs v w
+pub by_memory : (v w : Channels) → w.memory ≡ v.memory → Informs v w
 by_memory v w same so = subst (λ (m : Memory). InformsLast m.information) (sym same) so
 
 -- a question for information has an answer
-abbrev InformsAs : RequestKind → Option Content → Type 0
+abbrev pub InformsAs : RequestKind → Option Content → Type 0
 InformsAs kinds.Connection fresh = Unit {0}
 InformsAs kinds.Configuration fresh = Unit {0}
 InformsAs kinds.Disconnection fresh = Unit {0}
 InformsAs kinds.Echo fresh = Unit {0}
 InformsAs kinds.Information fresh = Recalls errands.Features fresh
 
-remembers_so : (kind : RequestKind) (last : Remembered) (memory : Memory) → InformsAs kind last.response → InformsLast memory.information → InformsLast (with_remembered kind last memory).information
+pub remembers_so : (kind : RequestKind) (last : Remembered) (memory : Memory) → InformsAs kind last.response → InformsLast memory.information → InformsLast (with_remembered kind last memory).information
 remembers_so kinds.Connection last memory informs so = so
 remembers_so kinds.Configuration last memory informs so = so
 remembers_so kinds.Disconnection last memory informs so = so
 remembers_so kinds.Echo last memory informs so = so
 remembers_so kinds.Information last memory informs so = informs
 
-new_informs : (v : Channels) (kind : RequestKind) (identifier : ℕ) (response : Option Content) (more : Channels → Channels) → ((u : Channels) → Lasts u (more u)) → InformsAs kind response → Informs v (hears_new kind identifier response more v)
+pub new_informs : (v : Channels) (kind : RequestKind) (identifier : ℕ) (response : Option Content) (more : Channels → Channels) → ((u : Channels) → Lasts u (more u)) → InformsAs kind response → Informs v (hears_new kind identifier response more v)
 new_informs v kind identifier response more goes informs = by (can_say response v)
   where
     last : Remembered
@@ -77,14 +77,14 @@ new_informs v kind identifier response more goes informs = by (can_say response 
     by true so = subst (λ (m : Memory). InformsLast m.information) (sym memory_is) (remembers_so kind last v.memory informs so)
     by false so = so
 
-again_informs : (v : Channels) (identifier : ℕ) (response : Option Content) → Informs v (hears_again identifier response v)
+pub again_informs : (v : Channels) (identifier : ℕ) (response : Option Content) → Informs v (hears_again identifier response v)
 again_informs v identifier response = by (can_say response v)
   where
     by : (can : Bool) → Informs v (cond can (says identifier response v) v)
     by true = by_memory v (says identifier response v) (says_memory identifier response v)
     by false = λ so. so
 
-kind_informs : (v : Channels) (last : Option Remembered) (kind : RequestKind) (identifier : ℕ) (fresh : Option Content) (more : Channels → Channels) → ((u : Channels) → Lasts u (more u)) → InformsAs kind fresh → Informs v (hears_kind last kind identifier fresh more v)
+pub kind_informs : (v : Channels) (last : Option Remembered) (kind : RequestKind) (identifier : ℕ) (fresh : Option Content) (more : Channels → Channels) → ((u : Channels) → Lasts u (more u)) → InformsAs kind fresh → Informs v (hears_kind last kind identifier fresh more v)
 kind_informs v None kind identifier fresh more goes informs = new_informs v kind identifier fresh more goes informs
 kind_informs v (Some last) kind identifier fresh more goes informs = by (eqb last.identifier identifier)
   where
@@ -92,7 +92,7 @@ kind_informs v (Some last) kind identifier fresh more goes informs = by (eqb las
     by true = again_informs v identifier last.response
     by false = new_informs v kind identifier fresh more goes informs
 
-content_informs : (policy : Policy) (identifier : ℕ) (content : Content) (v : Channels) → Informs v (hears_content policy identifier content v)
+pub content_informs : (policy : Policy) (identifier : ℕ) (content : Content) (v : Channels) → Informs v (hears_content policy identifier content v)
 content_informs policy identifier (reject reason rest) v = by_memory v (hears_features identifier None v) (features_memory identifier None v)
 content_informs policy identifier (connection_request psm source) v =
     let c : Content = connection_request psm source in kind_informs v v.memory.connection kinds.Connection identifier (answer_to policy c v) (follows policy c) (follows-lasts policy c) tt
@@ -114,18 +114,18 @@ content_informs policy identifier (information_request kind) v =
 content_informs policy identifier (information_response kind answer rest) v =
     let heard : Channels = hears_features identifier (features_in kind answer rest) v in by_memory v heard (features_memory identifier (features_in kind answer rest) v)
 
-malformed_has : (kind : RequestKind) → InformsAs kind (Some not_understood)
+pub malformed_has : (kind : RequestKind) → InformsAs kind (Some not_understood)
 malformed_has kinds.Connection = tt
 malformed_has kinds.Configuration = tt
 malformed_has kinds.Disconnection = tt
 malformed_has kinds.Echo = tt
 malformed_has kinds.Information = refl
 
-malformed_informs : (kind : Option RequestKind) (identifier : ℕ) (v : Channels) → Informs v (hears_malformed kind identifier v)
+pub malformed_informs : (kind : Option RequestKind) (identifier : ℕ) (v : Channels) → Informs v (hears_malformed kind identifier v)
 malformed_informs None identifier v = λ so. so
 malformed_informs (Some kind) identifier v = kind_informs v (remembered kind v.memory) kind identifier (Some not_understood) (λ w. w) (λ u. (refl, refl, refl)) (malformed_has kind)
 
-unread_informs : (code identifier : ℕ) (v : Channels) → Informs v (hears_unread code identifier v)
+pub unread_informs : (code identifier : ℕ) (v : Channels) → Informs v (hears_unread code identifier v)
 unread_informs code identifier v = by (eqb identifier 0) (is_response_code code) (is_kind (kind_of_code code))
   where
     by : (zero response kind : Bool) → Informs v (cond zero v (cond response v (cond kind (hears_malformed (kind_of_code code) identifier v) (hears_again identifier (Some not_understood) v))))
@@ -134,11 +134,11 @@ unread_informs code identifier v = by (eqb identifier 0) (is_response_code code)
     by false false true = malformed_informs (kind_of_code code) identifier v
     by false false false = again_informs v identifier (Some not_understood)
 
-long_informs : (identifier : ℕ) (v : Channels) (zero : Bool) → Informs v (cond zero v (hears_again identifier (Some too_long) v))
+pub long_informs : (identifier : ℕ) (v : Channels) (zero : Bool) → Informs v (cond zero v (hears_again identifier (Some too_long) v))
 long_informs identifier v true = λ so. so
 long_informs identifier v false = again_informs v identifier (Some too_long)
 
-command_informs : (policy : Policy) (one : Read) (v : Channels) → Informs v (hears_command policy one v)
+pub command_informs : (policy : Policy) (one : Read) (v : Channels) → Informs v (hears_command policy one v)
 command_informs policy (Ok command) v = content_informs policy command.identifier command.content v
 command_informs policy (Err (ZeroIdentifier code identifier)) v = λ so. so
 command_informs policy (Err (BadLength code None)) v = λ so. so
@@ -148,18 +148,18 @@ command_informs policy (Err (UnknownCode code (Some identifier))) v = unread_inf
 command_informs policy (Err (AboveMtu code None)) v = λ so. so
 command_informs policy (Err (AboveMtu code (Some identifier))) v = long_informs identifier v (eqb identifier 0)
 
-commands_inform : (policy : Policy) (list : List Read) (v : Channels) → Informs v (hears_commands policy list v)
+pub commands_inform : (policy : Policy) (list : List Read) (v : Channels) → Informs v (hears_commands policy list v)
 commands_inform policy [] v so = so
 commands_inform policy (one ∷ list) v so = commands_inform policy list (hears_command policy one v) (command_informs policy one v so)
 
-channels_inform : (tries : ℕ) (owns : List ℕ) (v : Channels) → Informs v (times_channels tries owns v)
+pub channels_inform : (tries : ℕ) (owns : List ℕ) (v : Channels) → Informs v (times_channels tries owns v)
 channels_inform tries [] v so = so
 channels_inform tries (own ∷ owns) v so =
     let u : Channels = times_held (held_at own v) tries v in
     let w : Channels = times_end (held_at own u) tries u in
     channels_inform tries owns w (by_memory u w (ends-last tries own u).1 (by_memory v u (times-last tries own v).1 so))
 
-occurs_informs : (policy : Policy) (more : Occurrence) (v : Channels) → Informs v (value_after policy more v)
+pub occurs_informs : (policy : Policy) (more : Occurrence) (v : Channels) → Informs v (value_after policy more v)
 occurs_informs policy (Comes pdu) v = by (eqb (channel_of pdu) 0x0001)
   where
     by : (signals : Bool) → Informs v (cond signals (hears_commands policy (answers (drop 4 pdu)) v) (takes (channel_of pdu) pdu v))
@@ -175,13 +175,13 @@ occurs_informs policy Fires v = λ so.
     by_memory u (timed_out policy v) (features_lost policy.tries u u.features) (channels_inform policy.tries (map (λ held. held.own) v.held) v so)
 occurs_informs policy Tells v = λ so. so
 
-all_inform : (policy : Policy) (list : List Occurrence) → InformsLast (run_of policy list).value.memory.information
+pub all_inform : (policy : Policy) (list : List Occurrence) → InformsLast (run_of policy list).value.memory.information
 all_inform policy list = (along policy (λ run. InformsLast run.value.memory.information) tt (λ run more sound so. occurs_informs policy more run.value so) list).1
 
 -- ---- two ends
 
 -- a copy that comes in is responded to
-responds_there : (pair : Pair) (coming : List (List ℕ)) → has_room pair.far.run.value ≡ true → InformsLast pair.far.run.value.memory.information → RespondsTo errands.Features coming pair
+pub responds_there : (pair : Pair) (coming : List (List ℕ)) → has_room pair.far.run.value ≡ true → InformsLast pair.far.run.value.memory.information → RespondsTo errands.Features coming pair
 responds_there pair [] room informs = tt
 responds_there pair (pdu ∷ coming) room informs = λ command request signals read is asks.
     copies-have_responses pair.far.policy pair.far.run.value errands.Features request.identifier command asks (can command.identifier command.content) room
@@ -208,7 +208,7 @@ responds_there pair (pdu ∷ coming) room informs = λ command request signals r
     can identifier (information_response kind answer rest) = tt
 
 -- a response ends the wait
-ends_here : (pair : Pair) (coming : List (List ℕ)) → EndsWait errands.Features coming pair
+pub ends_here : (pair : Pair) (coming : List (List ℕ)) → EndsWait errands.Features coming pair
 ends_here pair [] = tt
 ends_here pair (pdu ∷ coming) = λ command request signals read is responds. final-responses_end_waits pair.near.policy pair.near.run.value errands.Features request command is responds (final request.identifier command responds)
   where
@@ -228,7 +228,7 @@ ends_here pair (pdu ∷ coming) = λ command request signals read is responds. f
     final : (identifier : ℕ) (command : Command) → responds_to errands.Features identifier command ≡ true → IsFinal pair.near.policy identifier command.content pair.near.run.value
     final identifier command responds = by identifier command.content (and-right (eqb command.identifier identifier) (responds_with errands.Features command.content) responds)
 
-meets_one : (near far : Policy) (past : List Turn) (owner at : Side) (happening : Happening) → IsRoomy happening (end_at at (pair_of near far past)) → IsMetBy errands.Features owner at happening (pair_of near far past)
+pub meets_one : (near far : Policy) (past : List Turn) (owner at : Side) (happening : Happening) → IsRoomy happening (end_at at (pair_of near far past)) → IsMetBy errands.Features owner at happening (pair_of near far past)
 meets_one near far past owner at (Acts more) room = tt
 meets_one near far past owner at (Puts pdu) room = tt
 meets_one near far past owner at Takes room = by owner at room
@@ -251,7 +251,7 @@ meets_one near far past owner at Repeats room = tt
 meets_one near far past owner at Loses room = tt
 meets_one near far past owner at (Damages pdu) room = tt
 
-meets_all : (near far : Policy) (owner : Side) (past turns : List Turn) → EachAfter (λ front turn. IsRoomy turn.happening (end_at turn.side (pair_of near far front))) past turns
+pub meets_all : (near far : Policy) (owner : Side) (past turns : List Turn) → EachAfter (λ front turn. IsRoomy turn.happening (end_at turn.side (pair_of near far front))) past turns
     → EachAfter (λ front turn. IsMetBy errands.Features owner turn.side turn.happening (pair_of near far front)) past turns
 meets_all near far owner past [] room = tt
 meets_all near far owner past (turn ∷ turns) (now, later) = (meets_one near far past owner turn.side turn.happening now, meets_all near far owner (past ++ turn ∷ []) turns later)

@@ -58,14 +58,14 @@ abbrev pub all_left : List Held → ℕ
 all_left [] = 0
 all_left (held ∷ helds) = left_of held.stage + all_left helds
 
-placed_none : (held : Held) (hs : List Held) → find (has_own held.own) hs ≡ None → all_left (map (in_place_of held) hs) ≡ all_left hs
+pub placed_none : (held : Held) (hs : List Held) → find (has_own held.own) hs ≡ None → all_left (map (in_place_of held) hs) ≡ all_left hs
 placed_none held [] none = refl
 placed_none held (h ∷ hs) none =
     let parts = not_found (eqb h.own held.own) h (find (has_own held.own) hs) none in
     let later = placed_none held hs parts.1 in
     ap (λ (t : Bool). left_of (cond t held h).stage + all_left (map (in_place_of held) hs)) parts.0 ∙ ap (λ n. left_of h.stage + n) later
 
-placed_left : (held : Held) (stage : Stage) (hs : List Held) → Distinct own_of hs → find (has_own held.own) hs ≡ Some held → all_left (map (in_place_of (staged held stage)) hs) + left_of held.stage ≡ all_left hs + left_of stage
+pub placed_left : (held : Held) (stage : Stage) (hs : List Held) → Distinct own_of hs → find (has_own held.own) hs ≡ Some held → all_left (map (in_place_of (staged held stage)) hs) + left_of held.stage ≡ all_left hs + left_of stage
 placed_left held stage [] lone found = cc
 placed_left held stage (h ∷ hs) lone found = by (eqb h.own held.own) refl found (placed_left held stage hs lone.1)
   where
@@ -80,7 +80,7 @@ placed_left held stage (h ∷ hs) lone found = by (eqb h.own held.own) refl foun
         omega (arith, rest, here)
     by false is some more = let later = more some in omega (arith, later)
 
-filter_left : (passes : Held → Bool) (hs : List Held) → all_left (filter passes hs) ≤ all_left hs
+pub filter_left : (passes : Held → Bool) (hs : List Held) → all_left (filter passes hs) ≤ all_left hs
 filter_left passes [] = omega arith
 filter_left passes (h ∷ hs) = by (passes h) (filter_left passes hs)
   where
@@ -102,10 +102,10 @@ found-left own (h ∷ hs) held found = by (eqb h.own own) found (found-left own 
 
 -- ---- the requests that wait
 
-some_is : {X : Type 0} (x y : X) → Some x ≡ Some y → x ≡ y
+pub some_is : {X : Type 0} (x y : X) → Some x ≡ Some y → x ≡ y
 some_is x y is = cc
 
-only : {A : Type 0} → A ⊎ ⊥ → A
+pub only : {A : Type 0} → A ⊎ ⊥ → A
 only (inl a) = a
 only (inr none) = absurd none
 
@@ -117,7 +117,7 @@ WaitsLess v w = (errand : Errand) (command : Command) → command_of errand w �
 abbrev pub WaitsAnew : Errand → Channels → Channels → Type 0
 WaitsAnew asked v w = (errand : Errand) (command : Command) → command_of errand w ≡ Some command → (command_of errand v ≡ Some command) ⊎ ((errand ≡ asked) × (command.identifier ≡ v.identifier))
 
-less_named : (v w : Channels) → w.identifier ≡ v.identifier → WaitsLess v w → HaveNames v → HaveNames w
+pub less_named : (v w : Channels) → w.identifier ≡ v.identifier → WaitsLess v w → HaveNames v → HaveNames w
 less_named v w same less named = record {
   below = λ errand command is. let under = named.below errand command (less errand command is) in omega (arith, under, same);
   apart = λ one other first second is also equal. named.apart one other first second (less one first is) (less other second also) equal;
@@ -139,7 +139,7 @@ anew-named asked v w next anew named = record {
     by one other first second (inr (same, now)) (inl also) equal = let less = named.below other second also in absurd (omega (arith, less, now, equal))
     by one other first second (inr (same, now)) (inr (too, then)) equal = same ∙ sym too
 
-same_waits : (v w : Channels) → w.held ≡ v.held → (features_command w.features ≡ None) ⊎ (features_command w.features ≡ features_command v.features) → WaitsLess v w
+pub same_waits : (v w : Channels) → w.held ≡ v.held → (features_command w.features ≡ None) ⊎ (features_command w.features ≡ features_command v.features) → WaitsLess v w
 same_waits v w held features (errands.Connection own) command is = sym (ap (λ hs. on_held (λ h. connection_at h.stage h) (find (has_own own) hs)) held) ∙ is
 same_waits v w held features (errands.Configuration own) command is = sym (ap (λ hs. on_held (λ h. configuration_at h.stage) (find (has_own own) hs)) held) ∙ is
 same_waits v w held features (errands.Disconnection own) command is = sym (ap (λ hs. on_held (λ h. disconnection_at h.stage h) (find (has_own own) hs)) held) ∙ is
@@ -156,11 +156,11 @@ pub record RestsAt (held : Held) (stage : Stage) : Type 0 where
   pub options : Rests (configuration_at stage) (configuration_at held.stage)
   pub ending : Rests (disconnection_at stage (staged held stage)) (disconnection_at held.stage held)
 
-rested : (now was : Option Command) → Rests now was → (command : Command) → now ≡ Some command → was ≡ Some command
+pub rested : (now was : Option Command) → Rests now was → (command : Command) → now ≡ Some command → was ≡ Some command
 rested now was (inl none) command is = let never : None ≡ Some command = sym none ∙ is in absurd cc
 rested now was (inr same) command is = sym same ∙ is
 
-at_place : (v w : Channels) (held : Held) (stage : Stage) (f : Held → Option Command) (P : ℕ → Command → Type 0) → find (has_own held.own) v.held ≡ Some held → w.held ≡ map (in_place_of (staged held stage)) v.held
+pub at_place : (v w : Channels) (held : Held) (stage : Stage) (f : Held → Option Command) (P : ℕ → Command → Type 0) → find (has_own held.own) v.held ≡ Some held → w.held ≡ map (in_place_of (staged held stage)) v.held
     → ((command : Command) → f (staged held stage) ≡ Some command → (f held ≡ Some command) ⊎ P held.own command)
     → (own : ℕ) (command : Command) → on_held f (find (has_own own) w.held) ≡ Some command → (on_held f (find (has_own own) v.held) ≡ Some command) ⊎ P own command
 at_place v w held stage f P found held_is here own command is = by (eqb held.own own) refl
@@ -177,7 +177,7 @@ at_place v w held stage f P found held_is here own command is = by (eqb held.own
     by false now = inl (sym (ap (on_held f) (ap (find (has_own own)) held_is ∙ find-placed (staged held stage) v.held own now)) ∙ is)
 
 -- in place of a request for one thing there may be a new one
-new_waits : (v w : Channels) (held : Held) (stage : Stage) (asked : Errand) → find (has_own held.own) v.held ≡ Some held → w.held ≡ map (in_place_of (staged held stage)) v.held → w.features ≡ v.features
+pub new_waits : (v w : Channels) (held : Held) (stage : Stage) (asked : Errand) → find (has_own held.own) v.held ≡ Some held → w.held ≡ map (in_place_of (staged held stage)) v.held → w.features ≡ v.features
     → ((command : Command) → connection_at stage (staged held stage) ≡ Some command → (connection_at held.stage held ≡ Some command) ⊎ ((errands.Connection held.own ≡ asked) × (command.identifier ≡ v.identifier)))
     → ((command : Command) → configuration_at stage ≡ Some command → (configuration_at held.stage ≡ Some command) ⊎ ((errands.Configuration held.own ≡ asked) × (command.identifier ≡ v.identifier)))
     → ((command : Command) → disconnection_at stage (staged held stage) ≡ Some command → (disconnection_at held.stage held ≡ Some command) ⊎ ((errands.Disconnection held.own ≡ asked) × (command.identifier ≡ v.identifier)))
@@ -190,7 +190,7 @@ new_waits v w held stage asked found held_is features_is a b c (errands.Disconne
     at_place v w held stage (λ h. disconnection_at h.stage h) (λ n command. (errands.Disconnection n ≡ asked) × (command.identifier ≡ v.identifier)) found held_is c own command is
 new_waits v w held stage asked found held_is features_is a b c errands.Features command is = inl (ap features_command (sym features_is) ∙ is)
 
-stage_less : (v w : Channels) (held : Held) (stage : Stage) → find (has_own held.own) v.held ≡ Some held → w.held ≡ map (in_place_of (staged held stage)) v.held → w.features ≡ v.features → RestsAt held stage → WaitsLess v w
+pub stage_less : (v w : Channels) (held : Held) (stage : Stage) → find (has_own held.own) v.held ≡ Some held → w.held ≡ map (in_place_of (staged held stage)) v.held → w.features ≡ v.features → RestsAt held stage → WaitsLess v w
 stage_less v w held stage found held_is features_is rests (errands.Connection own) command is =
     only (at_place v w held stage (λ h. connection_at h.stage h) (λ n command. ⊥) found held_is (λ one at. inl (rested _ _ rests.channel one at)) own command is)
 stage_less v w held stage found held_is features_is rests (errands.Configuration own) command is =
@@ -200,7 +200,7 @@ stage_less v w held stage found held_is features_is rests (errands.Disconnection
 stage_less v w held stage found held_is features_is rests errands.Features command is = ap features_command (sym features_is) ∙ is
 
 -- a channel is gone
-gone_less : (v w : Channels) (held : Held) → w.held ≡ filter (λ other. not (eqb other.own held.own)) v.held → w.features ≡ v.features → WaitsLess v w
+pub gone_less : (v w : Channels) (held : Held) → w.held ≡ filter (λ other. not (eqb other.own held.own)) v.held → w.features ≡ v.features → WaitsLess v w
 gone_less v w held held_is features_is = by
   where
     at : (f : Held → Option Command) (own : ℕ) (command : Command) → on_held f (find (has_own own) w.held) ≡ Some command → on_held f (find (has_own own) v.held) ≡ Some command
@@ -265,7 +265,7 @@ pub either : (b : Bool) (v x y : Channels) → Spends v x → Spends v y → Spe
 either true v x y one other = one
 either false v x y one other = other
 
-drops : (v w : Channels) (held : Held) → w.held ≡ filter (λ other. not (eqb other.own held.own)) v.held → w.identifier ≡ v.identifier → w.features ≡ v.features → Spends v w
+pub drops : (v w : Channels) (held : Held) → w.held ≡ filter (λ other. not (eqb other.own held.own)) v.held → w.identifier ≡ v.identifier → w.features ≡ v.features → Spends v w
 drops v w held held_is identifier_is features_is lone =
     let same : all_left w.held ≡ all_left (filter (λ other. not (eqb other.own held.own)) v.held) = ap all_left held_is in
     let fewer = filter_left (λ other. not (eqb other.own held.own)) v.held in
@@ -317,7 +317,7 @@ asks-on v w held stage found held_is identifier_is fewer asked anew lone =
     }
 
 -- for options, or for its end
-asks_options_on : (v w : Channels) (held : Held) (stage : Stage) → find (has_own held.own) v.held ≡ Some held → w.held ≡ map (in_place_of (staged held stage)) v.held → w.identifier ≡ next_identifier v.identifier → w.features ≡ v.features → 1 + left_of stage ≤ left_of held.stage
+pub asks_options_on : (v w : Channels) (held : Held) (stage : Stage) → find (has_own held.own) v.held ≡ Some held → w.held ≡ map (in_place_of (staged held stage)) v.held → w.identifier ≡ next_identifier v.identifier → w.features ≡ v.features → 1 + left_of stage ≤ left_of held.stage
     → Rests (connection_at stage (staged held stage)) (connection_at held.stage held) → Rests (disconnection_at stage (staged held stage)) (disconnection_at held.stage held) → ((command : Command) → configuration_at stage ≡ Some command → command.identifier ≡ v.identifier) → Spends v w
 asks_options_on v w held stage found held_is identifier_is features_is fewer a c new = asks-on v w held stage found held_is identifier_is fewer (errands.Configuration held.own)
     (new_waits v w held stage (errands.Configuration held.own) found held_is features_is (λ one at. inl (rested _ _ a one at)) (λ one at. inr (refl, new one at)) (λ one at. inl (rested _ _ c one at)))
@@ -332,7 +332,7 @@ named-so request content command is = ap (λ (c : Command). c.identifier) (sym (
 
 -- ---- a channel is closed
 
-closes_spend : (v : Channels) (held : Held) (reason : CloseReason) (stage : Stage) → held.stage ≡ stage → find (has_own held.own) v.held ≡ Some held → Spends v (closes_at stage reason held v)
+pub closes_spend : (v : Channels) (held : Held) (reason : CloseReason) (stage : Stage) → held.stage ≡ stage → find (has_own held.own) v.held ≡ Some held → Spends v (closes_at stage reason held v)
 closes_spend v held reason (Requested request) is found = drops v (closes_at (Requested request) reason held v) held refl refl refl
 closes_spend v held reason (Connected peer setup) is found =
     let now : left_of held.stage ≡ first_left setup.own + (renewals setup.renewed + 1) = ap left_of is in
@@ -345,7 +345,7 @@ closes_spend v held reason (Crossed peer request) is found = same-spends v
 pub closed-spends : (v : Channels) (held : Held) (reason : CloseReason) → find (has_own held.own) v.held ≡ Some held → Spends v (closes reason held v)
 closed-spends v held reason found = closes_spend v held reason held.stage refl found
 
-peer_spends : (v : Channels) (held : Held) (stage : Stage) → held.stage ≡ stage → find (has_own held.own) v.held ≡ Some held → Spends v (peer_closes_at stage held v)
+pub peer_spends : (v : Channels) (held : Held) (stage : Stage) → held.stage ≡ stage → find (has_own held.own) v.held ≡ Some held → Spends v (peer_closes_at stage held v)
 peer_spends v held (Requested request) is found = same-spends v
 peer_spends v held (Connected peer setup) is found = drops v (peer_closes_at (Connected peer setup) held v) held refl refl refl
 peer_spends v held (Leaving peer setup request) is found = goes-on v (peer_closes_at (Leaving peer setup request) held v) held (Crossed peer request) found refl refl refl (omega arith)
@@ -363,7 +363,7 @@ ends-spend v held reason (Crossed peer request) = drops v (ends_at (Crossed peer
 
 -- ---- options
 
-with_left : (before after : Setup) (stage : Stage) → setup_of stage ≡ Some before → first_left after.own ≤ first_left before.own → after.renewed ≡ before.renewed → left_of (stage_with after stage) ≤ left_of stage
+pub with_left : (before after : Setup) (stage : Stage) → setup_of stage ≡ Some before → first_left after.own ≤ first_left before.own → after.renewed ≡ before.renewed → left_of (stage_with after stage) ≤ left_of stage
 with_left before after (Requested request) is own renewed = cc
 with_left before after (Connected peer setup) is own renewed =
     let it : setup ≡ before = cc in
@@ -377,7 +377,7 @@ with_left before after (Closing peer request checked) is own renewed = cc
 with_left before after (Crossed peer request) is own renewed = cc
 
 -- the requests of a channel whose options go on
-rests_with : (held : Held) (stage : Stage) (setup after : Setup) → setup_of stage ≡ Some setup → ((peer : ℕ) → Rests (configuration_by after.own peer) (configuration_by setup.own peer))
+pub rests_with : (held : Held) (stage : Stage) (setup after : Setup) → setup_of stage ≡ Some setup → ((peer : ℕ) → Rests (configuration_by after.own peer) (configuration_by setup.own peer))
     → Rests (connection_at (stage_with after stage) (staged held (stage_with after stage))) (connection_at stage held) × Rests (configuration_at (stage_with after stage)) (configuration_at stage)
     × Rests (disconnection_at (stage_with after stage) (staged held (stage_with after stage))) (disconnection_at stage held)
 rests_with held (Requested request) setup after is own = cc
@@ -386,7 +386,7 @@ rests_with held (Leaving peer s request) setup after is own = let it : s ≡ set
 rests_with held (Closing peer request checked) setup after is own = cc
 rests_with held (Crossed peer request) setup after is own = cc
 
-rests_setup : (held : Held) (setup after : Setup) → setup_of held.stage ≡ Some setup → ((peer : ℕ) → Rests (configuration_by after.own peer) (configuration_by setup.own peer)) → RestsAt held (stage_with after held.stage)
+pub rests_setup : (held : Held) (setup after : Setup) → setup_of held.stage ≡ Some setup → ((peer : ℕ) → Rests (configuration_by after.own peer) (configuration_by setup.own peer)) → RestsAt held (stage_with after held.stage)
 rests_setup held setup after is own = let (a, b, c) = rests_with held held.stage setup after is own in record { channel = a; options = b; ending = c }
 
 pub setup-spends : (v w : Channels) (held : Held) (setup after : Setup) → find (has_own held.own) v.held ≡ Some held → setup_of held.stage ≡ Some setup → w.held ≡ (to_setup held after v).held → w.identifier ≡ v.identifier → w.features ≡ v.features
@@ -395,7 +395,7 @@ setup-spends v w held setup after found is held_is identifier_is features_is own
     goes-on v w held (stage_with after held.stage) found held_is identifier_is features_is (with_left setup after held.stage is own renewed) (rests_setup held setup after is rests)
 
 -- the first request for options
-first_less : (before after : Setup) (request : Request) (options : Options) (stage : Stage) → setup_of stage ≡ Some before → before.own ≡ Unasked → after.renewed ≡ before.renewed → (let asked : Setup = record after { own = Asking request options } in 1 + left_of (stage_with asked stage) ≤ left_of stage)
+pub first_less : (before after : Setup) (request : Request) (options : Options) (stage : Stage) → setup_of stage ≡ Some before → before.own ≡ Unasked → after.renewed ≡ before.renewed → (let asked : Setup = record after { own = Asking request options } in 1 + left_of (stage_with asked stage) ≤ left_of stage)
 first_less before after request options (Requested r) is own renewed = cc
 first_less before after request options (Connected peer setup) is own renewed =
     let it : setup ≡ before = cc in
@@ -409,10 +409,10 @@ first_less before after request options (Closing peer r checked) is own renewed 
 first_less before after request options (Crossed peer r) is own renewed = cc
 
 -- and each behind it
-renewed_less : (n : ℕ) → nat_le 3 (n + 1) ≡ false → 1 + renewals (n + 1) ≤ renewals n
+pub renewed_less : (n : ℕ) → nat_le 3 (n + 1) ≡ false → 1 + renewals (n + 1) ≤ renewals n
 renewed_less n more = let few = leb-false 3 (n + 1) more in omega (arith, few)
 
-again_less : (before : Setup) (request : Request) (options : Options) (stage : Stage) → setup_of stage ≡ Some before → is_leaving stage ≡ false → nat_le 3 (before.renewed + 1) ≡ false
+pub again_less : (before : Setup) (request : Request) (options : Options) (stage : Stage) → setup_of stage ≡ Some before → is_leaving stage ≡ false → nat_le 3 (before.renewed + 1) ≡ false
     → (let asked : Setup = record (renewed_setup before) { own = Asking request options } in 1 + left_of (stage_with asked stage) ≤ left_of stage)
 again_less before request options (Requested r) is leaving more = cc
 again_less before request options (Connected peer setup) is leaving more =
@@ -424,7 +424,7 @@ again_less before request options (Leaving peer setup r) is leaving more = let n
 again_less before request options (Closing peer r checked) is leaving more = cc
 again_less before request options (Crossed peer r) is leaving more = cc
 
-asked_spends : (v : Channels) (held : Held) (after : Setup) (options : Options) → find (has_own held.own) v.held ≡ Some held → (let asked : Setup = record after { own = Asking (new_request v) options } in 1 + left_of (stage_with asked held.stage) ≤ left_of held.stage) → Spends v (asks_options held after options v)
+pub asked_spends : (v : Channels) (held : Held) (after : Setup) (options : Options) → find (has_own held.own) v.held ≡ Some held → (let asked : Setup = record after { own = Asking (new_request v) options } in 1 + left_of (stage_with asked held.stage) ≤ left_of held.stage) → Spends v (asks_options held after options v)
 asked_spends v held after options found fewer =
     asks_options_on v (asks_options held after options v) held (stage_with asked held.stage) found refl refl refl fewer (rests_asked held.stage).0 (rests_asked held.stage).1 (named_asked held.stage)
   where
@@ -445,28 +445,28 @@ asked_spends v held after options found fewer =
     named_asked (Closing peer request checked) command is = cc
     named_asked (Crossed peer request) command is = cc
 
-grants_spend : (v : Channels) (held : Held) (setup : Setup) → find (has_own held.own) v.held ≡ Some held → setup_of held.stage ≡ Some setup → Spends v (grants held setup v)
+pub grants_spend : (v : Channels) (held : Held) (setup : Setup) → find (has_own held.own) v.held ≡ Some held → setup_of held.stage ≡ Some setup → Spends v (grants held setup v)
 grants_spend v held setup found is = by (is_some setup.carrier)
   where
     by : (b : Bool) → Spends v (opens_if b held (to_setup held (granted_setup setup) (forgets (errands.Configuration held.own) v)))
     by true = setup-spends v (opens_if true held (to_setup held (granted_setup setup) (forgets (errands.Configuration held.own) v))) held setup (granted_setup setup) found is refl refl refl (omega arith) refl (λ peer. inl refl)
     by false = setup-spends v (to_setup held (granted_setup setup) (forgets (errands.Configuration held.own) v)) held setup (granted_setup setup) found is refl refl refl (omega arith) refl (λ peer. inl refl)
 
-kept_own : (after setup : Setup) → after.own ≡ setup.own → first_left after.own ≤ first_left setup.own
+pub kept_own : (after setup : Setup) → after.own ≡ setup.own → first_left after.own ≤ first_left setup.own
 kept_own after setup same = let it : first_left after.own ≡ first_left setup.own = ap first_left same in omega (arith, it)
 
-accepts_spend : (v : Channels) (own : Own) (wish : Wish) (held : Held) (setup after : Setup) → setup.own ≡ own → after.own ≡ setup.own → after.renewed ≡ setup.renewed → find (has_own held.own) v.held ≡ Some held → setup_of held.stage ≡ Some setup → Spends v (accepts_with own wish held after v)
+pub accepts_spend : (v : Channels) (own : Own) (wish : Wish) (held : Held) (setup after : Setup) → setup.own ≡ own → after.own ≡ setup.own → after.renewed ≡ setup.renewed → find (has_own held.own) v.held ≡ Some held → setup_of held.stage ≡ Some setup → Spends v (accepts_with own wish held after v)
 accepts_spend v Unasked wish held setup after own_is same renewed found is = asked_spends v held after (first_options wish) found (first_less setup after (new_request v) (first_options wish) held.stage is own_is renewed)
 accepts_spend v (Asking request options) wish held setup after own_is same renewed found is = setup-spends v (to_setup held after v) held setup after found is refl refl refl (kept_own after setup same) renewed (λ peer. inr (ap (λ own. configuration_by own peer) same))
 accepts_spend v Granted wish held setup after own_is same renewed found is = setup-spends v (accepts_with Granted wish held after v) held setup after found is refl refl refl (kept_own after setup same) renewed (λ peer. inr (ap (λ own. configuration_by own peer) same))
 
-third_spends : (v : Channels) (held : Held) (setup after : Setup) → setup_of held.stage ≡ Some setup → after.own ≡ setup.own → left_of (stage_with after held.stage) ≤ left_of held.stage → find (has_own held.own) v.held ≡ Some held → Spends v (closes NoAgreement (with_setup held after) (to_setup held after v))
+pub third_spends : (v : Channels) (held : Held) (setup after : Setup) → setup_of held.stage ≡ Some setup → after.own ≡ setup.own → left_of (stage_with after held.stage) ≤ left_of held.stage → find (has_own held.own) v.held ≡ Some held → Spends v (closes NoAgreement (with_setup held after) (to_setup held after v))
 third_spends v held setup after is same fewer found =
     let u : Channels = to_setup held after v in
     both-spend v u (closes NoAgreement (with_setup held after) u) (goes-on v u held (stage_with after held.stage) found refl refl refl fewer (rests_setup held setup after is (λ peer. inr (ap (λ own. configuration_by own peer) same))))
     (closed-spends u (with_setup held after) NoAgreement (with-found v held after found))
 
-answer_spends : (v : Channels) (answer : ConfigAnswer) (wish : Wish) (options : Options) (held : Held) (setup : Setup) → find (has_own held.own) v.held ≡ Some held → setup_of held.stage ≡ Some setup → Spends v (follows_answer answer wish options held setup v)
+pub answer_spends : (v : Channels) (answer : ConfigAnswer) (wish : Wish) (options : Options) (held : Held) (setup : Setup) → find (has_own held.own) v.held ≡ Some held → setup_of held.stage ≡ Some setup → Spends v (follows_answer answer wish options held setup v)
 answer_spends v (Accept given) wish options held setup found is = accepts_spend v setup.own wish held setup (accepted_setup wish options setup) refl refl refl found is
 answer_spends v (Unacceptable refusal given) wish options held setup found is =
     let after : Setup = refused_setup setup in
@@ -474,7 +474,7 @@ answer_spends v (Unacceptable refusal given) wish options held setup found is =
     (setup-spends v (to_setup held after v) held setup after found is refl refl refl (omega arith) refl (λ peer. inr refl))
 answer_spends v Unknown wish options held setup found is = setup-spends v (to_setup held (without_parts setup) v) held setup (without_parts setup) found is refl refl refl (omega arith) refl (λ peer. inr refl)
 
-verdict_spends : (v : Channels) (now : Verdict) (wish : Wish) (held : Held) (setup : Setup) → find (has_own held.own) v.held ≡ Some held → setup_of held.stage ≡ Some setup → Spends v (follows_verdict now wish held setup v)
+pub verdict_spends : (v : Channels) (now : Verdict) (wish : Wish) (held : Held) (setup : Setup) → find (has_own held.own) v.held ≡ Some held → setup_of held.stage ≡ Some setup → Spends v (follows_verdict now wish held setup v)
 verdict_spends v NoChannel wish held setup found is = same-spends v
 verdict_spends v (TooLate peer) wish held setup found is = same-spends v
 verdict_spends v (Unreadable peer) wish held setup found is = setup-spends v (to_setup held (without_parts setup) v) held setup (without_parts setup) found is refl refl refl (omega arith) refl (λ peer. inr refl)
@@ -482,7 +482,7 @@ verdict_spends v (Incomplete peer options) wish held setup found is =
     let after : Setup = record setup { parts = options } in setup-spends v (to_setup held after v) held setup after found is refl refl refl (omega arith) refl (λ peer. inr refl)
 verdict_spends v (Judged peer options answer) wish held setup found is = answer_spends v answer wish options held setup found is
 
-setup_follows : (v : Channels) (setup : Option Setup) (policy : Policy) (held : Held) (flags : ℕ) (octets : List ℕ) → find (has_own held.own) v.held ≡ Some held → setup_of held.stage ≡ setup → Spends v (follows_setup setup policy held flags octets v)
+pub setup_follows : (v : Channels) (setup : Option Setup) (policy : Policy) (held : Held) (flags : ℕ) (octets : List ℕ) → find (has_own held.own) v.held ≡ Some held → setup_of held.stage ≡ setup → Spends v (follows_setup setup policy held flags octets v)
 setup_follows v None policy held flags octets found is = same-spends v
 setup_follows v (Some setup) policy held flags octets found is = verdict_spends v (verdict policy held.own flags octets v) (policy.wish held.psm) held setup found is
 
@@ -496,7 +496,7 @@ disconnection-spends v own (Some held) peer is = either (is_peer peer held.stage
 
 -- ---- what the peer responds about channels
 
-connected_spends : (v : Channels) (policy : Policy) (endpoint result : ℕ) (held : Held) (request : Request) → held.stage ≡ Requested request → find (has_own held.own) v.held ≡ Some held → Spends v (hears_connected policy endpoint result held v)
+pub connected_spends : (v : Channels) (policy : Policy) (endpoint result : ℕ) (held : Held) (request : Request) → held.stage ≡ Requested request → find (has_own held.own) v.held ≡ Some held → Spends v (hears_connected policy endpoint result held v)
 connected_spends v policy endpoint result held request is found =
     let made : Channels = connects (policy.wish held.psm) endpoint held v in
     let refused : Channels = closes (Refused result) held v in
@@ -506,7 +506,7 @@ connected_spends v policy endpoint result held request is found =
     either (eqb result 0) v (cond (is_fresh_endpoint endpoint v) made v) (cond (eqb result 1) v refused) (either (is_fresh_endpoint endpoint v) v made v goes (same-spends v))
     (either (eqb result 1) v v refused (same-spends v) (closed-spends v held (Refused result) found))
 
-grant_at : (v : Channels) (stage : Stage) (policy : Policy) (identifier endpoint result : ℕ) (held : Held) → held.stage ≡ stage → find (has_own held.own) v.held ≡ Some held → Spends v (hears_grant_at stage policy identifier endpoint result held v)
+pub grant_at : (v : Channels) (stage : Stage) (policy : Policy) (identifier endpoint result : ℕ) (held : Held) → held.stage ≡ stage → find (has_own held.own) v.held ≡ Some held → Spends v (hears_grant_at stage policy identifier endpoint result held v)
 grant_at v (Requested request) policy identifier endpoint result held is found =
     either (eqb request.identifier identifier) v (hears_connected policy endpoint result held v) v (connected_spends v policy endpoint result held request is found) (same-spends v)
 grant_at v (Connected peer setup) policy identifier endpoint result held is found = same-spends v
@@ -518,7 +518,7 @@ pub grant-spends : (v : Channels) (own : ℕ) (held : Option Held) (policy : Pol
 grant-spends v own None policy identifier endpoint result is = same-spends v
 grant-spends v own (Some held) policy identifier endpoint result is = grant_at v held.stage policy identifier endpoint result held refl (found-own own v held is)
 
-settled_spends : (v : Channels) (now : Settled) (held : Held) (setup : Setup) → find (has_own held.own) v.held ≡ Some held → setup_of held.stage ≡ Some setup → Spends v (hears_settled now held setup v)
+pub settled_spends : (v : Channels) (now : Settled) (held : Held) (setup : Setup) → find (has_own held.own) v.held ≡ Some held → setup_of held.stage ≡ Some setup → Spends v (hears_settled now held setup v)
 settled_spends v Accepted held setup found is = grants_spend v held setup found is
 settled_spends v (Again options) held setup found is = by (is_leaving held.stage) refl (nat_le 3 (setup.renewed + 1)) refl
   where
@@ -539,11 +539,11 @@ settled_spends v (Again options) held setup found is = by (is_leaving held.stage
 settled_spends v Wait held setup found is = same-spends v
 settled_spends v Never held setup found is = closed-spends v held NoAgreement found
 
-options_spend : (v : Channels) (given : Result Options ConfigRefusal) (policy : Policy) (result : ℕ) (held : Held) (setup : Setup) → find (has_own held.own) v.held ≡ Some held → setup_of held.stage ≡ Some setup → Spends v (hears_options given policy result held setup v)
+pub options_spend : (v : Channels) (given : Result Options ConfigRefusal) (policy : Policy) (result : ℕ) (held : Held) (setup : Setup) → find (has_own held.own) v.held ≡ Some held → setup_of held.stage ≡ Some setup → Spends v (hears_options given policy result held setup v)
 options_spend v (Ok options) policy result held setup found is = settled_spends v (settled (policy.wish held.psm) result options) held setup found is
 options_spend v (Err refusal) policy result held setup found is = same-spends v
 
-response_on : (v : Channels) (setup : Option Setup) (policy : Policy) (identifier result : ℕ) (octets : List ℕ) (held : Held) → find (has_own held.own) v.held ≡ Some held → setup_of held.stage ≡ setup → Spends v (hears_response_on setup policy identifier result octets held v)
+pub response_on : (v : Channels) (setup : Option Setup) (policy : Policy) (identifier result : ℕ) (octets : List ℕ) (held : Held) → find (has_own held.own) v.held ≡ Some held → setup_of held.stage ≡ setup → Spends v (hears_response_on setup policy identifier result octets held v)
 response_on v None policy identifier result octets held found is = same-spends v
 response_on v (Some setup) policy identifier result octets held found is =
     either (is_asked identifier setup.own) v (hears_options (options_read octets) policy result held setup v) v (options_spend v (options_read octets) policy result held setup found is) (same-spends v)
@@ -570,11 +570,11 @@ settles-spend v None machine held setup found is =
     let after : Setup = record setup { carrier = Some (Retransmitting machine) } in setup-spends v (to_setup held after v) held setup after found is refl refl refl (omega arith) refl (λ peer. inr refl)
 settles-spend v (Some reason) machine held setup found is = closed-spends v held (reason_of reason) found
 
-carries_spend : (v : Channels) (carrier : Carrier) (pdu : List ℕ) (held : Held) (setup : Setup) → find (has_own held.own) v.held ≡ Some held → setup_of held.stage ≡ Some setup → Spends v (carries carrier pdu held setup v)
+pub carries_spend : (v : Channels) (carrier : Carrier) (pdu : List ℕ) (held : Held) (setup : Setup) → find (has_own held.own) v.held ≡ Some held → setup_of held.stage ≡ Some setup → Spends v (carries carrier pdu held setup v)
 carries_spend v (Plain agreed waiting) pdu held setup found is = same-spends v
 carries_spend v (Retransmitting machine) pdu held setup found is = let after : Ertm = machine_heard (read_by machine pdu) machine in settles-spend v after.closed after held setup found is
 
-opened_spends : (v : Channels) (pdu : List ℕ) (held : Held) (setup : Setup) (carrier : Carrier) (own : Own) → setup.own ≡ own → find (has_own held.own) v.held ≡ Some held → setup_of held.stage ≡ Some setup
+pub opened_spends : (v : Channels) (pdu : List ℕ) (held : Held) (setup : Setup) (carrier : Carrier) (own : Own) → setup.own ≡ own → find (has_own held.own) v.held ≡ Some held → setup_of held.stage ≡ Some setup
     → Spends v (cond (is_taken_with own carrier pdu) (carries carrier pdu (with_setup held (granted_setup setup)) (granted_setup setup) (opens_with own held setup v)) v)
 opened_spends v pdu held setup carrier Unasked own_is found is = same-spends v
 opened_spends v pdu held setup carrier (Asking request options) own_is found is =
@@ -590,11 +590,11 @@ opened_spends v pdu held setup carrier Granted own_is found is =
     let same : with_setup held (granted_setup setup) ≡ held = ap (λ (s : Stage). let h : Held = record held { stage = s } in h) (granted-same held.stage setup is own_is) in
     carries_spend v carrier pdu (with_setup held (granted_setup setup)) (granted_setup setup) (found ∙ ap Some (sym same)) (with-setup held.stage setup (granted_setup setup) is)
 
-taken_with : (v : Channels) (carrier : Option Carrier) (pdu : List ℕ) (held : Held) (setup : Setup) → find (has_own held.own) v.held ≡ Some held → setup_of held.stage ≡ Some setup → Spends v (takes_with carrier pdu held setup v)
+pub taken_with : (v : Channels) (carrier : Option Carrier) (pdu : List ℕ) (held : Held) (setup : Setup) → find (has_own held.own) v.held ≡ Some held → setup_of held.stage ≡ Some setup → Spends v (takes_with carrier pdu held setup v)
 taken_with v None pdu held setup found is = same-spends v
 taken_with v (Some carrier) pdu held setup found is = opened_spends v pdu held setup carrier setup.own refl found is
 
-taken_on : (v : Channels) (setup : Option Setup) (pdu : List ℕ) (held : Held) → find (has_own held.own) v.held ≡ Some held → setup_of held.stage ≡ setup → Spends v (takes_on setup pdu held v)
+pub taken_on : (v : Channels) (setup : Option Setup) (pdu : List ℕ) (held : Held) → find (has_own held.own) v.held ≡ Some held → setup_of held.stage ≡ setup → Spends v (takes_on setup pdu held v)
 taken_on v None pdu held found is = same-spends v
 taken_on v (Some setup) pdu held found is = taken_with v setup.carrier pdu held setup found is
 

@@ -35,20 +35,20 @@ use Rattle.channel_laws.proofs.Identifiers.{first_left, renewals, left_of, appen
 
 -- ---- commands
 
-says_spend : (v : Channels) (identifier : ℕ) (response : Option Content) → Spends v (says identifier response v)
+pub says_spend : (v : Channels) (identifier : ℕ) (response : Option Content) → Spends v (says identifier response v)
 says_spend v identifier None = same-spends v
 says_spend v identifier (Some content) = still-spends v (says identifier (Some content) v) refl refl refl
 
-again_spends : (v : Channels) (identifier : ℕ) (response : Option Content) → Spends v (hears_again identifier response v)
+pub again_spends : (v : Channels) (identifier : ℕ) (response : Option Content) → Spends v (hears_again identifier response v)
 again_spends v identifier response = either (can_say response v) v (says identifier response v) v (says_spend v identifier response) (same-spends v)
 
-new_spends : (v : Channels) (kind : RequestKind) (identifier : ℕ) (response : Option Content) (more : Channels → Channels) → ((u : Channels) → Spends u (more u)) → Spends v (hears_new kind identifier response more v)
+pub new_spends : (v : Channels) (kind : RequestKind) (identifier : ℕ) (response : Option Content) (more : Channels → Channels) → ((u : Channels) → Spends u (more u)) → Spends v (hears_new kind identifier response more v)
 new_spends v kind identifier response more goes =
     let t : Channels = remembers kind identifier response v in
     let u : Channels = says identifier response t in
     either (can_say response v) v (more u) v (both-spend v u (more u) (both-spend v t u (still-spends v t refl refl refl) (says_spend t identifier response)) (goes u)) (same-spends v)
 
-kind_spends : (v : Channels) (last : Option Remembered) (kind : RequestKind) (identifier : ℕ) (response : Option Content) (more : Channels → Channels) → ((u : Channels) → Spends u (more u)) → Spends v (hears_kind last kind identifier response more v)
+pub kind_spends : (v : Channels) (last : Option Remembered) (kind : RequestKind) (identifier : ℕ) (response : Option Content) (more : Channels → Channels) → ((u : Channels) → Spends u (more u)) → Spends v (hears_kind last kind identifier response more v)
 kind_spends v None kind identifier response more goes = new_spends v kind identifier response more goes
 kind_spends v (Some last) kind identifier response more goes =
     either (eqb last.identifier identifier) v (hears_again identifier last.response v) (hears_new kind identifier response more v) (again_spends v identifier last.response) (new_spends v kind identifier response more goes)
@@ -116,7 +116,7 @@ module _ (policy : Policy) (none : (psm : ℕ) → policy.offers psm ≡ false) 
 
 -- ---- the timer
 
-times_spend : (v : Channels) (tries : ℕ) (errand : Errand) (request : Request) (spent : Channels → Channels) → Spends v (spent v) → Spends v (times tries errand request spent v)
+pub times_spend : (v : Channels) (tries : ℕ) (errand : Errand) (request : Request) (spent : Channels → Channels) → Spends v (spent v) → Spends v (times tries errand request spent v)
 times_spend v tries errand request spent goes = by (is_due errand v) (nat_le tries request.given)
   where
     by : (due most : Bool) → Spends v (fires (cond due StillDue (cond most Spent OnceMore)) errand spent v)
@@ -124,55 +124,55 @@ times_spend v tries errand request spent goes = by (is_due errand v) (nat_le tri
     by false true = goes
     by false false = still-spends v (queued (Ask errand) v) refl refl refl
 
-carrier_spends : (v : Channels) (carrier : Option Carrier) (held : Held) (setup : Setup) → find (has_own held.own) v.held ≡ Some held → setup_of held.stage ≡ Some setup → Spends v (times_carrier carrier held setup v)
+pub carrier_spends : (v : Channels) (carrier : Option Carrier) (held : Held) (setup : Setup) → find (has_own held.own) v.held ≡ Some held → setup_of held.stage ≡ Some setup → Spends v (times_carrier carrier held setup v)
 carrier_spends v None held setup found is = same-spends v
 carrier_spends v (Some (Plain agreed waits)) held setup found is = same-spends v
 carrier_spends v (Some (Retransmitting machine)) held setup found is = settles-spend v (timed machine).closed (timed machine) held setup found is
 
-own_spends : (v : Channels) (own : Own) (tries : ℕ) (held : Held) (setup : Setup) → find (has_own held.own) v.held ≡ Some held → setup_of held.stage ≡ Some setup → Spends v (times_setup own tries held setup v)
+pub own_spends : (v : Channels) (own : Own) (tries : ℕ) (held : Held) (setup : Setup) → find (has_own held.own) v.held ≡ Some held → setup_of held.stage ≡ Some setup → Spends v (times_setup own tries held setup v)
 own_spends v Unasked tries held setup found is = carrier_spends v setup.carrier held setup found is
 own_spends v (Asking request options) tries held setup found is = times_spend v tries (errands.Configuration held.own) request (closes RetryLimit held) (closed-spends v held RetryLimit found)
 own_spends v Granted tries held setup found is = carrier_spends v setup.carrier held setup found is
 
-stage_spends : (v : Channels) (stage : Stage) (tries : ℕ) (held : Held) → held.stage ≡ stage → find (has_own held.own) v.held ≡ Some held → Spends v (times_stage stage tries held v)
+pub stage_spends : (v : Channels) (stage : Stage) (tries : ℕ) (held : Held) → held.stage ≡ stage → find (has_own held.own) v.held ≡ Some held → Spends v (times_stage stage tries held v)
 stage_spends v (Requested request) tries held is found = times_spend v tries (errands.Connection held.own) request (closes RetryLimit held) (closed-spends v held RetryLimit found)
 stage_spends v (Connected peer setup) tries held is found = own_spends v setup.own tries held setup found (ap setup_of is)
 stage_spends v (Leaving peer setup request) tries held is found = own_spends v setup.own tries held setup found (ap setup_of is)
 stage_spends v (Closing peer request checked) tries held is found = same-spends v
 stage_spends v (Crossed peer request) tries held is found = same-spends v
 
-held_spends : (v : Channels) (own : ℕ) (held : Option Held) (tries : ℕ) → find (has_own own) v.held ≡ held → Spends v (times_held held tries v)
+pub held_spends : (v : Channels) (own : ℕ) (held : Option Held) (tries : ℕ) → find (has_own own) v.held ≡ held → Spends v (times_held held tries v)
 held_spends v own None tries is = same-spends v
 held_spends v own (Some held) tries is = stage_spends v held.stage tries held refl (found-own own v held is)
 
-loses_spends : (v : Channels) (held : Held) → Spends v (loses_end held v)
+pub loses_spends : (v : Channels) (held : Held) → Spends v (loses_end held v)
 loses_spends v held = let u : Channels = ends RetryLimit held v in both-spend v u (loses_end held v) (ends-spend v held RetryLimit held.stage) (still-spends u (loses_end held v) refl refl refl)
 
-leaves_spend : (v : Channels) (stage : Stage) (tries : ℕ) (held : Held) → Spends v (times_end_at stage tries held v)
+pub leaves_spend : (v : Channels) (stage : Stage) (tries : ℕ) (held : Held) → Spends v (times_end_at stage tries held v)
 leaves_spend v (Requested request) tries held = same-spends v
 leaves_spend v (Connected peer setup) tries held = same-spends v
 leaves_spend v (Leaving peer setup request) tries held = times_spend v tries (errands.Disconnection held.own) request (ends RetryLimit held) (ends-spend v held RetryLimit held.stage)
 leaves_spend v (Closing peer request checked) tries held = times_spend v tries (errands.Disconnection held.own) request (loses_end held) (loses_spends v held)
 leaves_spend v (Crossed peer request) tries held = times_spend v tries (errands.Disconnection held.own) request (loses_end held) (loses_spends v held)
 
-ended_spends : (v : Channels) (held : Option Held) (tries : ℕ) → Spends v (times_end held tries v)
+pub ended_spends : (v : Channels) (held : Option Held) (tries : ℕ) → Spends v (times_end held tries v)
 ended_spends v None tries = same-spends v
 ended_spends v (Some held) tries = leaves_spend v held.stage tries held
 
-channels_spend : (tries : ℕ) (owns : List ℕ) (v : Channels) → Spends v (times_channels tries owns v)
+pub channels_spend : (tries : ℕ) (owns : List ℕ) (v : Channels) → Spends v (times_channels tries owns v)
 channels_spend tries [] v = same-spends v
 channels_spend tries (own ∷ owns) v =
     let u : Channels = times_held (held_at own v) tries v in
     let w : Channels = times_end (held_at own u) tries u in
     both-spend v w (times_channels tries owns w) (both-spend v u w (held_spends v own (held_at own v) tries refl) (ended_spends u (held_at own u) tries)) (channels_spend tries owns w)
 
-asked_features_spend : (v : Channels) (features : Option Request) (tries : ℕ) → Spends v (times_features features tries v)
+pub asked_features_spend : (v : Channels) (features : Option Request) (tries : ℕ) → Spends v (times_features features tries v)
 asked_features_spend v None tries = same-spends v
 asked_features_spend v (Some request) tries = times_spend v tries errands.Features request loses_features (stills-spend v (loses_features v) refl refl (inl refl))
 
 -- ---- what the host does by itself
 
-left_at : (v : Channels) (held : Held) (stage : Stage) → held.stage ≡ stage → find (has_own held.own) v.held ≡ Some held → Spends v (disconnected_at stage held v)
+pub left_at : (v : Channels) (held : Held) (stage : Stage) → held.stage ≡ stage → find (has_own held.own) v.held ≡ Some held → Spends v (disconnected_at stage held v)
 left_at v held (Requested request) is found = closed-spends v held OwnClosed found
 left_at v held (Connected peer setup) is found =
     let now : left_of held.stage ≡ first_left setup.own + (renewals setup.renewed + 1) = ap left_of is in
@@ -181,47 +181,47 @@ left_at v held (Leaving peer setup request) is found = same-spends v
 left_at v held (Closing peer request checked) is found = same-spends v
 left_at v held (Crossed peer request) is found = same-spends v
 
-left_held : (v : Channels) (own : ℕ) (held : Option Held) → find (has_own own) v.held ≡ held → Spends v (disconnected_held held v)
+pub left_held : (v : Channels) (own : ℕ) (held : Option Held) → find (has_own own) v.held ≡ held → Spends v (disconnected_held held v)
 left_held v own None is = same-spends v
 left_held v own (Some held) is = left_at v held held.stage refl (found-own own v held is)
 
-sent_same : (setup : Setup) (sdu : List ℕ) → (first_left (sends_setup setup sdu).own ≤ first_left setup.own) × ((sends_setup setup sdu).renewed ≡ setup.renewed) × ((sends_setup setup sdu).own ≡ setup.own)
+pub sent_same : (setup : Setup) (sdu : List ℕ) → (first_left (sends_setup setup sdu).own ≤ first_left setup.own) × ((sends_setup setup sdu).renewed ≡ setup.renewed) × ((sends_setup setup sdu).own ≡ setup.own)
 sent_same setup sdu = by (is_open setup)
   where
     by : (b : Bool) → (let after : Setup = record setup { carrier = option_map (λ carrier. carrier_with carrier sdu) setup.carrier } in (first_left (cond b after setup).own ≤ first_left setup.own) × ((cond b after setup).renewed ≡ setup.renewed) × ((cond b after setup).own ≡ setup.own))
     by true = (omega arith, refl, refl)
     by false = (omega arith, refl, refl)
 
-sent_on : (v : Channels) (setup : Option Setup) (sdu : List ℕ) (held : Held) → find (has_own held.own) v.held ≡ Some held → setup_of held.stage ≡ setup → Spends v (sends_on setup sdu held v)
+pub sent_on : (v : Channels) (setup : Option Setup) (sdu : List ℕ) (held : Held) → find (has_own held.own) v.held ≡ Some held → setup_of held.stage ≡ setup → Spends v (sends_on setup sdu held v)
 sent_on v None sdu held found is = same-spends v
 sent_on v (Some setup) sdu held found is = let same = sent_same setup sdu in setup-spends v (sends_on (Some setup) sdu held v) held setup (sends_setup setup sdu) found is refl refl refl same.0 same.1 (λ peer. inr (ap (λ own. configuration_by own peer) same.2))
 
-sent_held : (v : Channels) (own : ℕ) (held : Option Held) (sdu : List ℕ) → find (has_own own) v.held ≡ held → Spends v (sends_held held sdu v)
+pub sent_held : (v : Channels) (own : ℕ) (held : Option Held) (sdu : List ℕ) → find (has_own own) v.held ≡ held → Spends v (sends_held held sdu v)
 sent_held v own None sdu is = same-spends v
 sent_held v own (Some held) sdu is = sent_on v (setup_of held.stage) sdu held (found-own own v held is) refl
 
 -- ---- the next PDU is given
 
-own_same : (own : Own) → first_left (own_given own) ≡ first_left own
+pub own_same : (own : Own) → first_left (own_given own) ≡ first_left own
 own_same Unasked = refl
 own_same (Asking request options) = refl
 own_same Granted = refl
 
-connection_same : (stage : Stage) → left_of (connection_given stage) ≡ left_of stage
+pub connection_same : (stage : Stage) → left_of (connection_given stage) ≡ left_of stage
 connection_same (Requested request) = refl
 connection_same (Connected peer setup) = refl
 connection_same (Leaving peer setup request) = refl
 connection_same (Closing peer request checked) = refl
 connection_same (Crossed peer request) = refl
 
-configuration_same : (stage : Stage) → left_of (configuration_given stage) ≡ left_of stage
+pub configuration_same : (stage : Stage) → left_of (configuration_given stage) ≡ left_of stage
 configuration_same (Requested request) = refl
 configuration_same (Connected peer setup) = ap (λ n. n + (renewals setup.renewed + 1)) (own_same setup.own)
 configuration_same (Leaving peer setup request) = own_same setup.own
 configuration_same (Closing peer request checked) = refl
 configuration_same (Crossed peer request) = refl
 
-disconnection_same : (stage : Stage) → left_of (disconnection_given stage) ≡ left_of stage
+pub disconnection_same : (stage : Stage) → left_of (disconnection_given stage) ≡ left_of stage
 disconnection_same (Requested request) = refl
 disconnection_same (Connected peer setup) = refl
 disconnection_same (Leaving peer setup request) = refl
@@ -229,13 +229,13 @@ disconnection_same (Closing peer request checked) = refl
 disconnection_same (Crossed peer request) = refl
 
 -- nothing but how often it was given
-record IsSame (given : Stage → Stage) : Type 0 where
-  left : (stage : Stage) → left_of (given stage) ≡ left_of stage
-  channel : (held : Held) (stage : Stage) → connection_at (given stage) (staged held (given stage)) ≡ connection_at stage held
-  options : (stage : Stage) → configuration_at (given stage) ≡ configuration_at stage
-  ending : (held : Held) (stage : Stage) → disconnection_at (given stage) (staged held (given stage)) ≡ disconnection_at stage held
+pub record IsSame (given : Stage → Stage) : Type 0 where
+  pub left : (stage : Stage) → left_of (given stage) ≡ left_of stage
+  pub channel : (held : Held) (stage : Stage) → connection_at (given stage) (staged held (given stage)) ≡ connection_at stage held
+  pub options : (stage : Stage) → configuration_at (given stage) ≡ configuration_at stage
+  pub ending : (held : Held) (stage : Stage) → disconnection_at (given stage) (staged held (given stage)) ≡ disconnection_at stage held
 
-connection_is : IsSame connection_given
+pub connection_is : IsSame connection_given
 connection_is = record { left = connection_same; channel = channel; options = options; ending = ending }
   where
     channel : (held : Held) (stage : Stage) → connection_at (connection_given stage) (staged held (connection_given stage)) ≡ connection_at stage held
@@ -259,7 +259,7 @@ connection_is = record { left = connection_same; channel = channel; options = op
     ending held (Closing peer request checked) = refl
     ending held (Crossed peer request) = refl
 
-configuration_is : IsSame configuration_given
+pub configuration_is : IsSame configuration_given
 configuration_is = record { left = configuration_same; channel = channel; options = options; ending = ending }
   where
     channel : (held : Held) (stage : Stage) → connection_at (configuration_given stage) (staged held (configuration_given stage)) ≡ connection_at stage held
@@ -288,7 +288,7 @@ configuration_is = record { left = configuration_same; channel = channel; option
     ending held (Closing peer request checked) = refl
     ending held (Crossed peer request) = refl
 
-disconnection_is : IsSame disconnection_given
+pub disconnection_is : IsSame disconnection_given
 disconnection_is = record { left = disconnection_same; channel = channel; options = options; ending = ending }
   where
     channel : (held : Held) (stage : Stage) → connection_at (disconnection_given stage) (staged held (disconnection_given stage)) ≡ connection_at stage held
@@ -312,24 +312,24 @@ disconnection_is = record { left = disconnection_same; channel = channel; option
     ending held (Closing peer request checked) = refl
     ending held (Crossed peer request) = refl
 
-counted_at : (v : Channels) (given : Stage → Stage) (own : ℕ) (held : Option Held) → IsSame given → find (has_own own) v.held ≡ held → Spends v (stage_given given held v)
+pub counted_at : (v : Channels) (given : Stage → Stage) (own : ℕ) (held : Option Held) → IsSame given → find (has_own own) v.held ≡ held → Spends v (stage_given given held v)
 counted_at v given own None same is = same-spends v
 counted_at v given own (Some held) same is =
     let as_many = same.left held.stage in
     goes-on v (stage_given given (Some held) v) held (given held.stage) (found-own own v held is) refl refl refl (omega (arith, as_many))
     (record { channel = inr (same.channel held held.stage); options = inr (same.options held.stage); ending = inr (same.ending held held.stage) })
 
-features_same : (features : Option Request) → features_command (option_map one_more features) ≡ features_command features
+pub features_same : (features : Option Request) → features_command (option_map one_more features) ≡ features_command features
 features_same None = refl
 features_same (Some request) = refl
 
-counted_spends : (v : Channels) (errand : Errand) → Spends v (counted errand v)
+pub counted_spends : (v : Channels) (errand : Errand) → Spends v (counted errand v)
 counted_spends v (errands.Connection own) = counted_at v connection_given own (held_at own v) connection_is refl
 counted_spends v (errands.Configuration own) = counted_at v configuration_given own (held_at own v) configuration_is refl
 counted_spends v (errands.Disconnection own) = counted_at v disconnection_given own (held_at own v) disconnection_is refl
 counted_spends v errands.Features = stills-spend v (counted errands.Features v) refl refl (inr (features_same v.features))
 
-given_spends : (v : Channels) (held : Option Held) → find gives v.held ≡ held → Spends v (held_given held v)
+pub given_spends : (v : Channels) (held : Option Held) → find gives v.held ≡ held → Spends v (held_given held v)
 given_spends v None is lone = same-spends v lone
 given_spends v (Some held) is lone = by (setup_of held.stage) refl lone
   where
@@ -339,7 +339,7 @@ given_spends v (Some held) is lone = by (setup_of held.stage) refl lone
         let after : Setup = record setup { carrier = option_map carrier_given setup.carrier } in
         setup-spends v (carrier_spent (Some setup) held v) held setup after (found-distinct own_of gives v.held held lone is) some refl refl refl (omega arith) refl (λ peer. inr refl)
 
-queue_spends : (v : Channels) (queue : List Queued) → Spends v (queue_given queue v)
+pub queue_spends : (v : Channels) (queue : List Queued) → Spends v (queue_given queue v)
 queue_spends v [] = given_spends v (find gives v.held) refl
 queue_spends v (Answer command ∷ behind) = still-spends v (queue_given (Answer command ∷ behind) v) refl refl refl
 queue_spends v (Ask errand ∷ behind) =
@@ -347,13 +347,13 @@ queue_spends v (Ask errand ∷ behind) =
 
 -- ---- whatever happens
 
-more_spent : (more : ℕ) (v w : Channels) → Spends v w → Distinct own_of v.held → TakesFew more v w
+pub more_spent : (more : ℕ) (v w : Channels) → Spends v w → Distinct own_of v.held → TakesFew more v w
 more_spent more v w spends lone =
     let one = spends lone in
     let less = one.less in
     record { lone = one.lone; less = omega (arith, less); rises = λ few. one.rises (omega (arith, few)); named = λ few. one.named (omega (arith, few)) }
 
-called : (v : Channels) (psm : ℕ) (can : Bool) → find (has_own v.next) v.held ≡ None → Distinct own_of v.held → (let w : Channels = asks (errands.Connection v.next) (with_channel psm (Requested (new_request v)) v) in TakesFew 5 v (cond can w v))
+pub called : (v : Channels) (psm : ℕ) (can : Bool) → find (has_own v.next) v.held ≡ None → Distinct own_of v.held → (let w : Channels = asks (errands.Connection v.next) (with_channel psm (Requested (new_request v)) v) in TakesFew 5 v (cond can w v))
 called v psm false none lone = more_spent 5 v v (same-spends v) lone
 called v psm true none lone =
     let new : Held = new_held psm v.next (Requested (new_request v)) in
@@ -389,7 +389,7 @@ called v psm true none lone =
     anew (errands.Disconnection own) command is = inl (at (λ h. disconnection_at h.stage h) (find (has_own own) v.held) (eqb v.next own) command refl (sym (ap (on_held (λ h. disconnection_at h.stage h)) (find-append own_of own v.held new)) ∙ is))
     anew errands.Features command is = inl is
 
-asked : (v : Channels) (there : Bool) → Distinct own_of v.held → (let w : Channels = asks errands.Features (record v { features = Some (new_request v) }) in TakesFew 1 v (cond there v w))
+pub asked : (v : Channels) (there : Bool) → Distinct own_of v.held → (let w : Channels = asks errands.Features (record v { features = Some (new_request v) }) in TakesFew 1 v (cond there v w))
 asked v true lone = more_spent 1 v v (same-spends v) lone
 asked v false lone =
     let next = next-less v.identifier in

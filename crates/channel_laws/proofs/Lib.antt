@@ -58,7 +58,7 @@ pub mod Saying
 pub mod Origins
 pub mod Trying
 pub mod Sparing
-mod Dispatching
+pub mod Dispatching
 pub mod Spending
 pub mod Demanding
 pub mod Wishing
@@ -124,21 +124,21 @@ pub mod Shown
 pub mod Assents
 pub mod Assenting
 pub mod Trusting
-mod Identifiers
-mod Identifying
+pub mod Identifiers
+pub mod Identifying
 pub mod Hushed
 pub mod Ordered
 pub mod PlainTaken
-mod Counting
-mod Costing
-mod Meeting
-mod Concluding
-mod Responding
-mod Enquiring
-mod Deciding
+pub mod Counting
+pub mod Costing
+pub mod Meeting
+pub mod Concluding
+pub mod Responding
+pub mod Enquiring
+pub mod Deciding
 pub mod Exchanged
 pub mod Ready
-mod UnderWay
-mod Recalling
-mod ConnectionsMet
+pub mod UnderWay
+pub mod Recalling
+pub mod ConnectionsMet
 pub mod NamedApart

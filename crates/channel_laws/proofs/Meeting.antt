@@ -38,10 +38,10 @@ use Rattle.channel_laws.proofs.Saying.{stands-either}
 
 -- ---- a reply for which there is room waits
 
-some_is : {X : Type 0} (x y : X) → Some x ≡ Some y → x ≡ y
+pub some_is : {X : Type 0} (x y : X) → Some x ≡ Some y → x ≡ y
 some_is x y is = cc
 
-kind_waits : (v : Channels) (last : Option Remembered) (kind : RequestKind) (identifier : ℕ) (fresh : Option Content) (more : Channels → Channels) (content : Content) → ((u : Channels) → Lasts u (more u)) → has_room v ≡ true → response_by last identifier fresh ≡ Some content
+pub kind_waits : (v : Channels) (last : Option Remembered) (kind : RequestKind) (identifier : ℕ) (fresh : Option Content) (more : Channels → Channels) (content : Content) → ((u : Channels) → Lasts u (more u)) → has_room v ≡ true → response_by last identifier fresh ≡ Some content
     → answers_of (hears_kind last kind identifier fresh more v).queue ≡ answers_of v.queue ++ command_with identifier content ∷ []
 kind_waits v last kind identifier fresh more content goes room is = by last is
   where
@@ -67,11 +67,11 @@ kind_waits v last kind identifier fresh more content goes room is = by last is
         at true is = again l.response is
         at false is = new is
 
-replied_with : (identifier : ℕ) (response : Option Content) (answer : Command) → command_if identifier response ≡ Some answer → (content : Content) × (response ≡ Some content) × (command_with identifier content ≡ answer)
+pub replied_with : (identifier : ℕ) (response : Option Content) (answer : Command) → command_if identifier response ≡ Some answer → (content : Content) × (response ≡ Some content) × (command_with identifier content ≡ answer)
 replied_with identifier None answer is = cc
 replied_with identifier (Some content) answer is = (content, refl, some_is (command_with identifier content) answer is)
 
-copy_waits : (policy : Policy) (e : Errand) (identifier : ℕ) (command answer : Command) (v : Channels) → asks_for e identifier command ≡ true → reply_to policy (Ok command) v ≡ Some answer → has_room v ≡ true
+pub copy_waits : (policy : Policy) (e : Errand) (identifier : ℕ) (command answer : Command) (v : Channels) → asks_for e identifier command ≡ true → reply_to policy (Ok command) v ≡ Some answer → has_room v ≡ true
     → answers_of (hears_command policy (Ok command) v).queue ≡ answers_of v.queue ++ answer ∷ []
 copy_waits policy e identifier command answer v asks is room =
     let (content, response_is, answer_is) = replied_with command.identifier (response_to policy command.identifier command.content v) answer is in
@@ -97,22 +97,22 @@ copy_waits policy e identifier command answer v asks is room =
 
 -- ---- one command is read of each PDU on the signalling channel
 
-abbrev ReadsOne : List ℕ → Type 0
+abbrev pub ReadsOne : List ℕ → Type 0
 ReadsOne pdu = eqb (channel_of pdu) 0x0001 ≡ true → (command : Command) × (answers (drop 4 pdu) ≡ Ok command ∷ [])
 
-abbrev AllRead : List (List ℕ) → Type 0
+abbrev pub AllRead : List (List ℕ) → Type 0
 AllRead coming = (pdu : List ℕ) → StandsIn pdu coming → ReadsOne pdu
 
-record BothRead (pair : Pair) : Type 0 where
-  near : AllRead pair.near.coming
-  far : AllRead pair.far.coming
+pub record BothRead (pair : Pair) : Type 0 where
+  pub near : AllRead pair.near.coming
+  pub far : AllRead pair.far.coming
 
-given_reads : (given : Given) (pdu : List ℕ) → IsReadAs (Some given) pdu → ReadsOne pdu
+pub given_reads : (given : Given) (pdu : List ℕ) → IsReadAs (Some given) pdu → ReadsOne pdu
 given_reads (Signal command) pdu read signals = (command, read)
 given_reads (Whole peer sdu) pdu read signals = let never : true ≡ false = sym signals ∙ read in absurd cc
 given_reads (Framed peer frame) pdu read signals = let never : true ≡ false = sym signals ∙ read in absurd cc
 
-more_read : (coming : List (List ℕ)) (pdu : List ℕ) → ReadsOne pdu → AllRead coming → AllRead (coming ++ pdu ∷ [])
+pub more_read : (coming : List (List ℕ)) (pdu : List ℕ) → ReadsOne pdu → AllRead coming → AllRead (coming ++ pdu ∷ [])
 more_read coming pdu one all other stands = by (stands-either other coming (pdu ∷ []) stands)
   where
     by : StandsIn other coming ⊎ StandsIn other (pdu ∷ []) → ReadsOne other
@@ -120,17 +120,17 @@ more_read coming pdu one all other stands = by (stands-either other coming (pdu 
     by (inr (inl same)) = subst ReadsOne same one
     by (inr (inr none)) = elim none [ ]
 
-rest_reads : (pdu : List ℕ) (coming rest : List (List ℕ)) → coming ≡ pdu ∷ rest → AllRead coming → AllRead rest
+pub rest_reads : (pdu : List ℕ) (coming rest : List (List ℕ)) → coming ≡ pdu ∷ rest → AllRead coming → AllRead rest
 rest_reads pdu coming rest is all other stands = all other (subst (StandsIn other) (sym is) (inr stands))
 
-near_reads : (pair : Pair) (end' : End) → AllRead end'.coming → BothRead pair → BothRead (with_near end' pair)
+pub near_reads : (pair : Pair) (end' : End) → AllRead end'.coming → BothRead pair → BothRead (with_near end' pair)
 near_reads pair end' all both = record { near = all; far = both.far }
 
-puts_reads : (given : Option Given) (pdu : List ℕ) (pair : Pair) → IsReadAs given pdu → BothRead pair → BothRead (puts given pdu pair)
+pub puts_reads : (given : Option Given) (pdu : List ℕ) (pair : Pair) → IsReadAs given pdu → BothRead pair → BothRead (puts given pdu pair)
 puts_reads None pdu pair read both = both
 puts_reads (Some given) pdu pair read both = record { near = both.near; far = more_read pair.far.coming pdu (given_reads given pdu read) both.far }
 
-turn_reads : (happening : Happening) (pair : Pair) → IsRead happening pair.near → BothRead pair → BothRead (happens_near happening pair)
+pub turn_reads : (happening : Happening) (pair : Pair) → IsRead happening pair.near → BothRead pair → BothRead (happens_near happening pair)
 turn_reads (Acts more) pair read both = by (is_alone more)
   where
     by : (alone : Bool) → BothRead (cond alone (with_near (occurs more pair.near) pair) pair)
@@ -162,10 +162,10 @@ turn_reads (Damages other) pair read both = by pair.near.coming refl
         at true = near_reads pair (occurs (Comes other) (let_go coming pair.near)) (rest_reads pdu pair.near.coming coming is both.near) both
         at false = near_reads pair (let_go coming pair.near) (rest_reads pdu pair.near.coming coming is both.near) both
 
-turned_reads : (pair : Pair) → BothRead pair → BothRead (turned pair)
+pub turned_reads : (pair : Pair) → BothRead pair → BothRead (turned pair)
 turned_reads pair both = record { near = both.far; far = both.near }
 
-one_reads : (pair : Pair) (turn : Turn) → IsRead turn.happening (end_at turn.side pair) → BothRead pair → BothRead (pair_after pair turn)
+pub one_reads : (pair : Pair) (turn : Turn) → IsRead turn.happening (end_at turn.side pair) → BothRead pair → BothRead (pair_after pair turn)
 one_reads pair turn read both = by turn.side read
   where
     by : (at : Side) → IsRead turn.happening (end_at at pair) → BothRead (happens_at at turn.happening pair)
@@ -174,7 +174,7 @@ one_reads pair turn read both = by turn.side read
 
 -- ---- nothing falls
 
-not_vain : (e : Errand) (before after : Pair)
+pub not_vain : (e : Errand) (before after : Pair)
     → ((r r' : Request) → request_of e before.near.run.value ≡ Some r → request_of e after.near.run.value ≡ Some r' → r.identifier ≡ r'.identifier → under_way e r'.identifier before ≤ under_way e r'.identifier after)
     → is_vain e before after ≡ false
 not_vain e before after least = by (request_of e before.near.run.value) (request_of e after.near.run.value) refl refl
@@ -189,7 +189,7 @@ not_vain e before after least = by (request_of e before.near.run.value) (request
         at false is = refl
 
 -- a PDU that brings a command is read as that one
-brought : (is : Command → Bool) (pdu : List ℕ) → ReadsOne pdu → brings is pdu ≡ true → (command : Command) × (answers (drop 4 pdu) ≡ Ok command ∷ []) × (is command ≡ true) × (eqb (channel_of pdu) 0x0001 ≡ true)
+pub brought : (is : Command → Bool) (pdu : List ℕ) → ReadsOne pdu → brings is pdu ≡ true → (command : Command) × (answers (drop 4 pdu) ≡ Ok command ∷ []) × (is command ≡ true) × (eqb (channel_of pdu) 0x0001 ≡ true)
 brought is pdu reads so =
     let signals : eqb (channel_of pdu) 0x0001 ≡ true = and-left (eqb (channel_of pdu) 0x0001) (list_any (is_read_so is) (answers (drop 4 pdu))) so in
     let any : list_any (is_read_so is) (answers (drop 4 pdu)) ≡ true = and-right (eqb (channel_of pdu) 0x0001) (list_any (is_read_so is) (answers (drop 4 pdu))) so in
@@ -201,11 +201,11 @@ brought is pdu reads so =
     only false is = cc
 
 -- and it is heard
-heard_one : (policy : Policy) (pdu : List ℕ) (command : Command) (v : Channels) → eqb (channel_of pdu) 0x0001 ≡ true → answers (drop 4 pdu) ≡ Ok command ∷ [] → value_after policy (Comes pdu) v ≡ hears_command policy (Ok command) v
+pub heard_one : (policy : Policy) (pdu : List ℕ) (command : Command) (v : Channels) → eqb (channel_of pdu) 0x0001 ≡ true → answers (drop 4 pdu) ≡ Ok command ∷ [] → value_after policy (Comes pdu) v ≡ hears_command policy (Ok command) v
 heard_one policy pdu command v signals read =
     ap (λ b. cond b (hears_commands policy (answers (drop 4 pdu)) v) (takes (channel_of pdu) pdu v)) signals ∙ ap (λ list. hears_commands policy list v) read
 
-owner_meets : (e : Errand) (pair : Pair) (coming : List (List ℕ)) → pair.near.coming ≡ coming → AllRead coming → EndsWait e coming pair → is_vain e pair (with_near (takes_first coming pair.near) pair) ≡ false
+pub owner_meets : (e : Errand) (pair : Pair) (coming : List (List ℕ)) → pair.near.coming ≡ coming → AllRead coming → EndsWait e coming pair → is_vain e pair (with_near (takes_first coming pair.near) pair) ≡ false
 owner_meets e pair [] is reads ends = not_vain e pair (with_near pair.near pair) (λ r r' was now same. rw (← same) (omega arith))
 owner_meets e pair (pdu ∷ coming) is reads ends = not_vain e pair after (λ r r' was now same. by r r' was now same (brings (responds_to e r'.identifier) pdu) refl)
   where
@@ -223,7 +223,7 @@ owner_meets e pair (pdu ∷ coming) is reads ends = not_vain e pair after (λ r 
         let none : one_if (brings (responds_to e r'.identifier) pdu) ≡ 0 = ap one_if so in
         omega (arith, first, none)
 
-peer_meets : (e : Errand) (pair : Pair) (coming : List (List ℕ)) → pair.near.coming ≡ coming → Known pair.near → AllRead coming → RespondsTo e coming (turned pair) → is_vain e (turned pair) (turned (with_near (takes_first coming pair.near) pair)) ≡ false
+pub peer_meets : (e : Errand) (pair : Pair) (coming : List (List ℕ)) → pair.near.coming ≡ coming → Known pair.near → AllRead coming → RespondsTo e coming (turned pair) → is_vain e (turned pair) (turned (with_near (takes_first coming pair.near) pair)) ≡ false
 peer_meets e pair [] is known reads responds = not_vain e (turned pair) (turned (with_near pair.near pair)) (λ r r' was now same. omega arith)
 peer_meets e pair (pdu ∷ coming) is known reads responds =
     not_vain e (turned pair) (turned (with_near end' pair)) (λ r r' was now same. subst (λ n. under_way e n (turned pair) ≤ under_way e n (turned (with_near end' pair))) same (by r was (brings (asks_for e r.identifier) pdu) refl))
@@ -266,7 +266,7 @@ peer_meets e pair (pdu ∷ coming) is known reads responds =
 
 -- ---- each turn
 
-meets_one : (e : Errand) (owner at : Side) (happening : Happening) (pair : Pair) → Known (end_at at pair) → BothRead pair → IsMetBy e owner at happening pair → IsHeeded e happening (seen_from owner pair) (seen_from owner (happens_at at happening pair))
+pub meets_one : (e : Errand) (owner at : Side) (happening : Happening) (pair : Pair) → Known (end_at at pair) → BothRead pair → IsMetBy e owner at happening pair → IsHeeded e happening (seen_from owner pair) (seen_from owner (happens_at at happening pair))
 meets_one e owner at (Acts more) pair known reads met = tt
 meets_one e owner at (Puts pdu) pair known reads met = tt
 meets_one e Near Near Takes pair known reads met = owner_meets e pair pair.near.coming refl reads.near met
@@ -277,7 +277,7 @@ meets_one e owner at Repeats pair known reads met = tt
 meets_one e owner at Loses pair known reads met = tt
 meets_one e owner at (Damages pdu) pair known reads met = tt
 
-meets_all : (e : Errand) (owner : Side) (near far : Policy) (past turns : List Turn) → BothRead (pair_of near far past)
+pub meets_all : (e : Errand) (owner : Side) (near far : Policy) (past turns : List Turn) → BothRead (pair_of near far past)
     → EachAfter (λ front turn. IsRead turn.happening (end_at turn.side (pair_of near far front))) past turns
     → EachAfter (λ front turn. IsMetBy e owner turn.side turn.happening (pair_of near far front)) past turns
     → EachAfter (λ front turn. IsHeeded e turn.happening (seen_from owner (pair_of near far front)) (seen_from owner (pair_after (pair_of near far front) turn))) past turns

@@ -53,18 +53,18 @@ abbrev pub CallRemembered : List Saying → Option Remembered → Type 0
 CallRemembered said None = Unit {0}
 CallRemembered said (Some last) = IsOfCall said last
 
-more_remembered : (said more : List Saying) (last : Option Remembered) → CallRemembered said last → CallRemembered (said ++ more) last
+pub more_remembered : (said more : List Saying) (last : Option Remembered) → CallRemembered said last → CallRemembered (said ++ more) last
 more_remembered said more None is = tt
 more_remembered said more (Some last) is = record { psm = is.psm; source = is.source; heard = stands-left _ said more is.heard; responds = is.responds }
 
 -- ---- a command
 
-said_memory : (identifier : ℕ) (response : Option Content) (v : Channels) (can : Bool) → (cond can (says identifier response v) v).memory ≡ v.memory
+pub said_memory : (identifier : ℕ) (response : Option Content) (v : Channels) (can : Bool) → (cond can (says identifier response v) v).memory ≡ v.memory
 said_memory identifier response v true = says_memory identifier response v
 said_memory identifier response v false = refl
 
 -- a request of another kind
-other_kind : (last : Option Remembered) (kind : RequestKind) (identifier : ℕ) (response : Option Content) (more : Channels → Channels) (v : Channels) → ((u : Channels) → (more u).memory ≡ u.memory) → ((one : Remembered) (u : Channels) → (remembers kind one.identifier one.response u).memory.connection ≡ u.memory.connection)
+pub other_kind : (last : Option Remembered) (kind : RequestKind) (identifier : ℕ) (response : Option Content) (more : Channels → Channels) (v : Channels) → ((u : Channels) → (more u).memory ≡ u.memory) → ((one : Remembered) (u : Channels) → (remembers kind one.identifier one.response u).memory.connection ≡ u.memory.connection)
     → (hears_kind last kind identifier response more v).memory.connection ≡ v.memory.connection
 other_kind last kind identifier response more v keeps apart = by last
   where
@@ -91,15 +91,15 @@ heard-so policy command v rest can =
     (stands-left _ (exchanged (Ok command) (reply_to policy (Ok command) v) v) rest
     (subst (λ (b : Bool). StandsIn (sayings.Command Into (Ok command)) (cond b (sayings.Command Into (Ok command) ∷ map spoken (option_to_list (reply_to policy (Ok command) v))) [])) (sym can) (inl refl)))
 
-answered_with : (policy : Policy) (psm source : ℕ) (v : Channels) → Recalls (Connection source) (answer_to policy (connection_request psm source) v)
+pub answered_with : (policy : Policy) (psm source : ℕ) (v : Channels) → Recalls (Connection source) (answer_to policy (connection_request psm source) v)
 answered_with policy psm source v = eqb-same source
 
-can_reply : (identifier : ℕ) (response : Option Content) (v : Channels) → can_say (option_map (λ (c : Command). c.content) (command_if identifier response)) v ≡ can_say response v
+pub can_reply : (identifier : ℕ) (response : Option Content) (v : Channels) → can_say (option_map (λ (c : Command). c.content) (command_if identifier response)) v ≡ can_say response v
 can_reply identifier None v = refl
 can_reply identifier (Some content) v = refl
 
 -- a request for a channel
-call_remembered : (policy : Policy) (said : List Saying) (v : Channels) (identifier psm source : ℕ) (rest : List Saying) → CallRemembered said v.memory.connection
+pub call_remembered : (policy : Policy) (said : List Saying) (v : Channels) (identifier psm source : ℕ) (rest : List Saying) → CallRemembered said v.memory.connection
     → (let command : Command = command_with identifier (connection_request psm source) in
     CallRemembered (said ++ ((exchanged (Ok command) (reply_to policy (Ok command) v) v ++ rest) ++ [])) (hears_command policy (Ok command) v).memory.connection)
 call_remembered policy said v identifier psm source rest so = by v.memory.connection refl
@@ -139,7 +139,7 @@ call_remembered policy said v identifier psm source rest so = by v.memory.connec
         at false same = new (ap (λ (l : Option Remembered). response_by l identifier fresh) is ∙ ap (λ (b : Bool). cond b last.response fresh) same) (can_say fresh v) refl
 
 -- any other command
-same_memory : (policy : Policy) (identifier : ℕ) (content : Content) (v : Channels) → ((psm source : ℕ) → content ≡ connection_request psm source → ⊥) → (hears_content policy identifier content v).memory.connection ≡ v.memory.connection
+pub same_memory : (policy : Policy) (identifier : ℕ) (content : Content) (v : Channels) → ((psm source : ℕ) → content ≡ connection_request psm source → ⊥) → (hears_content policy identifier content v).memory.connection ≡ v.memory.connection
 same_memory policy identifier (reject reason rest) v apart = ap (λ (m : Memory). m.connection) (features_memory identifier None v)
 same_memory policy identifier (connection_request psm source) v apart = absurd (apart psm source refl)
 same_memory policy identifier (connection_response destination source answer status) v apart = ap (λ (m : Memory). m.connection) (grant-lasts v (held_at source v) policy identifier destination answer).1
@@ -156,7 +156,7 @@ same_memory policy identifier (information_request kind) v apart =
     let c : Content = information_request kind in other_kind v.memory.information kinds.Information identifier (answer_to policy c v) (follows policy c) v (λ u. (follows-lasts policy c u).1) (λ one u. refl)
 same_memory policy identifier (information_response kind answer rest) v apart = ap (λ (m : Memory). m.connection) (features_memory identifier (features_in kind answer rest) v)
 
-command_remembered : (policy : Policy) (said : List Saying) (v : Channels) (command : Command) → CallRemembered said v.memory.connection → CallRemembered (said ++ said_with_all policy (Ok command ∷ []) v) (hears_command policy (Ok command) v).memory.connection
+pub command_remembered : (policy : Policy) (said : List Saying) (v : Channels) (command : Command) → CallRemembered said v.memory.connection → CallRemembered (said ++ said_with_all policy (Ok command ∷ []) v) (hears_command policy (Ok command) v).memory.connection
 command_remembered policy said v command so = by command.content refl
   where
     now : List Saying
@@ -183,14 +183,14 @@ command_remembered policy said v command so = by command.content refl
 
 -- ---- the timer, and what happens alone
 
-channels_memory : (tries : ℕ) (owns : List ℕ) (v : Channels) → (times_channels tries owns v).memory ≡ v.memory
+pub channels_memory : (tries : ℕ) (owns : List ℕ) (v : Channels) → (times_channels tries owns v).memory ≡ v.memory
 channels_memory tries [] v = refl
 channels_memory tries (own ∷ owns) v =
     let u : Channels = times_held (held_at own v) tries v in
     let w : Channels = times_end (held_at own u) tries u in
     channels_memory tries owns w ∙ ((ends-last tries own u).1 ∙ (times-last tries own v).1)
 
-fired_memory : (policy : Policy) (v : Channels) → (timed_out policy v).memory ≡ v.memory
+pub fired_memory : (policy : Policy) (v : Channels) → (timed_out policy v).memory ≡ v.memory
 fired_memory policy v =
     let owns : List ℕ = map (λ (held : Held). held.own) v.held in
     let u : Channels = times_channels policy.tries owns v in
@@ -239,10 +239,10 @@ occurs-remembered policy run more plainly so = by more plainly
 
 -- ---- two ends
 
-abbrev Remembers : Run → Type 0
+abbrev pub Remembers : Run → Type 0
 Remembers run = CallRemembered run.said run.value.memory.connection
 
-alone_plainly : (more : Occurrence) → is_alone more ≡ true → ComesPlainly more
+pub alone_plainly : (more : Occurrence) → is_alone more ≡ true → ComesPlainly more
 alone_plainly (Comes pdu) alone = cc
 alone_plainly (Connects psm) alone = tt
 alone_plainly AsksFeatures alone = tt
@@ -252,10 +252,10 @@ alone_plainly (Gives pdu) alone = cc
 alone_plainly Fires alone = tt
 alone_plainly Tells alone = tt
 
-comes_plainly : (pdu : List ℕ) → IsPlainly pdu → ComesPlainly (Comes pdu)
+pub comes_plainly : (pdu : List ℕ) → IsPlainly pdu → ComesPlainly (Comes pdu)
 comes_plainly pdu plainly signals = let (command, read, decisive) = plainly signals in (command, read)
 
-near_remembers : (happening : Happening) (pair : Pair) → IsRead happening pair.near → AllPlainly pair.near.coming → Remembers pair.near.run → Remembers (happens_near happening pair).near.run
+pub near_remembers : (happening : Happening) (pair : Pair) → IsRead happening pair.near → AllPlainly pair.near.coming → Remembers pair.near.run → Remembers (happens_near happening pair).near.run
 near_remembers (Acts more) pair read plainly so = by (is_alone more) refl
   where
     by : (alone : Bool) → is_alone more ≡ alone → Remembers (cond alone (with_near (occurs more pair.near) pair) pair).near.run
@@ -291,14 +291,14 @@ near_remembers (Damages other) pair read plainly so = by pair.near.coming
         at true = occurs-remembered pair.near.policy pair.near.run (Comes other) (λ signals. let never : true ≡ false = sym signals ∙ read in absurd cc) so
         at false = so
 
-record BothRemember (pair : Pair) : Type 0 where
-  near : Remembers pair.near.run
-  far : Remembers pair.far.run
+pub record BothRemember (pair : Pair) : Type 0 where
+  pub near : Remembers pair.near.run
+  pub far : Remembers pair.far.run
 
-turn_remembers : (happening : Happening) (pair : Pair) → IsRead happening pair.near → AllPlainly pair.near.coming → BothRemember pair → BothRemember (happens_near happening pair)
+pub turn_remembers : (happening : Happening) (pair : Pair) → IsRead happening pair.near → AllPlainly pair.near.coming → BothRemember pair → BothRemember (happens_near happening pair)
 turn_remembers happening pair read plainly both = record { near = near_remembers happening pair read plainly both.near; far = subst Remembers (sym (near_grows happening pair).1) both.far }
 
-all_remember : (near far : Policy) (past turns : List Turn) → AreRead near far past → EachAfter (λ front turn. IsRead turn.happening (end_at turn.side (pair_of near far front))) past turns → BothRemember (pair_of near far past) → BothRemember (pair_of near far (past ++ turns))
+pub all_remember : (near far : Policy) (past turns : List Turn) → AreRead near far past → EachAfter (λ front turn. IsRead turn.happening (end_at turn.side (pair_of near far front))) past turns → BothRemember (pair_of near far past) → BothRemember (pair_of near far (past ++ turns))
 all_remember near far past [] before read both = subst (λ (list : List Turn). BothRemember (pair_of near far list)) (sym (append-nil past)) both
 all_remember near far past (turn ∷ turns) before (now, read) both =
     subst (λ (list : List Turn). BothRemember (pair_of near far list)) (append_assoc past (turn ∷ []) turns)

@@ -34,7 +34,7 @@ informed kind = by (eqb kind 2) (eqb kind 3)
     by false false = refl
 
 -- what is recalled, or else the answer
-recalled : (e : Errand) (last : Option Remembered) (identifier : ℕ) (fresh : Option Content) (F : Type 0) → IsRecalledOr e last identifier F → (F → Recalls e fresh) → Recalls e (response_by last identifier fresh)
+pub recalled : (e : Errand) (last : Option Remembered) (identifier : ℕ) (fresh : Option Content) (F : Type 0) → IsRecalledOr e last identifier F → (F → Recalls e fresh) → Recalls e (response_by last identifier fresh)
 recalled e None identifier fresh F so to = to so
 recalled e (Some last) identifier fresh F so to = by (eqb last.identifier identifier) so
   where
@@ -44,7 +44,7 @@ recalled e (Some last) identifier fresh F so to = by (eqb last.identifier identi
 
 -- ---- options
 
-part_names : (own : ℕ) (more : Bool) (wish : Wish) (options : Options) → (destination : ℕ) → responds_with (errands.Configuration own) (configuration_answer (judged_part more own wish options) destination) ≡ true
+pub part_names : (own : ℕ) (more : Bool) (wish : Wish) (options : Options) → (destination : ℕ) → responds_with (errands.Configuration own) (configuration_answer (judged_part more own wish options) destination) ≡ true
 part_names own true wish options destination = eqb-same own
 part_names own false wish options destination = by (answered wish options)
   where
@@ -53,7 +53,7 @@ part_names own false wish options destination = by (answered wish options)
     by (Unacceptable refusal given) = eqb-same own
     by Unknown = eqb-same own
 
-setup_names : (own flags : ℕ) (wish : Wish) (setup : Setup) (octets : List ℕ) (destination : ℕ) → responds_with (errands.Configuration own) (configuration_answer (judged_setup own flags wish setup octets) destination) ≡ true
+pub setup_names : (own flags : ℕ) (wish : Wish) (setup : Setup) (octets : List ℕ) (destination : ℕ) → responds_with (errands.Configuration own) (configuration_answer (judged_setup own flags wish setup octets) destination) ≡ true
 setup_names own flags wish setup octets destination = by (is_open setup) (options_read octets)
   where
     by : (open' : Bool) (read : Result Options ConfigRefusal) → responds_with (errands.Configuration own) (configuration_answer (cond open' (TooLate own) (judged_read own flags wish setup read)) destination) ≡ true
@@ -61,7 +61,7 @@ setup_names own flags wish setup octets destination = by (is_open setup) (option
     by false (Ok options) = part_names own _ wish (joined setup.parts options) destination
     by false (Err refusal) = eqb-same own
 
-stage_names : (own : ℕ) (stage : Stage) (wish : Wish) (flags : ℕ) (octets : List ℕ) (destination : ℕ) → is_peer own stage ≡ true → responds_with (errands.Configuration own) (configuration_answer (judged_stage stage wish flags octets) destination) ≡ true
+pub stage_names : (own : ℕ) (stage : Stage) (wish : Wish) (flags : ℕ) (octets : List ℕ) (destination : ℕ) → is_peer own stage ≡ true → responds_with (errands.Configuration own) (configuration_answer (judged_stage stage wish flags octets) destination) ≡ true
 stage_names own (Requested request) wish flags octets destination is = cc
 stage_names own (Connected peer setup) wish flags octets destination is =
     subst (λ p. responds_with (errands.Configuration own) (configuration_answer (judged_setup p flags wish setup octets) destination) ≡ true) (eqb-true own peer is) (setup_names own flags wish setup octets destination)
@@ -70,7 +70,7 @@ stage_names own (Leaving peer setup request) wish flags octets destination is =
 stage_names own (Closing peer request checked) wish flags octets destination is = ap (λ p. eqb p own) (sym (eqb-true own peer is)) ∙ eqb-same own
 stage_names own (Crossed peer request) wish flags octets destination is = ap (λ p. eqb p own) (sym (eqb-true own peer is)) ∙ eqb-same own
 
-options_answered : (policy : Policy) (own destination flags : ℕ) (octets : List ℕ) (v : Channels) → HasPeer own (held_at destination v) → responds_with (errands.Configuration own) (configuration_answer (verdict policy destination flags octets v) destination) ≡ true
+pub options_answered : (policy : Policy) (own destination flags : ℕ) (octets : List ℕ) (v : Channels) → HasPeer own (held_at destination v) → responds_with (errands.Configuration own) (configuration_answer (verdict policy destination flags octets v) destination) ≡ true
 options_answered policy own destination flags octets v = by (held_at destination v)
   where
     by : (held : Option Held) → HasPeer own held → responds_with (errands.Configuration own) (configuration_answer (verdict_on held policy flags octets) destination) ≡ true
@@ -79,7 +79,7 @@ options_answered policy own destination flags octets v = by (held_at destination
 
 -- ---- the end of a channel
 
-end_answered : (own destination source : ℕ) (held : Option Held) → eqb source own ≡ true → HasPeer own held → Recalls (errands.Disconnection own) (disconnection_answer held destination source)
+pub end_answered : (own destination source : ℕ) (held : Option Held) → eqb source own ≡ true → HasPeer own held → Recalls (errands.Disconnection own) (disconnection_answer held destination source)
 end_answered own destination source None is none = absurd none
 end_answered own destination source (Some held) is has = by held.stage has
   where
@@ -97,7 +97,7 @@ end_answered own destination source (Some held) is has = by held.stage has
 
 -- ---- any of them
 
-content_recalled : (policy : Policy) (v : Channels) (e : Errand) (identifier : ℕ) (content : Content) → asks_with e content ≡ true → CanRespond e identifier content v → Recalls e (response_to policy identifier content v)
+pub content_recalled : (policy : Policy) (v : Channels) (e : Errand) (identifier : ℕ) (content : Content) → asks_with e content ≡ true → CanRespond e identifier content v → Recalls e (response_to policy identifier content v)
 content_recalled policy v (errands.Connection own) identifier (connection_request psm source) asks can =
     recalled (errands.Connection own) v.memory.connection identifier (Some (connection_answer (connection_result policy psm source v) source v)) (Unit {0}) can (λ any. asks)
 content_recalled policy v (errands.Configuration own) identifier (configuration_request destination flags options) asks can =

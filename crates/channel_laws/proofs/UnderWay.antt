@@ -40,41 +40,41 @@ pub record BothPlainly (pair : Pair) : Type 0 where
 
 -- ---- what is given
 
-some_is : {X : Type 0} (x y : X) → Some x ≡ Some y → x ≡ y
+pub some_is : {X : Type 0} (x y : X) → Some x ≡ Some y → x ≡ y
 some_is x y is = cc
 
 -- an own request is decisive
-own_decisive : (own : Own) (peer : ℕ) (command : Command) → configuration_by own peer ≡ Some command → IsDecisive command.content
+pub own_decisive : (own : Own) (peer : ℕ) (command : Command) → configuration_by own peer ≡ Some command → IsDecisive command.content
 own_decisive Unasked peer command is = cc
 own_decisive (Asking request options) peer command is = subst (λ (c : Command). IsDecisive c.content) (some_is _ command is) tt
 own_decisive Granted peer command is = cc
 
-call_decisive : (held : Held) (stage : Stage) (command : Command) → connection_at stage held ≡ Some command → IsDecisive command.content
+pub call_decisive : (held : Held) (stage : Stage) (command : Command) → connection_at stage held ≡ Some command → IsDecisive command.content
 call_decisive held (Requested request) command is = subst (λ (c : Command). IsDecisive c.content) (some_is _ command is) tt
 call_decisive held (Connected peer setup) command is = cc
 call_decisive held (Leaving peer setup request) command is = cc
 call_decisive held (Closing peer request checked) command is = cc
 call_decisive held (Crossed peer request) command is = cc
 
-options_decisive : (stage : Stage) (command : Command) → configuration_at stage ≡ Some command → IsDecisive command.content
+pub options_decisive : (stage : Stage) (command : Command) → configuration_at stage ≡ Some command → IsDecisive command.content
 options_decisive (Requested request) command is = cc
 options_decisive (Connected peer setup) command is = own_decisive setup.own peer command is
 options_decisive (Leaving peer setup request) command is = own_decisive setup.own peer command is
 options_decisive (Closing peer request checked) command is = cc
 options_decisive (Crossed peer request) command is = cc
 
-end_decisive : (held : Held) (stage : Stage) (command : Command) → disconnection_at stage held ≡ Some command → IsDecisive command.content
+pub end_decisive : (held : Held) (stage : Stage) (command : Command) → disconnection_at stage held ≡ Some command → IsDecisive command.content
 end_decisive held (Requested request) command is = cc
 end_decisive held (Connected peer setup) command is = cc
 end_decisive held (Leaving peer setup request) command is = subst (λ (c : Command). IsDecisive c.content) (some_is _ command is) tt
 end_decisive held (Closing peer request checked) command is = subst (λ (c : Command). IsDecisive c.content) (some_is _ command is) tt
 end_decisive held (Crossed peer request) command is = subst (λ (c : Command). IsDecisive c.content) (some_is _ command is) tt
 
-features_decisive : (features : Option Request) (command : Command) → features_command features ≡ Some command → IsDecisive command.content
+pub features_decisive : (features : Option Request) (command : Command) → features_command features ≡ Some command → IsDecisive command.content
 features_decisive None command is = cc
 features_decisive (Some request) command is = subst (λ (c : Command). IsDecisive c.content) (some_is _ command is) tt
 
-asked_decisive : (errand : Errand) (v : Channels) (command : Command) → command_of errand v ≡ Some command → IsDecisive command.content
+pub asked_decisive : (errand : Errand) (v : Channels) (command : Command) → command_of errand v ≡ Some command → IsDecisive command.content
 asked_decisive (errands.Connection own) v command is = by (held_at own v) is
   where
     by : (held : Option Held) → on_held (λ held. connection_at held.stage held) held ≡ Some command → IsDecisive command.content
@@ -93,7 +93,7 @@ asked_decisive (errands.Disconnection own) v command is = by (held_at own v) is
 asked_decisive errands.Features v command is = features_decisive v.features command is
 
 -- what a channel gives is no command
-no_signal : (held : Option Held) (command : Command) → held_gives held ≡ Some (Signal command) → ⊥
+pub no_signal : (held : Option Held) (command : Command) → held_gives held ≡ Some (Signal command) → ⊥
 no_signal None command is = cc
 no_signal (Some held) command is = by held.stage is
   where
@@ -114,7 +114,7 @@ no_signal (Some held) command is = by held.stage is
     by (Closing peer request checked) is = cc
     by (Crossed peer request) is = cc
 
-signal_decisive : (policy : Policy) (list : List Occurrence) (command : Command) → next_given (run_of policy list).value ≡ Some (Signal command) → IsDecisive command.content
+pub signal_decisive : (policy : Policy) (list : List Occurrence) (command : Command) → next_given (run_of policy list).value ≡ Some (Signal command) → IsDecisive command.content
 signal_decisive policy list command given = by v.queue refl given
   where
     v : Channels
@@ -131,14 +131,14 @@ signal_decisive policy list command given = by v.queue refl given
         answers-are_decisive policy list command (subst (StandsIn (Answer command)) (sym at) (inl (ap Answer same)))
     by (Ask errand ∷ behind) at is = own errand (command_of errand v) refl is
 
-given_plainly : (policy : Policy) (list : List Occurrence) (v : Channels) (given : Given) (pdu : List ℕ) → v ≡ (run_of policy list).value → next_given v ≡ Some given → IsReadAs (Some given) pdu → IsPlainly pdu
+pub given_plainly : (policy : Policy) (list : List Occurrence) (v : Channels) (given : Given) (pdu : List ℕ) → v ≡ (run_of policy list).value → next_given v ≡ Some given → IsReadAs (Some given) pdu → IsPlainly pdu
 given_plainly policy list v (Signal command) pdu v_is is read signals = (command, read, signal_decisive policy list command (sym (ap next_given v_is) ∙ is))
 given_plainly policy list v (Whole peer sdu) pdu v_is is read signals = let never : true ≡ false = sym signals ∙ read in absurd cc
 given_plainly policy list v (Framed peer frame) pdu v_is is read signals = let never : true ≡ false = sym signals ∙ read in absurd cc
 
 -- ---- each turn
 
-more_plainly : (coming : List (List ℕ)) (pdu : List ℕ) → IsPlainly pdu → AllPlainly coming → AllPlainly (coming ++ pdu ∷ [])
+pub more_plainly : (coming : List (List ℕ)) (pdu : List ℕ) → IsPlainly pdu → AllPlainly coming → AllPlainly (coming ++ pdu ∷ [])
 more_plainly coming pdu one all other stands = by (stands-either other coming (pdu ∷ []) stands)
   where
     by : StandsIn other coming ⊎ StandsIn other (pdu ∷ []) → IsPlainly other
@@ -146,18 +146,18 @@ more_plainly coming pdu one all other stands = by (stands-either other coming (p
     by (inr (inl same)) = subst IsPlainly same one
     by (inr (inr none)) = elim none [ ]
 
-fewer_plainly : (pdu : List ℕ) (coming rest : List (List ℕ)) → coming ≡ pdu ∷ rest → AllPlainly coming → AllPlainly rest
+pub fewer_plainly : (pdu : List ℕ) (coming rest : List (List ℕ)) → coming ≡ pdu ∷ rest → AllPlainly coming → AllPlainly rest
 fewer_plainly pdu coming rest is all other stands = all other (subst (StandsIn other) (sym is) (inr stands))
 
-near_plainly : (pair : Pair) (end' : End) → AllPlainly end'.coming → BothPlainly pair → BothPlainly (with_near end' pair)
+pub near_plainly : (pair : Pair) (end' : End) → AllPlainly end'.coming → BothPlainly pair → BothPlainly (with_near end' pair)
 near_plainly pair end' all both = record { near = all; far = both.far }
 
-puts_plainly : (policy : Policy) (list : List Occurrence) (given : Option Given) (pdu : List ℕ) (pair : Pair) → pair.near.run ≡ run_of policy list → next_given pair.near.run.value ≡ given → IsReadAs given pdu → BothPlainly pair → BothPlainly (puts given pdu pair)
+pub puts_plainly : (policy : Policy) (list : List Occurrence) (given : Option Given) (pdu : List ℕ) (pair : Pair) → pair.near.run ≡ run_of policy list → next_given pair.near.run.value ≡ given → IsReadAs given pdu → BothPlainly pair → BothPlainly (puts given pdu pair)
 puts_plainly policy list None pdu pair run_is is read both = both
 puts_plainly policy list (Some given) pdu pair run_is is read both =
     record { near = both.near; far = more_plainly pair.far.coming pdu (given_plainly policy list pair.near.run.value given pdu (ap (λ (run : Run). run.value) run_is) is read) both.far }
 
-turn_plainly : (policy : Policy) (list : List Occurrence) (happening : Happening) (pair : Pair) → pair.near.run ≡ run_of policy list → IsRead happening pair.near → BothPlainly pair → BothPlainly (happens_near happening pair)
+pub turn_plainly : (policy : Policy) (list : List Occurrence) (happening : Happening) (pair : Pair) → pair.near.run ≡ run_of policy list → IsRead happening pair.near → BothPlainly pair → BothPlainly (happens_near happening pair)
 turn_plainly policy list (Acts more) pair run_is read both = by (is_alone more)
   where
     by : (alone : Bool) → BothPlainly (cond alone (with_near (occurs more pair.near) pair) pair)
@@ -189,10 +189,10 @@ turn_plainly policy list (Damages other) pair run_is read both = by pair.near.co
         at true = near_plainly pair (occurs (Comes other) (let_go coming pair.near)) (fewer_plainly pdu pair.near.coming coming is both.near) both
         at false = near_plainly pair (let_go coming pair.near) (fewer_plainly pdu pair.near.coming coming is both.near) both
 
-turned_plainly : (pair : Pair) → BothPlainly pair → BothPlainly (turned pair)
+pub turned_plainly : (pair : Pair) → BothPlainly pair → BothPlainly (turned pair)
 turned_plainly pair both = record { near = both.far; far = both.near }
 
-all_plainly : (near far : Policy) (past turns : List Turn) → EachAfter (λ front turn. IsRead turn.happening (end_at turn.side (pair_of near far front))) past turns → BothPlainly (pair_of near far past) → BothPlainly (pair_of near far (past ++ turns))
+pub all_plainly : (near far : Policy) (past turns : List Turn) → EachAfter (λ front turn. IsRead turn.happening (end_at turn.side (pair_of near far front))) past turns → BothPlainly (pair_of near far past) → BothPlainly (pair_of near far (past ++ turns))
 all_plainly near far past [] read both = subst (λ (list : List Turn). BothPlainly (pair_of near far list)) (sym (append-nil past)) both
 all_plainly near far past (turn ∷ turns) (now, read) both =
     subst (λ (list : List Turn). BothPlainly (pair_of near far list)) (append_assoc past (turn ∷ []) turns)

@@ -1,6 +1,6 @@
 -- How often a host gives its own requests, against what the link does to them and to their responses (Core 5.1, Volume 3 Part A, 4 and 6.2.1;
 -- which turns are adverse is this project's own).
-use Rattle.std.specs.Prelude.{ℕ, ◌≡◌, ◌≤◌, ◌+◌, ◌==◌, ◌&&◌, not, nat_lt, Bool, true, false, List, [], ◌∷◌, length, drop, Option, Some, None, Ok, Err}
+use Rattle.std.specs.Prelude.{ℕ, ◌≡◌, ◌≤◌, ◌+◌, ◌==◌, ◌&&◌, not, nat_lt, Bool, true, false, List, [], ◌∷◌, ◌++◌, length, drop, Option, Some, None, Ok, Err}
 use Rattle.std.specs.List.{list_any}
 use Rattle.talk_laws.specs.acl_fragments.specs.Pieces.{channel_of}
 use Rattle.talk_laws.specs.capture.specs.Histories.{EachAfter}
@@ -112,6 +112,17 @@ AdverseTurnsAreCounted = (near far : Policy) (turns : List Turn) → AreFair nea
     → request_of errand (seen_from side (pair_of near far turns)).near.run.value ≡ Some request
     → copies errand (seen_from side (pair_of near far turns)).near.run.value.queue + request.given ≤ 1 + adverse_from errand side (new_pair near far) turns
 
+-- a request of the near end that waits was given, with the copies of it that wait, at most once, and each time it was given something is under way for it
+abbrev pub IsFirst : Errand → Pair → Type 0
+IsFirst errand pair = (request : Request) → request_of errand pair.near.run.value ≡ Some request
+    → (copies errand pair.near.run.value.queue + request.given ≤ 1) × (request.given ≤ under_way errand request.identifier pair)
+
+-- It is so from any turn on behind which none waited, or one was as new as that.
+abbrev pub AdverseTurnsAreCountedSince : Type 0
+AdverseTurnsAreCountedSince = (near far : Policy) (past turns : List Turn) → AreFair near far (past ++ turns) → AreRead near far (past ++ turns) → (side : Side) (errand : Errand) (request : Request)
+    → IsFirst errand (seen_from side (pair_of near far past)) → request_of errand (seen_from side (pair_of near far (past ++ turns))).near.run.value ≡ Some request
+    → copies errand (seen_from side (pair_of near far (past ++ turns))).near.run.value.queue + request.given ≤ 1 + adverse_from errand side (pair_of near far past) turns
+
 -- ---- where nothing comes in in vain
 
 -- a turn disturbs that repeats, loses or damages what is under way, or fires a timer while the link is not quiet
@@ -135,15 +146,23 @@ IsHeeded errand Repeats before after = Unit {0}
 IsHeeded errand Loses before after = Unit {0}
 IsHeeded errand (Damages pdu) before after = Unit {0}
 
--- nothing comes in in vain for the request of one end
+-- nothing comes in in vain for the request of one end, in the turns behind these
+abbrev pub AreHeededSince : Errand → Side → (near far : Policy) → (past turns : List Turn) → Type 0
+AreHeededSince errand side near far past turns = EachAfter (λ before turn. IsHeeded errand turn.happening (seen_from side (pair_of near far before)) (seen_from side (pair_after (pair_of near far before) turn))) past turns
+
 abbrev pub AreHeeded : Errand → Side → (near far : Policy) → List Turn → Type 0
-AreHeeded errand side near far turns = EachAfter (λ past turn. IsHeeded errand turn.happening (seen_from side (pair_of near far past)) (seen_from side (pair_after (pair_of near far past) turn))) [] turns
+AreHeeded errand side near far turns = AreHeededSince errand side near far [] turns
 
 -- Then a request is given for the t-th time only behind t - 1 turns that disturb.
 abbrev pub DisturbancesAreCounted : Type 0
 DisturbancesAreCounted = (near far : Policy) (turns : List Turn) → AreFair near far turns → AreRead near far turns → (side : Side) (errand : Errand) (request : Request) → AreHeeded errand side near far turns
     → request_of errand (seen_from side (pair_of near far turns)).near.run.value ≡ Some request
     → copies errand (seen_from side (pair_of near far turns)).near.run.value.queue + request.given ≤ 1 + disturbances (new_pair near far) turns
+
+abbrev pub DisturbancesAreCountedSince : Type 0
+DisturbancesAreCountedSince = (near far : Policy) (past turns : List Turn) → AreFair near far (past ++ turns) → AreRead near far (past ++ turns) → (side : Side) (errand : Errand) (request : Request) → AreHeededSince errand side near far past turns
+    → IsFirst errand (seen_from side (pair_of near far past)) → request_of errand (seen_from side (pair_of near far (past ++ turns))).near.run.value ≡ Some request
+    → copies errand (seen_from side (pair_of near far (past ++ turns))).near.run.value.queue + request.given ≤ 1 + disturbances (pair_of near far past) turns
 
 -- ---- the question for the peer's features
 

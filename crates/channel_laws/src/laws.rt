@@ -1,7 +1,7 @@
 //! Laws of the channels of one host.
 
 ghost use Rattle.channel_laws.specs.Acceptance.{SendsBehindAcceptance};
-ghost use Rattle.channel_laws.specs.Adverse.{AdverseTurnsAreCounted, DisturbancesAreCounted, FeaturesAreHeeded};
+ghost use Rattle.channel_laws.specs.Adverse.{AdverseTurnsAreCounted, AdverseTurnsAreCountedSince, DisturbancesAreCounted, DisturbancesAreCountedSince, FeaturesAreHeeded};
 ghost use Rattle.channel_laws.specs.Agreements.{AgreementsAreOnHeard};
 ghost use Rattle.channel_laws.specs.Armed.{ArmedIsWhatWaits};
 ghost use Rattle.channel_laws.specs.Awaited.{FeaturesAreAwaited, OptionsAreAwaited, RequestsAreAwaited};
@@ -233,10 +233,20 @@ pub fn adverse_turns_are_counted()
     ensures { AdverseTurnsAreCounted }
 {}
 
+/// So it is from any turn on behind which no such request waited, or one that was as new as that: only the adverse turns behind it count.
+pub fn adverse_turns_are_counted_since()
+    ensures { AdverseTurnsAreCountedSince }
+{}
+
 /// Where nothing comes in in vain for it, a request is given for the t-th time only behind t - 1 turns that disturb: they repeat, lose or damage
 /// what is under way, or fire a timer while the link is not quiet.
 pub fn disturbances_are_counted()
     ensures { DisturbancesAreCounted }
+{}
+
+/// So it is from any turn on behind which no such request waited, or one that was as new as that.
+pub fn disturbances_are_counted_since()
+    ensures { DisturbancesAreCountedSince }
 {}
 
 /// Where an answer has room when something comes in, nothing does so in vain for the question for the peer's features: so it is given again only

@@ -53,21 +53,21 @@ use Rattle.disconnection_laws.proofs.Staying.{more-ended, more-for, ended-by}
 abbrev pub Silent : List Saying → Type 0
 Silent said = (identifier own peer : ℕ) → HasAnsweredEnd identifier own peer said → ⊥
 
-silent_both : (xs ys : List Saying) → Silent xs → Silent ys → Silent (xs ++ ys)
+pub silent_both : (xs ys : List Saying) → Silent xs → Silent ys → Silent (xs ++ ys)
 silent_both xs ys one other identifier own peer is = by (stands-either (spoken (command_with identifier (disconnection_response own peer))) xs ys is)
   where
     by : HasAnsweredEnd identifier own peer xs ⊎ HasAnsweredEnd identifier own peer ys → ⊥
     by (inl left) = one identifier own peer left
     by (inr right) = other identifier own peer right
 
-silent_one : (s : Saying) → ((identifier own peer : ℕ) → s ≡ spoken (command_with identifier (disconnection_response own peer)) → ⊥) → Silent (s ∷ [])
+pub silent_one : (s : Saying) → ((identifier own peer : ℕ) → s ≡ spoken (command_with identifier (disconnection_response own peer)) → ⊥) → Silent (s ∷ [])
 silent_one s apart identifier own peer (inl same) = apart identifier own peer same
 silent_one s apart identifier own peer (inr none) = elim none [ ]
 
-command_same : (one other : Command) → spoken one ≡ spoken other → one ≡ other
+pub command_same : (one other : Command) → spoken one ≡ spoken other → one ≡ other
 command_same one other same = cc
 
-silent_command : (command : Command) → eqb (code_of command.content) 0x07 ≡ false → Silent (spoken command ∷ [])
+pub silent_command : (command : Command) → eqb (code_of command.content) 0x07 ≡ false → Silent (spoken command ∷ [])
 silent_command command none = silent_one (spoken command) (λ identifier own peer same.
     let it : command ≡ command_with identifier (disconnection_response own peer) = command_same command (command_with identifier (disconnection_response own peer)) same in
     let never : true ≡ false = sym (ap (λ (c : Command). eqb (code_of c.content) 0x07) it) ∙ none in absurd cc)
@@ -84,15 +84,15 @@ own-words w = record {
   lets_end = λ own peer. silent_one (GaveUp (sayings.Disconnection own peer)) (λ i o p same. cc);
 }
 
-silent_none : Silent []
+pub silent_none : Silent []
 silent_none identifier own peer is = elim is [ ]
 
-silent_features : (before after : Option Request) → Silent (features_given_up before after)
+pub silent_features : (before after : Option Request) → Silent (features_given_up before after)
 silent_features None after = silent_none
 silent_features (Some request) None = silent_one _ (λ i o p same. cc)
 silent_features (Some request) (Some other) = silent_none
 
-silent_fired : (tries : ℕ) (owns : List ℕ) (v : Channels) → Silent (said_by_channels tries owns v)
+pub silent_fired : (tries : ℕ) (owns : List ℕ) (v : Channels) → Silent (said_by_channels tries owns v)
 silent_fired tries [] v =
     let w : Channels = times_features v.features tries v in
     silent_both (said_again errands.Features v w) (features_given_up v.features w.features) (words-again w Silent (own-words w) errands.Features v) (silent_features v.features w.features)
@@ -103,13 +103,13 @@ silent_fired tries (own ∷ owns) v =
     (silent_both (said_on_firing own v between) (said_on_firing own between after) (words-firing between Silent (own-words between) own v) (words-firing after Silent (own-words after) own between))
     (silent_fired tries owns (fired_channel tries own v))
 
-silent_sent : (carrier : Option Carrier) (peer : ℕ) (sdu : List ℕ) → Silent (said_by_carrier carrier peer sdu)
+pub silent_sent : (carrier : Option Carrier) (peer : ℕ) (sdu : List ℕ) → Silent (said_by_carrier carrier peer sdu)
 silent_sent None peer sdu = silent_none
 silent_sent (Some (Plain agreed None)) peer sdu = silent_one _ (λ i o p same. cc)
 silent_sent (Some (Plain agreed (Some waiting))) peer sdu = silent_none
 silent_sent (Some (Retransmitting machine)) peer sdu = silent_none
 
-silent_given : (given : Option Given) (pdu : List ℕ) → Silent (said_as given pdu)
+pub silent_given : (given : Option Given) (pdu : List ℕ) → Silent (said_as given pdu)
 silent_given None pdu = silent_none
 silent_given (Some (Signal command)) pdu = silent_none
 silent_given (Some (Whole other sdu)) pdu = silent_none
@@ -118,11 +118,11 @@ silent_given (Some (Framed other frame)) pdu = silent_one _ (λ i o p same. cc)
 -- ---- what is kept
 
 -- each channel whose end was answered has ended, and so has that of the answer that is remembered
-record Ends (said : List Saying) (memory : Memory) : Type 0 where
-  answered : (identifier own peer : ℕ) → HasAnsweredEnd identifier own peer said → IsEndedFor peer (read_at own (reading said).entries) × HasHeardEnd identifier own peer said
-  kept : (last : Remembered) (own peer : ℕ) → memory.disconnection ≡ Some last → last.response ≡ Some (disconnection_response own peer) → IsFor peer (read_at own (reading said).entries) × HasHeardEnd last.identifier own peer said
+pub record Ends (said : List Saying) (memory : Memory) : Type 0 where
+  pub answered : (identifier own peer : ℕ) → HasAnsweredEnd identifier own peer said → IsEndedFor peer (read_at own (reading said).entries) × HasHeardEnd identifier own peer said
+  pub kept : (last : Remembered) (own peer : ℕ) → memory.disconnection ≡ Some last → last.response ≡ Some (disconnection_response own peer) → IsFor peer (read_at own (reading said).entries) × HasHeardEnd last.identifier own peer said
 
-silent_step : (past said : List Saying) (before after : Memory) → after ≡ before → Silent said → Ends past before → Ends (past ++ said) after
+pub silent_step : (past said : List Saying) (before after : Memory) → after ≡ before → Silent said → Ends past before → Ends (past ++ said) after
 silent_step past said before after same silent ends = record {
   answered = λ identifier own peer is. by identifier own peer (stands-either (spoken (command_with identifier (disconnection_response own peer))) past said is);
   kept = λ last own peer at is. let it = ends.kept last own peer (sym (ap (λ (m : Memory). m.disconnection) same) ∙ at) is in (more-for peer own past said it.0, stands-left _ past said it.1);
@@ -142,22 +142,22 @@ abbrev pub IsKept : OfEnd → Option Remembered → Type 0
 IsKept K memory = (last : Remembered) (own peer : ℕ) → memory ≡ Some last → last.response ≡ Some (disconnection_response own peer) → K last.identifier own peer
 
 -- an answer that ends a channel is remembered, and what is remembered is of a channel for that endpoint of the peer
-record Answers (K : OfEnd) (v w : Channels) (identifier : ℕ) (response : Option Content) : Type 0 where
-  said : (own peer : ℕ) → response ≡ Some (disconnection_response own peer) → can_say response v ≡ true → (last : Remembered) × (w.memory.disconnection ≡ Some last) × (last.identifier ≡ identifier) × (last.response ≡ Some (disconnection_response own peer))
-  kept : (last : Remembered) (own peer : ℕ) → w.memory.disconnection ≡ Some last → last.response ≡ Some (disconnection_response own peer) → K last.identifier own peer
+pub record Answers (K : OfEnd) (v w : Channels) (identifier : ℕ) (response : Option Content) : Type 0 where
+  pub said : (own peer : ℕ) → response ≡ Some (disconnection_response own peer) → can_say response v ≡ true → (last : Remembered) × (w.memory.disconnection ≡ Some last) × (last.identifier ≡ identifier) × (last.response ≡ Some (disconnection_response own peer))
+  pub kept : (last : Remembered) (own peer : ℕ) → w.memory.disconnection ≡ Some last → last.response ≡ Some (disconnection_response own peer) → K last.identifier own peer
 
-abbrev IsNoEnd : Option Content → Type 0
+abbrev pub IsNoEnd : Option Content → Type 0
 IsNoEnd response = (own peer : ℕ) → response ≡ Some (disconnection_response own peer) → ⊥
 
 -- nothing is answered of ends, and what is remembered of them stays
-other_answers : (K : OfEnd) (v w : Channels) (identifier : ℕ) (response : Option Content) → w.memory.disconnection ≡ v.memory.disconnection → IsNoEnd response → IsKept K v.memory.disconnection → Answers K v w identifier response
+pub other_answers : (K : OfEnd) (v w : Channels) (identifier : ℕ) (response : Option Content) → w.memory.disconnection ≡ v.memory.disconnection → IsNoEnd response → IsKept K v.memory.disconnection → Answers K v w identifier response
 other_answers K v w identifier response same none kept = record { said = λ own peer is can. absurd (none own peer is); kept = λ last own peer at is. kept last own peer (sym same ∙ at) is }
 
 pub said-memory : (identifier : ℕ) (response : Option Content) (v : Channels) (can : Bool) → (cond can (says identifier response v) v).memory ≡ v.memory
 said-memory identifier response v true = says_memory identifier response v
 said-memory identifier response v false = refl
 
-no_end_by : (last : Option Remembered) (identifier : ℕ) (given : Option Content) → IsNoEnd given → ((one : Remembered) → last ≡ Some one → IsNoEnd one.response) → IsNoEnd (response_by last identifier given)
+pub no_end_by : (last : Option Remembered) (identifier : ℕ) (given : Option Content) → IsNoEnd given → ((one : Remembered) → last ≡ Some one → IsNoEnd one.response) → IsNoEnd (response_by last identifier given)
 no_end_by None identifier given none kept = none
 no_end_by (Some one) identifier given none kept = by (eqb one.identifier identifier)
   where
@@ -184,17 +184,17 @@ other-memory v last kind identifier given more keeps apart = by last
         at true = ap (λ (m : Memory). m.disconnection) (said-memory identifier one.response v (can_say one.response v))
         at false = new (can_say given v)
 
-other_kind : (K : OfEnd) (v : Channels) (last : Option Remembered) (kind : RequestKind) (identifier : ℕ) (given : Option Content) (more : Channels → Channels) → ((u : Channels) → (more u).memory ≡ u.memory)
+pub other_kind : (K : OfEnd) (v : Channels) (last : Option Remembered) (kind : RequestKind) (identifier : ℕ) (given : Option Content) (more : Channels → Channels) → ((u : Channels) → (more u).memory ≡ u.memory)
     → ((u : Channels) → (remembers kind identifier given u).memory.disconnection ≡ u.memory.disconnection) → IsNoEnd given → ((one : Remembered) → last ≡ Some one → IsNoEnd one.response) → IsKept K v.memory.disconnection
     → Answers K v (hears_kind last kind identifier given more v) identifier (response_by last identifier given)
 other_kind K v last kind identifier given more keeps apart none none_kept kept =
     other_answers K v (hears_kind last kind identifier given more v) identifier (response_by last identifier given) (other-memory v last kind identifier given more keeps apart) (no_end_by last identifier given none none_kept) kept
 
-some_same : (one other : Remembered) → Some one ≡ Some other → one ≡ other
+pub some_same : (one other : Remembered) → Some one ≡ Some other → one ≡ other
 some_same one other is = cc
 
 -- a request for an end
-end_kind : (K : OfEnd) (v : Channels) (identifier : ℕ) (given : Option Content) (more : Channels → Channels) → ((u : Channels) → (more u).memory ≡ u.memory) → ((own peer : ℕ) → given ≡ Some (disconnection_response own peer) → can_say given v ≡ true → response_by v.memory.disconnection identifier given ≡ given → K identifier own peer) → IsKept K v.memory.disconnection
+pub end_kind : (K : OfEnd) (v : Channels) (identifier : ℕ) (given : Option Content) (more : Channels → Channels) → ((u : Channels) → (more u).memory ≡ u.memory) → ((own peer : ℕ) → given ≡ Some (disconnection_response own peer) → can_say given v ≡ true → response_by v.memory.disconnection identifier given ≡ given → K identifier own peer) → IsKept K v.memory.disconnection
     → Answers K v (hears_kind v.memory.disconnection kinds.Disconnection identifier given more v) identifier (response_by v.memory.disconnection identifier given)
 end_kind K v identifier given more keeps now kept = by v.memory.disconnection refl
   where
@@ -230,19 +230,19 @@ end_kind K v identifier given more keeps now kept = by v.memory.disconnection re
 
 -- ---- what is remembered of other kinds
 
-calls_none : (calls : _) (entries : List Entry) (last : Option Remembered) → CallsKept calls entries last → (one : Remembered) → last ≡ Some one → IsNoEnd one.response
+pub calls_none : (calls : _) (entries : List Entry) (last : Option Remembered) → CallsKept calls entries last → (one : Remembered) → last ≡ Some one → IsNoEnd one.response
 calls_none calls entries None is one at own peer same = cc
 calls_none calls entries (Some last) (first, known) one at own peer same =
     let it : last ≡ one = some_same last one at in
     let never : ⊥ = subst (λ (r : Option Content). IsKnown entries r) (ap (λ (l : Remembered). l.response) it ∙ same) known in never
 
-queries_none : (asked : Requests) (held : List Held) (entries : List Entry) (last : Option Remembered) → QueriesKept asked held entries last → (one : Remembered) → last ≡ Some one → IsNoEnd one.response
+pub queries_none : (asked : Requests) (held : List Held) (entries : List Entry) (last : Option Remembered) → QueriesKept asked held entries last → (one : Remembered) → last ≡ Some one → IsNoEnd one.response
 queries_none asked held entries None is one at own peer same = cc
 queries_none asked held entries (Some last) (first, repeated) one at own peer same =
     let it : last ≡ one = some_same last one at in
     let never : ⊥ = subst (λ (r : Option Content). IsRepeated (answered_query asked last.identifier) held entries r) (ap (λ (l : Remembered). l.response) it ∙ same) repeated in never
 
-harmless_none : (last : Option Remembered) → HarmlessKept last → (one : Remembered) → last ≡ Some one → IsNoEnd one.response
+pub harmless_none : (last : Option Remembered) → HarmlessKept last → (one : Remembered) → last ≡ Some one → IsNoEnd one.response
 harmless_none None is one at own peer same = cc
 harmless_none (Some last) harmless one at own peer same =
     let it : last ≡ one = some_same last one at in
@@ -252,7 +252,7 @@ harmless_none (Some last) harmless one at own peer same =
     by : sense_of Out 0 (disconnection_response own peer) ≡ Quiet → ⊥
     by is = cc
 
-kept_none : (policy : Policy) (r : Reading) (v : Channels) → Sound policy r v → (kind : RequestKind) → (kind ≡ kinds.Disconnection → ⊥) → (one : Remembered) → remembered kind v.memory ≡ Some one → IsNoEnd one.response
+pub kept_none : (policy : Policy) (r : Reading) (v : Channels) → Sound policy r v → (kind : RequestKind) → (kind ≡ kinds.Disconnection → ⊥) → (one : Remembered) → remembered kind v.memory ≡ Some one → IsNoEnd one.response
 kept_none policy r v sound kinds.Connection other = calls_none _ r.entries v.memory.connection sound.kept.calls
 kept_none policy r v sound kinds.Configuration other = queries_none r.requests v.held r.entries v.memory.configuration sound.kept.queries
 kept_none policy r v sound kinds.Disconnection other = absurd (other refl)
@@ -261,19 +261,19 @@ kept_none policy r v sound kinds.Information other = harmless_none v.memory.info
 
 -- ---- what is answered anew
 
-judged_none : (answer : ConfigAnswer) (to : ℕ) (options : Options) → IsNoEnd (Some (judged_answer answer to options))
+pub judged_none : (answer : ConfigAnswer) (to : ℕ) (options : Options) → IsNoEnd (Some (judged_answer answer to options))
 judged_none (Accept given) to options own peer is = cc
 judged_none (Unacceptable refusal given) to options own peer is = cc
 judged_none Unknown to options own peer is = cc
 
-configuration_none : (now : Verdict) (to : ℕ) → IsNoEnd (Some (configuration_answer now to))
+pub configuration_none : (now : Verdict) (to : ℕ) → IsNoEnd (Some (configuration_answer now to))
 configuration_none NoChannel to own peer is = cc
 configuration_none (TooLate other) to own peer is = cc
 configuration_none (Unreadable other) to own peer is = cc
 configuration_none (Incomplete other options) to own peer is = cc
 configuration_none (Judged other options answer) to own peer is = judged_none answer other options own peer is
 
-information_none : (kind : ℕ) → IsNoEnd (Some (information_answer kind))
+pub information_none : (kind : ℕ) → IsNoEnd (Some (information_answer kind))
 information_none kind own peer is = by (eqb kind 2) (eqb kind 3) is
   where
     by : (a b : Bool) → Some (cond a (information_response kind 0 (0xA8 ∷ 0x00 ∷ 0x00 ∷ 0x00 ∷ [])) (cond b (information_response kind 0 (0x02 ∷ 0x00 ∷ 0x00 ∷ 0x00 ∷ 0x00 ∷ 0x00 ∷ 0x00 ∷ 0x00 ∷ [])) (information_response kind 1 []))) ≡ Some (disconnection_response own peer) → ⊥
@@ -282,7 +282,7 @@ information_none kind own peer is = by (eqb kind 2) (eqb kind 3) is
     by false false is = cc
 
 -- the answer to a request for an end is of a channel that is there, for that endpoint of the peer
-end_for : (policy : Policy) (r : Reading) (v : Channels) → Sound policy r v → (destination source own peer : ℕ) → disconnection_answer (held_at destination v) destination source ≡ Some (disconnection_response own peer) → IsFor peer (read_at own r.entries) × (disconnection_request destination source ≡ disconnection_request own peer)
+pub end_for : (policy : Policy) (r : Reading) (v : Channels) → Sound policy r v → (destination source own peer : ℕ) → disconnection_answer (held_at destination v) destination source ≡ Some (disconnection_response own peer) → IsFor peer (read_at own r.entries) × (disconnection_request destination source ≡ disconnection_request own peer)
 end_for policy r v sound destination source own peer = by (held_at destination v) refl
   where
     read : (held : Held) (endpoint : ℕ) → held_at destination v ≡ Some held → peer_of held.stage ≡ Some endpoint → IsFor endpoint (read_at destination r.entries)
@@ -384,11 +384,11 @@ pub record Replied (K : OfEnd) (v w : Channels) (reply : Option Command) : Type 
   pub said : (identifier own peer : ℕ) → reply ≡ Some (command_with identifier (disconnection_response own peer)) → can_say (option_map (λ (c : Command). c.content) reply) v ≡ true → (last : Remembered) × (w.memory.disconnection ≡ Some last) × (last.identifier ≡ identifier) × (last.response ≡ Some (disconnection_response own peer))
   pub kept : IsKept K w.memory.disconnection
 
-can_reply : (identifier : ℕ) (response : Option Content) (v : Channels) → can_say (option_map (λ (c : Command). c.content) (command_if identifier response)) v ≡ can_say response v
+pub can_reply : (identifier : ℕ) (response : Option Content) (v : Channels) → can_say (option_map (λ (c : Command). c.content) (command_if identifier response)) v ≡ can_say response v
 can_reply identifier None v = refl
 can_reply identifier (Some content) v = refl
 
-replied : (K : OfEnd) (v w : Channels) (identifier : ℕ) (response : Option Content) → Answers K v w identifier response → Replied K v w (command_if identifier response)
+pub replied : (K : OfEnd) (v w : Channels) (identifier : ℕ) (response : Option Content) → Answers K v w identifier response → Replied K v w (command_if identifier response)
 replied K v w identifier None answers = record { said = λ i own peer is can. cc; kept = answers.kept }
 replied K v w identifier (Some content) answers = record {
   said = λ i own peer is can.
@@ -397,7 +397,7 @@ replied K v w identifier (Some content) answers = record {
   kept = answers.kept;
 }
 
-none_replied : (K : OfEnd) (v : Channels) → IsKept K v.memory.disconnection → Replied K v v None
+pub none_replied : (K : OfEnd) (v : Channels) → IsKept K v.memory.disconnection → Replied K v v None
 none_replied K v kept = record { said = λ i own peer is can. cc; kept = kept }
 
 -- what is so of a request for an end that is answered as the command comes in
@@ -435,7 +435,7 @@ answered-in one reply v identifier own peer = by (can_say (option_map (λ (c : C
     by true can (Some command) is (inr (inr none)) = elim none [ ]
 
 -- one command behind all that was said
-one_ends : (policy : Policy) (past : List Saying) (v : Channels) (one : Read) → IsTold one → Sound policy (reading past) v → Ends past v.memory → Ends (past ++ said_with policy one v) (hears_command policy one v).memory
+pub one_ends : (policy : Policy) (past : List Saying) (v : Channels) (one : Read) → IsTold one → Sound policy (reading past) v → Ends past v.memory → Ends (past ++ said_with policy one v) (hears_command policy one v).memory
 one_ends policy past v one told sound ends = record { answered = answered; kept = kept }
   where
     w : Channels
@@ -486,7 +486,7 @@ one_ends policy past v one told sound ends = record { answered = answered; kept 
     answered : (identifier own peer : ℕ) → HasAnsweredEnd identifier own peer (past ++ said) → IsEndedFor peer (read_at own (reading (past ++ said)).entries) × HasHeardEnd identifier own peer (past ++ said)
     answered identifier own peer is = by identifier own peer (stands-either (spoken (command_with identifier (disconnection_response own peer))) past said is)
 
-all_end : (policy : Policy) (list : List Read) (past : List Saying) (v : Channels) → AllByRecursion IsTold list → Sound policy (reading past) v → Ends past v.memory → Ends (past ++ said_with_all policy list v) (hears_commands policy list v).memory
+pub all_end : (policy : Policy) (list : List Read) (past : List Saying) (v : Channels) → AllByRecursion IsTold list → Sound policy (reading past) v → Ends past v.memory → Ends (past ++ said_with_all policy list v) (hears_commands policy list v).memory
 all_end policy [] past v told sound ends = silent_step past [] v.memory v.memory refl (λ identifier own peer is. elim is [ ]) ends
 all_end policy (one ∷ list) past v told sound ends =
     let w : Channels = hears_command policy one v in
@@ -497,14 +497,14 @@ all_end policy (one ∷ list) past v told sound ends =
 
 -- ---- whatever happens
 
-channels_memory : (tries : ℕ) (owns : List ℕ) (v : Channels) → (times_channels tries owns v).memory ≡ v.memory
+pub channels_memory : (tries : ℕ) (owns : List ℕ) (v : Channels) → (times_channels tries owns v).memory ≡ v.memory
 channels_memory tries [] v = refl
 channels_memory tries (own ∷ owns) v =
     let u : Channels = times_held (held_at own v) tries v in
     let w : Channels = times_end (held_at own u) tries u in
     channels_memory tries owns w ∙ ((ends-last tries own u).1 ∙ (times-last tries own v).1)
 
-fired_memory : (policy : Policy) (v : Channels) → (timed_out policy v).memory ≡ v.memory
+pub fired_memory : (policy : Policy) (v : Channels) → (timed_out policy v).memory ≡ v.memory
 fired_memory policy v =
     let owns : List ℕ = map (λ (held : Held). held.own) v.held in
     let u : Channels = times_channels policy.tries owns v in
@@ -538,7 +538,7 @@ silent-occurs policy (Gives pdu) v none = (single_memory policy (Gives pdu) v re
 silent-occurs policy Fires v none = (fired_memory policy v, silent_fired policy.tries (map (λ (held : Held). held.own) v.held) v)
 silent-occurs policy Tells v none = (single_memory policy Tells v refl, silent_none)
 
-occurs_ends : (policy : Policy) (run : Run) (more : Occurrence) → IsSound policy run → Ends run.said run.value.memory → Ends (run_on policy run more).said (run_on policy run more).value.memory
+pub occurs_ends : (policy : Policy) (run : Run) (more : Occurrence) → IsSound policy run → Ends run.said run.value.memory → Ends (run_on policy run more).said (run_on policy run more).value.memory
 occurs_ends policy run more sound ends = by more
   where
     v : Channels
@@ -564,7 +564,7 @@ occurs_ends policy run more sound ends = by more
     by Fires = quiet Fires tt
     by Tells = quiet Tells tt
 
-first_ends : Ends [] new_link.value.memory
+pub first_ends : Ends [] new_link.value.memory
 first_ends = record { answered = λ identifier own peer is. elim is [ ]; kept = λ last own peer at is. cc }
 
 pub answered-ends_are_ended : AnsweredEndsAreEnded

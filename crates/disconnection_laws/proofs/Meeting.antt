@@ -56,39 +56,39 @@ use Rattle.disconnection_laws.proofs.Remembering.{Theres, First, hears-on}
 
 -- ---- each turn
 
-abbrev InvOf : Pair → Type 0
+abbrev pub InvOf : Pair → Type 0
 InvOf pair = Inv pair.near.run.said pair.near.run.value pair.far.run.said pair.far.run.value.memory.disconnection pair.far.coming
 
-reads_ends : (policy : Policy) (run : Run) → IsRunOf policy run → ReadsEnds run.said run.value
+pub reads_ends : (policy : Policy) (run : Run) → IsRunOf policy run → ReadsEnds run.said run.value
 reads_ends policy run (list, is) own = subst (λ (r : Run). end_waits (read_at own (reading r.said).entries) ≡ is_at asks_for_end (held_at own r.value)) (sym is) (requests-are_awaited policy list own).end_is
 
 -- what is known of the side that asks, and of what happens there
-record Owner (policy : Policy) (before after : Pair) : Type 0 where
-  was : IsRunOf policy before.near.run
-  is : IsRunOf policy after.near.run
-  singly : AsksSingly before.near.run.value
-  on : AsksOn before.near.run.value after.near.run.value
-  more : List Saying
-  grown : after.near.run.said ≡ before.near.run.said ++ more
+pub record Owner (policy : Policy) (before after : Pair) : Type 0 where
+  pub was : IsRunOf policy before.near.run
+  pub is : IsRunOf policy after.near.run
+  pub singly : AsksSingly before.near.run.value
+  pub on : AsksOn before.near.run.value after.near.run.value
+  pub more : List Saying
+  pub grown : after.near.run.said ≡ before.near.run.said ++ more
 
-goes_on : (policy : Policy) (before after : Pair) (coming : List (List ℕ)) → Owner policy before after
+pub goes_on : (policy : Policy) (before after : Pair) (coming : List (List ℕ)) → Owner policy before after
     → Inv before.near.run.said before.near.run.value before.far.run.said before.far.run.value.memory.disconnection coming → Inv after.near.run.said after.near.run.value before.far.run.said before.far.run.value.memory.disconnection coming
 goes_on policy before after coming owner inv =
     let now : ReadsEnds (before.near.run.said ++ owner.more) after.near.run.value = subst (λ (s : List Saying). ReadsEnds s after.near.run.value) owner.grown (reads_ends policy after.near.run owner.is) in
     subst (λ (s : List Saying). Inv s after.near.run.value before.far.run.said before.far.run.value.memory.disconnection coming) (sym owner.grown)
     (owner-on before.near.run.said owner.more before.near.run.value after.near.run.value before.far.run.said before.far.run.value.memory.disconnection coming (reads_ends policy before.near.run owner.was) now owner.on inv)
 
-still_far : (policy : Policy) (before after : Pair) → after.far ≡ before.far → Owner policy before after → InvOf before → InvOf after
+pub still_far : (policy : Policy) (before after : Pair) → after.far ≡ before.far → Owner policy before after → InvOf before → InvOf after
 still_far policy before after same owner inv =
     subst (λ (e : End). Inv after.near.run.said after.near.run.value e.run.said e.run.value.memory.disconnection e.coming) (sym same) (goes_on policy before after before.far.coming owner inv)
 
 -- the octets of what is given are read so
-plain_given : (given : Given) (pdu : List ℕ) → IsReadAs (Some given) pdu → eqb (channel_of pdu) 0x0001 ≡ true → (command : Command) × (answers (drop 4 pdu) ≡ Ok command ∷ [])
+pub plain_given : (given : Given) (pdu : List ℕ) → IsReadAs (Some given) pdu → eqb (channel_of pdu) 0x0001 ≡ true → (command : Command) × (answers (drop 4 pdu) ≡ Ok command ∷ [])
 plain_given (Signal command) pdu read signals = (command, read)
 plain_given (Whole peer sdu) pdu read signals = let never : true ≡ false = sym signals ∙ read in absurd cc
 plain_given (Framed peer frame) pdu read signals = let never : true ≡ false = sym signals ∙ read in absurd cc
 
-owner_turn : (policy : Policy) (pair : Pair) (happening : Happening) → IsRead happening pair.near → Owner policy pair (happens_near happening pair) → InvOf pair → InvOf (happens_near happening pair)
+pub owner_turn : (policy : Policy) (pair : Pair) (happening : Happening) → IsRead happening pair.near → Owner policy pair (happens_near happening pair) → InvOf pair → InvOf (happens_near happening pair)
 owner_turn policy pair (Acts more) read owner inv = by (is_alone more) owner
   where
     by : (alone : Bool) → (let after : Pair = cond alone (with_near (occurs more pair.near) pair) pair in Owner policy pair after → InvOf after)
@@ -111,7 +111,7 @@ owner_turn policy pair Loses read owner inv = still_far policy pair (happens_nea
 owner_turn policy pair (Damages other) read owner inv = still_far policy pair (happens_near (Damages other) pair) refl owner inv
 
 -- at the side that responds
-alone_brings : (more : Occurrence) → is_alone more ≡ true → BringsNone more
+pub alone_brings : (more : Occurrence) → is_alone more ≡ true → BringsNone more
 alone_brings (Comes pdu) alone = cc
 alone_brings (Connects psm) alone = tt
 alone_brings AsksFeatures alone = tt
@@ -122,7 +122,7 @@ alone_brings Fires alone = tt
 alone_brings Tells alone = tt
 
 -- at the side that responds, with what is under way to it
-abbrev InvWith : List Saying → Channels → End → List (List ℕ) → Type 0
+abbrev pub InvWith : List Saying → Channels → End → List (List ℕ) → Type 0
 InvWith said v e coming = Inv said v e.run.said e.run.value.memory.disconnection coming
 
 module _ (said : List Saying) (v : Channels) (end' : End) (sound : Sound end'.policy (reading end'.run.said) end'.run.value) (there : Theres v end'.run.value.memory.disconnection end'.run.value) where
@@ -172,7 +172,7 @@ module _ (said : List Saying) (v : Channels) (end' : End) (sound : Sound end'.po
           omega (arith, ap (λ (c : Command). c.identifier) it)
       front source end next (inr later) other t brought also = now.front source end next later other t brought also
 
-peer_turn : (said : List Saying) (v : Channels) (pair : Pair) (happening : Happening) → IsRead happening pair.near → Sound pair.near.policy (reading pair.near.run.said) pair.near.run.value → Theres v pair.near.run.value.memory.disconnection pair.near.run.value
+pub peer_turn : (said : List Saying) (v : Channels) (pair : Pair) (happening : Happening) → IsRead happening pair.near → Sound pair.near.policy (reading pair.near.run.said) pair.near.run.value → Theres v pair.near.run.value.memory.disconnection pair.near.run.value
     → InvWith said v pair.near pair.near.coming → (let after : Pair = happens_near happening pair in InvWith said v after.near after.near.coming)
 peer_turn said v pair (Acts more) read sound there inv = by (is_alone more) refl
   where
@@ -293,7 +293,7 @@ module _ (near far : Policy) (past : List Turn) (read : AreRead near far past) (
 -- ---- a copy that comes in
 
 -- the command of a request that waits
-wants_request : (own : ℕ) (v : Channels) (request : Request) → request_of (errands.Disconnection own) v ≡ Some request → (command : Command) × (wants own v ≡ Some command) × (command.identifier ≡ request.identifier)
+pub wants_request : (own : ℕ) (v : Channels) (request : Request) → request_of (errands.Disconnection own) v ≡ Some request → (command : Command) × (wants own v ≡ Some command) × (command.identifier ≡ request.identifier)
 wants_request own v request = by (held_at own v)
   where
     some_is : (one : Request) → Some one ≡ Some request → one ≡ request
@@ -366,13 +366,13 @@ module _ (responses : CopiesHaveResponses) where
 -- ---- all turns
 
 -- each copy that comes first to the other side is responded to
-abbrev RespondsFirst : (own : ℕ) (owner at : Side) → Pair → Type 0
+abbrev pub RespondsFirst : (own : ℕ) (owner at : Side) → Pair → Type 0
 RespondsFirst own Near Near pair = Unit {0}
 RespondsFirst own Near Far pair = RespondsTo (errands.Disconnection own) pair.far.coming pair
 RespondsFirst own Far Near pair = RespondsTo (errands.Disconnection own) pair.near.coming (turned pair)
 RespondsFirst own Far Far pair = Unit {0}
 
-abbrev RespondsAt : (own : ℕ) (owner at : Side) → Happening → Pair → Type 0
+abbrev pub RespondsAt : (own : ℕ) (owner at : Side) → Happening → Pair → Type 0
 RespondsAt own owner at (Acts more) pair = Unit {0}
 RespondsAt own owner at (Puts pdu) pair = Unit {0}
 RespondsAt own owner at Takes pair = RespondsFirst own owner at pair
@@ -380,7 +380,7 @@ RespondsAt own owner at Repeats pair = Unit {0}
 RespondsAt own owner at Loses pair = Unit {0}
 RespondsAt own owner at (Damages other) pair = Unit {0}
 
-both_met : (own : ℕ) (owner at : Side) (happening : Happening) (pair : Pair) → RespondsAt own owner at happening pair → IsAnsweredBy (errands.Disconnection own) owner at happening pair → IsMetBy (errands.Disconnection own) owner at happening pair
+pub both_met : (own : ℕ) (owner at : Side) (happening : Happening) (pair : Pair) → RespondsAt own owner at happening pair → IsAnsweredBy (errands.Disconnection own) owner at happening pair → IsMetBy (errands.Disconnection own) owner at happening pair
 both_met own owner at (Acts more) pair copy response = tt
 both_met own owner at (Puts pdu) pair copy response = tt
 both_met own Near Near Takes pair copy response = response
@@ -391,34 +391,34 @@ both_met own owner at Repeats pair copy response = tt
 both_met own owner at Loses pair copy response = tt
 both_met own owner at (Damages pdu) pair copy response = tt
 
-abbrev ReadBehind : (near far : Policy) → List Turn → Turn → Type 0
+abbrev pub ReadBehind : (near far : Policy) → List Turn → Turn → Type 0
 ReadBehind near far front turn = IsRead turn.happening (end_at turn.side (pair_of near far front))
 
-abbrev AskBehind : Side → (near far : Policy) → List Turn → Turn → Type 0
+abbrev pub AskBehind : Side → (near far : Policy) → List Turn → Turn → Type 0
 AskBehind side near far front turn = AsksSingly (end_at side (pair_of near far front)).run.value × AsksOn (end_at side (pair_of near far front)).run.value (end_at side (pair_after (pair_of near far front) turn)).run.value
 
-abbrev RoomyBehind : (near far : Policy) → List Turn → Turn → Type 0
+abbrev pub RoomyBehind : (near far : Policy) → List Turn → Turn → Type 0
 RoomyBehind near far front turn = IsRoomy turn.happening (end_at turn.side (pair_of near far front))
 
-abbrev InvSeen : Side → Pair → Type 0
+abbrev pub InvSeen : Side → Pair → Type 0
 InvSeen Near pair = InvOf pair
 InvSeen Far pair = InvOf (turned pair)
 
 -- what was so far of the talk of the other side
-abbrev Kept : Side → Pair → Type 0
+abbrev pub Kept : Side → Pair → Type 0
 Kept side pair = AskedForNothing (said_at side (turned pair))
 
-fewer_asked : (said more all : List Saying) → all ≡ said ++ more → AskedForNothing all → AskedForNothing said
+pub fewer_asked : (said more all : List Saying) → all ≡ said ++ more → AskedForNothing all → AskedForNothing said
 fewer_asked said more all grown nothing = record {
   no_channel = λ i psm own asked. nothing.no_channel i psm own (subst (HasAsked i psm own) (sym grown) (stands-left _ said more asked));
   no_end = λ i own peer asked. nothing.no_end i own peer (subst (StandsIn (spoken (command_with i (disconnection_request peer own)))) (sym grown) (stands-left _ said more asked));
 }
 
-kept_before : (near far : Policy) (side : Side) (past rest : List Turn) → Kept side (pair_of near far (past ++ rest)) → Kept side (pair_of near far past)
+pub kept_before : (near far : Policy) (side : Side) (past rest : List Turn) → Kept side (pair_of near far (past ++ rest)) → Kept side (pair_of near far past)
 kept_before near far Near past rest nothing = let (more, grown) = said-grows near far Far past rest in fewer_asked _ more _ grown nothing
 kept_before near far Far past rest nothing = let (more, grown) = said-grows near far Near past rest in fewer_asked _ more _ grown nothing
 
-sound_at : (near far : Policy) (past : List Turn) (at : Side) → (let e : End = end_at at (pair_of near far past) in Sound e.policy (reading e.run.said) e.run.value)
+pub sound_at : (near far : Policy) (past : List Turn) (at : Side) → (let e : End = end_at at (pair_of near far past) in Sound e.policy (reading e.run.said) e.run.value)
 sound_at near far past Near =
     let (list, is) = (each-end_runs near far past).0 in
     subst (λ (p : Policy). Sound p (reading (pair_of near far past).near.run.said) (pair_of near far past).near.run.value) (sym (end-policy near far past Near))
@@ -428,7 +428,7 @@ sound_at near far past Far =
     subst (λ (p : Policy). Sound p (reading (pair_of near far past).far.run.said) (pair_of near far past).far.run.value) (sym (end-policy near far past Far))
     (subst (λ (r : Run). Sound far (reading r.said) r.value) (sym is) (all-sound far list))
 
-nothing_yet : Inv [] no_channels [] None []
+pub nothing_yet : Inv [] no_channels [] None []
 nothing_yet = record {
   plain = λ pdu none. elim none [ ];
   good = λ pdu none. elim none [ ];

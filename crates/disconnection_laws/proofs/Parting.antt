@@ -34,19 +34,19 @@ use Rattle.disconnection_laws.specs.Ended.{HasAnsweredEnd}
 -- ---- one saying
 
 -- what it is for a channel that is alive: nothing, the answer to the peer's request for its end, or a request for its end
-data Turns (s : Saying) (channel : Channel) (life : Life) : Type 0 where
+pub data Turns (s : Saying) (channel : Channel) (life : Life) : Type 0 where
   Stays : life ≡ lives.Alive → Turns s channel life
   IsAnswer : (identifier : ℕ) → s ≡ spoken (command_with identifier (disconnection_response channel.own channel.peer)) → Turns s channel life
   IsRequest : (identifier : ℕ) → s ≡ spoken (command_with identifier (disconnection_request channel.peer channel.own)) → Turns s channel life
 
-abbrev alive_after : Channel → Meaning → Life
+abbrev pub alive_after : Channel → Meaning → Life
 alive_after channel m = life_after lives.Alive (word channel m)
 
-granted_stays : (channel : Channel) (own peer : ℕ) (wanted : Option Wanted) → alive_after channel (granted own peer wanted) ≡ lives.Alive
+pub granted_stays : (channel : Channel) (own peer : ℕ) (wanted : Option Wanted) → alive_after channel (granted own peer wanted) ≡ lives.Alive
 granted_stays channel own peer None = refl
 granted_stays channel own peer (Some wanted) = refl
 
-made_stays : (channel : Channel) (asked : Requests) (flow : Flow) (identifier destination source : ℕ) → alive_after channel (made asked flow identifier destination source) ≡ lives.Alive
+pub made_stays : (channel : Channel) (asked : Requests) (flow : Flow) (identifier destination source : ℕ) → alive_after channel (made asked flow identifier destination source) ≡ lives.Alive
 made_stays channel asked Out identifier destination source = granted_stays channel destination source (answered_call asked Into identifier source)
 made_stays channel asked Into identifier destination source = by (has_failed asked identifier source)
   where
@@ -54,28 +54,28 @@ made_stays channel asked Into identifier destination source = by (has_failed ask
     by true = refl
     by false = granted_stays channel source destination (answered_call asked Out identifier source)
 
-response_stays : (channel : Channel) (asked : Requests) (flow : Flow) (identifier destination source : ℕ) (b : Bool) → alive_after channel (cond b (made asked flow identifier destination source) Nothing) ≡ lives.Alive
+pub response_stays : (channel : Channel) (asked : Requests) (flow : Flow) (identifier destination source : ℕ) (b : Bool) → alive_after channel (cond b (made asked flow identifier destination source) Nothing) ≡ lives.Alive
 response_stays channel asked flow identifier destination source true = made_stays channel asked flow identifier destination source
 response_stays channel asked flow identifier destination source false = refl
 
-answered_stays : (channel : Channel) (peer flags answer : ℕ) (terms : Option Terms) → alive_after channel (answered peer flags answer terms) ≡ lives.Alive
+pub answered_stays : (channel : Channel) (peer flags answer : ℕ) (terms : Option Terms) → alive_after channel (answered peer flags answer terms) ≡ lives.Alive
 answered_stays channel peer flags answer None = refl
 answered_stays channel peer flags answer (Some terms) = refl
 
-settled_stays : (channel : Channel) (identifier own : ℕ) (b : Bool) → alive_after channel (cond b (Settles identifier own) Nothing) ≡ lives.Alive
+pub settled_stays : (channel : Channel) (identifier own : ℕ) (b : Bool) → alive_after channel (cond b (Settles identifier own) Nothing) ≡ lives.Alive
 settled_stays channel identifier own true = refl
 settled_stays channel identifier own false = refl
 
-unread_stays : (channel : Channel) (asked : Requests) (flow : Flow) (code identifier : ℕ) (zero : Bool) → alive_after channel (meant asked (cond zero Quiet (Asks flow identifier (Unread code)))) ≡ lives.Alive
+pub unread_stays : (channel : Channel) (asked : Requests) (flow : Flow) (code identifier : ℕ) (zero : Bool) → alive_after channel (meant asked (cond zero Quiet (Asks flow identifier (Unread code)))) ≡ lives.Alive
 unread_stays channel asked flow code identifier true = refl
 unread_stays channel asked Out code identifier false = refl
 unread_stays channel asked Into code identifier false = refl
 
 -- the word names both endpoints of the channel, or it is nothing to it
-named_ends : (s : Saying) (channel : Channel) (said : _) (own peer : ℕ) → ((one other : Bool) → eqb own channel.own ≡ one → eqb peer channel.peer ≡ other → Turns s channel (life_after lives.Alive (cond (one && other) (Some said) None))) → Turns s channel (alive_after channel (Parts said own peer))
+pub named_ends : (s : Saying) (channel : Channel) (said : _) (own peer : ℕ) → ((one other : Bool) → eqb own channel.own ≡ one → eqb peer channel.peer ≡ other → Turns s channel (life_after lives.Alive (cond (one && other) (Some said) None))) → Turns s channel (alive_after channel (Parts said own peer))
 named_ends s channel said own peer by = by (eqb own channel.own) (eqb peer channel.peer) refl refl
 
-turns_by : (asked : Requests) (s : Saying) (channel : Channel) → Turns s channel (alive_after channel (meant asked (sense s)))
+pub turns_by : (asked : Requests) (s : Saying) (channel : Channel) → Turns s channel (alive_after channel (meant asked (sense s)))
 turns_by asked (sayings.Command flow (Ok command)) channel = by flow command.content refl
   where
     it : Flow → Content → Saying
@@ -137,7 +137,7 @@ turns_by asked (GaveUp (Information identifier)) channel = Stays refl
 -- ---- what is read at an endpoint behind it
 
 -- what was read there goes on, or a channel comes to be
-after_by : (own : ℕ) (entries : List Entry) (m : Meaning) (after : Entry) → read_at own (entries_after entries m) ≡ Some after → ((entry : Entry) × (read_at own entries ≡ Some entry) × (entry_after m entry ≡ after)) ⊎ (after.life ≡ lives.Alive)
+pub after_by : (own : ℕ) (entries : List Entry) (m : Meaning) (after : Entry) → read_at own (entries_after entries m) ≡ Some after → ((entry : Entry) × (read_at own entries ≡ Some entry) × (entry_after m entry ≡ after)) ⊎ (after.life ≡ lives.Alive)
 after_by own entries m after = by (made_by m) refl
   where
     mapped : List Entry
@@ -168,10 +168,10 @@ after_by own entries m after = by (made_by m) refl
 abbrev pub AsksForNoEnd : List Saying → Type 0
 AsksForNoEnd said = (identifier own peer : ℕ) → StandsIn (spoken (command_with identifier (disconnection_request peer own))) said → ⊥
 
-abbrev IsAlive : List Saying → (own : ℕ) → Entry → Type 0
+abbrev pub IsAlive : List Saying → (own : ℕ) → Entry → Type 0
 IsAlive said own entry = (entry.life ≡ lives.Alive) ⊎ ((identifier : ℕ) × HasAnsweredEnd identifier entry.channel.own entry.channel.peer said)
 
-abbrev AllAlive : List Saying → Type 0
+abbrev pub AllAlive : List Saying → Type 0
 AllAlive said = AsksForNoEnd said → (own : ℕ) (entry : Entry) → read_at own (reading said).entries ≡ Some entry → IsAlive said own entry
 
 pub all-alive : (said : List Saying) → AllAlive said

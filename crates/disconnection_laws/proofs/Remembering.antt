@@ -29,14 +29,14 @@ use Rattle.disconnection_laws.proofs.Singly.{wants, IsEndOf, end_request, Brings
 -- ---- what a command makes of what is remembered of ends
 
 -- it asks for an end, and not as the last one that is remembered
-record Anew (v w : Channels) (identifier : ℕ) (content : Content) : Type 0 where
-  destination : ℕ
-  source : ℕ
-  content_is : content ≡ disconnection_request destination source
-  after : (let it : Remembered = record { identifier = identifier; response = disconnection_answer (held_at destination v) destination source } in w.memory.disconnection ≡ Some it)
-  other : (last : Remembered) → v.memory.disconnection ≡ Some last → last.identifier ≡ identifier → ⊥
+pub record Anew (v w : Channels) (identifier : ℕ) (content : Content) : Type 0 where
+  pub destination : ℕ
+  pub source : ℕ
+  pub content_is : content ≡ disconnection_request destination source
+  pub after : (let it : Remembered = record { identifier = identifier; response = disconnection_answer (held_at destination v) destination source } in w.memory.disconnection ≡ Some it)
+  pub other : (last : Remembered) → v.memory.disconnection ≡ Some last → last.identifier ≡ identifier → ⊥
 
-memory_goes : (policy : Policy) (v : Channels) (identifier : ℕ) (content : Content) → (let w : Channels = hears_content policy identifier content v in (w.memory.disconnection ≡ v.memory.disconnection) ⊎ Anew v w identifier content)
+pub memory_goes : (policy : Policy) (v : Channels) (identifier : ℕ) (content : Content) → (let w : Channels = hears_content policy identifier content v in (w.memory.disconnection ≡ v.memory.disconnection) ⊎ Anew v w identifier content)
 memory_goes policy v identifier (reject reason rest) = inl (ap (λ (m : Memory). m.disconnection) (features_memory identifier None v))
 memory_goes policy v identifier (connection_request psm source) = let c : Content = connection_request psm source in inl (other-memory v v.memory.connection kinds.Connection identifier (answer_to policy c v) (follows policy c) (λ u. (follows-lasts policy c u).1) (λ u. refl))
 memory_goes policy v identifier (connection_response destination source answer status) = inl (ap (λ (m : Memory). m.disconnection) (grant-lasts v (held_at source v) policy identifier destination answer).1)
@@ -88,7 +88,7 @@ memory_goes policy v identifier (information_request kind) = let c : Content = i
 memory_goes policy v identifier (information_response kind answer rest) = inl (ap (λ (m : Memory). m.disconnection) (features_memory identifier (features_in kind answer rest) v))
 
 -- where the channel is there, the answer is a response
-recalls_fresh : (found : Option Held) (destination own : ℕ) → HasPeer own found → Recalls (errands.Disconnection own) (disconnection_answer found destination own)
+pub recalls_fresh : (found : Option Held) (destination own : ℕ) → HasPeer own found → Recalls (errands.Disconnection own) (disconnection_answer found destination own)
 recalls_fresh None destination own is = elim is [ ]
 recalls_fresh (Some held) destination own is = by held.stage is
   where
@@ -117,11 +117,11 @@ pub record First (said : List Saying) (v : Channels) (memory : Option Remembered
   pub behind : (last : Remembered) → memory ≡ Some last → (source : ℕ) → IsEndOf command source → last.identifier ≤ command.identifier
 
 -- an end that is answered now: it is remembered
-record Now (said : List Saying) (v w : Channels) (identifier destination source : ℕ) : Type 0 where
-  good : Good said v (end_request identifier destination source) source
-  last : Remembered
-  at : w.memory.disconnection ≡ Some last
-  named : last.identifier ≡ identifier
+pub record Now (said : List Saying) (v w : Channels) (identifier destination source : ℕ) : Type 0 where
+  pub good : Good said v (end_request identifier destination source) source
+  pub last : Remembered
+  pub at : w.memory.disconnection ≡ Some last
+  pub named : last.identifier ≡ identifier
 
 pub hears-on : (policy : Policy) (said : List Saying) (v : Channels) (theirs : List Saying) (u : Channels) (rest : List (List ℕ)) (command : Command) → Sound policy (reading theirs) u → First said v u.memory.disconnection rest command → Theres v u.memory.disconnection u
     → Inv said v theirs u.memory.disconnection rest → Inv said v (theirs ++ said_with_all policy (Ok command ∷ []) u) (hears_command policy (Ok command) u).memory.disconnection rest

@@ -45,7 +45,7 @@ end_request identifier destination source = command_with identifier (disconnecti
 abbrev pub Brings : List ℕ → Command → Type 0
 Brings pdu command = (eqb (channel_of pdu) 0x0001 ≡ true) × (answers (drop 4 pdu) ≡ Ok command ∷ [])
 
-some_is : {X : Type 0} (x y : X) → Some x ≡ Some y → x ≡ y
+pub some_is : {X : Type 0} (x y : X) → Some x ≡ Some y → x ≡ y
 some_is x y is = cc
 
 -- one that waits is about a channel that is there
@@ -70,10 +70,10 @@ wanting own v command = by (held_at own v) refl
     by None at asks = cc
     by (Some held) at asks = staged held held.stage at refl asks
 
-source_is : (command : Command) (peer own source : ℕ) → command.content ≡ disconnection_request peer own → IsEndOf command source → own ≡ source
+pub source_is : (command : Command) (peer own source : ℕ) → command.content ≡ disconnection_request peer own → IsEndOf command source → own ≡ source
 source_is command peer own source is (destination, also) = let same : disconnection_request peer own ≡ disconnection_request destination source = sym is ∙ also in cc
 
-want_asks : (own : ℕ) (v : Channels) (command : Command) → wants own v ≡ Some command → is_at asks_for_end (held_at own v) ≡ true
+pub want_asks : (own : ℕ) (v : Channels) (command : Command) → wants own v ≡ Some command → is_at asks_for_end (held_at own v) ≡ true
 want_asks own v command = by (held_at own v)
   where
     staged : (held : Held) (stage : Stage) → disconnection_at stage held ≡ Some command → asks_for_end stage ≡ true
@@ -87,7 +87,7 @@ want_asks own v command = by (held_at own v)
     by None asks = cc
     by (Some held) asks = staged held held.stage asks
 
-none_asks : (own : ℕ) (v : Channels) → wants own v ≡ None → is_at asks_for_end (held_at own v) ≡ false
+pub none_asks : (own : ℕ) (v : Channels) → wants own v ≡ None → is_at asks_for_end (held_at own v) ≡ false
 none_asks own v = by (held_at own v)
   where
     staged : (held : Held) (stage : Stage) → disconnection_at stage held ≡ None → asks_for_end stage ≡ false
@@ -104,7 +104,7 @@ none_asks own v = by (held_at own v)
 -- ---- what is given
 
 -- what a channel gives is no command
-no_signal : (held : Option Held) (command : Command) → held_gives held ≡ Some (Signal command) → ⊥
+pub no_signal : (held : Option Held) (command : Command) → held_gives held ≡ Some (Signal command) → ⊥
 no_signal None command is = cc
 no_signal (Some held) command is = by held.stage is
   where
@@ -126,30 +126,30 @@ no_signal (Some held) command is = by held.stage is
     by (Crossed peer request) is = cc
 
 -- no other request is one for an end
-call_apart : (held : Held) (stage : Stage) (command : Command) (source : ℕ) → connection_at stage held ≡ Some command → IsEndOf command source → ⊥
+pub call_apart : (held : Held) (stage : Stage) (command : Command) (source : ℕ) → connection_at stage held ≡ Some command → IsEndOf command source → ⊥
 call_apart held (Requested request) command source is (destination, end) = let never : connection_request held.psm held.own ≡ disconnection_request destination source = ap (λ (c : Command). c.content) (some_is _ command is) ∙ end in cc
 call_apart held (Connected peer setup) command source is end = cc
 call_apart held (Leaving peer setup request) command source is end = cc
 call_apart held (Closing peer request checked) command source is end = cc
 call_apart held (Crossed peer request) command source is end = cc
 
-own_apart : (own : Own) (peer : ℕ) (command : Command) (source : ℕ) → configuration_by own peer ≡ Some command → IsEndOf command source → ⊥
+pub own_apart : (own : Own) (peer : ℕ) (command : Command) (source : ℕ) → configuration_by own peer ≡ Some command → IsEndOf command source → ⊥
 own_apart Unasked peer command source is end = cc
 own_apart (Asking request options) peer command source is (destination, end) = let never : configuration_request peer 0 _ ≡ disconnection_request destination source = ap (λ (c : Command). c.content) (some_is _ command is) ∙ end in cc
 own_apart Granted peer command source is end = cc
 
-options_apart : (stage : Stage) (command : Command) (source : ℕ) → configuration_at stage ≡ Some command → IsEndOf command source → ⊥
+pub options_apart : (stage : Stage) (command : Command) (source : ℕ) → configuration_at stage ≡ Some command → IsEndOf command source → ⊥
 options_apart (Requested request) command source is end = cc
 options_apart (Connected peer setup) command source is end = own_apart setup.own peer command source is end
 options_apart (Leaving peer setup request) command source is end = own_apart setup.own peer command source is end
 options_apart (Closing peer request checked) command source is end = cc
 options_apart (Crossed peer request) command source is end = cc
 
-features_apart : (features : Option Request) (command : Command) (source : ℕ) → features_command features ≡ Some command → IsEndOf command source → ⊥
+pub features_apart : (features : Option Request) (command : Command) (source : ℕ) → features_command features ≡ Some command → IsEndOf command source → ⊥
 features_apart None command source is end = cc
 features_apart (Some request) command source is (destination, end) = let never : information_request 2 ≡ disconnection_request destination source = ap (λ (c : Command). c.content) (some_is _ command is) ∙ end in cc
 
-asked_wants : (errand : Errand) (v : Channels) (command : Command) (source : ℕ) → command_of errand v ≡ Some command → IsEndOf command source → (own : ℕ) × (wants own v ≡ Some command)
+pub asked_wants : (errand : Errand) (v : Channels) (command : Command) (source : ℕ) → command_of errand v ≡ Some command → IsEndOf command source → (own : ℕ) × (wants own v ≡ Some command)
 asked_wants (errands.Connection own) v command source is end = absurd (by (held_at own v) is)
   where
     by : (held : Option Held) → on_held (λ h. connection_at h.stage h) held ≡ Some command → ⊥
@@ -187,13 +187,13 @@ given-wants v responses (Signal other) pdu given_is read command source (signals
 
 -- ---- a channel whose end was asked for
 
-abbrev LeftEntry : Entry → Type 0
+abbrev pub LeftEntry : Entry → Type 0
 LeftEntry entry = entry.life ≡ lives.Alive → ⊥
 
-abbrev OverEntry : Entry → Type 0
+abbrev pub OverEntry : Entry → Type 0
 OverEntry entry = entry.life ≡ lives.Over
 
-left_after : (life : Life) (said : Option Word) → (life ≡ lives.Alive → ⊥) → life_after life said ≡ lives.Alive → ⊥
+pub left_after : (life : Life) (said : Option Word) → (life ≡ lives.Alive → ⊥) → life_after life said ≡ lives.Alive → ⊥
 left_after life None left is = left is
 left_after lives.Alive (Some said) left is = left refl
 left_after lives.Leaving (Some words.AsksEnd) left is = cc
@@ -206,18 +206,18 @@ left_after lives.Crossed (Some words.EndAnswered) left is = cc
 left_after lives.Crossed (Some words.EndForgone) left is = cc
 left_after lives.Over (Some said) left is = cc
 
-over_after : (life : Life) (said : Option Word) → life ≡ lives.Over → life_after life said ≡ lives.Over
+pub over_after : (life : Life) (said : Option Word) → life ≡ lives.Over → life_after life said ≡ lives.Over
 over_after life None is = is
 over_after lives.Alive (Some said) is = cc
 over_after lives.Leaving (Some said) is = cc
 over_after lives.Crossed (Some said) is = cc
 over_after lives.Over (Some said) is = refl
 
-left_by : (found : Option Entry) → end_waits found ≡ true → HoldsAt LeftEntry found
+pub left_by : (found : Option Entry) → end_waits found ≡ true → HoldsAt LeftEntry found
 left_by None is = cc
 left_by (Some entry) is = λ alive. let never : false ≡ true = sym (ap waits_for_end alive) ∙ is in absurd cc
 
-over_by : (found : Option Entry) → HoldsAt LeftEntry found → end_waits found ≡ false → HoldsAt OverEntry found
+pub over_by : (found : Option Entry) → HoldsAt LeftEntry found → end_waits found ≡ false → HoldsAt OverEntry found
 over_by None left none = left
 over_by (Some entry) left none = by entry.life refl
   where
@@ -227,7 +227,7 @@ over_by (Some entry) left none = by entry.life refl
     by lives.Crossed is = let never : true ≡ false = sym (ap waits_for_end is) ∙ none in absurd cc
     by lives.Over is = is
 
-never_over : (found : Option Entry) → HoldsAt OverEntry found → end_waits found ≡ true → ⊥
+pub never_over : (found : Option Entry) → HoldsAt OverEntry found → end_waits found ≡ true → ⊥
 never_over None over is = over
 never_over (Some entry) over is = let never : false ≡ true = sym (ap waits_for_end over) ∙ is in cc
 
@@ -297,7 +297,7 @@ abbrev pub Ordered : List (List ℕ) → Type 0
 Ordered [] = Unit {0}
 Ordered (pdu ∷ coming) = ((one other : Command) (s t : ℕ) → Brings pdu one → IsEndOf one s → (next : List ℕ) → StandsIn next coming → Brings next other → IsEndOf other t → one.identifier ≤ other.identifier) × Ordered coming
 
-ordered_more : (coming : List (List ℕ)) (pdu : List ℕ) → ((one other : Command) (s t : ℕ) (before : List ℕ) → StandsIn before coming → Brings before one → IsEndOf one s → Brings pdu other → IsEndOf other t → one.identifier ≤ other.identifier) → Ordered coming → Ordered (coming ++ pdu ∷ [])
+pub ordered_more : (coming : List (List ℕ)) (pdu : List ℕ) → ((one other : Command) (s t : ℕ) (before : List ℕ) → StandsIn before coming → Brings before one → IsEndOf one s → Brings pdu other → IsEndOf other t → one.identifier ≤ other.identifier) → Ordered coming → Ordered (coming ++ pdu ∷ [])
 ordered_more [] pdu last ordered = ((λ one other s t brings end next none. elim none [ ]), tt)
 ordered_more (first ∷ coming) pdu last (now, later) = (
   (λ one other s t brings end next stands brought also. by one other s t brings end next brought also (stands-either next coming (pdu ∷ []) stands)),

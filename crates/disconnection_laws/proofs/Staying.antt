@@ -24,7 +24,7 @@ use Rattle.disconnection_laws.specs.Ended.{IsEndedFor}
 
 -- ---- what has ended stays so
 
-gone_after : (life : Life) (said : Option Word) → is_there life ≡ false → is_there (life_after life said) ≡ false
+pub gone_after : (life : Life) (said : Option Word) → is_there life ≡ false → is_there (life_after life said) ≡ false
 gone_after life None is = is
 gone_after lives.Alive (Some said) is = cc
 gone_after lives.Leaving (Some said) is = cc
@@ -71,14 +71,14 @@ module _ (Q : Entry → Type 0) (keeps : (m : Meaning) (entry : Entry) → Q ent
   pub more-holds : (own : ℕ) (past said : List Saying) → HoldsAt Q (read_at own (reading past).entries) → HoldsAt Q (read_at own (reading (past ++ said)).entries)
   more-holds own past said is = subst (λ (r : Reading). HoldsAt Q (read_at own r.entries)) (sym (reading-on past said)) (said_holds own said (reading past) is)
 
-abbrev EndedFor : ℕ → Entry → Type 0
+abbrev pub EndedFor : ℕ → Entry → Type 0
 EndedFor peer entry = (entry.channel.peer ≡ peer) × (is_there entry.life ≡ false)
 
-to_holds : (peer : ℕ) (found : Option Entry) → IsEndedFor peer found → HoldsAt (EndedFor peer) found
+pub to_holds : (peer : ℕ) (found : Option Entry) → IsEndedFor peer found → HoldsAt (EndedFor peer) found
 to_holds peer None is = is
 to_holds peer (Some entry) is = is
 
-from_holds : (peer : ℕ) (found : Option Entry) → HoldsAt (EndedFor peer) found → IsEndedFor peer found
+pub from_holds : (peer : ℕ) (found : Option Entry) → HoldsAt (EndedFor peer) found → IsEndedFor peer found
 from_holds peer None is = is
 from_holds peer (Some entry) is = is
 
@@ -89,11 +89,11 @@ more-ended peer own past said is =
 
 -- ---- a channel of that endpoint of the peer, and that it has ended
 
-for_of : (peer : ℕ) (found : Option Entry) → IsFor peer found → (channel : Channel) × (channel.peer ≡ peer) × IsOf channel found
+pub for_of : (peer : ℕ) (found : Option Entry) → IsFor peer found → (channel : Channel) × (channel.peer ≡ peer) × IsOf channel found
 for_of peer None is = elim is [ ]
 for_of peer (Some entry) is = (entry.channel, is, refl)
 
-of_for : (peer : ℕ) (channel : Channel) (found : Option Entry) → channel.peer ≡ peer → IsOf channel found → IsFor peer found
+pub of_for : (peer : ℕ) (channel : Channel) (found : Option Entry) → channel.peer ≡ peer → IsOf channel found → IsFor peer found
 of_for peer channel None to is = is
 of_for peer channel (Some entry) to is = ap (λ (c : Channel). c.peer) is ∙ to
 
@@ -106,6 +106,6 @@ pub ended-by : (peer : ℕ) (found : Option Entry) → IsFor peer found → IsAw
 ended-by peer None is away = is
 ended-by peer (Some entry) is away = (is, away)
 
-for_ended : (peer : ℕ) (found : Option Entry) → IsEndedFor peer found → IsFor peer found
+pub for_ended : (peer : ℕ) (found : Option Entry) → IsEndedFor peer found → IsFor peer found
 for_ended peer None is = is
 for_ended peer (Some entry) (to, gone) = to

@@ -53,7 +53,7 @@ pub record Read (own peer : ℕ) (found : Option Entry) : Type 0 where
   pub peer_is : entry.channel.peer ≡ peer
 
 -- of a channel that is there, with its endpoints
-held_read : (policy : Policy) (list : List Occurrence) (own peer : ℕ) (held : Held) → find (has_own own) (run_of policy list).value.held ≡ Some held → peer_of held.stage ≡ Some peer → Read own peer (read_at own (reading (run_of policy list).said).entries)
+pub held_read : (policy : Policy) (list : List Occurrence) (own peer : ℕ) (held : Held) → find (has_own own) (run_of policy list).value.held ≡ Some held → peer_of held.stage ≡ Some peer → Read own peer (read_at own (reading (run_of policy list).said).entries)
 held_read policy list own peer held found to = by (read_at own (reading run.said).entries) refl there
   where
     run : Run
@@ -74,14 +74,14 @@ held_read policy list own peer held found to = by (read_at own (reading run.said
     }
 
 -- of one that has ended
-ended_read : (peer : ℕ) (found : Option Entry) → IsEndedFor peer found → (entry : Entry) × (found ≡ Some entry) × (entry.channel.peer ≡ peer)
+pub ended_read : (peer : ℕ) (found : Option Entry) → IsEndedFor peer found → (entry : Entry) × (found ≡ Some entry) × (entry.channel.peer ≡ peer)
 ended_read peer None is = elim is [ ]
 ended_read peer (Some entry) (to, gone) = (entry, refl, to)
 
 pub own-of_read : (own : ℕ) (entries : List Entry) (entry : Entry) → read_at own entries ≡ Some entry → entry.channel.own ≡ own
 own-of_read own entries entry is = found-has (λ (e : Entry). e.channel.own) own entries entry is
 
-for_one : (one other : ℕ) (found : Option Entry) → IsFor one found → IsFor other found → one ≡ other
+pub for_one : (one other : ℕ) (found : Option Entry) → IsFor one found → IsFor other found → one ≡ other
 for_one one other None first second = elim first [ ]
 for_one one other (Some entry) first second = sym first ∙ second
 
@@ -206,7 +206,7 @@ module _ (near far : Policy) (past : List Turn) (read : AreRead near far past) (
 -- ---- each turn
 
 -- a response is heard as it comes in
-takes_said : (end' : End) (pdu : List ℕ) (own : ℕ) (command : Command) → eqb (channel_of pdu) 0x0001 ≡ true → answers (drop 4 pdu) ≡ Ok command ∷ [] → responds_with (Disconnection own) command.content ≡ true → StandsIn (sayings.Command Into (Ok command)) (occurs (Comes pdu) end').run.said
+pub takes_said : (end' : End) (pdu : List ℕ) (own : ℕ) (command : Command) → eqb (channel_of pdu) 0x0001 ≡ true → answers (drop 4 pdu) ≡ Ok command ∷ [] → responds_with (Disconnection own) command.content ≡ true → StandsIn (sayings.Command Into (Ok command)) (occurs (Comes pdu) end').run.said
 takes_said end' pdu own command signals read responds =
     let said_is : said_in end'.policy (Comes pdu) end'.run.value ≡ said_with_all end'.policy (Ok command ∷ []) end'.run.value =
     ap (λ (b : Bool). cond b (said_with_all end'.policy (answers (drop 4 pdu)) end'.run.value) (Carried Into pdu ∷ asked_between end'.run.value (takes (channel_of pdu) pdu end'.run.value))) signals ∙ ap (λ list. said_with_all end'.policy list end'.run.value) read in
@@ -266,7 +266,7 @@ module _ (final_ends : FinalResponsesEndWaits) (near far : Policy) (past : List 
   is_answered owner at Loses read apart said = tt
   is_answered owner at (Damages pdu) read apart said = tt
 
-response_pledged : (own : ℕ) (content : Content) → responds_with (Disconnection own) content ≡ true → is_pledge content ≡ true
+pub response_pledged : (own : ℕ) (content : Content) → responds_with (Disconnection own) content ≡ true → is_pledge content ≡ true
 response_pledged own (disconnection_response destination source) so = refl
 response_pledged own (reject reason rest) so = cc
 response_pledged own (connection_request psm source) so = cc
@@ -279,11 +279,11 @@ response_pledged own (echo_response octets) so = cc
 response_pledged own (information_request kind) so = cc
 response_pledged own (information_response kind answer rest) so = cc
 
-abbrev ReadBehind : (near far : Policy) → List Turn → Turn → Type 0
+abbrev pub ReadBehind : (near far : Policy) → List Turn → Turn → Type 0
 ReadBehind near far front turn = IsReadBehind turn.happening (end_at turn.side (pair_of near far front))
 
 -- what would come in now was said
-were_said : (final_ends : FinalResponsesEndWaits) (near far : Policy) (past : List Turn) (own : ℕ) → AreRead near far past → (which : Side) → WereSaid final_ends near far past own which
+pub were_said : (final_ends : FinalResponsesEndWaits) (near far : Policy) (past : List Turn) (own : ℕ) → AreRead near far past → (which : Side) → WereSaid final_ends near far past own which
 were_said final_ends near far past own read which command so heard = by which (subst (λ (p : Pair). StandsIn (spoken command) (said_at which (turned p))) next_is
     (pledges-were_said near far (past ++ taking ∷ []) (each_after-more (ReadBehind near far) past taking read tt) which command (response_pledged own command.content so)
     (subst (λ (p : Pair). StandsIn (sayings.Command Into (Ok command)) (said_at which p)) (sym next_is) heard)))
@@ -299,7 +299,7 @@ were_said final_ends near far past own read which command so heard = by which (s
     by Far stands = stands
 
 -- what was granted so far stays
-apart_before : (near far : Policy) (owner : Side) (past rest : List Turn) → GrantsApart (said_at owner (turned (pair_of near far (past ++ rest)))) → GrantsApart (said_at owner (turned (pair_of near far past)))
+pub apart_before : (near far : Policy) (owner : Side) (past rest : List Turn) → GrantsApart (said_at owner (turned (pair_of near far (past ++ rest)))) → GrantsApart (said_at owner (turned (pair_of near far past)))
 apart_before near far Near past rest apart i s own j t second peer one other =
     let (more, grown) = said-grows near far Far past rest in
     apart i s own j t second peer (subst (HasGranted i s own peer) (sym grown) (stands-left _ _ more one)) (subst (HasGranted j t second peer) (sym grown) (stands-left _ _ more other))
@@ -307,7 +307,7 @@ apart_before near far Far past rest apart i s own j t second peer one other =
     let (more, grown) = said-grows near far Near past rest in
     apart i s own j t second peer (subst (HasGranted i s own peer) (sym grown) (stands-left _ _ more one)) (subst (HasGranted j t second peer) (sym grown) (stands-left _ _ more other))
 
-all_answered : FinalResponsesEndWaits → (near far : Policy) (owner : Side) (own : ℕ) (past turns : List Turn) → AreRead near far past → EachAfter (ReadBehind near far) past turns → GrantsApart (said_at owner (turned (pair_of near far (past ++ turns))))
+pub all_answered : FinalResponsesEndWaits → (near far : Policy) (owner : Side) (own : ℕ) (past turns : List Turn) → AreRead near far past → EachAfter (ReadBehind near far) past turns → GrantsApart (said_at owner (turned (pair_of near far (past ++ turns))))
     → EachAfter (λ front turn. IsAnsweredBy (Disconnection own) owner turn.side turn.happening (pair_of near far front)) past turns
 all_answered final_ends near far owner own past [] before read apart = tt
 all_answered final_ends near far owner own past (turn ∷ turns) before (now, later) apart = (

@@ -27,28 +27,28 @@ IsNoted v = (event : ChannelEvent) × (more : List ChannelEvent) × (notes v.eve
 abbrev pub AloneOn : (own : ℕ) (leaving : Bool) → Channels → Type 0
 AloneOn own leaving v = IsAlone own leaving v ⊎ IsNoted v
 
-noted_more : (v w : Channels) (more : List ChannelEvent) → w.events ≡ v.events ++ more → IsNoted v → IsNoted w
+pub noted_more : (v w : Channels) (more : List ChannelEvent) → w.events ≡ v.events ++ more → IsNoted v → IsNoted w
 noted_more v w more is (event, rest, noted) = (event, rest ++ notes more, notes_with v w more (event ∷ rest) is noted)
 
-noted_same : (v w : Channels) → w.events ≡ v.events → IsNoted v → IsNoted w
+pub noted_same : (v w : Channels) → w.events ≡ v.events → IsNoted v → IsNoted w
 noted_same v w is noted = noted_more v w [] (is ∙ sym (append-nil v.events)) noted
 
 -- with something notable behind all that is to be told
-noted_last : (v w : Channels) (event : ChannelEvent) → notes (event ∷ []) ≡ event ∷ [] → w.events ≡ v.events ++ event ∷ [] → IsNoted w
+pub noted_last : (v w : Channels) (event : ChannelEvent) → notes (event ∷ []) ≡ event ∷ [] → w.events ≡ v.events ++ event ∷ [] → IsNoted w
 noted_last v w event notable is = by (notes v.events) (notes_with v w (event ∷ []) (notes v.events) is refl ∙ ap (λ (l : List ChannelEvent). notes v.events ++ l) notable)
   where
     by : (before : List ChannelEvent) → notes w.events ≡ before ++ event ∷ [] → IsNoted w
     by [] now = (event, [], now)
     by (first ∷ rest) now = (first, rest ++ event ∷ [], now)
 
-placed_own : (one held : Held) (stage : Stage) → (in_place_of (staged held stage) one).own ≡ one.own
+pub placed_own : (one held : Held) (stage : Stage) → (in_place_of (staged held stage) one).own ≡ one.own
 placed_own one held stage = by (eqb one.own held.own) refl
   where
     by : (b : Bool) → eqb one.own held.own ≡ b → (cond b (staged held stage) one).own ≡ one.own
     by true is = sym (eqb-true one.own held.own is)
     by false is = refl
 
-kind_alive : (a b : Stage) → kind a ≡ kind b → is_alive b ≡ true → is_alive a ≡ true
+pub kind_alive : (a b : Stage) → kind a ≡ kind b → is_alive b ≡ true → is_alive a ≡ true
 kind_alive (Requested r) b same is = refl
 kind_alive (Connected p s) b same is = refl
 kind_alive (Leaving p s r) b same is = refl

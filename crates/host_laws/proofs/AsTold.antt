@@ -53,7 +53,7 @@ use Rattle.host_laws.proofs.StandingClients.{Clean, Lives, Ends, Idle, Waits, To
 
 -- ---- stages
 
-searches_or : (s : Stage) → (s ≡ Search) ⊎ (s ≡ Search → ⊥)
+pub searches_or : (s : Stage) → (s ≡ Search) ⊎ (s ≡ Search → ⊥)
 searches_or Search = inl refl
 searches_or Rest = inr (λ is. cc)
 searches_or (Link point) = inr (λ is. cc)
@@ -81,7 +81,7 @@ opens_or (LinkEnd point) = inr (λ is. cc)
 opens_or Over = inr (λ is. cc)
 
 -- one that seeks, and does not search, has its channel asked for
-seeks_opening : (s : Stage) → (s ≡ Search → ⊥) → Seeks (phase s) → s ≡ SearchChannel Asked
+pub seeks_opening : (s : Stage) → (s ≡ Search → ⊥) → Seeks (phase s) → s ≡ SearchChannel Asked
 seeks_opening (SearchChannel Asked) apart seeks = refl
 seeks_opening (SearchChannel Due) apart seeks = absurd seeks
 seeks_opening Search apart seeks = absurd (apart refl)
@@ -97,7 +97,7 @@ seeks_opening (LinkEnd point) apart seeks = absurd seeks
 seeks_opening Over apart seeks = absurd seeks
 
 -- a search that stands well is told of no loss
-search_lost : (c : Client) (v : Channels) → c.stage ≡ Search → Clean c v → Fatal c v → ⊥
+pub search_lost : (c : Client) (v : Channels) → c.stage ≡ Search → Clean c v → Fatal c v → ⊥
 search_lost c v at (Lives psm asked leaving uses live) (Shut own other reason more used why told) = let never : [] ≡ _ = sym live.none ∙ told in cc
 search_lost c v at (Lives psm asked leaving uses live) (Missed asks missed) = let never : true ≡ false = sym asks ∙ ap events.is_asking_features at in cc
 search_lost c v at (Ends psm own used closes bare) fatal = let never : true ≡ false = sym closes ∙ ap is_closing at in cc

@@ -31,13 +31,13 @@ abbrev pub HasCalled : (own : ℕ) → List Saying → Type 0
 HasCalled own said = (identifier : ℕ) × (psm : ℕ) × HasAsked identifier psm own said
 
 -- so it is of each that it has
-abbrev AllCalled : Policy → List Occurrence → Type 0
+abbrev pub AllCalled : Policy → List Occurrence → Type 0
 AllCalled policy front = (own : ℕ) (held : Held) → held_at own (value_of policy front) ≡ Some held → HasCalled own (run_of policy front).said
 
-called_more : (own : ℕ) (said more : List Saying) → HasCalled own said → HasCalled own (said ++ more)
+pub called_more : (own : ℕ) (said more : List Saying) → HasCalled own said → HasCalled own (said ++ more)
 called_more own said more (identifier, psm, asked) = (identifier, psm, stands-left _ said more asked)
 
-said_more : (policy : Policy) (front : List Occurrence) (more : Occurrence) → (run_of policy (front ++ more ∷ [])).said ≡ (run_of policy front).said ++ said_in policy more (value_of policy front)
+pub said_more : (policy : Policy) (front : List Occurrence) (more : Occurrence) → (run_of policy (front ++ more ∷ [])).said ≡ (run_of policy front).said ++ said_in policy more (value_of policy front)
 said_more policy front more = ap (λ (run : Run). run.said) (fold-append (run_on policy) new_link front (more ∷ []))
 
 module _ (policy : Policy) (none : OffersNone policy) (front : List Occurrence) (all : AllCalled policy front) where
@@ -87,7 +87,7 @@ module _ (policy : Policy) (none : OffersNone policy) (front : List Occurrence) 
   goes_on Fires = quiet_on Fires tt
   goes_on Tells = quiet_on Tells tt
 
-all_called : (policy : Policy) → OffersNone policy → (front rest : List Occurrence) → AllCalled policy front → AllCalled policy (front ++ rest)
+pub all_called : (policy : Policy) → OffersNone policy → (front rest : List Occurrence) → AllCalled policy front → AllCalled policy (front ++ rest)
 all_called policy none front [] all = subst (AllCalled policy) (sym (append-nil front)) all
 all_called policy none front (more ∷ rest) all = subst (AllCalled policy) (append_assoc front (more ∷ []) rest) (all_called policy none (front ++ more ∷ []) rest (goes_on policy none front all more))
 

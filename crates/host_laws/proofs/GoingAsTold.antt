@@ -64,7 +64,7 @@ module _ (settings : Settings) where
 
 -- ---- on a link no push begins
 
-no_tidings : (news : News) → IsOfLink news → tidings_by news ≡ []
+pub no_tidings : (news : News) → IsOfLink news → tidings_by news ≡ []
 no_tidings (Linked event) of = absurd of
 no_tidings (Failed status) of = absurd of
 no_tidings (Heard pdu) of = refl

@@ -43,11 +43,11 @@ use Rattle.host_laws.proofs.SearchingOn.{HasOne, has_one, one_alive, was_one, on
 use Rattle.host_laws.proofs.ServicesTold.{targets-stay}
 use Rattle.host_laws.proofs.StandingClients.{Clean}
 
-all_both : {X : Type 0} (P : X → Type 0) (xs ys : List X) → AllByRecursion P xs → AllByRecursion P ys → AllByRecursion P (xs ++ ys)
+pub all_both : {X : Type 0} (P : X → Type 0) (xs ys : List X) → AllByRecursion P xs → AllByRecursion P ys → AllByRecursion P (xs ++ ys)
 all_both P [] ys one other = other
 all_both P (x ∷ xs) ys (now, one) other = (now, all_both P xs ys one other)
 
-all_goes : {X : Type 0} (P Q : X → Type 0) → ((x : X) → P x → Q x) → (xs : List X) → AllByRecursion P xs → AllByRecursion Q xs
+pub all_goes : {X : Type 0} (P Q : X → Type 0) → ((x : X) → P x → Q x) → (xs : List X) → AllByRecursion P xs → AllByRecursion Q xs
 all_goes P Q goes [] all = tt
 all_goes P Q goes (x ∷ xs) (now, all) = (goes x now, all_goes P Q goes xs all)
 
@@ -125,13 +125,13 @@ module _ (party : Party) where
 
 -- ---- the parts of an answer that is not whole
 
-parts_append : (waiting : Option ℕ) (xs ys : List Spoken) → parts_from waiting (xs ++ ys) ≡ parts_from waiting xs ++ parts_from (fold waiting_after waiting xs) ys
+pub parts_append : (waiting : Option ℕ) (xs ys : List Spoken) → parts_from waiting (xs ++ ys) ≡ parts_from waiting xs ++ parts_from (fold waiting_after waiting xs) ys
 parts_append waiting [] ys = refl
 parts_append waiting (x ∷ xs) ys =
     let next = waiting_after waiting x in
     ap (λ rest. part_with x.flow waiting x.octets ++ rest) (parts_append next xs ys) ∙ sym (append_assoc (part_with x.flow waiting x.octets) (parts_from next xs) (parts_from (fold waiting_after next xs) ys))
 
-unfinished_append : (so_far : List ℕ) (parts more : List PlainPart) → unfinished_after so_far (parts ++ more) ≡ unfinished_after (unfinished_after so_far parts) more
+pub unfinished_append : (so_far : List ℕ) (parts more : List PlainPart) → unfinished_after so_far (parts ++ more) ≡ unfinished_after (unfinished_after so_far parts) more
 unfinished_append so_far [] more = refl
 unfinished_append so_far (part ∷ parts) more = unfinished_append (cond (is_last part) [] (so_far ++ part.octets)) parts more
 

@@ -70,35 +70,35 @@ pub mod Excerpts
 pub mod Answered
 pub mod ShelfAnswers
 pub mod Openings
-mod Querying
-mod Alone
-mod Searching
-mod SearchingOn
-mod SearchingTold
-mod SearchingSteps
+pub mod Querying
+pub mod Alone
+pub mod Searching
+pub mod SearchingOn
+pub mod SearchingTold
+pub mod SearchingSteps
 pub mod SearchingWeave
 pub mod Stepping
-mod Past
-mod SearchOrder
-mod SearchKept
-mod SearchCancelled
-mod SearchMemory
+pub mod Past
+pub mod SearchOrder
+pub mod SearchKept
+pub mod SearchCancelled
+pub mod SearchMemory
 pub mod OneOnLinks
 pub mod SearchHosts
 pub mod SearchUp
 pub mod SearchSent
-mod ServicesTold
-mod Replies
-mod Phases
-mod Knowing
-mod ServiceHeard
-mod MuxReplies
-mod AsTold
-mod StepsAsTold
+pub mod ServicesTold
+pub mod Replies
+pub mod Phases
+pub mod Knowing
+pub mod ServiceHeard
+pub mod MuxReplies
+pub mod AsTold
+pub mod StepsAsTold
 pub mod FramesSent
-mod StepsTold
-mod CalledHeld
-mod SaidAsTold
+pub mod StepsTold
+pub mod CalledHeld
+pub mod SaidAsTold
 pub mod GoingAsTold
 pub mod Paging
 pub mod StrandsFed

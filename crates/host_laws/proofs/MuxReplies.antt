@@ -28,46 +28,46 @@ use Rattle.host_laws.specs.Services.{answers_peer}
 
 -- ---- the answers that wait
 
-abbrev IsReply : PlainFrame → Type 0
+abbrev pub IsReply : PlainFrame → Type 0
 IsReply frame = (answers_peer frame.kind || eqb frame.dlci 0) ≡ true
 
 abbrev pub Replies : Mux → Type 0
 Replies m = AllByRecursion IsReply m.answers
 
-all_more : (frames : List PlainFrame) (frame : PlainFrame) → AllByRecursion IsReply frames → IsReply frame → AllByRecursion IsReply (frames ++ frame ∷ [])
+pub all_more : (frames : List PlainFrame) (frame : PlainFrame) → AllByRecursion IsReply frames → IsReply frame → AllByRecursion IsReply (frames ++ frame ∷ [])
 all_more [] frame all now = (now, tt)
 all_more (one ∷ frames) frame all now = (all.0, all_more frames frame all.1 now)
 
-either : (b : Bool) (x y : Mux) → Replies x → Replies y → Replies (cond b x y)
+pub either : (b : Bool) (x y : Mux) → Replies x → Replies y → Replies (cond b x y)
 either true x y one second = one
 either false x y one second = second
 
-more : (frame : PlainFrame) (m : Mux) → IsReply frame → Replies m → Replies (answering frame m)
+pub more : (frame : PlainFrame) (m : Mux) → IsReply frame → Replies m → Replies (answering frame m)
 more frame m now all = all_more m.answers frame all now
 
-dm_so : (n : ℕ) (m : Mux) → Replies m → Replies (says_dm n m)
+pub dm_so : (n : ℕ) (m : Mux) → Replies m → Replies (says_dm n m)
 dm_so n m so = either (has_room m) (answering (response_frame m.role Dm n) m) m (more (response_frame m.role Dm n) m refl so) so
 
-tells_so : (control : PlainControl) (m : Mux) → Replies m → Replies (tells control m)
+pub tells_so : (control : PlainControl) (m : Mux) → Replies m → Replies (tells control m)
 tells_so control m so = either (nat_le (length (written control)) 40 && has_room m) (answering (control_frame m.role control) m) m (more (control_frame m.role control) m refl so) so
 
 -- with UA, where there is room
-ua_so : (n : ℕ) (m x : Mux) → Replies m → Replies x → Replies (cond (has_room m) (answering (response_frame m.role Ua n) x) m)
+pub ua_so : (n : ℕ) (m x : Mux) → Replies m → Replies x → Replies (cond (has_room m) (answering (response_frame m.role Ua n) x) m)
 ua_so n m x so now = either (has_room m) (answering (response_frame m.role Ua n) x) m (more (response_frame m.role Ua n) x refl now) so
 
 -- ---- SABM, UA, DM, DISC
 
-opens_control_so : (m : Mux) → Replies m → Replies (opens_control m)
+pub opens_control_so : (m : Mux) → Replies m → Replies (opens_control m)
 opens_control_so m so = either (is_ended m.control) (says_dm 0 m) _ (dm_so 0 m so) (ua_so 0 m (record m { control = turned Initiator Sabm m.control }) so so)
 
-opens_user_so : (m : Mux) → Replies m → Replies (opens_user m)
+pub opens_user_so : (m : Mux) → Replies m → Replies (opens_user m)
 opens_user_so m so = either (not m.agreed) (closes reasons.NoCreditFlow m) _ so (either (is_ended m.user) (says_dm m.dlci m) _ (dm_so m.dlci m so) (ua_so m.dlci m (record m { user = turned Initiator Sabm m.user; asks = signals_next m.user m.asks }) so so))
 
-sabm_so : (role : Role) (n : ℕ) (m : Mux) → Replies m → Replies (hears_sabm role n m)
+pub sabm_so : (role : Role) (n : ℕ) (m : Mux) → Replies m → Replies (hears_sabm role n m)
 sabm_so Initiator n m so = dm_so n m so
 sabm_so Responder n m so = either (eqb n 0) (opens_control m) _ (opens_control_so m so) (either (eqb n m.dlci) (opens_user m) (says_dm n m) (opens_user_so m so) (dm_so n m so))
 
-answered_so : (asks : Asks) (m : Mux) → Replies m → Replies (control_answered asks m)
+pub answered_so : (asks : Asks) (m : Mux) → Replies m → Replies (control_answered asks m)
 answered_so Nothing m so = so
 answered_so (Due command) m so = so
 answered_so (Awaited OpenControl) m so = so
@@ -77,10 +77,10 @@ answered_so (Awaited Signal) m so = so
 answered_so (Awaited LeaveUser) m so = so
 answered_so (Awaited LeaveControl) m so = so
 
-ua_heard : (n : ℕ) (m : Mux) → Replies m → Replies (hears_ua n m)
+pub ua_heard : (n : ℕ) (m : Mux) → Replies m → Replies (hears_ua n m)
 ua_heard n m so = either (eqb n 0) (control_answered m.asks (record m { control = turned (other_role m.role) Ua m.control })) _ (answered_so m.asks (record m { control = turned (other_role m.role) Ua m.control }) so) (either (eqb n m.dlci) _ m so so)
 
-control_refused_so : (asks : Asks) (m : Mux) → Replies m → Replies (control_refused asks m)
+pub control_refused_so : (asks : Asks) (m : Mux) → Replies m → Replies (control_refused asks m)
 control_refused_so (Awaited LeaveControl) m so = so
 control_refused_so (Awaited OpenControl) m so = so
 control_refused_so (Awaited Agree) m so = so
@@ -90,7 +90,7 @@ control_refused_so (Awaited LeaveUser) m so = so
 control_refused_so Nothing m so = so
 control_refused_so (Due command) m so = so
 
-user_refused_so : (asks : Asks) (m : Mux) → Replies m → Replies (user_refused asks m)
+pub user_refused_so : (asks : Asks) (m : Mux) → Replies m → Replies (user_refused asks m)
 user_refused_so (Awaited LeaveUser) m so = so
 user_refused_so (Awaited LeaveControl) m so = so
 user_refused_so (Awaited OpenControl) m so = so
@@ -100,61 +100,61 @@ user_refused_so (Awaited Signal) m so = so
 user_refused_so Nothing m so = so
 user_refused_so (Due command) m so = so
 
-dm_heard : (n : ℕ) (m : Mux) → Replies m → Replies (hears_dm n m)
+pub dm_heard : (n : ℕ) (m : Mux) → Replies m → Replies (hears_dm n m)
 dm_heard n m so = either (eqb n 0) (control_refused m.asks m) _ (control_refused_so m.asks m so) (either (eqb n m.dlci) (user_refused m.asks m) m (user_refused_so m.asks m so) so)
 
-ends_so : (reason : Option MuxReason) (m : Mux) → Replies m → Replies (ends reason m)
+pub ends_so : (reason : Option MuxReason) (m : Mux) → Replies m → Replies (ends reason m)
 ends_so None m so = so
 ends_so (Some reason) m so = so
 
-disc_so : (n : ℕ) (m : Mux) → Replies m → Replies (hears_disc n m)
+pub disc_so : (n : ℕ) (m : Mux) → Replies m → Replies (hears_disc n m)
 disc_so n m so =
     either (eqb n 0 && is_left (other_role m.role) m.control) _ _ (ua_so 0 m (ends m.closed (record m { control = Ended })) so (ends_so m.closed (record m { control = Ended }) so))
     (either (eqb n m.dlci && is_left (other_role m.role) m.user) _ _ (ua_so m.dlci m (ends m.closed (record m { user = Ended })) so (ends_so m.closed (record m { user = Ended }) so)) (dm_so n m so))
 
 -- ---- information and messages
 
-credited_so : (n : ℕ) (m : Mux) → Replies m → Replies (credited n m)
+pub credited_so : (n : ℕ) (m : Mux) → Replies m → Replies (credited n m)
 credited_so n m so = either (nat_lt 65535 (m.account.held + n)) (closes reasons.CreditOverflow m) _ so so
 
-charged_so : (octets : List ℕ) (m : Mux) → Replies m → Replies (charged octets m)
+pub charged_so : (octets : List ℕ) (m : Mux) → Replies m → Replies (charged octets m)
 charged_so [] m so = so
 charged_so (octet ∷ octets) m so = either (eqb m.account.peer 0) (closes reasons.Overdrawn m) _ so so
 
-stands_so : (f : Mux → Mux) (reason : Option MuxReason) (m : Mux) → ((x : Mux) → Replies x → Replies (f x)) → Replies m → Replies (if_stands f reason m)
+pub stands_so : (f : Mux → Mux) (reason : Option MuxReason) (m : Mux) → ((x : Mux) → Replies x → Replies (f x)) → Replies m → Replies (if_stands f reason m)
 stands_so f None m goes so = goes m so
 stands_so f (Some reason) m goes so = so
 
-with_so : (credits : Option ℕ) (m : Mux) → Replies m → Replies (with_credits credits m)
+pub with_so : (credits : Option ℕ) (m : Mux) → Replies m → Replies (with_credits credits m)
 with_so None m so = so
 with_so (Some n) m so = credited_so n m so
 
-data_so : (frame : PlainFrame) (m : Mux) → Replies m → Replies (hears_data frame m)
+pub data_so : (frame : PlainFrame) (m : Mux) → Replies m → Replies (hears_data frame m)
 data_so frame m so = let granted = with_credits frame.credits m in stands_so (charged frame.octets) granted.closed granted (charged_so frame.octets) (with_so frame.credits m so)
 
-pn_credited_so : (credits : ℕ) (m : Mux) → Replies m → Replies (pn_credited credits m)
+pub pn_credited_so : (credits : ℕ) (m : Mux) → Replies m → Replies (pn_credited credits m)
 pn_credited_so credits m so = either (counts m) (credited (credits % 8) m) m (credited_so (credits % 8) m so) so
 
-offer_so : (flow priority frame credits : ℕ) (m : Mux) → Replies m → Replies (hears_offer flow priority frame credits m)
+pub offer_so : (flow priority frame credits : ℕ) (m : Mux) → Replies m → Replies (hears_offer flow priority frame credits m)
 offer_so flow priority frame credits m so =
     let reply : PlainFrame = control_frame m.role (pn false m.dlci 0xE0 priority 0 (lesser m.own frame) 0 (own_credits m)) in
     let agreed : Mux = record m { frame = lesser m.own frame; agreed = true; stated = true } in
     either (not (eqb (flow / 16) 0xF)) (closes reasons.NoCreditFlow m) _ so
     (either (nat_lt frame 23) (closes reasons.BadFrame m) _ so (either (has_room m) (pn_credited credits (answering reply agreed)) m (pn_credited_so credits (answering reply agreed) (more reply agreed refl so)) so))
 
-acceptance_so : (flow frame credits : ℕ) (m : Mux) → Replies m → Replies (hears_acceptance flow frame credits m)
+pub acceptance_so : (flow frame credits : ℕ) (m : Mux) → Replies m → Replies (hears_acceptance flow frame credits m)
 acceptance_so flow frame credits m so =
     let agreed : Mux = record m { frame = lesser m.own frame; agreed = true; asks = terms_agreed m.asks } in
     either (not (eqb (flow / 16) 0xE)) (closes reasons.NoCreditFlow m) _ so (either (nat_lt frame 23) (closes reasons.BadFrame m) _ so (pn_credited_so credits agreed so))
 
-other_offer_so : (command : Bool) (n frame : ℕ) (m : Mux) → Replies m → Replies (hears_other_offer command n frame m)
+pub other_offer_so : (command : Bool) (n frame : ℕ) (m : Mux) → Replies m → Replies (hears_other_offer command n frame m)
 other_offer_so command n frame m so = either (nat_lt frame 23) (closes reasons.BadFrame m) _ so (either command (says_dm n m) m (dm_so n m so) so)
 
-pn_so : (command : Bool) (n flow priority frame credits : ℕ) (m : Mux) → Replies m → Replies (hears_pn command n flow priority frame credits m)
+pub pn_so : (command : Bool) (n flow priority frame credits : ℕ) (m : Mux) → Replies m → Replies (hears_pn command n flow priority frame credits m)
 pn_so true n flow priority frame credits m so = either (eqb (n % 64) m.dlci) (hears_offer flow priority frame credits m) (hears_other_offer true (n % 64) frame m) (offer_so flow priority frame credits m so) (other_offer_so true (n % 64) frame m so)
 pn_so false n flow priority frame credits m so = either (eqb (n % 64) m.dlci) (hears_acceptance flow frame credits m) (hears_other_offer false (n % 64) frame m) (acceptance_so flow frame credits m so) (other_offer_so false (n % 64) frame m so)
 
-signals_so : (asks : Asks) (m : Mux) → Replies m → Replies (signals_answered asks m)
+pub signals_so : (asks : Asks) (m : Mux) → Replies m → Replies (signals_answered asks m)
 signals_so (Awaited Signal) m so = so
 signals_so (Awaited OpenControl) m so = so
 signals_so (Awaited Agree) m so = so
@@ -164,13 +164,13 @@ signals_so (Awaited LeaveControl) m so = so
 signals_so Nothing m so = so
 signals_so (Due command) m so = so
 
-msc_so : (command : Bool) (address signals : ℕ) (m : Mux) → Replies m → Replies (hears_msc command address signals m)
+pub msc_so : (command : Bool) (address signals : ℕ) (m : Mux) → Replies m → Replies (hears_msc command address signals m)
 msc_so true address signals m so =
     let noted : Mux = cond (eqb (address / 4) m.dlci) (record m { ready = peer_answered m.ready }) m in
     either (has_room m) (answering (control_frame m.role (msc false address signals)) noted) m (more (control_frame m.role (msc false address signals)) noted refl (either (eqb (address / 4) m.dlci) (record m { ready = peer_answered m.ready }) m so so)) so
 msc_so false address signals m so = either (eqb (address / 4) m.dlci) (signals_answered m.asks m) m (signals_so m.asks m so) so
 
-control_so : (control : PlainControl) (m : Mux) → Replies m → Replies (hears_control control m)
+pub control_so : (control : PlainControl) (m : Mux) → Replies m → Replies (hears_control control m)
 control_so (pn command dlci flow priority timer frame retransmissions credits) m so = pn_so command dlci flow priority frame credits m so
 control_so (msc command address signals) m so = msc_so command address signals m so
 control_so (test command octets) m so = either command (tells (test false octets) m) m (tells_so (test false octets) m so) so
@@ -179,34 +179,34 @@ control_so (rls command value) m so = either command (tells (rls false value) m)
 control_so (nsc kind) m so = so
 control_so (other kind value) m so = either (eqb (kind / 2 % 2) 1) (tells (nsc kind) m) m (tells_so (nsc kind) m so) so
 
-message_so : (message : MessageAnswer) (m : Mux) → Replies m → Replies (hears_message message m)
+pub message_so : (message : MessageAnswer) (m : Mux) → Replies m → Replies (hears_message message m)
 message_so (Ok control) m so = control_so control m so
 message_so (Err refusal) m so = so
 
-messages_so : (list : List MessageAnswer) (m : Mux) → Replies m → Replies (hears_messages list m)
+pub messages_so : (list : List MessageAnswer) (m : Mux) → Replies m → Replies (hears_messages list m)
 messages_so [] m so = so
 messages_so (message ∷ rest) m so = messages_so rest (if_stands (hears_message message) m.closed m) (stands_so (hears_message message) m.closed m (message_so message) so)
 
 -- ---- a frame
 
-uih_so : (frame : PlainFrame) (m : Mux) → Replies m → Replies (hears_uih frame m)
+pub uih_so : (frame : PlainFrame) (m : Mux) → Replies m → Replies (hears_uih frame m)
 uih_so frame m so = either (eqb frame.dlci 0) (hears_messages (messages frame.octets) m) _ (messages_so (messages frame.octets) m so) (either (eqb frame.dlci m.dlci && may_pass m) (hears_data frame m) m (data_so frame m so) so)
 
-kind_so : (kind : MuxKind) (frame : PlainFrame) (m : Mux) → Replies m → Replies (hears_kind kind frame m)
+pub kind_so : (kind : MuxKind) (frame : PlainFrame) (m : Mux) → Replies m → Replies (hears_kind kind frame m)
 kind_so Sabm frame m so = either frame.pf (hears_sabm m.role frame.dlci m) m (sabm_so m.role frame.dlci m so) so
 kind_so Ua frame m so = either frame.pf (hears_ua frame.dlci m) m (ua_heard frame.dlci m so) so
 kind_so Dm frame m so = dm_heard frame.dlci m so
 kind_so Disc frame m so = either frame.pf (hears_disc frame.dlci m) m (disc_so frame.dlci m so) so
 kind_so Uih frame m so = uih_so frame m so
 
-settled_so : (kind : MuxKind) (frame : PlainFrame) (m : Mux) → Replies m → Replies (hears_settled kind frame m)
+pub settled_so : (kind : MuxKind) (frame : PlainFrame) (m : Mux) → Replies m → Replies (hears_settled kind frame m)
 settled_so Sabm frame m so = either frame.pf (says_dm frame.dlci m) m (dm_so frame.dlci m so) so
 settled_so Ua frame m so = so
 settled_so Dm frame m so = so
 settled_so Disc frame m so = either frame.pf (hears_disc frame.dlci m) m (disc_so frame.dlci m so) so
 settled_so Uih frame m so = so
 
-frame_so : (closed : Option MuxReason) (frame : PlainFrame) (m : Mux) → Replies m → Replies (hears_frame closed frame m)
+pub frame_so : (closed : Option MuxReason) (frame : PlainFrame) (m : Mux) → Replies m → Replies (hears_frame closed frame m)
 frame_so None frame m so = kind_so frame.kind frame m so
 frame_so (Some reasons.Dm) frame m so = settled_so frame.kind frame m so
 frame_so (Some reasons.Disc) frame m so = settled_so frame.kind frame m so
@@ -215,7 +215,7 @@ frame_so (Some reasons.Overdrawn) frame m so = so
 frame_so (Some reasons.BadFrame) frame m so = so
 frame_so (Some reasons.CreditOverflow) frame m so = so
 
-answer_so : (answer : Answer) (m : Mux) → Replies m → Replies (hears_answer answer m)
+pub answer_so : (answer : Answer) (m : Mux) → Replies m → Replies (hears_answer answer m)
 answer_so (Ok frame) m so = frame_so m.closed frame m so
 answer_so (Err refusal) m so = stands_so (closes reasons.BadFrame) m.closed m (λ x now. now) so
 
@@ -242,33 +242,33 @@ abbrev pub SaysAll : ℕ → Option Said → Type 0
 SaysAll dlci None = Unit {0}
 SaysAll dlci (Some said) = SaysSo dlci said
 
-same_is : (n : ℕ) → eqb n n ≡ true
+pub same_is : (n : ℕ) → eqb n n ≡ true
 same_is n = eq-eqb n n refl
 
-or_true : (a b : Bool) → b ≡ true → (a || b) ≡ true
+pub or_true : (a b : Bool) → b ≡ true → (a || b) ≡ true
 or_true true b is = refl
 or_true false b is = is
 
-or_more : (a b c : Bool) → (a || b) ≡ true → (a || (b || c)) ≡ true
+pub or_more : (a b c : Bool) → (a || b) ≡ true → (a || (b || c)) ≡ true
 or_more true b c is = refl
 or_more false true c is = refl
 or_more false false c is = cc
 
-first_says : (dlci : ℕ) (a b : Option Said) → SaysAll dlci a → SaysAll dlci b → SaysAll dlci (first_of a b)
+pub first_says : (dlci : ℕ) (a b : Option Said) → SaysAll dlci a → SaysAll dlci b → SaysAll dlci (first_of a b)
 first_says dlci None b one second = second
 first_says dlci (Some said) b one second = one
 
-either_says : (dlci : ℕ) (b : Bool) (x y : Option Said) → SaysAll dlci x → SaysAll dlci y → SaysAll dlci (cond b x y)
+pub either_says : (dlci : ℕ) (b : Bool) (x y : Option Said) → SaysAll dlci x → SaysAll dlci y → SaysAll dlci (cond b x y)
 either_says dlci true x y one second = one
 either_says dlci false x y one second = second
 
-grant_says : (m : Mux) → Replies m → SaysAll m.dlci (says_grant m)
+pub grant_says : (m : Mux) → Replies m → SaysAll m.dlci (says_grant m)
 grant_says m so = either_says m.dlci _ (Some _) None (record { goes = or_true (eqb m.dlci 0) (eqb m.dlci m.dlci) (same_is m.dlci); replies = so }) tt
 
-data_says : (m : Mux) → Replies m → SaysAll m.dlci (says_data m)
+pub data_says : (m : Mux) → Replies m → SaysAll m.dlci (says_data m)
 data_says m so = either_says m.dlci _ (Some _) None (record { goes = or_true (eqb m.dlci 0) (eqb m.dlci m.dlci) (same_is m.dlci); replies = so }) tt
 
-command_says : (asks : Asks) (m : Mux) → Replies m → SaysAll m.dlci (says_command asks m)
+pub command_says : (asks : Asks) (m : Mux) → Replies m → SaysAll m.dlci (says_command asks m)
 command_says Nothing m so = first_says m.dlci (says_grant m) (says_data m) (grant_says m so) (data_says m so)
 command_says (Awaited command) m so = first_says m.dlci (says_grant m) (says_data m) (grant_says m so) (data_says m so)
 command_says (Due OpenControl) m so = record { goes = refl; replies = so }
@@ -278,7 +278,7 @@ command_says (Due Signal) m so = record { goes = refl; replies = so }
 command_says (Due LeaveUser) m so = record { goes = or_true (eqb m.dlci 0) (eqb m.dlci m.dlci) (same_is m.dlci); replies = so }
 command_says (Due LeaveControl) m so = record { goes = refl; replies = so }
 
-answer_says : (answers : List PlainFrame) (m : Mux) → AllByRecursion IsReply answers → Replies m → SaysAll m.dlci (says_answer answers m)
+pub answer_says : (answers : List PlainFrame) (m : Mux) → AllByRecursion IsReply answers → Replies m → SaysAll m.dlci (says_answer answers m)
 answer_says [] m all so = command_says m.asks m so
 answer_says (answer ∷ rest) m all so = record { goes = or_more (answers_peer answer.kind) (eqb answer.dlci 0) (eqb answer.dlci m.dlci) all.0; replies = all.1 }
 
@@ -318,7 +318,7 @@ read_head octets frame is = by (nat_lt (length octets) 4) (eqb (slice_index octe
     by false true same = cc
     by false false same = on (kind_of (slice_index octets 1)) refl same
 
-kind_again : (kind : MuxKind) (pf : Bool) → kind_of (control_octet kind pf) ≡ Some kind
+pub kind_again : (kind : MuxKind) (pf : Bool) → kind_of (control_octet kind pf) ≡ Some kind
 kind_again Sabm true = refl
 kind_again Sabm false = refl
 kind_again Ua true = refl
@@ -330,7 +330,7 @@ kind_again Disc false = refl
 kind_again Uih true = refl
 kind_again Uih false = refl
 
-dlci_again : (cr : Bool) (dlci : ℕ) → (0x01 + 0x02 * bit cr + 0x04 * dlci) / 4 ≡ dlci
+pub dlci_again : (cr : Bool) (dlci : ℕ) → (0x01 + 0x02 * bit cr + 0x04 * dlci) / 4 ≡ dlci
 dlci_again true dlci = omega arith
 dlci_again false dlci = omega arith
 

@@ -47,7 +47,7 @@ On c = is_past c.stage ≡ true
 
 -- ---- a cause
 
-on_order : (stage : Stage) → is_past stage ≡ true → is_past (in_order stage) ≡ true
+pub on_order : (stage : Stage) → is_past stage ≡ true → is_past (in_order stage) ≡ true
 on_order (Features point) on = refl
 on_order (ObjectChannel Due) on = refl
 on_order (ObjectChannel Asked) on = refl
@@ -61,7 +61,7 @@ on_order Search on = cc
 on_order (SearchEnd point) on = cc
 on_order Over on = cc
 
-on_at_once : (stage : Stage) → is_past stage ≡ true → is_past (at_once stage) ≡ true
+pub on_at_once : (stage : Stage) → is_past stage ≡ true → is_past (at_once stage) ≡ true
 on_at_once (Features point) on = refl
 on_at_once (ObjectChannel point) on = refl
 on_at_once Object on = refl
@@ -74,7 +74,7 @@ on_at_once Search on = cc
 on_at_once (SearchEnd point) on = cc
 on_at_once Over on = cc
 
-on_after : (ending : Ending) (stage : Stage) → is_past stage ≡ true → is_past (stage_after ending stage) ≡ true
+pub on_after : (ending : Ending) (stage : Stage) → is_past stage ≡ true → is_past (stage_after ending stage) ≡ true
 on_after InOrder stage on = on_order stage on
 on_after AtOnce stage on = on_at_once stage on
 
@@ -91,23 +91,23 @@ on_if false c d one other = other
 
 -- ---- it hears an SDU
 
-takes_on : (answer : Answered) (c : Client) → On c → On (responding.takes answer c)
+pub takes_on : (answer : Answered) (c : Client) → On c → On (responding.takes answer c)
 takes_on answers.Go c on = on
 takes_on answers.Done c on = on_ends outcomes.Done c on
 takes_on (answers.Refused code) c on = on_ends (outcomes.Refused code) c on
 takes_on (answers.Bad refusal) c on = on_ends (cause_of_obex refusal) c on
 takes_on answers.Srmp c on = on_ends unknown_parameters c on
 
-answer_on : (answer : Option Answered) (packet : List ℕ) (c : Client) → On c → On (hears_answer answer packet c)
+pub answer_on : (answer : Option Answered) (packet : List ℕ) (c : Client) → On c → On (hears_answer answer packet c)
 answer_on None packet c on = on_ends unawaited_response c on
 answer_on (Some answer) packet c on =
     let heard : Client = record c { session = after_at c.session.awaited c.session packet } in
     on_if (responding.is_success answer && responding.is_early c) (ends unawaited_response heard) (responding.takes answer heard) (on_ends unawaited_response heard on) (takes_on answer heard on)
 
-response_on : (packet : List ℕ) (c : Client) → On c → On (hears_response packet c)
+pub response_on : (packet : List ℕ) (c : Client) → On c → On (hears_response packet c)
 response_on packet c on = answer_on (answer_at c.session.awaited c.session packet) packet c on
 
-front_on : (more : List ℕ → Client → Client) (stream : List ℕ) (front : Front) (c : Client) → ((rest : List ℕ) (d : Client) → On d → On (more rest d)) → On c → On (hears_front more stream front c)
+pub front_on : (more : List ℕ → Client → Client) (stream : List ℕ) (front : Front) (c : Client) → ((rest : List ℕ) (d : Client) → On d → On (more rest d)) → On c → On (hears_front more stream front c)
 front_on more stream (Whole packet rest) c goes on =
     let held : Client = record c { held = [] } in
     let d = hears_response packet held in
@@ -116,12 +116,12 @@ front_on more stream (Whole packet rest) c goes on =
 front_on more stream Partial c goes on = on
 front_on more stream (Broken refusal) c goes on = let held : Client = record c { held = [] } in on_ends (cause_of_obex refusal) held on
 
-stream_on : (count : ℕ) (stream : List ℕ) (c : Client) → On c → On (hears_stream count stream c)
+pub stream_on : (count : ℕ) (stream : List ℕ) (c : Client) → On c → On (hears_stream count stream c)
 unfolding hears_stream
 stream_on zero stream c on = on
 stream_on (suc count) stream c on = front_on (λ rest d. hears_stream count rest d) stream (front_of c.session.maximum stream) c (λ rest d there. stream_on count rest d there) on
 
-frame_on : (sdu : List ℕ) (c : Client) → On c → On (hears_frame sdu c)
+pub frame_on : (sdu : List ℕ) (c : Client) → On c → On (hears_frame sdu c)
 frame_on sdu c on = by (up sdu c.mux)
   where
     heard : Client
@@ -143,17 +143,17 @@ outside_on Rfcomm c on = on
 
 -- ---- its steps
 
-abbrev IsOn : Stepped → Type 0
+abbrev pub IsOn : Stepped → Type 0
 IsOn one = On one.client
 
-either_on : (b : Bool) (x y : Stepped) → IsOn x → IsOn y → IsOn (cond b x y)
+pub either_on : (b : Bool) (x y : Stepped) → IsOn x → IsOn y → IsOn (cond b x y)
 either_on true x y one other = one
 either_on false x y one other = other
 
-abbrev MadeOn : Made → Type 0
+abbrev pub MadeOn : Made → Type 0
 MadeOn made = On made.client
 
-leaves_on : (ask : Ask) (c : Client) (parts : List Part) → On c → MadeOn (course.leaves_by ask c parts)
+pub leaves_on : (ask : Ask) (c : Client) (parts : List Part) → On c → MadeOn (course.leaves_by ask c parts)
 leaves_on Connect c parts on = on
 leaves_on Put c parts on = on
 leaves_on Abort c parts on = on
@@ -161,30 +161,30 @@ leaves_on Disconnect c parts on = on
 leaves_on Close c parts on = on
 leaves_on Nothing c parts on = on
 
-failing_on : (c : Client) (parts : List Part) → On c → MadeOn (course.failing c parts)
+pub failing_on : (c : Client) (parts : List Part) → On c → MadeOn (course.failing c parts)
 failing_on c parts on = let failed = ends outcomes.ShelfFault c in leaves_on (course.next_ask failed) failed parts (on_ends outcomes.ShelfFault c on)
 
-part_on : (part : Part) (c : Client) (parts : List Part) → On c → MadeOn (course.puts_part part c parts)
+pub part_on : (part : Part) (c : Client) (parts : List Part) → On c → MadeOn (course.puts_part part c parts)
 part_on (Ok octets) c parts on = on
 part_on (Err fault) c parts on = on
 
-from_on : (parts : List Part) (c : Client) → On c → MadeOn (course.puts_from parts c)
+pub from_on : (parts : List Part) (c : Client) → On c → MadeOn (course.puts_from parts c)
 from_on [] c on = on
 from_on (part ∷ parts) c on = part_on part c parts on
 
-puts_on : (c : Client) (parts : List Part) → On c → MadeOn (course.puts c parts)
+pub puts_on : (c : Client) (parts : List Part) → On c → MadeOn (course.puts c parts)
 puts_on c parts on = by (eqb (course.put_count c) 0)
   where
     by : (b : Bool) → MadeOn (cond b (course.puts_part (Ok []) c parts) (course.puts_from parts c))
     by true = part_on (Ok []) c parts on
     by false = from_on parts c on
 
-put_or_leaves : (outcome : Result (Unit {0}) PortFault) (put : Made) → MadeOn put → MadeOn (course.puts_or_leaves outcome put)
+pub put_or_leaves : (outcome : Result (Unit {0}) PortFault) (put : Made) → MadeOn put → MadeOn (course.puts_or_leaves outcome put)
 put_or_leaves (Ok done) put on = on
 put_or_leaves (Err fault.Failed) put on = failing_on put.client put.left on
 put_or_leaves (Err fault.NoMemory) put on = on
 
-requests_on : (ask : Ask) (c : Client) (parts : List Part) → On c → MadeOn (course.requests ask c parts)
+pub requests_on : (ask : Ask) (c : Client) (parts : List Part) → On c → MadeOn (course.requests ask c parts)
 requests_on Connect c parts on = on
 requests_on Put c parts on = let put = course.puts c parts in put_or_leaves put.outcome put (puts_on c parts on)
 requests_on Abort c parts on = on
@@ -192,11 +192,11 @@ requests_on Disconnect c parts on = on
 requests_on Close c parts on = on
 requests_on Nothing c parts on = on
 
-direct_on : (outcome : Result (Unit {0}) PortFault) (request : Made) → MadeOn request → IsOn (course.sends_direct outcome request)
+pub direct_on : (outcome : Result (Unit {0}) PortFault) (request : Made) → MadeOn request → IsOn (course.sends_direct outcome request)
 direct_on (Ok done) request on = on
 direct_on (Err fault) request on = on
 
-asks_direct_on : (ask : Ask) (c : Client) (parts : List Part) → On c → IsOn (course.asks_direct ask c parts)
+pub asks_direct_on : (ask : Ask) (c : Client) (parts : List Part) → On c → IsOn (course.asks_direct ask c parts)
 asks_direct_on Close c parts on = refl
 asks_direct_on Nothing c parts on = on
 asks_direct_on Connect c parts on = let request = course.requests Connect c parts in direct_on request.outcome request (requests_on Connect c parts on)
@@ -204,7 +204,7 @@ asks_direct_on Put c parts on = let request = course.requests Put c parts in dir
 asks_direct_on Abort c parts on = let request = course.requests Abort c parts in direct_on request.outcome request (requests_on Abort c parts on)
 asks_direct_on Disconnect c parts on = let request = course.requests Disconnect c parts in direct_on request.outcome request (requests_on Disconnect c parts on)
 
-filled_on : (c : Client) → On c → On (course.filled c)
+pub filled_on : (c : Client) → On c → On (course.filled c)
 filled_on c on = by (is_ready c.mux && not (is_empty c.rest))
   where
     full : Client
@@ -214,24 +214,24 @@ filled_on c on = by (is_ready c.mux && not (is_empty c.rest))
     by true = on
     by false = on
 
-said_on : (said : Option Said) (c : Client) (parts : List Part) → On c → IsOn (course.said_by said c parts)
+pub said_on : (said : Option Said) (c : Client) (parts : List Part) → On c → IsOn (course.said_by said c parts)
 said_on None c parts on = on
 said_on (Some said) c parts on = on
 
-says_on : (c : Client) (parts : List Part) → On c → IsOn (course.says c parts)
+pub says_on : (c : Client) (parts : List Part) → On c → IsOn (course.says c parts)
 says_on c parts on = let full = course.filled c in said_on (next full.mux) full parts (filled_on c on)
 
-muxed_on : (outcome : Result (Unit {0}) PortFault) (request : Made) → MadeOn request → IsOn (course.sends_muxed outcome request)
+pub muxed_on : (outcome : Result (Unit {0}) PortFault) (request : Made) → MadeOn request → IsOn (course.sends_muxed outcome request)
 muxed_on (Ok done) request on = says_on request.client request.left on
 muxed_on (Err fault) request on = on
 
-through_on : (ask : Ask) (c : Client) (parts : List Part) → On c → IsOn (course.asks_through ask c parts)
+pub through_on : (ask : Ask) (c : Client) (parts : List Part) → On c → IsOn (course.asks_through ask c parts)
 through_on ask c parts on =
     let bare : Client = record c { rest = [] } in
     let request = course.requests ask bare parts in
     either_on (course.takes_some c.mux) (course.sends_muxed request.outcome request) (course.rests c parts) (muxed_on request.outcome request (requests_on ask bare parts on)) on
 
-asks_muxed_on : (ask : Ask) (c : Client) (parts : List Part) → On c → IsOn (course.asks_muxed ask c parts)
+pub asks_muxed_on : (ask : Ask) (c : Client) (parts : List Part) → On c → IsOn (course.asks_muxed ask c parts)
 asks_muxed_on Close c parts on = let leaving : Client = record c { mux = leaves c.mux; contact = Closing } in says_on leaving parts on
 asks_muxed_on Nothing c parts on = on
 asks_muxed_on Connect c parts on = through_on Connect c parts on
@@ -239,7 +239,7 @@ asks_muxed_on Put c parts on = through_on Put c parts on
 asks_muxed_on Abort c parts on = through_on Abort c parts on
 asks_muxed_on Disconnect c parts on = through_on Disconnect c parts on
 
-goes_muxed_on : (said : Option Said) (c : Client) (parts : List Part) → On c → IsOn (course.goes_muxed said c parts)
+pub goes_muxed_on : (said : Option Said) (c : Client) (parts : List Part) → On c → IsOn (course.goes_muxed said c parts)
 goes_muxed_on None c parts on =
     let quiet : Client = record c { frame = None } in either_on (course.may_ask quiet) (course.asks_muxed (course.next_ask quiet) quiet parts) (course.rests quiet parts) (asks_muxed_on (course.next_ask quiet) quiet parts on) on
 goes_muxed_on (Some said) c parts on = on

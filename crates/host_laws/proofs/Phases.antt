@@ -63,14 +63,14 @@ Moved c d = (phase d.stage ≡ Aside) ⊎ ((phase d.stage ≡ phase c.stage) × 
 
 -- ---- one after the other
 
-same_in : (p : Phase) (q r : Asking) → r ≡ q → SameIn p q r
+pub same_in : (p : Phase) (q r : Asking) → r ≡ q → SameIn p q r
 same_in Linking q r same = same
 same_in Opening q r same = same
 same_in Searching q r same = ap (λ (x : Asking). x.joined) same
 same_in Carrying q r same = tt
 same_in Aside q r same = tt
 
-both_in : (p : Phase) (q r s : Asking) → SameIn p q r → SameIn p r s → SameIn p q s
+pub both_in : (p : Phase) (q r s : Asking) → SameIn p q r → SameIn p r s → SameIn p q s
 both_in Linking q r s one other = other ∙ one
 both_in Opening q r s one other = other ∙ one
 both_in Searching q r s one other = other ∙ one
@@ -85,20 +85,20 @@ moved_both c d e one (inl aside) = inl aside
 moved_both c d e (inl aside) (inr (same, query)) = inl (same ∙ aside)
 moved_both c d e (inr (first, q)) (inr (second, r)) = inr (second ∙ first, both_in (phase c.stage) c.query d.query e.query q (subst (λ p. SameIn p d.query e.query) first r))
 
-abbrev Near : (s t : Stage) → Type 0
+abbrev pub Near : (s t : Stage) → Type 0
 Near s t = (phase t ≡ Aside) ⊎ (phase t ≡ phase s)
 
-near : (c d : Client) → d.query ≡ c.query → Near c.stage d.stage → Moved c d
+pub near : (c d : Client) → d.query ≡ c.query → Near c.stage d.stage → Moved c d
 near c d same (inl aside) = inl aside
 near c d same (inr here) = inr (here, same_in (phase c.stage) c.query d.query same)
 
-either : (b : Bool) (c x y : Client) → Moved c x → Moved c y → Moved c (cond b x y)
+pub either : (b : Bool) (c x y : Client) → Moved c x → Moved c y → Moved c (cond b x y)
 either true c x y one other = one
 either false c x y one other = other
 
 -- ---- an end
 
-near_once : (s : Stage) → Near s (at_once s)
+pub near_once : (s : Stage) → Near s (at_once s)
 near_once Rest = inl refl
 near_once (Link Due) = inl refl
 near_once (Link Asked) = inr refl
@@ -112,7 +112,7 @@ near_once (ObjectEnd point) = inl refl
 near_once (LinkEnd point) = inl refl
 near_once Over = inl refl
 
-near_order : (s : Stage) → Near s (in_order s)
+pub near_order : (s : Stage) → Near s (in_order s)
 near_order Rest = inl refl
 near_order (Link Due) = inl refl
 near_order (Link Asked) = inr refl
@@ -128,28 +128,28 @@ near_order (ObjectEnd point) = inl refl
 near_order (LinkEnd point) = inl refl
 near_order Over = inl refl
 
-near_after : (ending : Ending) (s : Stage) → Near s (stage_after ending s)
+pub near_after : (ending : Ending) (s : Stage) → Near s (stage_after ending s)
 near_after InOrder s = near_order s
 near_after AtOnce s = near_once s
 
-by_cause : (cause : Option Outcome) (outcome : Outcome) (c : Client) → Moved c (ends_by cause outcome c)
+pub by_cause : (cause : Option Outcome) (outcome : Outcome) (c : Client) → Moved c (ends_by cause outcome c)
 by_cause None outcome c = near c (ends_by None outcome c) refl (near_after (ending_of outcome) c.stage)
 by_cause (Some earlier) outcome c = near c (ends_by (Some earlier) outcome c) refl (near_once c.stage)
 
 pub end_moves : (outcome : Outcome) (c : Client) → Moved c (ends outcome c)
 end_moves outcome c = by_cause c.cause outcome c
 
-if_moves : (cause : Option Outcome) (c : Client) → Moved c (ends_if cause c)
+pub if_moves : (cause : Option Outcome) (c : Client) → Moved c (ends_if cause c)
 if_moves None c = still c
 if_moves (Some outcome) c = end_moves outcome c
 
 -- ---- what it hears
 
-outside_moves : (transport : Transport) (c : Client) → Moved c (events.hears_outside transport c)
+pub outside_moves : (transport : Transport) (c : Client) → Moved c (events.hears_outside transport c)
 outside_moves L2cap c = end_moves unawaited_response c
 outside_moves Rfcomm c = still c
 
-late_phase : (s : Stage) → IsLate s → (phase s ≡ Aside) ⊎ (phase s ≡ Carrying)
+pub late_phase : (s : Stage) → IsLate s → (phase s ≡ Aside) ⊎ (phase s ≡ Carrying)
 late_phase Object late = inr refl
 late_phase (ObjectEnd point) late = inl refl
 late_phase (LinkEnd point) late = inl refl
@@ -163,17 +163,17 @@ late_phase (Features point) late = absurd late
 late_phase (ObjectChannel point) late = absurd late
 
 -- from the channel of its object
-late_moves : (c d : Client) → c.stage ≡ Object → IsLate d.stage → Moved c d
+pub late_moves : (c d : Client) → c.stage ≡ Object → IsLate d.stage → Moved c d
 late_moves c d at late = by (late_phase d.stage late)
   where
     by : (phase d.stage ≡ Aside) ⊎ (phase d.stage ≡ Carrying) → Moved c d
     by (inl aside) = inl aside
     by (inr carrying) = inr (carrying ∙ sym (ap phase at), subst (λ s. SameIn (phase s) c.query d.query) (sym at) tt)
 
-late_at : (c : Client) → c.stage ≡ Object → IsLate c.stage
+pub late_at : (c : Client) → c.stage ≡ Object → IsLate c.stage
 late_at c at = subst IsLate (sym at) tt
 
-sdu_moves : (psm : ℕ) (sdu : List ℕ) (c : Client) (stage : Stage) → c.stage ≡ stage → (stage ≡ Search → ⊥) → Moved c (events.sdu_at stage psm sdu c)
+pub sdu_moves : (psm : ℕ) (sdu : List ℕ) (c : Client) (stage : Stage) → c.stage ≡ stage → (stage ≡ Search → ⊥) → Moved c (events.sdu_at stage psm sdu c)
 sdu_moves psm sdu c Search at apart = absurd (apart refl)
 sdu_moves psm sdu c (ObjectChannel point) at apart = either (eqb psm c.psm) c (events.hears_outside c.transport c) c (outside_moves c.transport c) (still c)
 sdu_moves psm sdu c Object at apart = either (eqb psm c.psm) c (events.hears_object c.transport sdu c) c (late_moves c (events.hears_object c.transport sdu c) at (object_late (anchor_of c) c.transport sdu c (late_at c at, refl)).0) (still c)
@@ -186,13 +186,13 @@ sdu_moves psm sdu c (Features point) at apart = still c
 sdu_moves psm sdu c (LinkEnd point) at apart = still c
 sdu_moves psm sdu c Over at apart = still c
 
-object_moves : (mtu : ℕ) (c : Client) → c.stage ≡ ObjectChannel Asked → (transport : Transport) → Moved c (events.object_opened transport mtu c)
+pub object_moves : (mtu : ℕ) (c : Client) → c.stage ≡ ObjectChannel Asked → (transport : Transport) → Moved c (events.object_opened transport mtu c)
 object_moves mtu c at L2cap =
     let open_ : Client = record c { stage = Object; limit = min mtu 32767 } in
     either (nat_lt mtu 255) c (ends small_channel c) open_ (end_moves small_channel c) (near c open_ refl (inr (sym (ap phase at))))
 object_moves mtu c at Rfcomm = near c (events.object_opened Rfcomm mtu c) refl (inr (sym (ap phase at)))
 
-opened_moves : (psm mtu : ℕ) (c : Client) (stage : Stage) → c.stage ≡ stage → (stage ≡ SearchChannel Asked → ⊥) → Moved c (events.opened_at stage psm mtu c)
+pub opened_moves : (psm mtu : ℕ) (c : Client) (stage : Stage) → c.stage ≡ stage → (stage ≡ SearchChannel Asked → ⊥) → Moved c (events.opened_at stage psm mtu c)
 opened_moves psm mtu c (SearchChannel Asked) at apart = absurd (apart refl)
 opened_moves psm mtu c (ObjectChannel Asked) at apart = either (eqb psm c.psm) c (events.object_opened c.transport mtu c) c (object_moves mtu c at c.transport) (still c)
 opened_moves psm mtu c Rest at apart = still c
@@ -207,7 +207,7 @@ opened_moves psm mtu c (ObjectEnd point) at apart = still c
 opened_moves psm mtu c (LinkEnd point) at apart = still c
 opened_moves psm mtu c Over at apart = still c
 
-left_moves : (cause : Option Outcome) (c : Client) → Moved c (events.search_left cause c)
+pub left_moves : (cause : Option Outcome) (c : Client) → Moved c (events.search_left cause c)
 left_moves (Some cause) c = inl refl
 left_moves None c = by c.transport
   where
@@ -215,11 +215,11 @@ left_moves None c = by c.transport
     by L2cap = inl refl
     by Rfcomm = inl refl
 
-closed_search : (cause : Option Outcome) (c : Client) → Moved c (events.search_closed cause c)
+pub closed_search : (cause : Option Outcome) (c : Client) → Moved c (events.search_closed cause c)
 closed_search None c = left_moves c.cause c
 closed_search (Some outcome) c = end_moves outcome c
 
-closed_moves : (psm : ℕ) (cause : CloseCause) (c : Client) (stage : Stage) → c.stage ≡ stage → Moved c (events.closed_at stage psm cause c)
+pub closed_moves : (psm : ℕ) (cause : CloseCause) (c : Client) (stage : Stage) → c.stage ≡ stage → Moved c (events.closed_at stage psm cause c)
 closed_moves psm cause c (SearchChannel Asked) at = either (eqb psm 0x0001) c (ends_if (cause_of_close cause) c) c (if_moves (cause_of_close cause) c) (still c)
 closed_moves psm cause c Search at = either (eqb psm 0x0001) c (ends_if (cause_of_close cause) c) c (if_moves (cause_of_close cause) c) (still c)
 closed_moves psm cause c (SearchEnd point) at = either (eqb psm 0x0001) c (events.search_closed (cause_of_close cause) c) c (closed_search (cause_of_close cause) c) (still c)
@@ -234,7 +234,7 @@ closed_moves psm cause c (ObjectChannel Due) at = still c
 closed_moves psm cause c (LinkEnd point) at = still c
 closed_moves psm cause c Over at = still c
 
-linked_moves : (c : Client) (stage : Stage) → Moved c (events.linked_at stage c)
+pub linked_moves : (c : Client) (stage : Stage) → Moved c (events.linked_at stage c)
 linked_moves c (Link Asked) = either (is_some c.cause) c (record c { stage = LinkEnd Due }) (record c { stage = SearchChannel Due }) (inl refl) (inl refl)
 linked_moves c (Link Due) = still c
 linked_moves c Rest = still c
@@ -248,7 +248,7 @@ linked_moves c (ObjectEnd point) = still c
 linked_moves c (LinkEnd point) = still c
 linked_moves c Over = still c
 
-over_moves : (cause : Option Outcome) (outcome : Outcome) (c : Client) → Moved c (events.over_by cause outcome c)
+pub over_moves : (cause : Option Outcome) (outcome : Outcome) (c : Client) → Moved c (events.over_by cause outcome c)
 over_moves None outcome c = inl refl
 over_moves (Some earlier) outcome c = inl refl
 
@@ -266,10 +266,10 @@ search_is (LinkEnd point) is = cc
 search_is Over is = cc
 
 -- in its search, where the query holds the same parts still
-joined_moves : (c d : Client) → c.stage ≡ Search → d.stage ≡ Search → d.query.joined ≡ c.query.joined → Moved c d
+pub joined_moves : (c d : Client) → c.stage ≡ Search → d.stage ≡ Search → d.query.joined ≡ c.query.joined → Moved c d
 joined_moves c d at to same = inr (ap phase to ∙ sym (ap phase at), subst (λ s. SameIn (phase s) c.query d.query) (sym at) same)
 
-timer_moves : (c : Client) → Moved c (events.fires c)
+pub timer_moves : (c : Client) → Moved c (events.fires c)
 timer_moves c = by (is_search c.stage) refl
   where
     again : Client
@@ -284,7 +284,7 @@ timer_moves c = by (is_search c.stage) refl
         let at = search_is c.stage is in
         either ((is_search c.stage && is_awaiting c.query) && not (c.given || is_due c.query)) c late c (either (eqb c.left 0) c (ends outcomes.RetryLimit c) again (end_moves outcomes.RetryLimit c) (joined_moves c again at at refl)) (still c)
 
-features_moves : (c : Client) (b : Bool) → Moved c (cond b (record c { stage = ObjectChannel Due }) c)
+pub features_moves : (c : Client) (b : Bool) → Moved c (cond b (record c { stage = ObjectChannel Due }) c)
 features_moves c true = inl refl
 features_moves c false = still c
 
@@ -300,7 +300,7 @@ IsPlainNews events.FeaturesTold stage = Unit {0}
 IsPlainNews events.FeaturesLost stage = Unit {0}
 IsPlainNews events.Timer stage = Unit {0}
 
-news_moves : (news : events.News) (c : Client) → IsPlainNews news c.stage → Moved c (events.hears_news news c)
+pub news_moves : (news : events.News) (c : Client) → IsPlainNews news c.stage → Moved c (events.hears_news news c)
 news_moves events.LinkUp c plain = linked_moves c c.stage
 news_moves (events.LinkDown reason) c plain = either (events.is_linked c.stage) c (events.over (cause_of_link reason) c) c (over_moves c.cause (cause_of_link reason) c) (still c)
 news_moves (events.LinkFailed status) c plain = either (events.is_paging c.stage) c (events.over (cause_of_page status) c) c (over_moves c.cause (cause_of_page status) c) (still c)
@@ -313,11 +313,11 @@ news_moves events.Timer c plain = timer_moves c
 
 -- ---- steps
 
-step_either : (b : Bool) (c : Client) (x y : Stepped) → Moved c x.client → Moved c y.client → Moved c (cond b x y).client
+pub step_either : (b : Bool) (c : Client) (x y : Stepped) → Moved c x.client → Moved c y.client → Moved c (cond b x y).client
 step_either true c x y one other = one
 step_either false c x y one other = other
 
-end_tells : (cause : Option Outcome) (c : Client) (parts : List Part) → Moved c (tells_end cause c parts).client
+pub end_tells : (cause : Option Outcome) (c : Client) (parts : List Part) → Moved c (tells_end cause c parts).client
 end_tells None c parts = still c
 end_tells (Some outcome) c parts = inl refl
 

@@ -54,11 +54,11 @@ none_awaited q none = by (awaited q) (some_awaited q ∙ none)
 
 -- ---- a reply
 
-whole_none : (q : Asking) (target : Option Target) → awaited_at (stage_in target) q.transaction ≡ None
+pub whole_none : (q : Asking) (target : Option Target) → awaited_at (stage_in target) q.transaction ≡ None
 whole_none q None = refl
 whole_none q (Some target) = refl
 
-said_none : (q : Asking) (said : PlainSaid) → awaited (when_said q said) ≡ None
+pub said_none : (q : Asking) (said : PlainSaid) → awaited (when_said q said) ≡ None
 said_none q Nothing = refl
 said_none q (Failed code) = refl
 said_none q (Gives part) = by (nat_lt 4096 (length (q.joined ++ part.octets))) (eqb (length part.continuation) 0)
@@ -102,37 +102,37 @@ pub again_asks : (q : Asking) → IsAsking q → IsAsking (after_resend q)
 again_asks q so = record { short = so.short; octets = so.octets; counted = so.counted; within = so.within }
 
 -- a part of an answer: its continuation state is short, and where there is one it has octets
-record IsPart (part : PlainPart) : Type 0 where
-  short : length part.continuation ≤ 16
-  octets : IsOctets part.continuation
-  some : eqb (length part.continuation) 0 ≡ false → 1 ≤ length part.octets
+pub record IsPart (part : PlainPart) : Type 0 where
+  pub short : length part.continuation ≤ 16
+  pub octets : IsOctets part.continuation
+  pub some : eqb (length part.continuation) 0 ≡ false → 1 ≤ length part.octets
 
-abbrev SaidSo : PlainSaid → Type 0
+abbrev pub SaidSo : PlainSaid → Type 0
 SaidSo (Gives part) = IsPart part
 SaidSo (Failed code) = Unit {0}
 SaidSo Nothing = Unit {0}
 
-abbrev PartSo : Option PlainPart → Type 0
+abbrev pub PartSo : Option PlainPart → Type 0
 PartSo None = Unit {0}
 PartSo (Some part) = IsPart part
 
-not_false : (b : Bool) → not b ≡ true → b ≡ false
+pub not_false : (b : Bool) → not b ≡ true → b ≡ false
 not_false true is = cc
 not_false false is = refl
 
-positive : (n : ℕ) → eqb n 0 ≡ false → 1 ≤ n
+pub positive : (n : ℕ) → eqb n 0 ≡ false → 1 ≤ n
 positive zero is = cc
 positive (suc n) is = omega arith
 
-parts_of : (a b : Bool) → (a && b) ≡ true → (a ≡ true) × (b ≡ true)
+pub parts_of : (a b : Bool) → (a && b) ≡ true → (a ≡ true) × (b ≡ true)
 parts_of true b is = (refl, is)
 parts_of false b is = cc
 
-second_false : (b : Bool) → (b && true) ≡ false → b ≡ false
+pub second_false : (b : Bool) → (b && true) ≡ false → b ≡ false
 second_false true is = cc
 second_false false is = refl
 
-part_of : (count : ℕ) (rest continuation : List ℕ) (goes : Bool) → goes_on count continuation ≡ goes → length continuation ≤ 16 → IsOctets continuation → 1 ≤ length (drop count rest)
+pub part_of : (count : ℕ) (rest continuation : List ℕ) (goes : Bool) → goes_on count continuation ≡ goes → length continuation ≤ 16 → IsOctets continuation → 1 ≤ length (drop count rest)
     → PartSo (cond goes (Some (record { octets = take count rest; continuation = continuation })) None)
 part_of count rest continuation false is short octets some = tt
 part_of count rest continuation true is short octets some = record {
@@ -145,7 +145,7 @@ part_of count rest continuation true is short octets some = record {
       omega (arith, one, some, length-take count rest, length-drop count rest);
 }
 
-counted_with : (count : ℕ) (rest left : List ℕ) → drop count rest ≡ left → IsOctets left → PartSo (continuation_in left >>= λ continuation. cond (goes_on count continuation) (Some (record { octets = take count rest; continuation = continuation })) None)
+pub counted_with : (count : ℕ) (rest left : List ℕ) → drop count rest ≡ left → IsOctets left → PartSo (continuation_in left >>= λ continuation. cond (goes_on count continuation) (Some (record { octets = take count rest; continuation = continuation })) None)
 counted_with count rest [] is fits = tt
 counted_with count rest (len ∷ octets) is fits = by (nat_le len 16 && eqb len (length octets)) refl
   where
@@ -160,21 +160,21 @@ counted_with count rest (len ∷ octets) is fits = by (nat_le len 16 && eqb len 
         let size : len ≡ length octets = eqb-true len (length octets) two.1 in
         part_of count rest octets (goes_on count octets) refl (omega (arith, short, size)) (IsOctets-tail len octets fits) some
 
-counted_so : (count : ℕ) (rest : List ℕ) → IsOctets rest → PartSo (counted_part count rest)
+pub counted_so : (count : ℕ) (rest : List ℕ) → IsOctets rest → PartSo (counted_part count rest)
 counted_so count rest fits = counted_with count rest (drop count rest) refl (octets_behind count rest fits)
 
-part_so : (parameters : List ℕ) → IsOctets parameters → PartSo (part_in parameters)
+pub part_so : (parameters : List ℕ) → IsOctets parameters → PartSo (part_in parameters)
 part_so parameters fits = by (nat_le 2 (length parameters) && nat_le (big_number 2 parameters) (length parameters - 2))
   where
     by : (b : Bool) → PartSo (cond b (counted_part (big_number 2 parameters) (drop 2 parameters)) None)
     by false = tt
     by true = counted_so (big_number 2 parameters) (drop 2 parameters) (octets_behind 2 parameters fits)
 
-given_so : (part : Option PlainPart) → PartSo part → SaidSo (given part)
+pub given_so : (part : Option PlainPart) → PartSo part → SaidSo (given part)
 given_so None so = tt
 given_so (Some part) so = so
 
-pdu_so : (pdu : PlainPdu) → IsOctets pdu.parameters → SaidSo (said_by (Some pdu))
+pub pdu_so : (pdu : PlainPdu) → IsOctets pdu.parameters → SaidSo (said_by (Some pdu))
 pdu_so pdu fits = by (eqb pdu.identifier 1 && eqb (length pdu.parameters) 2) (eqb pdu.identifier 7)
   where
     by : (error answer : Bool) → SaidSo (cond error (Failed (big_number 2 pdu.parameters)) (cond answer (given (part_in pdu.parameters)) Nothing))
@@ -182,17 +182,17 @@ pdu_so pdu fits = by (eqb pdu.identifier 1 && eqb (length pdu.parameters) 2) (eq
     by false true = given_so (part_in pdu.parameters) (part_so pdu.parameters fits)
     by false false = tt
 
-said_so : (reply : List ℕ) → IsOctets reply → SaidSo (said_in reply)
+pub said_so : (reply : List ℕ) → IsOctets reply → SaidSo (said_in reply)
 said_so reply fits = by (nat_le 5 (length reply) && eqb (states_length reply) (length reply - 5))
   where
     by : (b : Bool) → SaidSo (said_by (cond b (Some (record { identifier = slice_index reply 0; transaction = big_number 2 (drop 1 reply); parameters = drop 5 reply })) None))
     by false = tt
     by true = pdu_so (record { identifier = slice_index reply 0; transaction = big_number 2 (drop 1 reply); parameters = drop 5 reply }) (octets_behind 5 reply fits)
 
-same_asks : (q : Asking) (stage : Stage) → IsAsking q → (let r : Asking = record q { stage = stage } in IsAsking r)
+pub same_asks : (q : Asking) (stage : Stage) → IsAsking q → (let r : Asking = record q { stage = stage } in IsAsking r)
 same_asks q stage so = record { short = so.short; octets = so.octets; counted = so.counted; within = so.within }
 
-part_asks : (q : Asking) (part : PlainPart) → IsPart part → IsAsking q → IsAsking (after_part q part)
+pub part_asks : (q : Asking) (part : PlainPart) → IsPart part → IsAsking q → IsAsking (after_part q part)
 part_asks q part is so = by (nat_lt 4096 (length (q.joined ++ part.octets))) refl (eqb (length part.continuation) 0) refl
   where
     size : length (q.joined ++ part.octets) ≡ length q.joined + length part.octets
@@ -211,7 +211,7 @@ part_asks q part is so = by (nat_lt 4096 (length (q.joined ++ part.octets))) ref
         let some = is.some end in
         record { short = is.short; octets = is.octets; counted = omega (arith, size, counted, some); within = most }
 
-when_asks : (q : Asking) (said : PlainSaid) → SaidSo said → IsAsking q → IsAsking (when_said q said)
+pub when_asks : (q : Asking) (said : PlainSaid) → SaidSo said → IsAsking q → IsAsking (when_said q said)
 when_asks q (Gives part) is so = part_asks q part is so
 when_asks q (Failed code) is so = same_asks q (Refused (ErrorCode code)) so
 when_asks q Nothing is so = same_asks q (Refused BadReply) so
@@ -232,11 +232,11 @@ reply_asks q reply fits so = by q.stage
 
 -- ---- its request as octets
 
-abbrev front : ℕ → ℕ → ℕ → ℕ → ℕ → List ℕ
+abbrev pub front : ℕ → ℕ → ℕ → ℕ → ℕ → List ℕ
 front transaction_high transaction_low high low n =
     0x06 ∷ transaction_high ∷ transaction_low ∷ high ∷ low ∷ 0x35 ∷ 0x03 ∷ 0x19 ∷ 0x11 ∷ 0x05 ∷ 0x01 ∷ 0x00 ∷ 0x35 ∷ 0x06 ∷ 0x09 ∷ 0x00 ∷ 0x04 ∷ 0x09 ∷ 0x02 ∷ 0x00 ∷ n ∷ []
 
-request_is : (q : Asking) → length q.continuation ≤ 16
+pub request_is : (q : Asking) → length q.continuation ≤ 16
     → front (q.transaction / 256 % 256) (q.transaction % 256) 0 (16 + length q.continuation) (length q.continuation) ++ q.continuation ≡ request_octets q
 request_is q fits =
     let n = length (request_parameters q.continuation) in
@@ -246,15 +246,15 @@ request_is q fits =
     ap (λ (x : ℕ). front (q.transaction / 256 % 256) (q.transaction % 256) x (16 + length q.continuation) (length q.continuation) ++ q.continuation) (sym high)
     ∙ ap (λ (x : ℕ). front (q.transaction / 256 % 256) (q.transaction % 256) (n / 256 % 256) x (length q.continuation) ++ q.continuation) (sym low)
 
-octets_all : (xs ys : List ℕ) → are_octets xs ≡ true → are_octets ys ≡ true → are_octets (xs ++ ys) ≡ true
+pub octets_all : (xs ys : List ℕ) → are_octets xs ≡ true → are_octets ys ≡ true → are_octets (xs ++ ys) ≡ true
 octets_all [] ys one two = two
 octets_all (x ∷ xs) ys one two = let both = parts_of (nat_lt x 256) (are_octets xs) one in ap (λ b. b && are_octets (xs ++ ys)) both.0 ∙ octets_all xs ys both.1 two
 
-octets_of : (xs : List ℕ) → IsOctets xs → are_octets xs ≡ true
+pub octets_of : (xs : List ℕ) → IsOctets xs → are_octets xs ≡ true
 octets_of [] fits = refl
 octets_of (x ∷ xs) fits = ap (λ b. b && are_octets xs) (lt-ltb x 256 (fits 0)) ∙ octets_of xs (IsOctets-tail x xs fits)
 
-front_octets : (a b n : ℕ) → a < 256 → b < 256 → n ≤ 16 → are_octets (front a b 0 (16 + n) n) ≡ true
+pub front_octets : (a b n : ℕ) → a < 256 → b < 256 → n ≤ 16 → are_octets (front a b 0 (16 + n) n) ≡ true
 front_octets a b n high low short =
     ap (λ t. t && (nat_lt b 256 && (nat_lt (16 + n) 256 && (nat_lt n 256 && true)))) (lt-ltb a 256 high)
     ∙ (ap (λ t. t && (nat_lt (16 + n) 256 && (nat_lt n 256 && true))) (lt-ltb b 256 low)

@@ -50,26 +50,26 @@ Reads q sdu (Refused reason) = reason ≡ WrongTransaction → Goes q sdu
 -- ---- by the parts that come
 
 -- the same by these parts
-abbrev PartsRead : Asking → List PlainPart → (after : Asking) → Found → Type 0
+abbrev pub PartsRead : Asking → List PlainPart → (after : Asking) → Found → Type 0
 PartsRead q parts after More = unfinished_after q.joined parts ≡ after.joined
 PartsRead q parts after (Service target) = Tells target (joined_from q.joined parts)
 PartsRead q parts after NoService = Unit {0}
 PartsRead q parts after (Refused reason) = reason ≡ WrongTransaction → unfinished_after q.joined parts ≡ after.joined
 
-abbrev named : (l2cap rfcomm : Option ℕ) → Option Target
+abbrev pub named : (l2cap rfcomm : Option ℕ) → Option Target
 named l2cap rfcomm = Some (record { l2cap = l2cap; rfcomm = rfcomm })
 
-target_reads : (q : Asking) (part : PlainPart) (after : Asking) (l2cap rfcomm : Option ℕ) (heard : Target) → target_in (q.joined ++ part.octets) ≡ Some heard → heard.l2cap ≡ l2cap → heard.rfcomm ≡ rfcomm → joined_from q.joined (part ∷ []) ≡ (q.joined ++ part.octets) ∷ []
+pub target_reads : (q : Asking) (part : PlainPart) (after : Asking) (l2cap rfcomm : Option ℕ) (heard : Target) → target_in (q.joined ++ part.octets) ≡ Some heard → heard.l2cap ≡ l2cap → heard.rfcomm ≡ rfcomm → joined_from q.joined (part ∷ []) ≡ (q.joined ++ part.octets) ∷ []
     → PartsRead q (part ∷ []) after (found_target l2cap rfcomm)
 target_reads q part after None None heard is l r only = tt
 target_reads q part after None (Some rfcomm) heard is l r only = record { answer = q.joined ++ part.octets; only = only; heard_is = is ∙ ap₂ named l r }
 target_reads q part after (Some l2cap) rfcomm heard is l r only = record { answer = q.joined ++ part.octets; only = only; heard_is = is ∙ ap₂ named l r }
 
-whole_reads : (q : Asking) (part : PlainPart) (after : Asking) (found : Option Target) → target_in (q.joined ++ part.octets) ≡ found → joined_from q.joined (part ∷ []) ≡ (q.joined ++ part.octets) ∷ [] → PartsRead q (part ∷ []) after (found_in found)
+pub whole_reads : (q : Asking) (part : PlainPart) (after : Asking) (found : Option Target) → target_in (q.joined ++ part.octets) ≡ found → joined_from q.joined (part ∷ []) ≡ (q.joined ++ part.octets) ∷ [] → PartsRead q (part ∷ []) after (found_in found)
 whole_reads q part after None is only = λ other. cc
 whole_reads q part after (Some heard) is only = target_reads q part after heard.l2cap heard.rfcomm heard is refl refl only
 
-part_reads : (q : Asking) (part : PlainPart) → PartsRead q (part ∷ []) (after_part q part) (found_part q part)
+pub part_reads : (q : Asking) (part : PlainPart) → PartsRead q (part ∷ []) (after_part q part) (found_part q part)
 part_reads q part = by (nat_lt 4096 (length (q.joined ++ part.octets))) (eqb (length part.continuation) 0) refl
   where
     by : (long last : Bool) → eqb (length part.continuation) 0 ≡ last
@@ -80,10 +80,10 @@ part_reads q part = by (nat_lt 4096 (length (q.joined ++ part.octets))) (eqb (le
 
 -- ---- by the PDU that comes
 
-abbrev PduReads : Asking → ℕ → Option PlainPdu → Type 0
+abbrev pub PduReads : Asking → ℕ → Option PlainPdu → Type 0
 PduReads q transaction pdu = PartsRead q (part_of transaction pdu) (when_said q (said_by pdu)) (found_said q (said_by pdu))
 
-answer_reads : (q : Asking) (transaction : ℕ) (pdu : PlainPdu) → eqb pdu.transaction transaction ≡ true → PduReads q transaction (Some pdu)
+pub answer_reads : (q : Asking) (transaction : ℕ) (pdu : PlainPdu) → eqb pdu.transaction transaction ≡ true → PduReads q transaction (Some pdu)
 answer_reads q transaction pdu mine = by (eqb pdu.identifier 1) refl (eqb (length pdu.parameters) 2) refl (eqb pdu.identifier 7) refl (part_in pdu.parameters) refl
   where
     two_ways : {X : Type 0} → eqb pdu.identifier 1 ≡ true → eqb pdu.identifier 7 ≡ true → X
@@ -97,7 +97,7 @@ answer_reads q transaction pdu mine = by (eqb pdu.identifier 1) refl (eqb (lengt
     by false one two two_is true seven None is = rw (one, seven, is, mine) (λ other. cc)
     by false one two two_is true seven (Some part) is = rw (one, seven, is, mine) (part_reads q part)
 
-pdu_reads : (q : Asking) (transaction : ℕ) (octets : List ℕ) → is_of_another octets transaction ≡ false → PduReads q transaction (pdu_in octets)
+pub pdu_reads : (q : Asking) (transaction : ℕ) (octets : List ℕ) → is_of_another octets transaction ≡ false → PduReads q transaction (pdu_in octets)
 pdu_reads q transaction octets ours = by (nat_le 5 (length octets) && eqb (states_length octets) (length octets - 5)) refl
   where
     pdu : PlainPdu
@@ -114,7 +114,7 @@ pdu_reads q transaction octets ours = by (nat_le 5 (length octets) && eqb (state
         answer_reads q transaction pdu (mine (eqb pdu.transaction transaction) ours (le-leb 3 (length octets) (omega (arith, five))))
 
 -- one of another transaction has no part
-others_none : (transaction : ℕ) (octets : List ℕ) → is_of_another octets transaction ≡ true → part_of transaction (pdu_in octets) ≡ []
+pub others_none : (transaction : ℕ) (octets : List ℕ) → is_of_another octets transaction ≡ true → part_of transaction (pdu_in octets) ≡ []
 others_none transaction octets other = by (nat_le 5 (length octets) && eqb (states_length octets) (length octets - 5))
   where
     pdu : PlainPdu
@@ -133,7 +133,7 @@ others_none transaction octets other = by (nat_le 5 (length octets) && eqb (stat
 
 -- ---- a reply
 
-awaited_reads : (q : Asking) (sdu : List ℕ) → awaited q ≡ Some q.transaction → (another : Bool) → is_of_another sdu q.transaction ≡ another
+pub awaited_reads : (q : Asking) (sdu : List ℕ) → awaited q ≡ Some q.transaction → (another : Bool) → is_of_another sdu q.transaction ≡ another
     → PartsRead q (part_of q.transaction (pdu_in sdu)) (cond another q (when_said q (said_by (pdu_in sdu)))) (cond another (Refused WrongTransaction) (found_said q (said_by (pdu_in sdu))))
 awaited_reads q sdu waits true is = λ same. ap (unfinished_after q.joined) (others_none q.transaction sdu is)
 awaited_reads q sdu waits false is = pdu_reads q q.transaction sdu is

@@ -66,18 +66,18 @@ AsksAsTold transport told Tells = Unit {0}
 
 -- ---- requests for channels
 
-abbrev Fit : (ℕ → Bool) → Call → Type 0
+abbrev pub Fit : (ℕ → Bool) → Call → Type 0
 Fit f one = IfSome (psm_wanted one.wanted) (λ psm. f psm ≡ true)
 
 -- one that is the last again has the PSM of that
-fits_all : (Fits : ℕ → List Call → Bool) (f : ℕ → Bool) → ((psm : ℕ) (before : List Call) → Fits psm before ≡ true → f psm ≡ true) → (calls : List Call) → AreOneByOne Fits calls → AllByRecursion (Fit f) calls
+pub fits_all : (Fits : ℕ → List Call → Bool) (f : ℕ → Bool) → ((psm : ℕ) (before : List Call) → Fits psm before ≡ true → f psm ≡ true) → (calls : List Call) → AreOneByOne Fits calls → AllByRecursion (Fit f) calls
 fits_all Fits f goes [] all = tt
 fits_all Fits f goes (one ∷ []) (inl again, rest) = absurd again
 fits_all Fits f goes (one ∷ last ∷ before) (inl again, rest) = let later = fits_all Fits f goes (last ∷ before) rest in (subst (Fit f) (sym again) later.0, later)
 fits_all Fits f goes (one ∷ before) (inr fresh, rest) = (subst (λ w. IfSome (psm_wanted w) (λ psm. f psm ≡ true)) (sym fresh.wanted_is) (goes fresh.wanted.psm before fresh.fits), fits_all Fits f goes before rest)
 
 -- what is said of them
-one_said : (f : ℕ → Bool) (s : Saying) → AllByRecursion (Fit f) (calls_that_went Out (s ∷ [])) → IfSome (psm_asked s) (λ psm. f psm ≡ true)
+pub one_said : (f : ℕ → Bool) (s : Saying) → AllByRecursion (Fit f) (calls_that_went Out (s ∷ [])) → IfSome (psm_asked s) (λ psm. f psm ≡ true)
 one_said f s all = by (call (sense s)) all
   where
     on : (one : Call) (out : Bool) → AllByRecursion (Fit f) (cond out (one ∷ []) []) → IfSome (cond out (psm_wanted one.wanted) None) (λ psm. f psm ≡ true)
@@ -88,12 +88,12 @@ one_said f s all = by (call (sense s)) all
     by None fits = tt
     by (Some one) fits = on one (went Out one) fits
 
-all_said : (f : ℕ → Bool) (said : List Saying) → AllByRecursion (Fit f) (calls_that_went Out said) → AllByRecursion (λ s. IfSome (psm_asked s) (λ psm. f psm ≡ true)) said
+pub all_said : (f : ℕ → Bool) (said : List Saying) → AllByRecursion (Fit f) (calls_that_went Out said) → AllByRecursion (λ s. IfSome (psm_asked s) (λ psm. f psm ≡ true)) said
 all_said f [] all = tt
 all_said f (s ∷ said) all =
     let both = all_split (Fit f) (calls_that_went Out said) (calls_that_went Out (s ∷ [])) (subst (AllByRecursion (Fit f)) (calls-more Out (s ∷ []) said) all) in (one_said f s both.1, all_said f said both.0)
 
-all_stands : {X : Type 0} (P : X → Type 0) (xs : List X) (x : X) → AllByRecursion P xs → StandsIn x xs → P x
+pub all_stands : {X : Type 0} (P : X → Type 0) (xs : List X) (x : X) → AllByRecursion P xs → StandsIn x xs → P x
 all_stands P [] x all stands = absurd stands
 all_stands P (y ∷ xs) x all (inl same) = subst P same all.0
 all_stands P (y ∷ xs) x all (inr later) = all_stands P xs x all.1 later

@@ -31,7 +31,7 @@ Q p = SearchesInOrder p.client
 
 -- ---- what happens to its channels
 
-event_so : (event : ChannelEvent) (v : Channels) (c : Client) → SearchesInOrder c → SearchesInOrder (event_heard event v c)
+pub event_so : (event : ChannelEvent) (v : Channels) (c : Client) → SearchesInOrder c → SearchesInOrder (event_heard event v c)
 event_so (Opened own psm) v c so = by (peer_mtu own v)
   where
     by : (mtu : Option ℕ) → SearchesInOrder (opened_by mtu psm c)
@@ -48,7 +48,7 @@ event_so (DisconnectLost own) v c so = so
 
 -- ---- its steps
 
-sent_so : (submitted : Option ℕ) (v : Channels) (p : ClientProfile) → Q p → Q (sent_on submitted v p)
+pub sent_so : (submitted : Option ℕ) (v : Channels) (p : ClientProfile) → Q p → Q (sent_on submitted v p)
 sent_so None v p so = so
 sent_so (Some own) v p so = by (waits own v)
   where
@@ -56,7 +56,7 @@ sent_so (Some own) v p so = by (waits own v)
     by true = so
     by false = so
 
-submits_so : (own : Option ℕ) (payload : Payload) (v : Channels) (p : ClientProfile) → Q p → Q (submits own payload v p).profile
+pub submits_so : (own : Option ℕ) (payload : Payload) (v : Channels) (p : ClientProfile) → Q p → Q (submits own payload v p).profile
 submits_so None payload v p so = so
 submits_so (Some own) payload v p so = by (takes_sdu own (sdu_of payload) v)
   where
@@ -64,7 +64,7 @@ submits_so (Some own) payload v p so = by (takes_sdu own (sdu_of payload) v)
     by true = so
     by false = so
 
-takes_so : (step : Step) (v : Channels) (q p : ClientProfile) → Q q → Q p → Q (takes step v q p).profile
+pub takes_so : (step : Step) (v : Channels) (q p : ClientProfile) → Q q → Q p → Q (takes step v q p).profile
 takes_so Wait v q p now so = now
 takes_so MakeLink v q p now so = so
 takes_so AskFeatures v q p now so = now
@@ -86,7 +86,7 @@ keeps_search settings = record {
 
 -- ---- what it is told
 
-end_so : (step : Step) (c d : Client) → SearchesInOrder c → SearchesInOrder d → SearchesInOrder (after_end step d c)
+pub end_so : (step : Step) (c d : Client) → SearchesInOrder c → SearchesInOrder d → SearchesInOrder (after_end step d c)
 end_so (Ended outcome) c d so now = now
 end_so Wait c d so now = so
 end_so MakeLink c d so now = so
@@ -100,7 +100,7 @@ end_so NoMemory c d so now = so
 pub ended_so : (c : Client) → SearchesInOrder c → SearchesInOrder (ended c)
 ended_so c so = let one = steps c [] in end_so one.step c one.client so (steps_keep c [] so)
 
-call_so : (step : Step) (p : ClientProfile) (d : Client) → Q p → SearchesInOrder d → Q (after_call step d p)
+pub call_so : (step : Step) (p : ClientProfile) (d : Client) → Q p → SearchesInOrder d → Q (after_call step d p)
 call_so MakeLink p d so now = now
 call_so Wait p d so now = so
 call_so AskFeatures p d so now = so
@@ -111,7 +111,7 @@ call_so BreakLink p d so now = so
 call_so (Ended outcome) p d so now = so
 call_so NoMemory p d so now = so
 
-calls_so : (p : ClientProfile) → Q p → Q (calls p)
+pub calls_so : (p : ClientProfile) → Q p → Q (calls p)
 calls_so p so = let one = steps p.client [] in call_so one.step p one.client so (steps_keep p.client [] so)
 
 -- but for that its push is cancelled
@@ -128,7 +128,7 @@ told_search circumstances (Opening name) p of so =
 
 -- ---- all of it
 
-fed_so : (settings : Settings) (feed : Feed) (p : ClientProfile) → IsUncancelledFeed feed → Q p → Q (fed (client_profile settings) p feed)
+pub fed_so : (settings : Settings) (feed : Feed) (p : ClientProfile) → IsUncancelledFeed feed → Q p → Q (fed (client_profile settings) p feed)
 fed_so settings (Gifts circumstances) p of so = so
 fed_so settings (Learns circumstances news) p of so = told_search circumstances news p of so
 fed_so settings (Receives own psm sdu) p of so = (keeps_search settings).received own psm sdu p so

@@ -24,13 +24,13 @@ use Rattle.host_laws.proofs.Memory.{well_if, well_ends, news_well}
 use Rattle.host_laws.proofs.Past.{is_past, object_heard, outside_on, object_on}
 use Rattle.host_laws.proofs.SearchOrder.{lacking}
 
-abbrev Apart : Client → Type 0
+abbrev pub Apart : Client → Type 0
 Apart c = is_apart c.stage ≡ true
 
-abbrev W : Client → Type 0
+abbrev pub W : Client → Type 0
 W c = SearchesWithMemory c
 
-past_apart : (stage : Stage) → is_past stage ≡ true → is_apart stage ≡ true
+pub past_apart : (stage : Stage) → is_past stage ≡ true → is_apart stage ≡ true
 past_apart (Features point) is = refl
 past_apart (ObjectChannel point) is = refl
 past_apart Object is = refl
@@ -43,13 +43,13 @@ past_apart Search is = cc
 past_apart (SearchEnd point) is = cc
 past_apart Over is = cc
 
-pick : (b : Bool) (c d : Client) → Apart c → Apart d → Apart (cond b c d)
+pub pick : (b : Bool) (c d : Client) → Apart c → Apart d → Apart (cond b c d)
 pick true c d one other = one
 pick false c d one other = other
 
 -- ---- a cause
 
-at_once_apart : (stage : Stage) → is_apart stage ≡ true → is_apart (at_once stage) ≡ true
+pub at_once_apart : (stage : Stage) → is_apart stage ≡ true → is_apart (at_once stage) ≡ true
 at_once_apart Rest is = refl
 at_once_apart (Features point) is = refl
 at_once_apart (ObjectChannel point) is = refl
@@ -62,7 +62,7 @@ at_once_apart (SearchChannel point) is = cc
 at_once_apart Search is = cc
 at_once_apart (SearchEnd point) is = cc
 
-order_apart : (stage : Stage) → is_apart stage ≡ true → is_apart (in_order stage) ≡ true
+pub order_apart : (stage : Stage) → is_apart stage ≡ true → is_apart (in_order stage) ≡ true
 order_apart Rest is = refl
 order_apart (Features point) is = refl
 order_apart (ObjectChannel Due) is = refl
@@ -76,24 +76,24 @@ order_apart (SearchChannel point) is = cc
 order_apart Search is = cc
 order_apart (SearchEnd point) is = cc
 
-after_apart : (ending : Ending) (stage : Stage) → is_apart stage ≡ true → is_apart (stage_after ending stage) ≡ true
+pub after_apart : (ending : Ending) (stage : Stage) → is_apart stage ≡ true → is_apart (stage_after ending stage) ≡ true
 after_apart InOrder stage is = order_apart stage is
 after_apart AtOnce stage is = at_once_apart stage is
 
-ends_apart : (outcome : Outcome) (c : Client) → Apart c → Apart (ends outcome c)
+pub ends_apart : (outcome : Outcome) (c : Client) → Apart c → Apart (ends outcome c)
 ends_apart outcome c is = by c.cause
   where
     by : (cause : Option Outcome) → Apart (ends_by cause outcome c)
     by None = after_apart (ending_of outcome) c.stage is
     by (Some earlier) = at_once_apart c.stage is
 
-if_apart : (cause : Option Outcome) (c : Client) → Apart c → Apart (ends_if cause c)
+pub if_apart : (cause : Option Outcome) (c : Client) → Apart c → Apart (ends_if cause c)
 if_apart None c is = is
 if_apart (Some outcome) c is = ends_apart outcome c is
 
 -- ---- what it hears
 
-linked_apart : (stage : Stage) (c : Client) → is_apart stage ≡ true → Apart c → Apart (linked_at stage c)
+pub linked_apart : (stage : Stage) (c : Client) → is_apart stage ≡ true → Apart c → Apart (linked_at stage c)
 linked_apart (Link Asked) c at is = cc
 linked_apart (Link Due) c at is = is
 linked_apart Rest c at is = is
@@ -107,18 +107,18 @@ linked_apart (ObjectEnd point) c at is = is
 linked_apart (LinkEnd point) c at is = is
 linked_apart Over c at is = is
 
-over_apart : (outcome : Outcome) (c : Client) → Apart (over outcome c)
+pub over_apart : (outcome : Outcome) (c : Client) → Apart (over outcome c)
 over_apart outcome c = by c.cause
   where
     by : (cause : Option Outcome) → Apart (over_by cause outcome c)
     by None = refl
     by (Some earlier) = refl
 
-object_apart : (transport : Transport) (mtu : ℕ) (c : Client) → Apart c → Apart (object_opened transport mtu c)
+pub object_apart : (transport : Transport) (mtu : ℕ) (c : Client) → Apart c → Apart (object_opened transport mtu c)
 object_apart L2cap mtu c is = pick (nat_lt mtu 255) (ends small_channel c) (record c { stage = Object; limit = min mtu 32767 }) (ends_apart small_channel c is) refl
 object_apart Rfcomm mtu c is = refl
 
-opened_apart : (stage : Stage) (psm mtu : ℕ) (c : Client) → is_apart stage ≡ true → Apart c → Apart (opened_at stage psm mtu c)
+pub opened_apart : (stage : Stage) (psm mtu : ℕ) (c : Client) → is_apart stage ≡ true → Apart c → Apart (opened_at stage psm mtu c)
 opened_apart (SearchChannel Asked) psm mtu c at is = cc
 opened_apart (ObjectChannel Asked) psm mtu c at is = pick (eqb psm c.psm) (object_opened c.transport mtu c) c (object_apart c.transport mtu c is) is
 opened_apart Rest psm mtu c at is = is
@@ -133,7 +133,7 @@ opened_apart (ObjectEnd point) psm mtu c at is = is
 opened_apart (LinkEnd point) psm mtu c at is = is
 opened_apart Over psm mtu c at is = is
 
-closed_apart : (stage : Stage) (psm : ℕ) (cause : CloseCause) (c : Client) → is_apart stage ≡ true → Apart c → Apart (closed_at stage psm cause c)
+pub closed_apart : (stage : Stage) (psm : ℕ) (cause : CloseCause) (c : Client) → is_apart stage ≡ true → Apart c → Apart (closed_at stage psm cause c)
 closed_apart (SearchChannel Asked) psm cause c at is = cc
 closed_apart Search psm cause c at is = cc
 closed_apart (SearchEnd point) psm cause c at is = cc
@@ -148,7 +148,7 @@ closed_apart (ObjectChannel Due) psm cause c at is = is
 closed_apart (LinkEnd point) psm cause c at is = is
 closed_apart Over psm cause c at is = is
 
-sdu_apart : (stage : Stage) (psm : ℕ) (sdu : List ℕ) (c : Client) → c.stage ≡ stage → is_apart stage ≡ true → Apart c → Apart (sdu_at stage psm sdu c)
+pub sdu_apart : (stage : Stage) (psm : ℕ) (sdu : List ℕ) (c : Client) → c.stage ≡ stage → is_apart stage ≡ true → Apart c → Apart (sdu_at stage psm sdu c)
 sdu_apart Search psm sdu c at on is = cc
 sdu_apart (ObjectChannel point) psm sdu c at on is = pick (eqb psm c.psm) (hears_outside c.transport c) c (past_apart (hears_outside c.transport c).stage (outside_on c.transport c (ap is_past at))) is
 sdu_apart Object psm sdu c at on is = pick (eqb psm c.psm) (hears_object c.transport sdu c) c (past_apart (hears_object c.transport sdu c).stage (object_heard c.transport sdu c (ap is_past at))) is
@@ -161,7 +161,7 @@ sdu_apart (Features point) psm sdu c at on is = is
 sdu_apart (LinkEnd point) psm sdu c at on is = is
 sdu_apart Over psm sdu c at on is = is
 
-news_apart : (news : News) (c : Client) → Apart c → Apart (hears_news news c)
+pub news_apart : (news : News) (c : Client) → Apart c → Apart (hears_news news c)
 news_apart LinkUp c is = linked_apart c.stage c is is
 news_apart (LinkDown reason) c is = pick (events.is_linked c.stage) (over (cause_of_link reason) c) c (over_apart (cause_of_link reason) c) is
 news_apart (LinkFailed status) c is = pick (events.is_paging c.stage) (over (cause_of_page status) c) c (over_apart (cause_of_page status) c) is
@@ -197,18 +197,18 @@ begins_memory size name c at = by c.failed refl
 
 -- ---- its steps
 
-abbrev Keeps : Stepped → Type 0
+abbrev pub Keeps : Stepped → Type 0
 Keeps one = W one.client
 
-either : (b : Bool) (x y : Stepped) → Keeps x → Keeps y → Keeps (cond b x y)
+pub either : (b : Bool) (x y : Stepped) → Keeps x → Keeps y → Keeps (cond b x y)
 either true x y one other = one
 either false x y one other = other
 
-ended_memory : (cause : Option Outcome) (c : Client) (parts : List Part) → W c → Keeps (course.tells_end cause c parts)
+pub ended_memory : (cause : Option Outcome) (c : Client) (parts : List Part) → W c → Keeps (course.tells_end cause c parts)
 ended_memory None c parts so = so
 ended_memory (Some outcome) c parts so = inr refl
 
-at_memory : (stage : Stage) (c : Client) (parts : List Part) → c.stage ≡ stage → W c → Keeps (course.steps_at stage c parts)
+pub at_memory : (stage : Stage) (c : Client) (parts : List Part) → c.stage ≡ stage → W c → Keeps (course.steps_at stage c parts)
 at_memory Rest c parts at so = so
 at_memory (Link Due) c parts at (inl works) = inl works
 at_memory (Link Due) c parts at (inr is) = let never : false ≡ true = sym (ap is_apart at) ∙ is in cc

@@ -33,10 +33,10 @@ use Rattle.push_laws.specs.push_model.specs.Steps.{Part, Step, Wait, MakeLink, A
 use Rattle.host_laws.specs.SearchOrder.{AsksInOrder, SearchesInOrder, ClientsSearchInOrder}
 use Rattle.host_laws.proofs.Past.{is_past, On, object_heard, outside_on, object_on}
 
-abbrev S : Client → Type 0
+abbrev pub S : Client → Type 0
 S c = SearchesInOrder c
 
-past_so : (stage : Stage) (q : Asking) → is_past stage ≡ true → AsksInOrder stage q
+pub past_so : (stage : Stage) (q : Asking) → is_past stage ≡ true → AsksInOrder stage q
 past_so (Features point) q is = tt
 past_so (ObjectChannel point) q is = tt
 past_so Object q is = tt
@@ -49,14 +49,14 @@ past_so Search q is = cc
 past_so (SearchEnd point) q is = cc
 past_so Over q is = cc
 
-on_so : (c : Client) → On c → S c
+pub on_so : (c : Client) → On c → S c
 on_so c on = past_so c.stage c.query on
 
 -- by its stage
-at_stage : (c : Client) (stage : Stage) → c.stage ≡ stage → S c → AsksInOrder stage c.query
+pub at_stage : (c : Client) (stage : Stage) → c.stage ≡ stage → S c → AsksInOrder stage c.query
 at_stage c stage at so = subst (λ (s : Stage). AsksInOrder s c.query) at so
 
-of_stage : (c : Client) (stage : Stage) → c.stage ≡ stage → AsksInOrder stage c.query → S c
+pub of_stage : (c : Client) (stage : Stage) → c.stage ≡ stage → AsksInOrder stage c.query → S c
 of_stage c stage at so = subst (λ (s : Stage). AsksInOrder s c.query) (sym at) so
 
 pub pick : (b : Bool) (c d : Client) → S c → S d → S (cond b c d)
@@ -96,11 +96,11 @@ order_so (LinkEnd point) q quiet so = tt
 order_so Over q quiet so = tt
 
 -- its link is to be broken, or no request waits
-abbrev Fits : Ending → Asking → Type 0
+abbrev pub Fits : Ending → Asking → Type 0
 Fits AtOnce q = Unit {0}
 Fits InOrder q = is_awaiting q ≡ false
 
-after_so : (ending : Ending) (stage : Stage) (q : Asking) → (stage ≡ Search → Fits ending q) → AsksInOrder stage q → AsksInOrder (stage_after ending stage) q
+pub after_so : (ending : Ending) (stage : Stage) (q : Asking) → (stage ≡ Search → Fits ending q) → AsksInOrder stage q → AsksInOrder (stage_after ending stage) q
 after_so InOrder stage q fits so = order_so stage q fits so
 after_so AtOnce stage q fits so = at_once_so stage q so
 
@@ -113,7 +113,7 @@ ends_so outcome c fits so = by c.cause
 
 -- ---- its link
 
-linked_so : (stage : Stage) (c : Client) → c.stage ≡ stage → S c → S (linked_at stage c)
+pub linked_so : (stage : Stage) (c : Client) → c.stage ≡ stage → S c → S (linked_at stage c)
 linked_so (Link Asked) c at so = by (is_some c.cause)
   where
     by : (b : Bool) → S (cond b (record c { stage = LinkEnd Due }) (record c { stage = SearchChannel Due }))
@@ -131,7 +131,7 @@ linked_so (ObjectEnd point) c at so = so
 linked_so (LinkEnd point) c at so = so
 linked_so Over c at so = so
 
-over_so : (outcome : Outcome) (c : Client) → S (over outcome c)
+pub over_so : (outcome : Outcome) (c : Client) → S (over outcome c)
 over_so outcome c = by c.cause
   where
     by : (cause : Option Outcome) → S (over_by cause outcome c)
@@ -140,11 +140,11 @@ over_so outcome c = by c.cause
 
 -- ---- its channels
 
-object_so : (transport : Transport) (mtu : ℕ) (c : Client) → S c → S (object_opened transport mtu c)
+pub object_so : (transport : Transport) (mtu : ℕ) (c : Client) → S c → S (object_opened transport mtu c)
 object_so L2cap mtu c so = pick (nat_lt mtu 255) (ends small_channel c) (record c { stage = Object; limit = min mtu 32767 }) (ends_so small_channel c (λ at. tt) so) tt
 object_so Rfcomm mtu c so = tt
 
-opened_so : (stage : Stage) (psm mtu : ℕ) (c : Client) → S c → S (opened_at stage psm mtu c)
+pub opened_so : (stage : Stage) (psm mtu : ℕ) (c : Client) → S c → S (opened_at stage psm mtu c)
 opened_so (SearchChannel Asked) psm mtu c so = pick (eqb psm 0x0001) (record c { stage = Search }) c tt so
 opened_so (ObjectChannel Asked) psm mtu c so = pick (eqb psm c.psm) (object_opened c.transport mtu c) c (object_so c.transport mtu c so) so
 opened_so Rest psm mtu c so = so
@@ -159,14 +159,14 @@ opened_so (ObjectEnd point) psm mtu c so = so
 opened_so (LinkEnd point) psm mtu c so = so
 opened_so Over psm mtu c so = so
 
-machine_so : (number : ℕ) (c : Client) → S c → S (ends (cause_of_machine number) c)
+pub machine_so : (number : ℕ) (c : Client) → S c → S (ends (cause_of_machine number) c)
 machine_so number c so = by (eqb number 5)
   where
     by : (b : Bool) → S (ends (cond b outcomes.RetryLimit (outcomes.PeerFault 2 number)) c)
     by true = ends_so outcomes.RetryLimit c (λ at. tt) so
     by false = ends_so (outcomes.PeerFault 2 number) c (λ at. tt) so
 
-left_so : (cause : Option Outcome) (c : Client) → S (search_left cause c)
+pub left_so : (cause : Option Outcome) (c : Client) → S (search_left cause c)
 left_so None c = by c.transport
   where
     by : (transport : Transport) → AsksInOrder (events.stage_behind transport) c.query
@@ -174,7 +174,7 @@ left_so None c = by c.transport
     by Rfcomm = tt
 left_so (Some cause) c = tt
 
-close_so : (cause : CloseCause) (c : Client) → S c → S (ends_if (cause_of_close cause) c)
+pub close_so : (cause : CloseCause) (c : Client) → S c → S (ends_if (cause_of_close cause) c)
 close_so closings.Peer c so = ends_so outcomes.PeerClosed c (λ at. tt) so
 close_so (closings.Refused result) c so = ends_so (outcomes.PeerFault 2 (refusal_reason result)) c (λ at. tt) so
 close_so closings.NoAgreement c so = ends_so (outcomes.PeerFault 2 15) c (λ at. tt) so
@@ -182,7 +182,7 @@ close_so closings.RetryLimit c so = ends_so outcomes.RetryLimit c (λ at. tt) so
 close_so (closings.Broken number) c so = machine_so number c so
 close_so closings.Own c so = so
 
-search_so : (cause : CloseCause) (c : Client) → S c → S (search_closed (cause_of_close cause) c)
+pub search_so : (cause : CloseCause) (c : Client) → S c → S (search_closed (cause_of_close cause) c)
 search_so closings.Peer c so = ends_so outcomes.PeerClosed c (λ at. tt) so
 search_so (closings.Refused result) c so = ends_so (outcomes.PeerFault 2 (refusal_reason result)) c (λ at. tt) so
 search_so closings.NoAgreement c so = ends_so (outcomes.PeerFault 2 15) c (λ at. tt) so
@@ -190,7 +190,7 @@ search_so closings.RetryLimit c so = ends_so outcomes.RetryLimit c (λ at. tt) s
 search_so (closings.Broken number) c so = machine_so number c so
 search_so closings.Own c so = left_so c.cause c
 
-closed_so : (stage : Stage) (psm : ℕ) (cause : CloseCause) (c : Client) → S c → S (closed_at stage psm cause c)
+pub closed_so : (stage : Stage) (psm : ℕ) (cause : CloseCause) (c : Client) → S c → S (closed_at stage psm cause c)
 closed_so (SearchChannel Asked) psm cause c so = pick (eqb psm 0x0001) (ends_if (cause_of_close cause) c) c (close_so cause c so) so
 closed_so Search psm cause c so = pick (eqb psm 0x0001) (ends_if (cause_of_close cause) c) c (close_so cause c so) so
 closed_so (SearchEnd point) psm cause c so = pick (eqb psm 0x0001) (search_closed (cause_of_close cause) c) c (search_so cause c so) so
@@ -208,22 +208,22 @@ closed_so Over psm cause c so = so
 -- ---- the search
 
 -- once all is found no request waits
-abbrev FoundSo : Found → Asking → Type 0
+abbrev pub FoundSo : Found → Asking → Type 0
 FoundSo More q = Unit {0}
 FoundSo (Service target) q = is_awaiting q ≡ false
 FoundSo NoService q = is_awaiting q ≡ false
 FoundSo (Refused reason) q = Unit {0}
 
-target_so : (q : Asking) (l2cap rfcomm : Option ℕ) → (let r : Asking = record q { stage = asked.Answered } in FoundSo (found_target l2cap rfcomm) r)
+pub target_so : (q : Asking) (l2cap rfcomm : Option ℕ) → (let r : Asking = record q { stage = asked.Answered } in FoundSo (found_target l2cap rfcomm) r)
 target_so q None None = refl
 target_so q None (Some channel) = refl
 target_so q (Some psm) rfcomm = refl
 
-whole_so : (q : Asking) (target : Option Target) → (let r : Asking = record q { stage = stage_in target } in FoundSo (found_in target) r)
+pub whole_so : (q : Asking) (target : Option Target) → (let r : Asking = record q { stage = stage_in target } in FoundSo (found_in target) r)
 whole_so q None = tt
 whole_so q (Some target) = target_so q target.l2cap target.rfcomm
 
-said_so : (q : Asking) (said : PlainSaid) → FoundSo (found_said q said) (when_said q said)
+pub said_so : (q : Asking) (said : PlainSaid) → FoundSo (found_said q said) (when_said q said)
 said_so q (Gives part) = by (nat_lt 4096 (length (q.joined ++ part.octets))) (eqb (length part.continuation) 0)
   where
     by : (long last : Bool) → FoundSo (cond long (Refused TooLong) (cond last (found_whole (q.joined ++ part.octets)) More)) (cond long (ended q TooLong) (cond last (after_whole (with_part q part)) (asks_on (with_part q part) part.continuation)))
@@ -233,7 +233,7 @@ said_so q (Gives part) = by (nat_lt 4096 (length (q.joined ++ part.octets))) (eq
 said_so q (Failed code) = tt
 said_so q Nothing = tt
 
-found_so : (q : Asking) (reply : List ℕ) → FoundSo (found_at q reply) (after_reply q reply)
+pub found_so : (q : Asking) (reply : List ℕ) → FoundSo (found_at q reply) (after_reply q reply)
 found_so q reply = by q.stage
   where
     said : (b : Bool) → FoundSo (cond b (Refused WrongTransaction) (found_said q (said_in reply))) (cond b q (when_said q (said_in reply)))
@@ -272,7 +272,7 @@ module _ (d : Client) (at : d.stage ≡ Search) where
   finds_so (Refused WrongTransaction) so = searching
   finds_so (Refused TooLong) so = ends_so (outcomes.PeerFault 3 4) d (λ is. tt) searching
 
-sdu_so : (stage : Stage) (psm : ℕ) (sdu : List ℕ) (c : Client) → c.stage ≡ stage → S c → S (sdu_at stage psm sdu c)
+pub sdu_so : (stage : Stage) (psm : ℕ) (sdu : List ℕ) (c : Client) → c.stage ≡ stage → S c → S (sdu_at stage psm sdu c)
 sdu_so Search psm sdu c at so = pick (eqb psm 0x0001) (hears_reply sdu c) c (finds_so (record c { query = after_reply c.query sdu }) at (found_at c.query sdu) (found_so c.query sdu)) so
 sdu_so (ObjectChannel point) psm sdu c at so = pick (eqb psm c.psm) (hears_outside c.transport c) c (on_so (hears_outside c.transport c) (outside_on c.transport c (ap is_past at))) so
 sdu_so Object psm sdu c at so = pick (eqb psm c.psm) (hears_object c.transport sdu c) c (on_so (hears_object c.transport sdu c) (object_heard c.transport sdu c (ap is_past at))) so
@@ -300,11 +300,11 @@ search_at (ObjectEnd point) is = cc
 search_at (LinkEnd point) is = cc
 search_at Over is = cc
 
-first_of : (a b c : Bool) → ((a && b) && c) ≡ true → a ≡ true
+pub first_of : (a b c : Bool) → ((a && b) && c) ≡ true → a ≡ true
 first_of true b c is = refl
 first_of false b c is = cc
 
-timer_so : (c : Client) → S c → S (hears_news Timer c)
+pub timer_so : (c : Client) → S c → S (hears_news Timer c)
 timer_so c so = by (armed c && not (c.given || is_due c.query)) refl
   where
     again : Client
@@ -339,18 +339,18 @@ begins_so size name c so = pick c.failed c (begun_by size name c) so (by size)
 
 -- ---- its steps
 
-abbrev Keeps : Stepped → Type 0
+abbrev pub Keeps : Stepped → Type 0
 Keeps one = S one.client
 
-either : (b : Bool) (x y : Stepped) → Keeps x → Keeps y → Keeps (cond b x y)
+pub either : (b : Bool) (x y : Stepped) → Keeps x → Keeps y → Keeps (cond b x y)
 either true x y one other = one
 either false x y one other = other
 
-ended_so : (cause : Option Outcome) (c : Client) (parts : List Part) → S c → Keeps (course.tells_end cause c parts)
+pub ended_so : (cause : Option Outcome) (c : Client) (parts : List Part) → S c → Keeps (course.tells_end cause c parts)
 ended_so None c parts so = so
 ended_so (Some outcome) c parts so = tt
 
-at_so : (stage : Stage) (c : Client) (parts : List Part) → c.stage ≡ stage → S c → Keeps (course.steps_at stage c parts)
+pub at_so : (stage : Stage) (c : Client) (parts : List Part) → c.stage ≡ stage → S c → Keeps (course.steps_at stage c parts)
 at_so Rest c parts at so = so
 at_so (Link Due) c parts at so = at_stage c (Link Due) at so
 at_so (Link Asked) c parts at so = so

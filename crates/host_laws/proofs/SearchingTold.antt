@@ -63,7 +63,7 @@ use Rattle.host_laws.proofs.KeepingClients.{TellsFirst, Result, event_clean, eve
 
 -- ---- its push is not over
 
-end_off : (step : Step) (c d : Client) → is_off c.stage ≡ true → is_off d.stage ≡ true → is_off (after_end step d c).stage ≡ true
+pub end_off : (step : Step) (c d : Client) → is_off c.stage ≡ true → is_off d.stage ≡ true → is_off (after_end step d c).stage ≡ true
 end_off (Ended outcome) c d off now = now
 end_off Wait c d off now = off
 end_off MakeLink c d off now = off
@@ -77,7 +77,7 @@ end_off NoMemory c d off now = off
 pub ended_off : (c : Client) → is_off c.stage ≡ true → is_off (ended c).stage ≡ true
 ended_off c off = let one = steps c [] in end_off one.step c one.client off (steps_off c [] off)
 
-end_same : (step : Step) (c d : Client) → is_off c.stage ≡ false → onward.StepSo c d step → after_end step d c ≡ c
+pub end_same : (step : Step) (c d : Client) → is_off c.stage ≡ false → onward.StepSo c d step → after_end step d c ≡ c
 end_same (Ended outcome) c d on (from, to) = let never : true ≡ false = sym (ap is_off from) ∙ on in absurd cc
 end_same Wait c d on so = refl
 end_same MakeLink c d on so = refl

@@ -74,13 +74,13 @@ use Rattle.host_laws.proofs.StandingClients.{Clean}
 
 -- ---- the channel of service discovery, as it is read
 
-record ServiceEntry (run : Run) (own : ℕ) : Type 0 where
-  entry : Entry
-  found : read_at own (reading run.said).entries ≡ Some entry
-  psm_is : entry.channel.psm ≡ 0x0001
-  mode_is : mode_of entry.channel run.said ≡ Basic
+pub record ServiceEntry (run : Run) (own : ℕ) : Type 0 where
+  pub entry : Entry
+  pub found : read_at own (reading run.said).entries ≡ Some entry
+  pub psm_is : entry.channel.psm ≡ 0x0001
+  pub mode_is : mode_of entry.channel run.said ≡ Basic
 
-service_entry : (settings : Settings) (list : List Occurrence) (one : Held) (peer : ℕ) → (let run = run_of (policy settings false) list in run.value.held ≡ one ∷ [] → one.psm ≡ 0x0001 → peer_of one.stage ≡ Some peer → ServiceEntry run one.own)
+pub service_entry : (settings : Settings) (list : List Occurrence) (one : Held) (peer : ℕ) → (let run = run_of (policy settings false) list in run.value.held ≡ one ∷ [] → one.psm ≡ 0x0001 → peer_of one.stage ≡ Some peer → ServiceEntry run one.own)
 service_entry settings list one peer held_is psm_is peer_is = by (read_at one.own (reading run.said).entries) refl reads
   where
     wanted : Policy
@@ -105,7 +105,7 @@ service_entry settings list one peer held_is psm_is peer_is = by (read_at one.ow
 
 -- ---- where its search goes with a reply
 
-ends_aside : (outcome : Outcome) (c : Client) → c.stage ≡ Search → phase (ends outcome c).stage ≡ Aside
+pub ends_aside : (outcome : Outcome) (c : Client) → c.stage ≡ Search → phase (ends outcome c).stage ≡ Aside
 ends_aside outcome c at = by c.cause
   where
     after : (ending : Ending) → phase (stage_after ending c.stage) ≡ Aside
@@ -116,20 +116,20 @@ ends_aside outcome c at = by c.cause
     by None = after (ending_of outcome)
     by (Some earlier) = after AtOnce
 
-psm_aside : (found : Option ℕ) (c : Client) → c.stage ≡ Search → phase (found_psm found c).stage ≡ Aside
+pub psm_aside : (found : Option ℕ) (c : Client) → c.stage ≡ Search → phase (found_psm found c).stage ≡ Aside
 psm_aside None c at = ends_aside outcomes.NoService c at
 psm_aside (Some psm) c at = refl
 
-channel_aside : (found : Option ℕ) (c : Client) → c.stage ≡ Search → phase (found_channel found c).stage ≡ Aside
+pub channel_aside : (found : Option ℕ) (c : Client) → c.stage ≡ Search → phase (found_channel found c).stage ≡ Aside
 channel_aside None c at = ends_aside outcomes.NoService c at
 channel_aside (Some channel) c at = refl
 
-way_aside : (transport : Transport) (target : Target) (c : Client) → c.stage ≡ Search → phase (found_way transport target c).stage ≡ Aside
+pub way_aside : (transport : Transport) (target : Target) (c : Client) → c.stage ≡ Search → phase (found_way transport target c).stage ≡ Aside
 way_aside L2cap target c at = psm_aside (kept_of is_service_psm target.l2cap) c at
 way_aside Rfcomm target c at = channel_aside (kept_of is_server_channel target.rfcomm) c at
 
 -- it searches on, or is done with it
-found_phase : (found : Found) (c : Client) → c.stage ≡ Search → (phase (finds found c).stage ≡ Aside) ⊎ (phase (finds found c).stage ≡ Searching)
+pub found_phase : (found : Found) (c : Client) → c.stage ≡ Search → (phase (finds found c).stage ≡ Aside) ⊎ (phase (finds found c).stage ≡ Searching)
 found_phase More c at = inr (ap phase at)
 found_phase (Service target) c at = inl (way_aside c.transport target c at)
 found_phase NoService c at = inl (ends_aside outcomes.NoService c at)

@@ -29,7 +29,7 @@ abbrev pub holds : {X : Type 0} → (X → Bool) → Option X → Bool
 holds test None = false
 holds test (Some x) = test x
 
-any_option : {Y : Type 0} (test : Y → Bool) (y : Option Y) (ys : List Y) → list_any test (cons_option y ys) ≡ (holds test y || list_any test ys)
+pub any_option : {Y : Type 0} (test : Y → Bool) (y : Option Y) (ys : List Y) → list_any test (cons_option y ys) ≡ (holds test y || list_any test ys)
 any_option test None ys = refl
 any_option test (Some y) ys = refl
 
@@ -57,7 +57,7 @@ pub and_goes : (a b c d : Bool) → (a ≡ true → c ≡ true) → (b ≡ true 
 and_goes true b c d first second is = ap (λ x. x && d) (first refl) ∙ second is
 and_goes false b c d first second is = cc
 
-any_grown : {X : Type 0} (test : X → Bool) (old new : List X) → GrowsTo old new → list_any test old ≡ true → list_any test new ≡ true
+pub any_grown : {X : Type 0} (test : X → Bool) (old new : List X) → GrowsTo old new → list_any test old ≡ true → list_any test new ≡ true
 any_grown test old new grows is = ap (list_any test) grows.grown ∙ (list_any-append test old grows.more ∙ or_left (list_any test old) (list_any test grows.more) is)
 
 -- ---- one saying more
@@ -107,7 +107,7 @@ module _ (party : Party) (said : List Saying) (more : Saying) where
 
 -- ---- any more
 
-answers_stay : (party : Party) (said more : List Saying) (test : List ℕ → Bool) → list_any test (service_answers party said) ≡ true → list_any test (service_answers party (said ++ more)) ≡ true
+pub answers_stay : (party : Party) (said more : List Saying) (test : List ℕ → Bool) → list_any test (service_answers party said) ≡ true → list_any test (service_answers party (said ++ more)) ≡ true
 answers_stay party said [] test is = subst (λ l. list_any test (service_answers party l) ≡ true) (sym (append-nil said)) is
 answers_stay party said (one ∷ more) test is =
     subst (λ l. list_any test (service_answers party l) ≡ true) (append_assoc said (one ∷ []) more) (answers_stay party (said ++ one ∷ []) more test (stays_one party said one test is))

@@ -75,7 +75,7 @@ taken_client P NoMemory v after before was now then = now
 -- ---- the two steps in which it asks for a channel
 
 -- where a client stands that is to ask for a channel, or has just asked
-asks_phase : (c : Client) (parts : List Part) (P : Stage → Type 0) → P c.stage → P (course.steps_at c.stage c parts).client.stage → P (steps c parts).client.stage
+pub asks_phase : (c : Client) (parts : List Part) (P : Stage → Type 0) → P c.stage → P (course.steps_at c.stage c parts).client.stage → P (steps c parts).client.stage
 asks_phase c parts P was now = by c.failed
   where
     on : (given : Bool) → P (cond given (course.rests c parts) (course.steps_at c.stage c parts)).client.stage
@@ -87,14 +87,14 @@ asks_phase c parts P was now = by c.failed
     by false = on c.given
 
 -- it asks for the channel of its search
-abbrev IsAhead : Stage → Type 0
+abbrev pub IsAhead : Stage → Type 0
 IsAhead stage = (phase stage ≡ Aside) ⊎ (phase stage ≡ Opening)
 
 -- it asks for the channel of its object
-abbrev IsBehind : Stage → Type 0
+abbrev pub IsBehind : Stage → Type 0
 IsBehind stage = (phase stage ≡ Aside) ⊎ (phase stage ≡ Carrying)
 
-ahead : (c : Client) (parts : List Part) → c.stage ≡ SearchChannel Due → IsAhead (steps c parts).client.stage
+pub ahead : (c : Client) (parts : List Part) → c.stage ≡ SearchChannel Due → IsAhead (steps c parts).client.stage
 ahead c parts at = asks_phase c parts IsAhead (inl (ap phase at)) (subst (λ s. IsAhead (course.steps_at s c parts).client.stage) (sym at) (inr refl))
 
 pub data Due' (s : Stage) : Type 0 where

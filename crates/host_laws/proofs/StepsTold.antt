@@ -52,11 +52,11 @@ StepGoes transport told NoMemory = Unit {0}
 
 -- ---- octets that are no frame
 
-never : {X : Type 0} → L2cap ≡ Rfcomm → X
+pub never : {X : Type 0} → L2cap ≡ Rfcomm → X
 never is = cc
 
 -- a request for services begins with an octet that no frame begins with
-no_frame : (told : List Target) (query : Asking) → FrameGoes told (request_octets query)
+pub no_frame : (told : List Target) (query : Asking) → FrameGoes told (request_octets query)
 unfolding frame_answer
 no_frame told query = by (nat_lt (length (request_octets query)) 4)
   where
@@ -66,7 +66,7 @@ no_frame told query = by (nat_lt (length (request_octets query)) 4)
 
 -- ---- what was told
 
-kept_number : (test : ℕ → Bool) (found : Option ℕ) (number : ℕ) → kept_of test found ≡ Some number → found ≡ Some number
+pub kept_number : (test : ℕ → Bool) (found : Option ℕ) (number : ℕ) → kept_of test found ≡ Some number → found ≡ Some number
 kept_number test None number is = cc
 kept_number test (Some other) number is = by (test other) is
   where
@@ -74,7 +74,7 @@ kept_number test (Some other) number is = by (test other) is
     by true now = now
     by false now = cc
 
-search_asked : (transport : Transport) (told : List Target) → asks_as_told transport told 0x0001 ≡ true
+pub search_asked : (transport : Transport) (told : List Target) → asks_as_told transport told 0x0001 ≡ true
 search_asked L2cap told = refl
 search_asked Rfcomm told = refl
 
@@ -108,23 +108,23 @@ module _ (party : Party) (said : List Saying) (c : Client) (knows : Knows party 
 
 -- ---- frames
 
-frame_goes : (told : List Target) (dlci : ℕ) (frame : PlainFrame) → tells_dlci told dlci ≡ true → GoesOn dlci frame → goes_as_told told frame ≡ true
+pub frame_goes : (told : List Target) (dlci : ℕ) (frame : PlainFrame) → tells_dlci told dlci ≡ true → GoesOn dlci frame → goes_as_told told frame ≡ true
 frame_goes told dlci frame tells goes =
     or_goes (answers_peer frame.kind) _ (answers_peer frame.kind) _ (λ is. is)
     (or_goes (eqb frame.dlci 0) (eqb frame.dlci dlci) (eqb frame.dlci 0) (tells_dlci told frame.dlci) (λ is. is) (λ is. subst (λ n. tells_dlci told n ≡ true) (sym (eqb-true frame.dlci dlci is)) tells)) goes
 
-written_goes : (told : List Target) (dlci : ℕ) (frame : PlainFrame) → tells_dlci told dlci ≡ true → GoesOn dlci frame → FrameGoes told (mux_octets frame)
+pub written_goes : (told : List Target) (dlci : ℕ) (frame : PlainFrame) → tells_dlci told dlci ≡ true → GoesOn dlci frame → FrameGoes told (mux_octets frame)
 written_goes told dlci frame tells goes = by (frame_answer (mux_octets frame)) refl
   where
     by : (found : Answer) → frame_answer (mux_octets frame) ≡ found → IfSome (frame_read found) (λ read. goes_as_told told read ≡ true)
     by (Ok read) is = frame_goes told dlci read tells (read_again dlci frame read is goes)
     by (Err refusal) is = tt
 
-payload_goes : (transport t : Transport) (targets : List Target) (dlci : ℕ) (payload : Payload) → t ≡ transport → (transport ≡ Rfcomm → tells_dlci targets dlci ≡ true) → PayloadIs (GoesOn dlci) t payload → transport ≡ Rfcomm → FrameGoes targets (sdu_of payload)
+pub payload_goes : (transport t : Transport) (targets : List Target) (dlci : ℕ) (payload : Payload) → t ≡ transport → (transport ≡ Rfcomm → tells_dlci targets dlci ≡ true) → PayloadIs (GoesOn dlci) t payload → transport ≡ Rfcomm → FrameGoes targets (sdu_of payload)
 payload_goes transport t targets dlci (Octets octets) same tells is muxed = never (sym is ∙ (same ∙ muxed))
 payload_goes transport t targets dlci (Framed frame) same tells is muxed = written_goes targets dlci frame (tells muxed) is
 
-object_step : (transport t : Transport) (targets : List Target) (dlci : ℕ) (step : Step) → t ≡ transport → (transport ≡ Rfcomm → tells_dlci targets dlci ≡ true) → StepIs (GoesOn dlci) t step → StepGoes transport targets step
+pub object_step : (transport t : Transport) (targets : List Target) (dlci : ℕ) (step : Step) → t ≡ transport → (transport ≡ Rfcomm → tells_dlci targets dlci ≡ true) → StepIs (GoesOn dlci) t step → StepGoes transport targets step
 object_step transport t targets dlci Wait same tells is = tt
 object_step transport t targets dlci MakeLink same tells is = tt
 object_step transport t targets dlci AskFeatures same tells is = tt

@@ -50,7 +50,7 @@ pub record MaySkip (own : ℕ) (pdu : List ℕ) (Q R : OfEnd) (v : Channels) : T
   pub none : (opened : Bool) → Q opened None → R opened None
   pub ignored : (held : Held) (setup : Setup) (carrier : Carrier) → held_at own v ≡ Some held → setup_of held.stage ≡ Some setup → setup.carrier ≡ Some carrier → is_taken_with setup.own carrier pdu ≡ false → (opened : Bool) → Q opened (Some carrier) → R opened (Some carrier)
 
-same_stage : (R : OfEnd) (wish : Wish) (stage : Stage) (setup : Setup) → setup_of stage ≡ Some setup → R (is_open setup) setup.carrier → StageKeeps (On R) wish stage
+pub same_stage : (R : OfEnd) (wish : Wish) (stage : Stage) (setup : Setup) → setup_of stage ≡ Some setup → R (is_open setup) setup.carrier → StageKeeps (On R) wish stage
 same_stage R wish (Requested request) setup has so = cc
 same_stage R wish (Connected peer s) setup has so = let same : s ≡ setup = cc in subst (λ (x : Setup). R (is_open x) x.carrier) (sym same) so
 same_stage R wish (Leaving peer s request) setup has so = let same : s ≡ setup = cc in subst (λ (x : Setup). R (is_open x) x.carrier) (sym same) so
@@ -58,7 +58,7 @@ same_stage R wish (Closing peer request checked) setup has so = tt
 same_stage R wish (Crossed peer request) setup has so = tt
 
 -- what has no options so far, or is over
-bare_stage : (Q R : OfEnd) (wish : Wish) (stage : Stage) → setup_of stage ≡ None → (Q false None → R false None) → StageKeeps (On Q) wish stage → StageKeeps (On R) wish stage
+pub bare_stage : (Q R : OfEnd) (wish : Wish) (stage : Stage) → setup_of stage ≡ None → (Q false None → R false None) → StageKeeps (On Q) wish stage → StageKeeps (On R) wish stage
 bare_stage Q R wish (Requested request) none also was = also was
 bare_stage Q R wish (Connected peer setup) none also was = cc
 bare_stage Q R wish (Leaving peer setup request) none also was = cc
@@ -66,7 +66,7 @@ bare_stage Q R wish (Closing peer request checked) none also was = tt
 bare_stage Q R wish (Crossed peer request) none also was = tt
 
 -- a channel that its machine closes is closed
-closed_here : (policy : Policy) (R : OfEnd) (u : Channels) (held : Held) (reason : _) (stage : Stage) (setup : Setup) → find (has_own held.own) u.held ≡ Some held → setup_of stage ≡ Some setup
+pub closed_here : (policy : Policy) (R : OfEnd) (u : Channels) (held : Held) (reason : _) (stage : Stage) (setup : Setup) → find (has_own held.own) u.held ≡ Some held → setup_of stage ≡ Some setup
     → HeldKeeps policy (On R) (find (has_own held.own) (closes_at stage reason held u).held) × ((closes_at stage reason held u).next ≡ u.next)
 closed_here policy R u held reason (Requested request) setup found has = cc
 closed_here policy R u held reason (Connected peer s) setup found has = (subst (HeldKeeps policy (On R)) (sym (found-placed (staged held (Closing peer (new_request u) (has_fcs_by s))) held u.held found)) tt, refl)
@@ -74,7 +74,7 @@ closed_here policy R u held reason (Leaving peer s request) setup found has = (s
 closed_here policy R u held reason (Closing peer request checked) setup found has = cc
 closed_here policy R u held reason (Crossed peer request) setup found has = cc
 
-machine_hears : (policy : Policy) (agreed : Agreed) (Q R : OfEnd) (v u : Channels) (pdu : List ℕ) (held : Held) (setup : Setup) (machine : Ertm) (closed : Option ErtmReason) → IsBelow v → find (has_own held.own) v.held ≡ Some held → setup_of held.stage ≡ Some setup
+pub machine_hears : (policy : Policy) (agreed : Agreed) (Q R : OfEnd) (v u : Channels) (pdu : List ℕ) (held : Held) (setup : Setup) (machine : Ertm) (closed : Option ErtmReason) → IsBelow v → find (has_own held.own) v.held ≡ Some held → setup_of held.stage ≡ Some setup
     → HearsSo agreed pdu Q R → setup.carrier ≡ Some (Retransmitting machine) → Opens v u held setup → (machine_heard (read_by machine pdu) machine).closed ≡ closed
     → (let after : Ertm = machine_heard (read_by machine pdu) machine in let z : Channels = settles_machine closed after (with_setup held (granted_setup setup)) (granted_setup setup) u in Agrees agreed held.own z → Here policy held.own Q v → Here policy held.own R z)
 machine_hears policy agreed Q R v u pdu held setup machine (Some reason) below found has hears is opens shut agrees h =
@@ -100,7 +100,7 @@ machine_hears policy agreed Q R v u pdu held setup machine None below found has 
       before = λ above. let none : held_at held.own v ≡ None = below held.own (let same_next = opens.next_is in omega (arith, above, same_next)) in let never : None ≡ Some held = sym none ∙ found in absurd cc;
     }
 
-takes_by : (policy : Policy) (agreed : Agreed) (Q R : OfEnd) (v : Channels) (pdu : List ℕ) (held : Held) (setup : Option Setup) → IsBelow v → find (has_own held.own) v.held ≡ Some held → setup_of held.stage ≡ setup → HearsSo agreed pdu Q R → MaySkip held.own pdu Q R v
+pub takes_by : (policy : Policy) (agreed : Agreed) (Q R : OfEnd) (v : Channels) (pdu : List ℕ) (held : Held) (setup : Option Setup) → IsBelow v → find (has_own held.own) v.held ≡ Some held → setup_of held.stage ≡ setup → HearsSo agreed pdu Q R → MaySkip held.own pdu Q R v
     → Agrees agreed held.own v → Agrees agreed held.own (takes_on setup pdu held v) → Here policy held.own Q v → Here policy held.own R (takes_on setup pdu held v)
 takes_by policy agreed Q R v pdu held None below found has hears skip was agrees h = record {
   held = subst (HeldKeeps policy (On R)) (sym found) (bare_stage Q R (policy.wish held.psm) held.stage has (skip.none false) (subst (HeldKeeps policy (On Q)) found h.held));
@@ -140,7 +140,7 @@ SubmitsSo agreed sdu Q R = (machine : Ertm) → machine.agreed ≡ agreed → le
 abbrev pub Also : (Q R : OfEnd) → Type 0
 Also Q R = (opened : Bool) (carrier : Option Carrier) → Q opened carrier → R opened carrier
 
-sends_carrier : (policy : Policy) (agreed : Agreed) (Q R : OfEnd) (v : Channels) (held : Held) (setup : Setup) (sdu : List ℕ) (carrier : Option Carrier) → IsBelow v → find (has_own held.own) v.held ≡ Some held → setup_of held.stage ≡ Some setup → is_open setup ≡ true → setup.carrier ≡ carrier
+pub sends_carrier : (policy : Policy) (agreed : Agreed) (Q R : OfEnd) (v : Channels) (held : Held) (setup : Setup) (sdu : List ℕ) (carrier : Option Carrier) → IsBelow v → find (has_own held.own) v.held ≡ Some held → setup_of held.stage ≡ Some setup → is_open setup ≡ true → setup.carrier ≡ carrier
     → Agrees agreed held.own v → ((c : Carrier) → carrier ≡ Some c → IsShort sdu c) → SubmitsSo agreed sdu Q R → Here policy held.own Q v → (let sent : Setup = record setup { carrier = option_map (λ c. carrier_with c sdu) carrier } in Here policy held.own R (to_setup held sent v))
 sends_carrier policy agreed Q R v held setup sdu None below found has opened is agrees short submits h = let never : false ≡ true = sym (ap (λ (c : Option Carrier). is_some c && is_granted setup.own) is) ∙ opened in absurd cc
 sends_carrier policy agreed Q R v held setup sdu (Some (Plain a waiting)) below found has opened is agrees short submits h = absurd (agrees held setup (Plain a waiting) found has is)
@@ -150,7 +150,7 @@ sends_carrier policy agreed Q R v held setup sdu (Some (Retransmitting machine))
     let so : R true (Some (Retransmitting (submitted sdu machine))) = submits machine (agrees held setup (Retransmitting machine) found has is opened) (short (Retransmitting machine) refl) was in
     placed policy R v held setup sent below found has (subst (λ b. R b (Some (Retransmitting (submitted sdu machine)))) (sym (and-right (is_some setup.carrier) (is_granted setup.own) opened)) so)
 
-sends_setup : (policy : Policy) (agreed : Agreed) (Q R : OfEnd) (v : Channels) (held : Held) (setup : Setup) (sdu : List ℕ) (opened : Bool) → IsBelow v → find (has_own held.own) v.held ≡ Some held → setup_of held.stage ≡ Some setup → is_open setup ≡ opened
+pub sends_setup : (policy : Policy) (agreed : Agreed) (Q R : OfEnd) (v : Channels) (held : Held) (setup : Setup) (sdu : List ℕ) (opened : Bool) → IsBelow v → find (has_own held.own) v.held ≡ Some held → setup_of held.stage ≡ Some setup → is_open setup ≡ opened
     → Agrees agreed held.own v → ((c : Carrier) → opened ≡ true → setup.carrier ≡ Some c → IsShort sdu c) → SubmitsSo agreed sdu Q R → Also Q R → Here policy held.own Q v
     → (let sent : Setup = record setup { carrier = option_map (λ c. carrier_with c sdu) setup.carrier } in Here policy held.own R (to_setup held (cond opened sent setup) v))
 sends_setup policy agreed Q R v held setup sdu true below found has opened agrees short submits also h = sends_carrier policy agreed Q R v held setup sdu setup.carrier below found has opened refl agrees (λ c is. short c refl is) submits h

@@ -31,25 +31,25 @@ use Rattle.recovered_laws.proofs.Settling.{OpenAt, open-at, wishes-it}
 
 -- ---- one more turn
 
-none_more : (turns : List Turn) (turn : Turn) (deeds : List Deed) → AreDeeds turns deeds → AreDeeds (turns ++ turn ∷ []) deeds
+pub none_more : (turns : List Turn) (turn : Turn) (deeds : List Deed) → AreDeeds turns deeds → AreDeeds (turns ++ turn ∷ []) deeds
 none_more [] turn [] are = tt
 none_more [] turn (deed ∷ deeds) are = absurd are
 none_more (first ∷ turns) turn [] are = none_more turns turn [] are
 none_more (first ∷ turns) turn (deed ∷ deeds) (inl are) = inl (none_more turns turn (deed ∷ deeds) are)
 none_more (first ∷ turns) turn (deed ∷ deeds) (inr (is, are)) = inr (is, none_more turns turn deeds are)
 
-one_more : (turns : List Turn) (turn : Turn) (deeds : List Deed) (deed : Deed) → IsDeedAt turn.side turn.happening deed → AreDeeds turns deeds → AreDeeds (turns ++ turn ∷ []) (deeds ++ deed ∷ [])
+pub one_more : (turns : List Turn) (turn : Turn) (deeds : List Deed) (deed : Deed) → IsDeedAt turn.side turn.happening deed → AreDeeds turns deeds → AreDeeds (turns ++ turn ∷ []) (deeds ++ deed ∷ [])
 one_more [] turn [] deed is are = inr (is, tt)
 one_more [] turn (other ∷ deeds) deed is are = absurd are
 one_more (first ∷ turns) turn [] deed is are = inl (one_more turns turn [] deed is are)
 one_more (first ∷ turns) turn (other ∷ deeds) deed is (inl are) = inl (one_more turns turn (other ∷ deeds) deed is are)
 one_more (first ∷ turns) turn (other ∷ deeds) deed is (inr (here, are)) = inr (here, one_more turns turn deeds deed is are)
 
-all_more : (deeds : List Deed) (deed : Deed) (p : Machines) → all_turned (deeds ++ deed ∷ []) p ≡ machines_turned deed (all_turned deeds p)
+pub all_more : (deeds : List Deed) (deed : Deed) (p : Machines) → all_turned (deeds ++ deed ∷ []) p ≡ machines_turned deed (all_turned deeds p)
 all_more [] deed p = refl
 all_more (first ∷ deeds) deed p = all_more deeds deed (machines_turned first p)
 
-may_more : (deeds : List Deed) (deed : Deed) (p : Machines) → AllMay deeds p → MayTurn deed (all_turned deeds p) → AllMay (deeds ++ deed ∷ []) p
+pub may_more : (deeds : List Deed) (deed : Deed) (p : Machines) → AllMay deeds p → MayTurn deed (all_turned deeds p) → AllMay (deeds ++ deed ∷ []) p
 may_more [] deed p may now = (now, tt)
 may_more (first ∷ deeds) deed p (here, may) now = (here, may_more deeds deed (machines_turned first p) may now)
 
@@ -61,10 +61,10 @@ pub record Follows (t : Terms) (turns : List Turn) (p : Machines) : Type 0 where
   pub may : AllMay deeds (new_ends t.mine t.other)
   pub is : p ≡ all_turned deeds (new_ends t.mine t.other)
 
-stays : (t : Terms) (turns : List Turn) (turn : Turn) (p : Machines) → Follows t turns p → Follows t (turns ++ turn ∷ []) p
+pub stays : (t : Terms) (turns : List Turn) (turn : Turn) (p : Machines) → Follows t turns p → Follows t (turns ++ turn ∷ []) p
 stays t turns turn p h = record { deeds = h.deeds; are = none_more turns turn h.deeds h.are; may = h.may; is = h.is }
 
-does : (t : Terms) (turns : List Turn) (turn : Turn) (deed : Deed) → IsDeedAt turn.side turn.happening deed → (p : Machines) → MayTurn deed p → Follows t turns p → Follows t (turns ++ turn ∷ []) (machines_turned deed p)
+pub does : (t : Terms) (turns : List Turn) (turn : Turn) (deed : Deed) → IsDeedAt turn.side turn.happening deed → (p : Machines) → MayTurn deed p → Follows t turns p → Follows t (turns ++ turn ∷ []) (machines_turned deed p)
 does t turns turn deed is p may h = record {
   deeds = h.deeds ++ deed ∷ [];
   are = one_more turns turn h.deeds deed is h.are;
@@ -73,10 +73,10 @@ does t turns turn deed is p may h = record {
 }
 
 -- as the other host has it
-abbrev Turned : Terms → List Turn → Machines → Type 0
+abbrev pub Turned : Terms → List Turn → Machines → Type 0
 Turned t turns p = Follows t turns (swap p)
 
-by_near : (t : Terms) (turns : List Turn) (happening : Happening) → (let turn : Turn = record { side = Near; happening = happening } in Moves happening (Follows t turns) (Follows t (turns ++ turn ∷ [])))
+pub by_near : (t : Terms) (turns : List Turn) (happening : Happening) → (let turn : Turn = record { side = Near; happening = happening } in Moves happening (Follows t turns) (Follows t (turns ++ turn ∷ [])))
 by_near t turns (Acts occurrence) = (
   λ fires p stands may h. does t turns (record { side = Near; happening = Acts occurrence }) (ByA Fire) (inl (fires, refl)) p may h,
   λ sdu p stands may h. does t turns (record { side = Near; happening = Acts occurrence }) (ByA (Submit sdu)) (inr (sdu, refl)) p may h,
@@ -87,7 +87,7 @@ by_near t turns Repeats = λ p stands may h. does t turns (record { side = Near;
 by_near t turns Loses = λ p stands may h. does t turns (record { side = Near; happening = Loses }) (ByB Lose) refl p may h
 by_near t turns (Damages pdu) = λ p stands may h. does t turns (record { side = Near; happening = Damages pdu }) (ByB Lose) refl p may h
 
-by_far : (t : Terms) (turns : List Turn) (happening : Happening) → (let turn : Turn = record { side = Far; happening = happening } in Moves happening (Turned t turns) (Turned t (turns ++ turn ∷ [])))
+pub by_far : (t : Terms) (turns : List Turn) (happening : Happening) → (let turn : Turn = record { side = Far; happening = happening } in Moves happening (Turned t turns) (Turned t (turns ++ turn ∷ [])))
 by_far t turns (Acts occurrence) = (
   λ fires p stands may h. does t turns (record { side = Far; happening = Acts occurrence }) (ByB Fire) (inl (fires, refl)) (swap p) may h,
   λ sdu p stands may h. does t turns (record { side = Far; happening = Acts occurrence }) (ByB (Submit sdu)) (inr (sdu, refl)) (swap p) may h,
@@ -100,7 +100,7 @@ by_far t turns (Damages pdu) = λ p stands may h. does t turns (record { side = 
 
 -- ---- a turn of either
 
-side_follows : (near far : Policy) (t : Terms) (channel : Channel) (pair : Pair) (turns : List Turn) (side : Side) (happening : Happening) → Suited t channel → BothRun IsUttered near far pair → BothPrepared t channel pair → Common t channel pair → Common t channel (happens_at side happening pair)
+pub side_follows : (near far : Policy) (t : Terms) (channel : Channel) (pair : Pair) (turns : List Turn) (side : Side) (happening : Happening) → Suited t channel → BothRun IsUttered near far pair → BothPrepared t channel pair → Common t channel pair → Common t channel (happens_at side happening pair)
     → DoesSo IsUttered happening (end_at side pair) → IsCarried happening (end_at side pair) → Joint t channel (Follows t turns) pair → (let turn : Turn = record { side = side; happening = happening } in Joint t channel (Follows t (turns ++ turn ∷ [])) (happens_at side happening pair))
 side_follows near far t channel pair turns Near happening suited runs ready before after uttered passes h =
     near-turns t channel pair (Follows t turns) _ happening (record { own_high = suited.own_high; peer_high = suited.peer_high; suits = suited.there; sound = sound-of IsUttered near pair.near runs.near_runs; mate = before.near_mate; prepared = ready.0 })
@@ -115,7 +115,7 @@ side_follows near far t channel pair turns Far happening suited runs ready befor
 
 -- ---- all turns
 
-all_follow : (near far : Policy) (t : Terms) (channel : Channel) (all past rest : List Turn) → Suited t channel → ((front behind : List Turn) → all ≡ front ++ behind → Common t channel (pair_of near far front)) → all ≡ past ++ rest
+pub all_follow : (near far : Policy) (t : Terms) (channel : Channel) (all past rest : List Turn) → Suited t channel → ((front behind : List Turn) → all ≡ front ++ behind → Common t channel (pair_of near far front)) → all ≡ past ++ rest
     → EachAfter (λ front turn. DoesSo IsUttered turn.happening (end_at turn.side (pair_of near far front))) past rest → EachAfter (λ front turn. IsCarried turn.happening (end_at turn.side (pair_of near far front))) past rest
     → ((front behind : List Turn) → all ≡ front ++ behind → BothPrepared t channel (pair_of near far front)) → BothRun IsUttered near far (pair_of near far past) → Joint t channel (Follows t past) (pair_of near far past) → Joint t channel (Follows t all) (pair_of near far all)
 all_follow near far t channel all past [] suited common is uttered passes ready runs h = subst (λ list. Joint t channel (Follows t list) (pair_of near far list)) (sym (is ∙ append-nil past)) h

@@ -91,7 +91,7 @@ ends-submits t n f p sdu fit short e = record {
     is : p.a.machine.agreed ≡ t.mine
     is = e.joins.near_by
 
-spelled_more : (pdus : List (List ℕ)) (queue : List Sent) (pdu : List ℕ) (sent : Sent) → Reads pdu sent.frame → AreSpelled pdus queue → AreSpelled (pdus ++ pdu ∷ []) (queue ++ sent ∷ [])
+pub spelled_more : (pdus : List (List ℕ)) (queue : List Sent) (pdu : List ℕ) (sent : Sent) → Reads pdu sent.frame → AreSpelled pdus queue → AreSpelled (pdus ++ pdu ∷ []) (queue ++ sent ∷ [])
 spelled_more [] [] pdu sent reads spelled = (reads, tt)
 spelled_more [] (first ∷ queue) pdu sent reads spelled = elim spelled [ ]
 spelled_more (first ∷ pdus) [] pdu sent reads spelled = elim spelled [ ]
@@ -131,13 +131,13 @@ same_queue (sent ∷ queue) e = by e.machine.closed (fault sent.frame e.machine)
     by None None = refl
 
 -- an end that has said something is not new
-not_new : {X : Type 0} (agreed : Agreed) (e : End) (sent : Sent) (queue : List Sent) → e.queue ≡ sent ∷ queue → e ≡ new_end agreed → X
+pub not_new : {X : Type 0} (agreed : Agreed) (e : End) (sent : Sent) (queue : List Sent) → e.queue ≡ sent ∷ queue → e ≡ new_end agreed → X
 not_new agreed e sent queue is new = let never : [] ≡ sent ∷ queue = sym (ap (λ (x : End). x.queue) new) ∙ is in absurd cc
 
-abbrev behind : End → End
+abbrev pub behind : End → End
 behind e = record e { queue = behind_front e.queue }
 
-behind_holds : (agreed : Agreed) (e : End) (sent : Sent) (queue : List Sent) → e.queue ≡ sent ∷ queue → (opened : Bool) (carrier : Option Carrier) → Holds agreed e opened carrier → Holds agreed (behind e) opened carrier
+pub behind_holds : (agreed : Agreed) (e : End) (sent : Sent) (queue : List Sent) → e.queue ≡ sent ∷ queue → (opened : Bool) (carrier : Option Carrier) → Holds agreed e opened carrier → Holds agreed (behind e) opened carrier
 behind_holds agreed e sent queue is opened None holds = not_new agreed e sent queue is holds
 behind_holds agreed e sent queue is opened (Some (Plain a waiting)) holds = not_new agreed e sent queue is holds
 behind_holds agreed e sent queue is opened (Some (Retransmitting machine)) (inl (a, same, new)) = not_new agreed e sent queue is new
@@ -165,7 +165,7 @@ pub front-machine : (t : Terms) (p : Pair) (pdu : List ℕ) (rest : List (List �
 front-machine t p pdu rest front = ap (λ l. (hearing_front l p.a).machine) front.first ∙ (heard-machine front.sent.frame p.a ∙ ap (λ x. machine_heard x p.a.machine) (sym front.read))
 
 -- what it says is as before, and what it agreed on
-near_says : (t : Terms) (f : List (List ℕ)) (p : Pair) (pdu : List ℕ) (rest : List (List ℕ)) → Front t p pdu rest → (e : Ends t (pdu ∷ rest) f p)
+pub near_says : (t : Terms) (f : List (List ℕ)) (p : Pair) (pdu : List ℕ) (rest : List (List ℕ)) → Front t p pdu rest → (e : Ends t (pdu ∷ rest) f p)
     → Tells t.other.receive_mps (hearing_front p.b.queue p.a) e.near_said × AreSpelled f (hearing_front p.b.queue p.a).queue × ((hearing_front p.b.queue p.a).machine.agreed ≡ t.mine)
 near_says t f p pdu rest front e = (
   subst (λ l. Tells t.other.receive_mps (hearing_front l p.a) e.near_said) (sym front.first) (tells-hears t.other.receive_mps p.a front.sent.frame e.near_said e.joins.near_tells),

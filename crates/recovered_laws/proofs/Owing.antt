@@ -35,30 +35,30 @@ use Rattle.recovered_laws.proofs.Paying.{none_found, silent_stage, not_some}
 abbrev pub OfMachine : (Ertm → Type 0) → Option Carrier → Type 0
 OfMachine G carrier = (m : Ertm) → carrier ≡ Some (Retransmitting m) → G m
 
-abbrev Each : (Ertm → Type 0) → ℕ → OfCarrier
+abbrev pub Each : (Ertm → Type 0) → ℕ → OfCarrier
 Each G own wish leaving opened carrier = OfMachine G carrier
 
 -- it goes on so
-abbrev Onward : (Ertm → Type 0) → Carrier → Carrier → Type 0
+abbrev pub Onward : (Ertm → Type 0) → Carrier → Carrier → Type 0
 Onward G before after = OfMachine G (Some before) → OfMachine G (Some after)
 
-same_machine : (m n : Ertm) → Some (Retransmitting m) ≡ Some (Retransmitting n) → m ≡ n
+pub same_machine : (m n : Ertm) → Some (Retransmitting m) ≡ Some (Retransmitting n) → m ≡ n
 same_machine m n is = cc
 
-to_machine : (G : Ertm → Type 0) (m after : Ertm) → (G m → G after) → Onward G (Retransmitting m) (Retransmitting after)
+pub to_machine : (G : Ertm → Type 0) (m after : Ertm) → (G m → G after) → Onward G (Retransmitting m) (Retransmitting after)
 to_machine G m after goes so n is = subst G (same_machine after n is) (goes (so m refl))
 
-plain_so : (G : Ertm → Type 0) (agreed : Agreed) (waiting : Option (List ℕ)) → OfMachine G (Some (Plain agreed waiting))
+pub plain_so : (G : Ertm → Type 0) (agreed : Agreed) (waiting : Option (List ℕ)) → OfMachine G (Some (Plain agreed waiting))
 plain_so G agreed waiting m is = cc
 
-new_so : (G : Ertm → Type 0) (wish : Wish) (carrier : Carrier) → ((agreed : Agreed) → G (new_ertm agreed)) → IsAccepted wish carrier → OfMachine G (Some carrier)
+pub new_so : (G : Ertm → Type 0) (wish : Wish) (carrier : Carrier) → ((agreed : Agreed) → G (new_ertm agreed)) → IsAccepted wish carrier → OfMachine G (Some carrier)
 new_so G wish carrier new accepted = by (new-carrier wish carrier accepted)
   where
     by : ((a : Agreed) × (carrier ≡ Plain a None) × (wish.mode ≡ Basic)) ⊎ ((a : Agreed) × IsNew wish a carrier) → OfMachine G (Some carrier)
     by (inl (a, is, basic)) = λ m also. let never : Plain a None ≡ Retransmitting m = sym is ∙ (let one : carrier ≡ Retransmitting m = cc in one) in absurd cc
     by (inr (a, made)) = λ m also. let one : new_ertm a ≡ m = same_machine (new_ertm a) m (ap Some (sym made.is) ∙ also) in subst G one (new a)
 
-keeps_each : (policy : Policy) (G : Ertm → Type 0) → ((agreed : Agreed) → G (new_ertm agreed)) → Keeps policy (Onward G) (Each G)
+pub keeps_each : (policy : Policy) (G : Ertm → Type 0) → ((agreed : Agreed) → G (new_ertm agreed)) → Keeps policy (Onward G) (Each G)
 keeps_each policy G new = record { same = λ carrier so. so; goes = λ own psm leaving opened after_opened before after shut goes was. by (policy.wish psm) opened before after goes was; leaves = λ own psm opened carrier was. was }
   where
     by : (wish : Wish) (opened : Bool) (before after : Option Carrier) → CarrierGoes wish (Onward G) opened before after → OfMachine G before → OfMachine G after
@@ -70,7 +70,7 @@ keeps_each policy G new = record { same = λ carrier so. so; goes = λ own psm l
 
 -- ---- its receiver stays as it is
 
-timed_receiver : (m : Ertm) → (timed m).receiver ≡ m.receiver
+pub timed_receiver : (m : Ertm) → (timed m).receiver ≡ m.receiver
 timed_receiver m = by m.closed
   where
     first : (unacked : List Kept) → (first_poll unacked m).receiver ≡ m.receiver
@@ -90,25 +90,25 @@ timed_receiver m = by m.closed
     by (Some reason) = refl
     by None = poll_by m.sender.poll
 
-submitted_receiver : (sdu : List ℕ) (m : Ertm) → (submitted sdu m).receiver ≡ m.receiver
+pub submitted_receiver : (sdu : List ℕ) (m : Ertm) → (submitted sdu m).receiver ≡ m.receiver
 submitted_receiver sdu m = by (is_busy m)
   where
     by : (busy : Bool) → (cond busy m (taking sdu m)).receiver ≡ m.receiver
     by true = refl
     by false = refl
 
-abbrev OwesNone : Ertm → Type 0
+abbrev pub OwesNone : Ertm → Type 0
 OwesNone m = owes_reply m ≡ false
 
-same_receiver : (m after : Ertm) → after.receiver ≡ m.receiver → OwesNone m → OwesNone after
+pub same_receiver : (m after : Ertm) → after.receiver ≡ m.receiver → OwesNone m → OwesNone after
 same_receiver m after same none = ap (λ r. r.polled || is_reply r.reply) same ∙ none
 
-new_owes : (agreed : Agreed) → OwesNone (new_ertm agreed)
+pub new_owes : (agreed : Agreed) → OwesNone (new_ertm agreed)
 new_owes agreed = refl
 
 -- ---- all machines of a host
 
-none_owed : (policy : Policy) (v : Channels) → ((own : ℕ) → v.next ≤ own → find (has_own own) v.held ≡ None) → owes v ≡ false → AllKeep policy (Each OwesNone) v
+pub none_owed : (policy : Policy) (v : Channels) → ((own : ℕ) → v.next ≤ own → find (has_own own) v.held ≡ None) → owes v ≡ false → AllKeep policy (Each OwesNone) v
 none_owed policy v below none = record { at = λ own. of own (held_at own v) refl; fresh = λ own psm above m is. cc; below = below }
   where
     machine : (setup : Setup) → carrier_owes setup.carrier ≡ false → OfMachine OwesNone setup.carrier
@@ -125,7 +125,7 @@ none_owed policy v below none = record { at = λ own. of own (held_at own v) ref
     of own None found = tt
     of own (Some held) found = at (policy.wish held.psm) held.stage (none_found (λ (x : Held). setup_owes (setup_of x.stage)) v.held none own held found)
 
-all_clear : (policy : Policy) (v : Channels) → Distinct own_of v.held → AllKeep policy (Each OwesNone) v → owes v ≡ false
+pub all_clear : (policy : Policy) (v : Channels) → Distinct own_of v.held → AllKeep policy (Each OwesNone) v → owes v ≡ false
 all_clear policy v lone all = by (owes v) refl
   where
     carrier : (c : Option Carrier) → carrier_owes c ≡ true → OfMachine OwesNone c → ⊥
@@ -149,11 +149,11 @@ all_clear policy v lone all = by (owes v) refl
 
 -- ---- what it does alone
 
-sends_so : (G : Ertm → Type 0) (sdu : List ℕ) → ((m : Ertm) → G m → G (submitted sdu m)) → (carrier : Carrier) → Onward G carrier (carrier_with carrier sdu)
+pub sends_so : (G : Ertm → Type 0) (sdu : List ℕ) → ((m : Ertm) → G m → G (submitted sdu m)) → (carrier : Carrier) → Onward G carrier (carrier_with carrier sdu)
 sends_so G sdu goes (Plain agreed waiting) so = plain_so G agreed _
 sends_so G sdu goes (Retransmitting m) so = to_machine G m (submitted sdu m) (goes m) so
 
-alone_keeps : (policy : Policy) (one : Occurrence) (v : Channels) → is_alone one ≡ true → KeepsOn policy (Each OwesNone) v (value_after policy one v)
+pub alone_keeps : (policy : Policy) (one : Occurrence) (v : Channels) → is_alone one ≡ true → KeepsOn policy (Each OwesNone) v (value_after policy one v)
 alone_keeps policy (Comes pdu) v alone = cc
 alone_keeps policy (Connects psm) v alone = connected-goes policy (Onward OwesNone) _ (walks-keep policy (Onward OwesNone) (Each OwesNone) (keeps_each policy OwesNone new_owes)) psm v
 alone_keeps policy AsksFeatures v alone = asks-features-goes policy (Onward OwesNone) _ (walks-keep policy (Onward OwesNone) (Each OwesNone) (keeps_each policy OwesNone new_owes)) v
@@ -165,15 +165,15 @@ alone_keeps policy Fires v alone =
     timed-goes policy (Onward OwesNone) _ (walks-keep policy (Onward OwesNone) (Each OwesNone) (keeps_each policy OwesNone new_owes)) v (λ m open'. to_machine OwesNone m (timed m) (λ none. same_receiver m (timed m) (timed_receiver m) none))
 alone_keeps policy Tells v alone = λ all. record { at = all.at; fresh = all.fresh; below = all.below }
 
-run_more : (policy : Policy) (list : List Occurrence) (one : Occurrence) → run_of policy (list ++ one ∷ []) ≡ run_on policy (run_of policy list) one
+pub run_more : (policy : Policy) (list : List Occurrence) (one : Occurrence) → run_of policy (list ++ one ∷ []) ≡ run_on policy (run_of policy list) one
 run_more policy list one = fold-append (run_on policy) new_link list (one ∷ [])
 
 -- ---- machines of channels are open
 
-abbrev IsOpenMachine : Ertm → Type 0
+abbrev pub IsOpenMachine : Ertm → Type 0
 IsOpenMachine m = m.closed ≡ None
 
-carries_open : Carries (Onward IsOpenMachine)
+pub carries_open : Carries (Onward IsOpenMachine)
 carries_open = record {
   sends = λ sdu. sends_so IsOpenMachine sdu (λ m open'. (submits-aside sdu m).open_still open');
   gives = gives_so;
@@ -185,20 +185,20 @@ carries_open = record {
     gives_so (Plain agreed waiting) so = plain_so IsOpenMachine agreed None
     gives_so (Retransmitting m) so = to_machine IsOpenMachine m _ (λ open'. (gives-aside m).open_still open') so
 
-all_open : (policy : Policy) (list : List Occurrence) → AllKeep policy (Each IsOpenMachine) (run_of policy list).value
+pub all_open : (policy : Policy) (list : List Occurrence) → AllKeep policy (Each IsOpenMachine) (run_of policy list).value
 all_open policy list =
     (along policy (λ run. AllKeep policy (Each IsOpenMachine) run.value) (record { at = λ own. tt; fresh = λ own psm above m is. cc; below = λ own above. refl })
     (λ run more sound all. keeps-all policy (Onward IsOpenMachine) (Each IsOpenMachine) (keeps_each policy IsOpenMachine (λ agreed. refl)) carries_open more run.value sound.core.lone all) list).1
 
 -- one that has nothing to give owes nothing
-silent_none : (m : Ertm) → m.closed ≡ None → giving m ≡ None → OwesNone m
+pub silent_none : (m : Ertm) → m.closed ≡ None → giving m ≡ None → OwesNone m
 silent_none m open' none = by (silent m none)
   where
     by : IsSilent m → OwesNone m
     by (inl shut) = absurd (shut open')
     by (inr (quiet, rest)) = ap (λ b. b || is_reply m.receiver.reply) quiet.unpolled ∙ ap is_reply quiet.unreplied
 
-silent_all : (policy : Policy) (v : Channels) → AllKeep policy (Each IsOpenMachine) v → list_any gives v.held ≡ false → AllKeep policy (Each OwesNone) v
+pub silent_all : (policy : Policy) (v : Channels) → AllKeep policy (Each IsOpenMachine) v → list_any gives v.held ≡ false → AllKeep policy (Each OwesNone) v
 silent_all policy v all none = record { at = λ own. of own (held_at own v) refl (all.at own); fresh = λ own psm above m is. cc; below = all.below }
   where
     at : (wish : Wish) (stage : Stage) → stage_gives stage ≡ None → StageKeeps (Each IsOpenMachine 0) wish stage → StageKeeps (Each OwesNone 0) wish stage

@@ -45,7 +45,7 @@ use Rattle.recovered_laws.proofs.Waking.{MayWake, wakes-free}
 abbrev pub Paid : ℕ → Machines → Type 0
 Paid wrong p = Accounts wrong p.a p.b
 
-account_more : (wrong : ℕ) (x y : MachineEnd) → Account wrong x y → Account (1 + wrong) x y
+pub account_more : (wrong : ℕ) (x y : MachineEnd) → Account wrong x y → Account (1 + wrong) x y
 account_more wrong x y h = record {
   affords = record {
     given = at_most-more wrong (1 + wrong) x.machine.sender.unacked (omega arith) h.affords.given;
@@ -56,7 +56,7 @@ account_more wrong x y h = record {
   pays = λ open'. let k = h.pays open' in record { a = k.a; a_is = k.a_is; pays = pays-more k.pays };
 }
 
-more : (extra wrong : ℕ) (p : Machines) → Paid wrong p → Paid (extra + wrong) p
+pub more : (extra wrong : ℕ) (p : Machines) → Paid wrong p → Paid (extra + wrong) p
 more zero wrong p h = let e : 0 + wrong ≡ wrong = omega arith in rw e h
 more (suc extra) wrong p h =
     let h' = more extra wrong p h in
@@ -64,7 +64,7 @@ more (suc extra) wrong p h =
     rw e (record { there = account_more (extra + wrong) p.a p.b h'.there; back = account_more (extra + wrong) p.b p.a h'.back })
 
 -- where a turn of them costs no more
-moved : (extra wrong : ℕ) (turn : MachineTurn) → adverse_turn turn ≤ extra → Move turn (Paid wrong) (Paid (extra + wrong))
+pub moved : (extra wrong : ℕ) (turn : MachineTurn) → adverse_turn turn ≤ extra → Move turn (Paid wrong) (Paid (extra + wrong))
 moved extra wrong turn few p stands may h = by extra few (turned_accounts wrong turn p may stands h)
   where
     by : (extra : ℕ) → adverse_turn turn ≤ extra → Paid (adverse_turn turn + wrong) (machines_turned turn p) → Paid (extra + wrong) (machines_turned turn p)
@@ -74,10 +74,10 @@ moved extra wrong turn few p stands may h = by extra few (turned_accounts wrong 
 
 -- ---- what is known of the carrier of a channel
 
-abbrev With : (Option Carrier → Type 0) → OfEnd → OfEnd
+abbrev pub With : (Option Carrier → Type 0) → OfEnd → OfEnd
 With F Q opened carrier = F carrier × Q opened carrier
 
-here_with : (policy : Policy) (own : ℕ) (F : Option Carrier → Type 0) (Q : OfEnd) (v : Channels) → F None → ((held : Held) (setup : Setup) → held_at own v ≡ Some held → setup_of held.stage ≡ Some setup → F setup.carrier) → Here policy own Q v → Here policy own (With F Q) v
+pub here_with : (policy : Policy) (own : ℕ) (F : Option Carrier → Type 0) (Q : OfEnd) (v : Channels) → F None → ((held : Held) (setup : Setup) → held_at own v ≡ Some held → setup_of held.stage ≡ Some setup → F setup.carrier) → Here policy own Q v → Here policy own (With F Q) v
 here_with policy own F Q v none so h = record { held = of (held_at own v) refl h.held; before = λ above. (none, h.before above) }
   where
     at : (held : Held) → held_at own v ≡ Some held → (stage : Stage) → held.stage ≡ stage → StageKeeps (On Q) (policy.wish held.psm) stage → StageKeeps (On (With F Q)) (policy.wish held.psm) stage
@@ -93,10 +93,10 @@ here_with policy own F Q v none so h = record { held = of (held_at own v) refl h
 
 -- ---- a calm link
 
-abbrev Silent : Option Carrier → Type 0
+abbrev pub Silent : Option Carrier → Type 0
 Silent carrier = (machine : Ertm) → carrier ≡ Some (Retransmitting machine) → giving machine ≡ None
 
-abbrev Clear : Option Carrier → Type 0
+abbrev pub Clear : Option Carrier → Type 0
 Clear carrier = (machine : Ertm) → carrier ≡ Some (Retransmitting machine) → owes_reply machine ≡ false
 
 -- of a host where none is so
@@ -115,14 +115,14 @@ pub not_some : {X : Type 0} (x : Option X) → is_some x ≡ false → x ≡ Non
 not_some None is = refl
 not_some (Some x) is = cc
 
-silent_frame : (machine : Ertm) → next_frame machine ≡ None → giving machine ≡ None
+pub silent_frame : (machine : Ertm) → next_frame machine ≡ None → giving machine ≡ None
 silent_frame machine none = by (giving machine) none
   where
     by : (g : Option Giving) → frame_by g machine ≡ None → g ≡ None
     by None is = refl
     by (Some g) is = cc
 
-framed_none : (peer : ℕ) (machine : Ertm) → option_map (Framed peer) (next_frame machine) ≡ None → giving machine ≡ None
+pub framed_none : (peer : ℕ) (machine : Ertm) → option_map (Framed peer) (next_frame machine) ≡ None → giving machine ≡ None
 framed_none peer machine is = by (next_frame machine) refl is
   where
     by : (frame : Option PlainFrame) → next_frame machine ≡ frame → option_map (Framed peer) frame ≡ None → giving machine ≡ None
@@ -138,7 +138,7 @@ silent_stage (Crossed peer request) setup has none = cc
 
 -- ---- of both machines
 
-quiet_reply : (m : Ertm) → m.closed ≡ None → owes_reply m ≡ false → IsQuiet m
+pub quiet_reply : (m : Ertm) → m.closed ≡ None → owes_reply m ≡ false → IsQuiet m
 quiet_reply m open' none =
     let (unpolled, unreplied) = or_parts m.receiver.polled (is_reply m.receiver.reply) none in
     record { open_ = open'; unpolled = unpolled; unreplied = by m.receiver.reply unreplied }
@@ -148,28 +148,28 @@ quiet_reply m open' none =
     by Acknowledges is = cc
     by Rejects is = cc
 
-quiet_held : (agreed : Agreed) (e : MachineEnd) (opened : Bool) (carrier : Option Carrier) → Clear carrier → Holds agreed e opened carrier → IsQuiet e.machine
+pub quiet_held : (agreed : Agreed) (e : MachineEnd) (opened : Bool) (carrier : Option Carrier) → Clear carrier → Holds agreed e opened carrier → IsQuiet e.machine
 quiet_held agreed e opened None clear new = subst (λ (x : MachineEnd). IsQuiet x.machine) (sym new) (record { open_ = refl; unpolled = refl; unreplied = refl })
 quiet_held agreed e opened (Some (Plain a waiting)) clear new = subst (λ (x : MachineEnd). IsQuiet x.machine) (sym new) (record { open_ = refl; unpolled = refl; unreplied = refl })
 quiet_held agreed e opened (Some (Retransmitting machine)) clear (inl (a, is, new)) = subst (λ (x : MachineEnd). IsQuiet x.machine) (sym new) (record { open_ = refl; unpolled = refl; unreplied = refl })
 quiet_held agreed e opened (Some (Retransmitting machine)) clear (inr (is, now, open')) = subst IsQuiet is (quiet_reply machine open' (clear machine refl))
 
-silent_held : (agreed : Agreed) (e : MachineEnd) (opened : Bool) (carrier : Option Carrier) → Silent carrier → Holds agreed e opened carrier → (e.machine.closed ≡ None) × (giving e.machine ≡ None)
+pub silent_held : (agreed : Agreed) (e : MachineEnd) (opened : Bool) (carrier : Option Carrier) → Silent carrier → Holds agreed e opened carrier → (e.machine.closed ≡ None) × (giving e.machine ≡ None)
 silent_held agreed e opened None silent new = subst (λ (x : MachineEnd). (x.machine.closed ≡ None) × (giving x.machine ≡ None)) (sym new) (refl, refl)
 silent_held agreed e opened (Some (Plain a waiting)) silent new = subst (λ (x : MachineEnd). (x.machine.closed ≡ None) × (giving x.machine ≡ None)) (sym new) (refl, refl)
 silent_held agreed e opened (Some (Retransmitting machine)) silent (inl (a, is, new)) = subst (λ (x : MachineEnd). (x.machine.closed ≡ None) × (giving x.machine ≡ None)) (sym new) (refl, refl)
 silent_held agreed e opened (Some (Retransmitting machine)) silent (inr (is, now, open')) = (ap (λ (x : Ertm). x.closed) (sym is) ∙ open', ap giving (sym is) ∙ silent machine refl)
 
-none_spelled : (pdus : List (List ℕ)) (queue : List Sent) → pdus ≡ [] → AreSpelled pdus queue → queue ≡ []
+pub none_spelled : (pdus : List (List ℕ)) (queue : List Sent) → pdus ≡ [] → AreSpelled pdus queue → queue ≡ []
 none_spelled [] [] is spelled = refl
 none_spelled [] (sent ∷ queue) is spelled = elim spelled [ ]
 none_spelled (pdu ∷ pdus) queue is spelled = cc
 
 -- so the near one may fire
-abbrev Woken : ℕ → Machines → Type 0
+abbrev pub Woken : ℕ → Machines → Type 0
 Woken wrong p = Paid wrong p × MayWake p.a p.b
 
-may_wake : (t : Terms) (n f : List (List ℕ)) (wrong : ℕ) (opened : Bool) (carrier : Option Carrier) (far_opened : Bool) (far_carrier : Option Carrier) → n ≡ [] → f ≡ [] → Silent carrier → Clear far_carrier → Twins t n f (Paid wrong) opened carrier far_opened far_carrier
+pub may_wake : (t : Terms) (n f : List (List ℕ)) (wrong : ℕ) (opened : Bool) (carrier : Option Carrier) (far_opened : Bool) (far_carrier : Option Carrier) → n ≡ [] → f ≡ [] → Silent carrier → Clear far_carrier → Twins t n f (Paid wrong) opened carrier far_opened far_carrier
     → Twins t n f (Woken wrong) opened carrier far_opened far_carrier
 may_wake t n f wrong opened carrier far_opened far_carrier none_n none_f silent clear x =
     let (open', gives_none) = silent_held t.mine x.pair.a opened carrier silent x.near_holds in
@@ -194,7 +194,7 @@ may_wake t n f wrong opened carrier far_opened far_carrier none_n none_f silent 
 
 -- ---- a turn of the near end
 
-calm_parts : (pair : Pair) → is_calm pair ≡ true → ((pair.near.coming ≡ []) × (pair.far.coming ≡ [])) × ((list_any gives pair.near.run.value.held ≡ false) × (owes pair.far.run.value ≡ false))
+pub calm_parts : (pair : Pair) → is_calm pair ≡ true → ((pair.near.coming ≡ []) × (pair.far.coming ≡ [])) × ((list_any gives pair.near.run.value.held ≡ false) × (owes pair.far.run.value ≡ false))
 calm_parts pair calm =
     let (quiet, rest) = and_parts (is_quiet pair) (not (list_any gives pair.near.run.value.held) && not (owes pair.far.run.value)) calm in
     let (silent, clear) = and_parts (not (list_any gives pair.near.run.value.held)) (not (owes pair.far.run.value)) rest in
@@ -214,7 +214,7 @@ calm_parts pair calm =
     off true is = cc
     off false is = refl
 
-calm_joint : (t : Terms) (channel : Channel) (pair : Pair) (wrong : ℕ) → is_calm pair ≡ true → Joint t channel (Paid wrong) pair → Joint t channel (Woken wrong) pair
+pub calm_joint : (t : Terms) (channel : Channel) (pair : Pair) (wrong : ℕ) → is_calm pair ≡ true → Joint t channel (Paid wrong) pair → Joint t channel (Woken wrong) pair
 calm_joint t channel pair wrong calm h =
     here-also near channel.own (With Silent (Both t n f (Paid wrong) far channel.peer w)) (Both t n f (Woken wrong) far channel.peer w) v
     (λ opened carrier (silent, so). here-also far channel.peer (With Clear (Twins t n f (Paid wrong) opened carrier)) (Twins t n f (Woken wrong) opened carrier) w
@@ -250,7 +250,7 @@ calm_joint t channel pair wrong calm h =
     clears held setup found has machine is =
         ap carrier_owes (sym is) ∙ (ap setup_owes (sym has) ∙ none_found (λ (x : Held). setup_owes (setup_of x.stage)) w.held parts.1.1 channel.peer held found)
 
-near_paid : (t : Terms) (channel : Channel) (pair : Pair) (wrong : ℕ) (happening : Happening) → Fair t channel pair → IsMate t.mine channel.own channel.peer (happens_near happening pair).near.run.value → DoesSo IsUttered happening pair.near → IsCarried happening pair.near
+pub near_paid : (t : Terms) (channel : Channel) (pair : Pair) (wrong : ℕ) (happening : Happening) → Fair t channel pair → IsMate t.mine channel.own channel.peer (happens_near happening pair).near.run.value → DoesSo IsUttered happening pair.near → IsCarried happening pair.near
     → Joint t channel (Paid wrong) pair → Joint t channel (Paid (upsets happening pair + wrong)) (happens_near happening pair)
 near_paid t channel pair wrong (Acts occurrence) fair mate uttered passes h = by (is_firing occurrence) refl (is_calm pair) refl
   where
@@ -299,7 +299,7 @@ paid-swapped wrong p paid = record { there = paid.back; back = paid.there }
 abbrev pub BothPrepared : Terms → Channel → Pair → Type 0
 BothPrepared t channel pair = Prepared t channel pair × Prepared (other_terms t) (mirrored channel) (turned pair)
 
-side_paid : (near far : Policy) (t : Terms) (channel : Channel) (pair : Pair) (wrong : ℕ) (side : Side) (happening : Happening) → Suited t channel → BothRun IsUttered near far pair → BothPrepared t channel pair → Common t channel pair → Common t channel (happens_at side happening pair)
+pub side_paid : (near far : Policy) (t : Terms) (channel : Channel) (pair : Pair) (wrong : ℕ) (side : Side) (happening : Happening) → Suited t channel → BothRun IsUttered near far pair → BothPrepared t channel pair → Common t channel pair → Common t channel (happens_at side happening pair)
     → DoesSo IsUttered happening (end_at side pair) → IsCarried happening (end_at side pair) → Joint t channel (Paid wrong) pair → Joint t channel (Paid (upsets happening (seen_from side pair) + wrong)) (happens_at side happening pair)
 side_paid near far t channel pair wrong Near happening suited runs ready before after uttered passes h =
     near_paid t channel pair wrong happening (record { own_high = suited.own_high; peer_high = suited.peer_high; suits = suited.there; sound = sound-of IsUttered near pair.near runs.near_runs; mate = before.near_mate; prepared = ready.0 }) after.near_mate uttered passes h

@@ -43,7 +43,7 @@ use Rattle.recovered_laws.proofs.Twins.{On, Here}
 -- ---- one host
 
 -- it made its own request where it accepted one
-stated_at : (policy : Policy) (list : List Occurrence) (own : ℕ) (held : Held) (setup : Setup) → held_at own (run_of policy list).value ≡ Some held → setup_of held.stage ≡ Some setup → IsStated setup
+pub stated_at : (policy : Policy) (list : List Occurrence) (own : ℕ) (held : Held) (setup : Setup) → held_at own (run_of policy list).value ≡ Some held → setup_of held.stage ≡ Some setup → IsStated setup
 stated_at policy list own held setup found has = by held.stage has (subst (λ h. HeldTold h closed) found (told.at own))
   where
     told : RunTold (run_of policy list)
@@ -60,7 +60,7 @@ stated_at policy list own held setup found has = by held.stage has (subst (λ h.
     by (Crossed peer request) is now = cc
 
 -- what it accepted carries where it has the channel
-took_here : (policy : Policy) (said : List Saying) (v : Channels) (channel : Channel) → Sound policy (reading said) v → Took channel said → Here policy channel.own IsSome v
+pub took_here : (policy : Policy) (said : List Saying) (v : Channels) (channel : Channel) → Sound policy (reading said) v → Took channel said → Here policy channel.own IsSome v
 took_here policy said v channel sound took = record { held = of (held_at channel.own v) refl; before = λ above. let never : None ≡ Some took.entry = sym (sound.core.read_below channel.own above) ∙ took.found in λ none. cc }
   where
     some_entry : (a b : Entry) → Some a ≡ Some b → a ≡ b
@@ -91,7 +91,7 @@ took_here policy said v channel sound took = record { held = of (held_at channel
     of (Some held) found = on held found
 
 -- an open channel has a carrier
-open_carries : (own : ℕ) (v : Channels) (held : Held) (setup : Setup) → held_at own v ≡ Some held → setup_of held.stage ≡ Some setup → is_open setup ≡ true → (carrier : Carrier) × (carrier_at own v ≡ Some carrier)
+pub open_carries : (own : ℕ) (v : Channels) (held : Held) (setup : Setup) → held_at own v ≡ Some held → setup_of held.stage ≡ Some setup → is_open setup ≡ true → (carrier : Carrier) × (carrier_at own v ≡ Some carrier)
 open_carries own v held setup found has opened = by setup.carrier refl
   where
     carries : carrier_at own v ≡ setup.carrier
@@ -104,7 +104,7 @@ open_carries own v held setup found has opened = by setup.carrier refl
 -- ---- two hosts, at a moment of all
 
 -- what a host accepted for the other's endpoint of the channel is the channel
-took_by : (near far : Policy) (side : Side) (front behind : List Turn) (channel : Channel) → AreRead near far front → IsOf (mirrored channel) (read_at channel.peer (reading (said_at side (turned (pair_of near far (front ++ behind))))).entries)
+pub took_by : (near far : Policy) (side : Side) (front behind : List Turn) (channel : Channel) → AreRead near far front → IsOf (mirrored channel) (read_at channel.peer (reading (said_at side (turned (pair_of near far (front ++ behind))))).entries)
     → HasAccepted channel.peer (said_at side (pair_of near far front)) → Took channel (said_at side (pair_of near far front))
 took_by near far side front behind channel read has accepted =
     record { entry = accepted.entry; found = ap (λ (c : Channel). read_at c.own (reading (said_at side (pair_of near far front))).entries) (sym same) ∙ accepted.found; channel_is = same; accepted = accepted.accepted }
@@ -120,7 +120,7 @@ took_by near far side front behind channel read has accepted =
         (subst (λ n. IsOf (mirrored it) (read_at n (reading (said_at side (turned (pair_of near far (front ++ behind))))).entries)) accepted.peer_is common) has)
 
 -- frames are as long as its host wishes of the channel
-long_as_wished : (near far policy : Policy) (side : Side) (front behind : List Turn) (channel : Channel) (list : List Occurrence) → (end_at side (pair_of near far front)).run ≡ run_of policy list → IsOf channel (read_at channel.own (reading (end_at side (pair_of near far (front ++ behind))).run.said).entries)
+pub long_as_wished : (near far policy : Policy) (side : Side) (front behind : List Turn) (channel : Channel) (list : List Occurrence) → (end_at side (pair_of near far front)).run ≡ run_of policy list → IsOf channel (read_at channel.own (reading (end_at side (pair_of near far (front ++ behind))).run.said).entries)
     → (held : Held) (setup : Setup) (machine : Ertm) → held_at channel.own (end_at side (pair_of near far front)).run.value ≡ Some held → setup_of held.stage ≡ Some setup → setup.carrier ≡ Some (Retransmitting machine) → machine.agreed.receive_mps ≡ (policy.wish channel.psm).mps
 long_as_wished near far policy side front behind channel list runs has held setup machine found set is =
     let r = accepted-heard policy list channel.own held setup (Retransmitting machine) (subst (λ (run : Run). held_at channel.own run.value ≡ Some held) runs found) set is in

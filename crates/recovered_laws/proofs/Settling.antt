@@ -80,7 +80,7 @@ open-at own v carrier carries = by (held_at own v) refl carries
 -- ---- what closes a machine
 
 -- its timer does so for want of tries
-timer_closes : (m : Ertm) (wrong : ℕ) (reason : ErtmReason) → m.closed ≡ None → m.sender.polls ≤ wrong → (timed m).closed ≡ Some reason → (reason ≡ RetryLimit) × (m.agreed.tries ≤ wrong)
+pub timer_closes : (m : Ertm) (wrong : ℕ) (reason : ErtmReason) → m.closed ≡ None → m.sender.polls ≤ wrong → (timed m).closed ≡ Some reason → (reason ≡ RetryLimit) × (m.agreed.tries ≤ wrong)
 timer_closes m wrong reason open' few closes = by_poll m.sender.poll (sym (ap (λ s. (open_timed s m).closed) open') ∙ closes)
   where
     never : m.closed ≡ Some reason → (reason ≡ RetryLimit) × (m.agreed.tries ≤ wrong)
@@ -103,7 +103,7 @@ timer_closes m wrong reason open' few closes = by_poll m.sender.poll (sym (ap (�
     by_poll Waits is = late (nat_le m.agreed.tries m.sender.polls) refl is
 
 -- a frame does so too
-frame_closes : (t : Terms) (f : List (List ℕ)) (wrong : ℕ) (p : Machines) (pdu : List ℕ) (rest : List (List ℕ)) (reason : ErtmReason) → Ends t (pdu ∷ rest) f p → Paid wrong p → (machine_heard (answer_in t.mine.receive_mps pdu) p.a.machine).closed ≡ Some reason
+pub frame_closes : (t : Terms) (f : List (List ℕ)) (wrong : ℕ) (p : Machines) (pdu : List ℕ) (rest : List (List ℕ)) (reason : ErtmReason) → Ends t (pdu ∷ rest) f p → Paid wrong p → (machine_heard (answer_in t.mine.receive_mps pdu) p.a.machine).closed ≡ Some reason
     → (reason ≡ RetryLimit) × (p.a.machine.agreed.tries ≤ wrong)
 frame_closes t f wrong p pdu rest reason ends paid closes = by after_stands.only_x
   where
@@ -131,7 +131,7 @@ frame_closes t f wrong p pdu rest reason ends paid closes = by after_stands.only
 
 -- ---- the near end
 
-near_is_paid : (t : Terms) (channel : Channel) (pair : Pair) (wrong : ℕ) → IsMate t.mine channel.own channel.peer pair.near.run.value → IsThere channel.peer pair.far.run.value → Joint t channel (Paid wrong) pair → EndIsPaid wrong channel.own pair.near
+pub near_is_paid : (t : Terms) (channel : Channel) (pair : Pair) (wrong : ℕ) → IsMate t.mine channel.own channel.peer pair.near.run.value → IsThere channel.peer pair.far.run.value → Joint t channel (Paid wrong) pair → EndIsPaid wrong channel.own pair.near
 near_is_paid t channel pair wrong mate (far_held, far_setup, far_found, far_has) h m carries = record {
   given = subst (λ (x : Ertm). AllByRecursion (λ (kept : Kept). kept.given ≤ wrong + 1) x.sender.unacked) (sym same) x.kept.there.affords.given;
   polled = few;
@@ -226,7 +226,7 @@ machines-are_paid near far turns channel uttered read passes have can there beyo
 
 -- ---- calm is quiet
 
-quiet_turned : (pair : Pair) → is_quiet (turned pair) ≡ is_quiet pair
+pub quiet_turned : (pair : Pair) → is_quiet (turned pair) ≡ is_quiet pair
 quiet_turned pair = by (eqb (length pair.near.coming) 0) (eqb (length pair.far.coming) 0) (list_any is_answer pair.near.run.value.queue) (list_any is_answer pair.far.run.value.queue)
   where
     by : (a b c d : Bool) → ((b && a) && (not d && not c)) ≡ ((a && b) && (not c && not d))
@@ -238,12 +238,12 @@ quiet_turned pair = by (eqb (length pair.near.coming) 0) (eqb (length pair.far.c
     by false true c d = refl
     by false false c d = refl
 
-less_upset : (fires quiet rest : Bool) → one_if (fires && not quiet) ≤ one_if (fires && not (quiet && rest))
+pub less_upset : (fires quiet rest : Bool) → one_if (fires && not quiet) ≤ one_if (fires && not (quiet && rest))
 less_upset false quiet rest = omega arith
 less_upset true false rest = omega arith
 less_upset true true rest = omega arith
 
-near_less : (happening : Happening) (pair : Pair) → disturbs happening pair ≤ upsets happening pair
+pub near_less : (happening : Happening) (pair : Pair) → disturbs happening pair ≤ upsets happening pair
 near_less (Acts occurrence) pair = less_upset (is_firing occurrence) (is_quiet pair) (not (list_any gives pair.near.run.value.held) && not (owes pair.far.run.value))
 near_less (Puts pdu) pair = omega arith
 near_less Takes pair = omega arith
@@ -251,7 +251,7 @@ near_less Repeats pair = omega arith
 near_less Loses pair = omega arith
 near_less (Damages pdu) pair = omega arith
 
-disturbs_turned : (happening : Happening) (pair : Pair) → disturbs happening (turned pair) ≡ disturbs happening pair
+pub disturbs_turned : (happening : Happening) (pair : Pair) → disturbs happening (turned pair) ≡ disturbs happening pair
 disturbs_turned (Acts occurrence) pair = ap (λ b. one_if (is_firing occurrence && not b)) (quiet_turned pair)
 disturbs_turned (Puts pdu) pair = refl
 disturbs_turned Takes pair = refl
@@ -259,7 +259,7 @@ disturbs_turned Repeats pair = refl
 disturbs_turned Loses pair = refl
 disturbs_turned (Damages pdu) pair = refl
 
-side_less : (side : Side) (happening : Happening) (pair : Pair) → disturbs happening pair ≤ upsets happening (seen_from side pair)
+pub side_less : (side : Side) (happening : Happening) (pair : Pair) → disturbs happening pair ≤ upsets happening (seen_from side pair)
 side_less Near happening pair = near_less happening pair
 side_less Far happening pair = let same = disturbs_turned happening pair in let less = near_less happening (turned pair) in omega (arith, same, less)
 
@@ -269,7 +269,7 @@ calm-is_quiet pair (turn ∷ turns) = let here = side_less turn.side turn.happen
 
 -- ---- settled hosts
 
-less_disturb : (fires quiet gives owes : Bool) → (fires ≡ true → quiet ≡ true → (gives ≡ false) × (owes ≡ false)) → one_if (fires && not (quiet && (not gives && not owes))) ≤ one_if (fires && not quiet)
+pub less_disturb : (fires quiet gives owes : Bool) → (fires ≡ true → quiet ≡ true → (gives ≡ false) × (owes ≡ false)) → one_if (fires && not (quiet && (not gives && not owes))) ≤ one_if (fires && not quiet)
 less_disturb false quiet gives owes so = omega arith
 less_disturb true false gives owes so = omega arith
 less_disturb true true gives owes so =
@@ -277,7 +277,7 @@ less_disturb true true gives owes so =
     let none : one_if (not (not gives && not owes)) ≡ 0 = ap (λ b. one_if (not (not b && not owes))) silent ∙ ap (λ b. one_if (not (not b))) clear in
     omega (arith, none)
 
-near_settled : (happening : Happening) (pair : Pair) → IsSettledAt happening pair → upsets happening pair ≤ disturbs happening pair
+pub near_settled : (happening : Happening) (pair : Pair) → IsSettledAt happening pair → upsets happening pair ≤ disturbs happening pair
 near_settled (Acts occurrence) pair so = less_disturb (is_firing occurrence) (is_quiet pair) (list_any gives pair.near.run.value.held) (owes pair.far.run.value) so
 near_settled (Puts pdu) pair so = omega arith
 near_settled Takes pair so = omega arith
@@ -285,11 +285,11 @@ near_settled Repeats pair so = omega arith
 near_settled Loses pair so = omega arith
 near_settled (Damages pdu) pair so = omega arith
 
-side_settled : (side : Side) (happening : Happening) (pair : Pair) → IsSettledAt happening (seen_from side pair) → upsets happening (seen_from side pair) ≤ disturbs happening pair
+pub side_settled : (side : Side) (happening : Happening) (pair : Pair) → IsSettledAt happening (seen_from side pair) → upsets happening (seen_from side pair) ≤ disturbs happening pair
 side_settled Near happening pair so = near_settled happening pair so
 side_settled Far happening pair so = let same = disturbs_turned happening pair in let less = near_settled happening (turned pair) so in omega (arith, same, less)
 
-all_settled : (near far : Policy) (past rest : List Turn) → EachAfter (λ front turn. IsSettledAt turn.happening (seen_from turn.side (pair_of near far front))) past rest → all_upsets (pair_of near far past) rest ≤ disturbances (pair_of near far past) rest
+pub all_settled : (near far : Policy) (past rest : List Turn) → EachAfter (λ front turn. IsSettledAt turn.happening (seen_from turn.side (pair_of near far front))) past rest → all_upsets (pair_of near far past) rest ≤ disturbances (pair_of near far past) rest
 all_settled near far past [] so = omega arith
 all_settled near far past (turn ∷ rest) (now, so) =
     let next : pair_of near far (past ++ turn ∷ []) ≡ pair_after (pair_of near far past) turn = fold-append pair_after (new_pair near far) past (turn ∷ []) in

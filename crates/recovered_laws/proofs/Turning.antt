@@ -74,7 +74,7 @@ Joint t channel K pair = Here pair.near.policy channel.own (Both t (under_way ch
 
 -- ---- a timer that fires again does nothing
 
-timed-twice : (m : Ertm) → timed (timed m) ≡ timed m
+pub timed-twice : (m : Ertm) → timed (timed m) ≡ timed m
 timed-twice m = by m.closed refl
   where
     polled : m.closed ≡ None → timed (polling m) ≡ polling m
@@ -98,15 +98,15 @@ timed-twice m = by m.closed refl
     by None is = poll_by m.sender.poll refl is
 
 -- the ends as they were, or with the near one's timer fired
-abbrev Woken : (Machines → Type 0) → Machines → Type 0
+abbrev pub Woken : (Machines → Type 0) → Machines → Type 0
 Woken K p = K p ⊎ ((q : Machines) × StandsBoth q × K q × (p ≡ machines_turned (ByA Fire) q))
 
-woken_again : (K : Machines → Type 0) → FiresOn true (Woken K)
+pub woken_again : (K : Machines → Type 0) → FiresOn true (Woken K)
 woken_again K on p stands (inl k) = inr (p, stands, k, refl)
 woken_again K on p stands (inr (q, before, k, is)) =
     inr (q, before, k, ap (machines_turned (ByA Fire)) is ∙ ap (λ m. let a : MachineEnd = record q.a { machine = m } in let now : Machines = record { a = a; b = q.b } in now) (timed-twice q.a.machine))
 
-gave_machine : (given : Option Giving) (e : MachineEnd) → (gave given e).machine ≡ after_by given e.machine
+pub gave_machine : (given : Option Giving) (e : MachineEnd) → (gave given e).machine ≡ after_by given e.machine
 gave_machine None e = refl
 gave_machine (Some g) e = refl
 
@@ -119,7 +119,7 @@ pub record GivesAt (stage : Stage) (given : Given) : Type 0 where
   pub to : peer_of stage ≡ Some peer
   pub it : some_carrier_gives setup.carrier peer ≡ Some given
 
-gives_at : (stage : Stage) (given : Given) → stage_gives stage ≡ Some given → GivesAt stage given
+pub gives_at : (stage : Stage) (given : Given) → stage_gives stage ≡ Some given → GivesAt stage given
 gives_at (Requested request) given is = cc
 gives_at (Connected peer setup) given is = record { setup = setup; peer = peer; has = refl; to = refl; it = is }
 gives_at (Leaving peer setup request) given is = record { setup = setup; peer = peer; has = refl; to = refl; it = is }
@@ -540,7 +540,7 @@ module _ (t : Terms) (channel : Channel) (pair : Pair) (K L : Machines → Type 
       by (inr bad) = damage_so pdu other (under_way own coming) BadFcs bad refl move
 
 -- with what comes first
-under : (t : Terms) (channel : Channel) (pair : Pair) (K : Machines → Type 0) {coming : List (List ℕ)} → pair.near.coming ≡ coming → Joint t channel K pair
+pub under : (t : Terms) (channel : Channel) (pair : Pair) (K : Machines → Type 0) {coming : List (List ℕ)} → pair.near.coming ≡ coming → Joint t channel K pair
     → Here pair.near.policy channel.own (Both t (under_way channel.own coming) (under_way channel.peer pair.far.coming) K pair.far.policy channel.peer pair.far.run.value) pair.near.run.value
 under t channel pair K {coming} is h = subst (λ c. Here pair.near.policy channel.own (Both t (under_way channel.own c) (under_way channel.peer pair.far.coming) K pair.far.policy channel.peer pair.far.run.value) pair.near.run.value) is h
 

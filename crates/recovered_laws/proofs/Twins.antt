@@ -56,10 +56,10 @@ here-same policy own Q v w held_is next_is h = record { held = subst (HeldKeeps 
 -- ---- what it does by itself
 
 -- where it is the one
-abbrev Its : (own : ℕ) → OfEnd → ℕ → OfCarrier
+abbrev pub Its : (own : ℕ) → OfEnd → ℕ → OfCarrier
 Its own Q other wish leaving opened carrier = other ≡ own → Q opened carrier
 
-spread : (policy : Policy) (own : ℕ) (Q : OfEnd) (other : ℕ) (held : Option Held) → (other ≡ own → HeldKeeps policy (On Q) held) → HeldKeeps policy (Its own Q other) held
+pub spread : (policy : Policy) (own : ℕ) (Q : OfEnd) (other : ℕ) (held : Option Held) → (other ≡ own → HeldKeeps policy (On Q) held) → HeldKeeps policy (Its own Q other) held
 spread policy own Q other None was = tt
 spread policy own Q other (Some held) was = by held.stage was
   where
@@ -132,7 +132,7 @@ abbrev pub Far : Policy → (other : ℕ) → Channels → (Bool → Option Carr
 Far policy other w R opened carrier = Here policy other (R opened carrier) w
 
 -- what is so of two ends is so whichever comes first
-here_at : (policy : Policy) (own : ℕ) (Q : OfEnd) (v : Channels) (held : Held) (stage : Stage) → held_at own v ≡ Some held → held.stage ≡ stage → Here policy own Q v → StageKeeps (On Q) (policy.wish held.psm) stage
+pub here_at : (policy : Policy) (own : ℕ) (Q : OfEnd) (v : Channels) (held : Held) (stage : Stage) → held_at own v ≡ Some held → held.stage ≡ stage → Here policy own Q v → StageKeeps (On Q) (policy.wish held.psm) stage
 here_at policy own Q v held stage found is h = subst (StageKeeps (On Q) (policy.wish held.psm)) is (subst (HeldKeeps policy (On Q)) found h.held)
 
 pub here-turned : (near far : Policy) (own other : ℕ) (v w : Channels) (R : Bool → Option Carrier → OfEnd) → Here near own (Far far other w R) v
@@ -152,19 +152,19 @@ here-turned near far own other v w R h = record { held = of (held_at other w) re
 
 -- ---- they go on
 
-new_holds : (wish : Wish) (agreed : Agreed) (e : End) (opened : Bool) (carrier : Carrier) → IsAccepted wish carrier → e ≡ new_end agreed → Holds agreed e opened (Some carrier)
+pub new_holds : (wish : Wish) (agreed : Agreed) (e : End) (opened : Bool) (carrier : Carrier) → IsAccepted wish carrier → e ≡ new_end agreed → Holds agreed e opened (Some carrier)
 new_holds wish agreed e opened carrier accepted new = by (new-carrier wish carrier accepted)
   where
     by : ((a : Agreed) × (carrier ≡ Plain a None) × (wish.mode ≡ Basic)) ⊎ ((a : Agreed) × IsNew wish a carrier) → Holds agreed e opened (Some carrier)
     by (inl (a, is, basic)) = subst (λ c. Holds agreed e opened (Some c)) (sym is) new
     by (inr (a, made)) = subst (λ c. Holds agreed e opened (Some c)) (sym made.is) (inl (a, refl, new))
 
-still_new : (agreed : Agreed) (e : End) (opened : Bool) (carrier : Carrier) → opened ≡ false → Holds agreed e opened (Some carrier) → e ≡ new_end agreed
+pub still_new : (agreed : Agreed) (e : End) (opened : Bool) (carrier : Carrier) → opened ≡ false → Holds agreed e opened (Some carrier) → e ≡ new_end agreed
 still_new agreed e opened (Plain a waiting) shut holds = holds
 still_new agreed e opened (Retransmitting machine) shut (inl (a, is, new)) = new
 still_new agreed e opened (Retransmitting machine) shut (inr (is, now, open')) = let never : true ≡ false = sym now ∙ shut in absurd cc
 
-stays_open : (before after : Bool) → (after ≡ false → before ≡ false) → before ≡ true → after ≡ true
+pub stays_open : (before after : Bool) → (after ≡ false → before ≡ false) → before ≡ true → after ≡ true
 stays_open before true shut now = refl
 stays_open before false shut now = let never : true ≡ false = sym now ∙ shut refl in absurd cc
 

@@ -27,7 +27,7 @@ pub record MayWake (x y : End) : Type 0 where
 
 -- ---- something is to blame
 
-by_poll : (poll : Poll) (a next c gap spare : ℕ) (polled : Bool) (reply : Reply) → polled ≡ false → reply ≡ NoReply → (poll ≡ NoPoll → a + next ≤ c → a ≡ c → ⊥) → (poll ≡ Due → ⊥) → Moves poll a next c gap spare [] polled reply [] → 1 ≤ gap + spare
+pub by_poll : (poll : Poll) (a next c gap spare : ℕ) (polled : Bool) (reply : Reply) → polled ≡ false → reply ≡ NoReply → (poll ≡ NoPoll → a + next ≤ c → a ≡ c → ⊥) → (poll ≡ Due → ⊥) → Moves poll a next c gap spare [] polled reply [] → 1 ≤ gap + spare
 by_poll NoPoll a next c gap spare polled reply unpolled unreplied never due (inr some, other) = let none : rej_due reply ≡ 0 = rw unreplied refl in omega arith
 by_poll NoPoll a next c gap spare polled reply unpolled unreplied never due (inl low, inl (inl same)) = absurd (never refl low same)
 by_poll NoPoll a next c gap spare polled reply unpolled unreplied never due (inl low, inl (inr (inl e))) = let f : true ≡ false = sym e ∙ unpolled in cc

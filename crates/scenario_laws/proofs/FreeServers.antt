@@ -19,13 +19,11 @@ use Rattle.radio_world.specs.push_terms.specs.declared.word.Side.TheVariants as 
 use Rattle.host_laws.specs.turn_laws.proofs.Recounting.{HoldsAtRests}
 use Rattle.host_laws.specs.world_model.specs.Worlds.{Happening, all_entries}
 use Rattle.scenario_laws.specs.Captures.{client_of, server_of, beginning}
-use Rattle.scenario_laws.specs.FreeServers.{ServersAreFree, ServersLiveOverLinks, ServersRestSo, ServersServeSo}
-use Rattle.scenario_laws.specs.Gains.{holding}
+use Rattle.scenario_laws.specs.FreeServers.{ServersAreFree, ServersLiveOverLinks, ServersRestSo}
 use Rattle.scenario_laws.specs.Gentle.{IsFreeAct, AreFreeUp}
 use Rattle.scenario_laws.proofs.Acting.{Anyhow}
 use Rattle.scenario_laws.proofs.Both.{AreReady, idle_acted, both_acted}
 use Rattle.scenario_laws.proofs.Carrying.{carried, carried_so}
-use Rattle.scenario_laws.proofs.Coming.{runs_have_talks}
 use Rattle.scenario_laws.proofs.Free.{free_where, ready, came_so}
 use Rattle.scenario_laws.proofs.Freeing.{all_one, server-free_at}
 use Rattle.scenario_laws.proofs.Fronts.{fits}
@@ -91,12 +89,3 @@ servers_rest_so asks scenario content happenings world happened rests =
     let idle = all.rests rests in
     let lives = rests_are_lived asks scenario content happenings world happened rests in
     came_so server (asks.servers scenario.settings content) sides.B past world.radio.b.up world.b.upper all.talk_b (idle_acted V X _ idle.idle_b both.b) all.links_b lives.b (server-free_at scenario content happenings world happened)
-
--- ---- a server that serves
-
-pub servers_serve_so : ServersServeSo
-servers_serve_so asks scenario before capture ran serves =
-    let came = (runs_have_talks scenario (holding before) capture ran).b in
-    let so = servers_live_over_links asks scenario (holding before) capture ran came in
-    let both = serves came so in
-    record { came = came; so = so; comes = both.0; whole = both.1 }

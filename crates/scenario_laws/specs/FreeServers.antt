@@ -1,27 +1,18 @@
 -- The server of a run is free, however it came to its links, and lives through its talk, with no premise (this project's own).
-use Rattle.std.specs.Prelude.{true, false, List, [], Option}
-use Rattle.std.specs.List.{AllByRecursion, flat_map}
-use Rattle.radio_world.specs.bt_base.specs.Objects.{Object, Contents}
-use Rattle.radio_world.specs.bt_base.specs.declared.settings.Settings.{Settings}
+use Rattle.std.specs.Prelude.{false, List, Option}
+use Rattle.radio_world.specs.bt_base.specs.Objects.{Contents}
 use Rattle.radio_world.specs.push_script.specs.declared.scenario.Scenario.{Scenario}
 use Rattle.radio_world.specs.push_terms.specs.declared.word.Side.TheVariants as sides
 use Rattle.radio_world.specs.capture.specs.Entries.{Entry}
 use Rattle.radio_world.specs.capture.specs.Links.{link_up}
-use Rattle.host_laws.specs.channel_model.specs.Policies.{policy}
-use Rattle.host_laws.specs.push_laws.specs.Occurrences.{begun}
-use Rattle.host_laws.specs.push_laws.specs.Premises.{AllMayCome}
 use Rattle.host_laws.specs.world_model.specs.Worlds.{Happening, IsAtRest, all_entries}
 use Rattle.host_laws.specs.host_model.specs.Hosts.{Host, first_host}
-use Rattle.host_laws.specs.host_model.specs.Servers.{ServerProfile, server_profile}
+use Rattle.host_laws.specs.host_model.specs.Servers.{server_profile}
 use Rattle.host_laws.specs.Calls.{HostsAsk}
-use Rattle.host_laws.specs.InOrder.{IsWhole}
-use Rattle.host_laws.specs.Lives.{on_links}
-use Rattle.host_laws.specs.OverLinks.{talk_marks, TalksOverLinks}
+use Rattle.host_laws.specs.OverLinks.{TalksOverLinks}
 use Rattle.scenario_laws.specs.Captures.{client_of, server_of, BothHosts, Happened, Ran}
 use Rattle.scenario_laws.specs.Coming.{CameOver}
-use Rattle.scenario_laws.specs.Gains.{holding, serving, asked_by, all_served}
 use Rattle.scenario_laws.specs.Gentle.{AreFreeUp, CameSoAt}
-use Rattle.scenario_laws.specs.Orderly.{ServesSo}
 
 -- Where host b hears a PDU or its timer fires, nothing is held back, and a firing says what waits to be given behind it.
 abbrev pub ServersAreFree : Type 0
@@ -38,16 +29,3 @@ ServersLiveOverLinks = (asks : HostsAsk) (scenario : Scenario) (content : Option
 abbrev pub ServersRestSo : Type 0
 ServersRestSo = (asks : HostsAsk) (scenario : Scenario) (content : Option Contents) (happenings : List Happening) (world : BothHosts) → Happened scenario content happenings world → IsAtRest (client_of scenario) (server_of scenario content) world
     → CameSoAt (server_profile scenario.settings content) (asks.servers scenario.settings content) (link_up sides.B (all_entries happenings)) world.b.upper
-
--- ---- a server that serves
-
--- However host b came to what the capture has of its links and lived through it, no call of its inbox fails, no request is ignored, and all
--- that comes on its channels is handed up.
-abbrev pub ServesAnyhow : HostsAsk → Settings → List Object → List Entry → Host ServerProfile → Type 0
-ServesAnyhow asks settings before capture now =
-    (came : CameOver (serving settings before) sides.B capture now) (so : TalksOverLinks (serving settings before) (asked_by asks settings before) came.talk now) → AllMayCome settings [] (begun settings (holding before)) (all_served asks settings before came.talk now so)
-    × AllByRecursion (IsWhole (policy settings true)) (on_links (serving settings before) (asked_by asks settings before) (flat_map talk_marks came.talk) now so.lives)
-
--- Then there is such a way, since each run has a talk and its server lives through it: no law on servers in order asks for that besides.
-abbrev pub ServersServeSo : Type 0
-ServersServeSo = (asks : HostsAsk) (scenario : Scenario) (before : List Object) (capture : List Entry) (ran : Ran scenario (holding before) capture) → ServesAnyhow asks scenario.settings before capture ran.world.b.upper → ServesSo asks scenario.settings before capture ran.world.b.upper

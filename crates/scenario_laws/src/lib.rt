@@ -11,7 +11,7 @@ ghost use Rattle.scenario_laws.specs.Clauses.{ScenariosEnd};
 ghost use Rattle.scenario_laws.specs.Coming.{RestsHaveTalks, RunsHaveTalks};
 ghost use Rattle.scenario_laws.specs.Early.{BrokenGoesOn, EarlyEndsGain, FrontsSpellFronts};
 ghost use Rattle.scenario_laws.specs.FreeClients.{ClientsAreFree, ClientsLiveOverLinks};
-ghost use Rattle.scenario_laws.specs.FreeServers.{ServersAreFree, ServersLiveOverLinks, ServersRestSo, ServersServeSo};
+ghost use Rattle.scenario_laws.specs.FreeServers.{ServersAreFree, ServersLiveOverLinks, ServersRestSo};
 ghost use Rattle.scenario_laws.specs.Gentle.{FreeRestsAreLived, FreeRunsAreGentle, HostsAreGentle, PdusHaveOneCommand, RestsAreLived, RunsAreFree, RunsHoldBackNothing, RunsRestFree};
 ghost use Rattle.scenario_laws.specs.Gains.{FirstServersAreOrderly, GainsExactly, GainsOverEither, ServersAreRead};
 ghost use Rattle.scenario_laws.specs.Orderly.{ClientsAskOnce, HostsLiveOverLinks, ServersAreAskedOnce, ServersAreOrderly};
@@ -254,12 +254,6 @@ pub fn clients_live_over_links()
 /// is that, but for what it gave up.
 pub fn servers_rest_so()
     ensures { ServersRestSo }
-{}
-
-/// Where host b serves, however it came to what the capture has and lived through it, it came to it and lived so, which servers in order are
-/// asked for.
-pub fn servers_serve_so()
-    ensures { ServersServeSo }
 {}
 
 /// The server of a run gives up no request while its link goes on, and waits for no services: what is asked of both hosts so that they are plain is asked of the client alone.
