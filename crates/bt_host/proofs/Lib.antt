@@ -23,4 +23,3 @@ pub mod Played
 pub mod PlayedServers
 pub mod PlayedClients
 pub mod Naming
-pub mod Beginning

@@ -34,3 +34,4 @@ pub mod Stopping
 pub mod PlayingLaws
 pub mod NotingLaws
 pub mod SpeakingLaws
+pub mod BeginningLaws

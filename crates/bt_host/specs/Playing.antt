@@ -14,10 +14,20 @@ use Rattle.line_laws.specs.Seeing.{seen, IsSeen}
 use Rattle.bt_host.specs.Uppers.{asking}
 use Rattle.bt_host.specs.Stacks.{Stacked, IsResting}
 use Rattle.bt_host.specs.Shells.{Shelled}
+use Rattle.bt_host.specs.Newness as served
+use Rattle.bt_host.specs.Pushing as pushed
 use Rattle.bt_host.specs.Pushing.{Pushes}
+use Rattle.bt_host.specs.Refusals.{fresh_framing}
 use Rattle.bt_host.specs.Serving.{Served, Works}
 use Rattle.bt_host.specs.Noting.{Noted}
 use Rattle.bt_host.specs.NotedHosts.{noted_client, client_noting, noted_server, server_noting}
+
+-- hosts to which nothing has happened
+abbrev pub fresh_client : Settings → Shelled (Noted ClientProfile)
+fresh_client settings = record { framing = fresh_framing; stack = pushed.new_stack settings; refusal = None }
+
+abbrev pub fresh_server : Settings → Shelled (Noted Served)
+fresh_server settings = record { framing = fresh_framing; stack = served.new_stack settings; refusal = None }
 
 -- what stands above its line, with its settings, for all that its port may answer from now on
 abbrev pub set_host : {E S P : Type 0} → (E → P → List Circumstance → S) → P → Stacked E → List Circumstance → SetHost S

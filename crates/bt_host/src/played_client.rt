@@ -3,9 +3,10 @@
 use crate::client_host::ClientHost;
 use crate::fed::want;
 use crate::shell::feed_stack;
-use bt_base::{NoMemory, Shelf};
+use bt_base::{NoMemory, Settings, Shelf};
 use push_terms::Outcome;
 use radio_world::{Client, Host, Measured};
+use std::alloc::Global;
 
 impl<F: Shelf> Host<F> for ClientHost {
     ghost use Rattle.push_terms.specs.declared.word.Side.TheVariants.{A};
@@ -17,8 +18,9 @@ impl<F: Shelf> Host<F> for ClientHost {
     ghost use Rattle.bt_host.specs.NotedHosts.{noted_client, noted_client_machine, client_noting};
     ghost use Rattle.bt_host.specs.PushingLaws as laws;
     ghost use Rattle.bt_host.specs.PushingLaws.{Answers};
-    ghost use Rattle.bt_host.specs.Playing.{playing, PushesSoundly};
+    ghost use Rattle.bt_host.specs.Playing.{fresh_client, playing, PushesSoundly};
     ghost use Rattle.bt_host.specs.PlayingLaws.{joined, stops};
+    ghost use Rattle.bt_host.specs.BeginningLaws.{client_begins};
     ghost use Rattle.bt_host.specs.SpeakingLaws.{speaks};
     ghost use Rattle.shelf_model.specs.host_model.specs.Hosts.{most_said};
 
@@ -41,6 +43,12 @@ impl<F: Shelf> Host<F> for ClientHost {
     ghost answers = { Answers F.content F.faults F.shortages };
 
     ghost lacked = { Lacks F.shortages };
+
+    ghost fresh = { fresh_client };
+
+    fn new(alloc: Global, settings: &Settings) -> Result<ClientHost, NoMemory> {
+        ClientHost::new(alloc, settings)
+    }
 
     fn out(&self) -> &[u8] {
         ClientHost::out(self)
@@ -68,6 +76,8 @@ impl<F: Shelf> Host<F> for ClientHost {
     fn has_fcs(&self, channel: u16) -> bool {
         ClientHost::has_fcs(self, channel)
     }
+
+    ghost begins = { λ settings shelf unused. client_begins F.content settings shelf };
 
     ghost lacks = { laws.lacks F.content F.faults F.shortages };
 

@@ -3,10 +3,12 @@
 use crate::fed::want;
 use crate::server_host::ServerHost;
 use crate::shell::feed_stack;
-use bt_base::{Inbox, NoMemory};
+use bt_base::{Inbox, NoMemory, Settings};
 use radio_world::{Host, Measured};
+use std::alloc::Global;
 
 impl<I: Inbox> Host<I> for ServerHost {
+    ghost use Rattle.std.specs.Prelude.{◌≡◌, false};
     ghost use Rattle.push_terms.specs.declared.word.Side.TheVariants.{B};
     ghost use Rattle.shelf_model.specs.host_model.specs.Circumstances.{Circumstance};
     ghost use Rattle.shelf_model.specs.host_model.specs.Servers.{ServerProfile};
@@ -15,8 +17,9 @@ impl<I: Inbox> Host<I> for ServerHost {
     ghost use Rattle.bt_host.specs.Noting.{Noted};
     ghost use Rattle.bt_host.specs.NotedHosts.{noted_server_machine, noted_server, server_noting};
     ghost use Rattle.bt_host.specs.ServingLaws as laws;
-    ghost use Rattle.bt_host.specs.Playing.{playing, ServesSoundly};
+    ghost use Rattle.bt_host.specs.Playing.{fresh_server, playing, ServesSoundly};
     ghost use Rattle.bt_host.specs.PlayingLaws.{joined, stops};
+    ghost use Rattle.bt_host.specs.BeginningLaws.{server_begins};
     ghost use Rattle.bt_host.specs.SpeakingLaws.{speaks};
     ghost use Rattle.shelf_model.specs.host_model.specs.Hosts.{most_said};
 
@@ -39,6 +42,14 @@ impl<I: Inbox> Host<I> for ServerHost {
     ghost answers = { Asks I.faults I.shortages };
 
     ghost lacked = { Lacks I.shortages };
+
+    ghost is_unused = { λ inbox. I.is_pending inbox ≡ false };
+
+    ghost fresh = { fresh_server };
+
+    fn new(alloc: Global, settings: &Settings) -> Result<ServerHost, NoMemory> {
+        ServerHost::new(alloc, settings)
+    }
 
     fn out(&self) -> &[u8] {
         ServerHost::out(self)
@@ -66,6 +77,8 @@ impl<I: Inbox> Host<I> for ServerHost {
     fn has_fcs(&self, channel: u16) -> bool {
         ServerHost::has_fcs(self, channel)
     }
+
+    ghost begins = { λ settings inbox unused. server_begins I.content I.is_pending settings inbox unused };
 
     ghost lacks = { laws.lacks I.faults I.shortages };
 

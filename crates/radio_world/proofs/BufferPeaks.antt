@@ -1,27 +1,27 @@
 -- The greatest numbers of outstanding packets, as they are noted, are those of the capture.
-use Rattle.std.proofs.Common.{◌≡◌, ℕ, ◌+◌, ◌≤◌, ◌^◌, ◌-◌, ◌==◌, ◌&&◌, ◌⊎◌, Bool, true, false, List, [], ◌∷◌, ◌++◌, map, fold, max, min, Option, Some, None, IfSome, is_none, nat_le, if◌then◌else◌, inl, inr, refl, sym, ap, subst, ◌∙◌, append_assoc, arith}
+use Rattle.std.proofs.Common.{◌≡◌, ℕ, ◌+◌, ◌≤◌, ◌-◌, ◌==◌, ◌&&◌, ◌⊎◌, Bool, true, false, List, [], ◌∷◌, ◌++◌, map, fold, Option, Some, None, is_none, nat_le, if◌then◌else◌, inl, inr, refl, sym, ap, subst, ◌∙◌, append_assoc, arith}
 use Rattle.std.specs.Option.{option_map, option_or}
-use Rattle.std.proofs.lemmas.Bool.{eq-eqb, leb-true}
+use Rattle.std.proofs.lemmas.Bool.{eq-eqb}
 use Rattle.std.proofs.lemmas.List.{append-nil}
 use Rattle.std.proofs.lemmas.Grind.{flat_map-append}
 use Rattle.h4_framing.specs.Packets.{Packet, Command, Acl, Sync, Event}
 use Rattle.room_laws.specs.hci_packets.specs.Events.{event_refusal}
 use Rattle.room_laws.specs.hci_packets.specs.Events.{entries_of as returned_in}
-use Rattle.room_laws.specs.acl_credits.specs.Histories.{BufferEvent, Completed, outstanding_after}
+use Rattle.room_laws.specs.acl_credits.specs.Histories.{Completed, outstanding_after}
 use Rattle.push_terms.specs.declared.word.Side.{Side}
 use Rattle.push_terms.specs.declared.word.Side.TheVariants.{A, B}
 use Rattle.capture.specs.declared.flow.Flow.TheVariants.{Out, Into}
 use Rattle.capture.specs.Entries.{Entry, Moved}
 use Rattle.capture.specs.Moves.{Move, move_of, moves}
-use Rattle.capture.specs.Links.{Link, Linking, LinkNews, Asked, Answered, LinkEnded, NoNews, longer, made, after_news, after_move, ends_with, link_news, linking}
-use Rattle.capture.specs.Buffers.{given_back, buffer_events, outstanding_on_link, outstanding_of, all_outstanding}
+use Rattle.capture.specs.Links.{Link, Linking, LinkNews, Asked, Answered, LinkEnded, NoNews, longer, after_news, after_move, ends_with, link_news, linking}
+use Rattle.capture.specs.Buffers.{buffer_events, outstanding_on_link, outstanding_of, all_outstanding}
 use Rattle.capture.specs.Laws.{led_on}
 use Rattle.capture.specs.Peaks.{buffers_peak}
 use Rattle.capture.proofs.MoreLaws.{outstanding-more}
 use Rattle.capture.proofs.FurtherLaws.{entry_links-more, peak-more}
 use Rattle.radio_air.specs.Controllers.{Controller}
 use Rattle.radio_air.specs.Owed.{back, outstanding_at}
-use Rattle.radio_air.specs.Radio.{Radio, controller}
+use Rattle.radio_air.specs.Radio.{Radio}
 use Rattle.room_laws.specs.world_model.specs.Machines.{Upper}
 use Rattle.room_laws.specs.world_model.specs.Stations.{Order, order_packet}
 use Rattle.room_laws.specs.world_model.specs.Worlds.{World, Happening, Tries, Departure, GivingBack, Piecemeal, Answering, Turns, Misses, Opens, Closes, Runs, all_entries, entries_of, first_world}
@@ -31,8 +31,8 @@ use Rattle.room_laws.specs.air_laws.proofs.Balancing.{booked_all}
 use Rattle.room_laws.specs.air_laws.proofs.Following.{runs_then}
 use Rattle.room_laws.specs.air_laws.proofs.Owing.{keeps_of}
 use Rattle.radio_world.specs.BufferPeaks.{BufferPeaksAreSeen}
-use Rattle.radio_world.specs.Leaving.{Medium, in_radio, noted, outstanding_now}
-use Rattle.radio_world.specs.Scenes.{Moment, world_at, Happens, Plays, noted_of}
+use Rattle.radio_world.specs.Leaving.{Medium, in_radio, noted}
+use Rattle.radio_world.specs.Scenes.{Moment, world_at, Plays, noted_of}
 use Rattle.radio_world.specs.Standing.{IsCount, starting, first_moment}
 use Rattle.radio_world.proofs.Starting.{orderly_from, runs_from}
 

@@ -24,3 +24,4 @@ pub mod Overrunning
 mod Breaking
 pub mod Broken
 pub mod BufferPeaks
+mod Beginning

@@ -30,3 +30,5 @@ pub mod Shortages
 pub mod Crowds
 pub mod BufferPeaks
 pub mod Breaking
+pub mod Beginning
+pub mod Calls

@@ -1,6 +1,7 @@
 //! A host as the world sees it.
 
-ghost use Rattle.std.specs.Prelude.{◌≡◌, ◌≤◌, [], ℕ, true, List, length, OnOk, OnErr};
+ghost use Rattle.std.specs.Prelude.{◌≡◌, ◌≤◌, [], ℕ, true, List, length, IfOk, OnOk, OnErr};
+ghost use Rattle.bt_base.specs.declared.settings.Settings.{Settings as Stated};
 ghost use Rattle.push_script.specs.Names.{utf16_length};
 ghost use Rattle.push_terms.specs.declared.word.Side.{Side};
 ghost use Rattle.room_laws.specs.world_model.specs.Machines.{Upper, TimerFired, Cancelled, Opening};
@@ -8,9 +9,11 @@ ghost use Rattle.room_laws.specs.world_model.specs.Stations.{IsStopped, told};
 ghost use Rattle.radio_world.specs.Measures.{IsMostOf};
 ghost use Rattle.radio_world.specs.Speaking.{SpeaksWithin};
 ghost use Rattle.radio_world.specs.Hosts.{Asking, answering, order_octets, AreSent, Reacts, Hears, JoinAnswers};
+ghost use Rattle.radio_world.specs.Beginning.{Begins};
 
-use bt_base::NoMemory;
+use bt_base::{NoMemory, Settings};
 use push_terms::Outcome;
+use std::alloc::Global;
 
 /// A host as the world sees it: octets in, octets out. `P` is the port that it works on.
 ///
@@ -50,6 +53,17 @@ pub trait Host<P>: Drop {
     /// that is.
     ghost lacked: { P → P → Type 0 } = { λ _ _. Unit {0} };
 
+    /// What a new host needs its port to be: nothing, where a host does not say what that is.
+    ghost is_unused: { P → Type 0 } = { λ _. Unit {0} };
+
+    /// What a new host of these settings is.
+    ghost fresh: { Stated → Self };
+
+    /// A host to which nothing has happened, with these settings. `NoMemory` where what it reserves
+    /// cannot be had.
+    fn new(alloc: Global, settings: &Settings) -> Result<Self, NoMemory>
+        ensures { IfOk result (λ host. host ≡ fresh settings.now) };
+
     /// The octets for its controller.
     fn out(&self) -> &[u8]
         ensures octets { (port : P) → is_sound self.now port → result.now ≡ order_octets side (station self.now port).out }
@@ -87,6 +101,9 @@ pub trait Host<P>: Drop {
     /// Whether its channel of that number has a check word.
     fn has_fcs(&self, channel: u16) -> bool
         ensures { (port : P) (rest : List Answer) → result ≡ machine.has_check ((station self.now port).upper rest) channel };
+
+    /// A new host did no more than to begin, holds nothing, and is sound.
+    ghost begins: { (settings : Stated) (port : P) → is_unused port → Begins machine side (station (fresh settings) port) (held (fresh settings)) (is_sound (fresh settings) port) };
 
     /// Lists of answers join.
     ghost joins: { JoinAnswers answers };

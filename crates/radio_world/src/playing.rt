@@ -8,15 +8,13 @@ ghost use Rattle.push_terms.specs.declared.word.Side.TheVariants as sides;
 ghost use Rattle.capture.specs.Entries.{IsEntry, capture_octets};
 ghost use Rattle.capture.specs.Air.{words_of};
 ghost use Rattle.room_laws.specs.rest_laws.specs.Premises.{AreOrderly};
-ghost use Rattle.radio_world.specs.Hosts.{answering};
-ghost use Rattle.radio_world.specs.Scenes.{stage, moment, Advances};
 ghost use Rattle.radio_air.specs.Radio.{found};
 ghost use Rattle.radio_world.specs.Turning.{can_be_done};
-ghost use Rattle.radio_world.specs.Standing.{IsReached, Stands, last_ended, last_entries, all_outcomes};
+ghost use Rattle.radio_world.specs.Standing.{Stands, last_ended, last_entries, all_outcomes};
 ghost use Rattle.room_laws.specs.Rooms.{OwesNoneBack};
 ghost use Rattle.radio_world.specs.Causes.{Blames};
-ghost use Rattle.radio_world.specs.Shortages.{Lacks, LacksByTrace, Wants};
-ghost use Rattle.radio_world.specs.Breaking.{Broken};
+ghost use Rattle.radio_world.specs.Shortages.{LacksByTrace};
+ghost use Rattle.radio_world.specs.Calls.{AdvancesAt, AreReached, BrokenAt, LacksAt, both, ports_of};
 
 use crate::fault::WorldFault;
 use crate::host::{Client, Host};
@@ -39,18 +37,18 @@ impl Scene {
         trace: &mut T,
     ) -> Result<(), WorldFault>
         requires orderly { AreOrderly A.Host.machine B.machine }
-        requires reached { (rest_a : List A.Host.Answer) (rest_b : List B.Answer) → IsReached A.Host.machine B.machine (moment self.old (answering rest_a (A.Host.station a.old shelf.old)) (answering rest_b (B.station b.old inbox.old))) }
+        requires reached { AreReached A.Host B.Host (both a.old b.old self.old) shelf.old inbox.old }
         requires none_back { OwesNoneBack self.old.medium.radio }
         requires sides { (A.Host.side ≡ sides.A) × (B.side ≡ sides.B) }
         requires none_held { (A.Host.held a.old ≡ []) × (B.held b.old ≡ []) }
         requires sound { A.Host.is_sound a.old shelf.old × B.is_sound b.old inbox.old }
-        ensures advances { OnOk result (Advances A.Host.machine B.machine A.Host.answers B.answers [] (stage self.old (A.Host.station a.old shelf.old) (B.station b.old inbox.old) shelf.old inbox.old (T.content trace.old)) (stage self.new (A.Host.station a.new shelf.new) (B.station b.new inbox.new) shelf.new inbox.new (T.content trace.new))) }
+        ensures advances { OnOk result (AdvancesAt A.Host B.Host [] (both a.old b.old self.old) (ports_of T.Sink shelf.old inbox.old trace.old) (both a.new b.new self.new) (ports_of T.Sink shelf.new inbox.new trace.new)) }
         ensures stands { OnOk result (Stands A.Host.machine B.machine self.new (A.Host.station a.new shelf.new) (B.station b.new inbox.new)) }
         ensures none_held { OnOk result ((A.Host.held a.new ≡ []) × (B.held b.new ≡ [])) }
         ensures sound { OnOk result (A.Host.is_sound a.new shelf.new × B.is_sound b.new inbox.new) }
         ensures blames { Blames (T.faults trace.old) (T.faults trace.new) result }
-        ensures lacks { Lacks (T.shortages trace.old) (T.shortages trace.new) (Wants A.Host.machine B.machine A.Host.answers B.answers A.Host.lacked B.lacked [] (stage self.old (A.Host.station a.old shelf.old) (B.station b.old inbox.old) shelf.old inbox.old (T.content trace.old)) shelf.new inbox.new (T.content trace.new)) result }
-        ensures breaks { OnErr result (Broken A.Host.machine B.machine A.Host.answers B.answers A.Host.lacked B.lacked B.station [] (stage self.old (A.Host.station a.old shelf.old) (B.station b.old inbox.old) shelf.old inbox.old (T.content trace.old)) shelf.new inbox.new (T.content trace.new)) }
+        ensures lacks { LacksAt A.Host B.Host [] (both a.old b.old self.old) (ports_of T.Sink shelf.old inbox.old trace.old) (ports_of T.Sink shelf.new inbox.new trace.new) result }
+        ensures breaks { OnErr result (BrokenAt A.Host B.Host [] (both a.old b.old self.old) (ports_of T.Sink shelf.old inbox.old trace.old) (ports_of T.Sink shelf.new inbox.new trace.new)) }
     {
         self.settle(a, shelf, b, inbox, trace)?;
         Ok(())
@@ -97,13 +95,13 @@ impl Scene {
         requires sides { (A.Host.side ≡ sides.A) × (B.side ≡ sides.B) }
         requires none_held { (A.Host.held a.old ≡ []) × (B.held b.old ≡ []) }
         requires sound { A.Host.is_sound a.old shelf.old × B.is_sound b.old inbox.old }
-        ensures advances { OnOk result (Advances A.Host.machine B.machine A.Host.answers B.answers (word ∷ []) (stage self.old (A.Host.station a.old shelf.old) (B.station b.old inbox.old) shelf.old inbox.old (T.content trace.old)) (stage self.new (A.Host.station a.new shelf.new) (B.station b.new inbox.new) shelf.new inbox.new (T.content trace.new))) }
+        ensures advances { OnOk result (AdvancesAt A.Host B.Host (word ∷ []) (both a.old b.old self.old) (ports_of T.Sink shelf.old inbox.old trace.old) (both a.new b.new self.new) (ports_of T.Sink shelf.new inbox.new trace.new)) }
         ensures stands { OnOk result (Stands A.Host.machine B.machine self.new (A.Host.station a.new shelf.new) (B.station b.new inbox.new)) }
         ensures none_held { OnOk result ((A.Host.held a.new ≡ []) × (B.held b.new ≡ [])) }
         ensures sound { OnOk result (A.Host.is_sound a.new shelf.new × B.is_sound b.new inbox.new) }
         ensures blames { Blames (T.faults trace.old) (T.faults trace.new) result }
-        ensures lacks { Lacks (T.shortages trace.old) (T.shortages trace.new) (Wants A.Host.machine B.machine A.Host.answers B.answers A.Host.lacked B.lacked (word ∷ []) (stage self.old (A.Host.station a.old shelf.old) (B.station b.old inbox.old) shelf.old inbox.old (T.content trace.old)) shelf.new inbox.new (T.content trace.new)) result }
-        ensures breaks { OnErr result (Broken A.Host.machine B.machine A.Host.answers B.answers A.Host.lacked B.lacked B.station (word ∷ []) (stage self.old (A.Host.station a.old shelf.old) (B.station b.old inbox.old) shelf.old inbox.old (T.content trace.old)) shelf.new inbox.new (T.content trace.new)) }
+        ensures lacks { LacksAt A.Host B.Host (word ∷ []) (both a.old b.old self.old) (ports_of T.Sink shelf.old inbox.old trace.old) (ports_of T.Sink shelf.new inbox.new trace.new) result }
+        ensures breaks { OnErr result (BrokenAt A.Host B.Host (word ∷ []) (both a.old b.old self.old) (ports_of T.Sink shelf.old inbox.old trace.old) (ports_of T.Sink shelf.new inbox.new trace.new)) }
     {
         if self.is_count_full() {
             return Err(WorldFault::NoMemory);
@@ -135,13 +133,13 @@ impl Scene {
         requires sides { (A.Host.side ≡ sides.A) × (B.side ≡ sides.B) }
         requires none_held { (A.Host.held a.old ≡ []) × (B.held b.old ≡ []) }
         requires sound { A.Host.is_sound a.old shelf.old × B.is_sound b.old inbox.old }
-        ensures turns { OnOk result (Advances A.Host.machine B.machine A.Host.answers B.answers (replicate count word) (stage self.old (A.Host.station a.old shelf.old) (B.station b.old inbox.old) shelf.old inbox.old (T.content trace.old)) (stage self.new (A.Host.station a.new shelf.new) (B.station b.new inbox.new) shelf.new inbox.new (T.content trace.new))) }
+        ensures turns { OnOk result (AdvancesAt A.Host B.Host (replicate count word) (both a.old b.old self.old) (ports_of T.Sink shelf.old inbox.old trace.old) (both a.new b.new self.new) (ports_of T.Sink shelf.new inbox.new trace.new)) }
         ensures stands { OnOk result (Stands A.Host.machine B.machine self.new (A.Host.station a.new shelf.new) (B.station b.new inbox.new)) }
         ensures none_held { OnOk result ((A.Host.held a.new ≡ []) × (B.held b.new ≡ [])) }
         ensures sound { OnOk result (A.Host.is_sound a.new shelf.new × B.is_sound b.new inbox.new) }
         ensures blames { Blames (T.faults trace.old) (T.faults trace.new) result }
-        ensures lacks { Lacks (T.shortages trace.old) (T.shortages trace.new) (Wants A.Host.machine B.machine A.Host.answers B.answers A.Host.lacked B.lacked (replicate count word) (stage self.old (A.Host.station a.old shelf.old) (B.station b.old inbox.old) shelf.old inbox.old (T.content trace.old)) shelf.new inbox.new (T.content trace.new)) result }
-        ensures breaks { OnErr result (Broken A.Host.machine B.machine A.Host.answers B.answers A.Host.lacked B.lacked B.station (replicate count word) (stage self.old (A.Host.station a.old shelf.old) (B.station b.old inbox.old) shelf.old inbox.old (T.content trace.old)) shelf.new inbox.new (T.content trace.new)) }
+        ensures lacks { LacksAt A.Host B.Host (replicate count word) (both a.old b.old self.old) (ports_of T.Sink shelf.old inbox.old trace.old) (ports_of T.Sink shelf.new inbox.new trace.new) result }
+        ensures breaks { OnErr result (BrokenAt A.Host B.Host (replicate count word) (both a.old b.old self.old) (ports_of T.Sink shelf.old inbox.old trace.old) (ports_of T.Sink shelf.new inbox.new trace.new)) }
     {
         for done in 0..count {
             if !self.finds(word, a, b) {
@@ -168,13 +166,13 @@ impl Scene {
         requires sides { (A.Host.side ≡ sides.A) × (B.side ≡ sides.B) }
         requires none_held { (A.Host.held a.old ≡ []) × (B.held b.old ≡ []) }
         requires sound { A.Host.is_sound a.old shelf.old × B.is_sound b.old inbox.old }
-        ensures turns { OnOk result (Advances A.Host.machine B.machine A.Host.answers B.answers (words_of script.now) (stage self.old (A.Host.station a.old shelf.old) (B.station b.old inbox.old) shelf.old inbox.old (T.content trace.old)) (stage self.new (A.Host.station a.new shelf.new) (B.station b.new inbox.new) shelf.new inbox.new (T.content trace.new))) }
+        ensures turns { OnOk result (AdvancesAt A.Host B.Host (words_of script.now) (both a.old b.old self.old) (ports_of T.Sink shelf.old inbox.old trace.old) (both a.new b.new self.new) (ports_of T.Sink shelf.new inbox.new trace.new)) }
         ensures stands { OnOk result (Stands A.Host.machine B.machine self.new (A.Host.station a.new shelf.new) (B.station b.new inbox.new)) }
         ensures none_held { OnOk result ((A.Host.held a.new ≡ []) × (B.held b.new ≡ [])) }
         ensures sound { OnOk result (A.Host.is_sound a.new shelf.new × B.is_sound b.new inbox.new) }
         ensures blames { Blames (T.faults trace.old) (T.faults trace.new) result }
-        ensures lacks { Lacks (T.shortages trace.old) (T.shortages trace.new) (Wants A.Host.machine B.machine A.Host.answers B.answers A.Host.lacked B.lacked (words_of script.now) (stage self.old (A.Host.station a.old shelf.old) (B.station b.old inbox.old) shelf.old inbox.old (T.content trace.old)) shelf.new inbox.new (T.content trace.new)) result }
-        ensures breaks { OnErr result (Broken A.Host.machine B.machine A.Host.answers B.answers A.Host.lacked B.lacked B.station (words_of script.now) (stage self.old (A.Host.station a.old shelf.old) (B.station b.old inbox.old) shelf.old inbox.old (T.content trace.old)) shelf.new inbox.new (T.content trace.new)) }
+        ensures lacks { LacksAt A.Host B.Host (words_of script.now) (both a.old b.old self.old) (ports_of T.Sink shelf.old inbox.old trace.old) (ports_of T.Sink shelf.new inbox.new trace.new) result }
+        ensures breaks { OnErr result (BrokenAt A.Host B.Host (words_of script.now) (both a.old b.old self.old) (ports_of T.Sink shelf.old inbox.old trace.old) (ports_of T.Sink shelf.new inbox.new trace.new)) }
     {
         for i in 0..script.len() {
             let Some((count, word)) = script.at(i) else {

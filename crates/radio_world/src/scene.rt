@@ -6,17 +6,15 @@ ghost use Rattle.push_terms.specs.declared.word.Side.TheVariants as sides;
 ghost use Rattle.capture.specs.Entries.{Ended, IsEntry, entry_octets};
 ghost use Rattle.radio_air.specs.Radio.{is_apart, is_quiet};
 ghost use Rattle.room_laws.specs.world_model.specs.Pushes.{next_name, one_ended};
-ghost use Rattle.radio_world.specs.Hosts.{answering};
-ghost use Rattle.radio_world.specs.Counting.{one_if, AdvancesBy, GoesBy};
+ghost use Rattle.radio_world.specs.Counting.{one_if, GoesBy};
 ghost use Rattle.radio_world.specs.Halves.{IsStillIn, MayAllBeHeard, StaysPut};
-ghost use Rattle.radio_world.specs.Scenes.{stage, moment, world_at, may_end, Advances, Begins, Ends};
-ghost use Rattle.radio_world.specs.Standing.{IsReached};
-ghost use Rattle.room_laws.specs.world_model.specs.Worlds.{IsSettled};
+ghost use Rattle.radio_world.specs.Scenes.{may_end, Begins, Ends};
 ghost use Rattle.room_laws.specs.rest_laws.specs.Premises.{AreOrderly};
 ghost use Rattle.room_laws.specs.Rooms.{OwesNoneBack};
 ghost use Rattle.radio_world.specs.Causes.{Blames};
-ghost use Rattle.radio_world.specs.Shortages.{Lacks, LacksByTrace, Shortage, Wants};
-ghost use Rattle.radio_world.specs.Breaking.{BeginBroken, Broken, EndBroken, GoesBroken};
+ghost use Rattle.radio_world.specs.Shortages.{Lacks, LacksByTrace, Shortage};
+ghost use Rattle.radio_world.specs.Breaking.{BeginBroken, EndBroken, GoesBroken};
+ghost use Rattle.radio_world.specs.Calls.{AdvancesAt, AdvancesByAt, AreReached, AreSettled, BrokenAt, LacksAt, both, ports_of};
 
 use crate::fault::WorldFault;
 use crate::host::{Client, Host};
@@ -159,19 +157,19 @@ impl Scene {
         trace: &mut T,
     ) -> Result<bool, WorldFault>
         requires orderly { AreOrderly A.Host.machine B.machine }
-        requires reached { (rest_a : List A.Host.Answer) (rest_b : List B.Answer) → IsReached A.Host.machine B.machine (moment self.old (answering rest_a (A.Host.station a.old shelf.old)) (answering rest_b (B.station b.old inbox.old))) }
+        requires reached { AreReached A.Host B.Host (both a.old b.old self.old) shelf.old inbox.old }
         requires none_back { OwesNoneBack self.old.medium.radio }
         requires sides { (A.Host.side ≡ sides.A) × (B.side ≡ sides.B) }
         requires none_held { (A.Host.held a.old ≡ []) × (B.held b.old ≡ []) }
         requires sound { A.Host.is_sound a.old shelf.old × B.is_sound b.old inbox.old }
-        ensures advances { IfOk result (λ moved. AdvancesBy (one_if moved) A.Host.machine B.machine A.Host.answers B.answers [] (stage self.old (A.Host.station a.old shelf.old) (B.station b.old inbox.old) shelf.old inbox.old (T.content trace.old)) (stage self.new (A.Host.station a.new shelf.new) (B.station b.new inbox.new) shelf.new inbox.new (T.content trace.new))) }
-        ensures settled { result ≡ Ok false → (rest_a : List A.Host.Answer) (rest_b : List B.Answer) → IsSettled A.Host.machine B.machine (world_at (moment self.new (answering rest_a (A.Host.station a.new shelf.new)) (answering rest_b (B.station b.new inbox.new)))) }
+        ensures advances { IfOk result (λ moved. AdvancesByAt (one_if moved) A.Host B.Host [] (both a.old b.old self.old) (ports_of T.Sink shelf.old inbox.old trace.old) (both a.new b.new self.new) (ports_of T.Sink shelf.new inbox.new trace.new)) }
+        ensures settled { result ≡ Ok false → AreSettled A.Host B.Host (both a.new b.new self.new) shelf.new inbox.new }
         ensures none_held { OnOk result ((A.Host.held a.new ≡ []) × (B.held b.new ≡ [])) }
         ensures sound { OnOk result (A.Host.is_sound a.new shelf.new × B.is_sound b.new inbox.new) }
         ensures blames { Blames (T.faults trace.old) (T.faults trace.new) result }
         ensures none_back { OnOk result (OwesNoneBack self.new.medium.radio) }
-        ensures lacks { Lacks (T.shortages trace.old) (T.shortages trace.new) (Wants A.Host.machine B.machine A.Host.answers B.answers A.Host.lacked B.lacked [] (stage self.old (A.Host.station a.old shelf.old) (B.station b.old inbox.old) shelf.old inbox.old (T.content trace.old)) shelf.new inbox.new (T.content trace.new)) result }
-        ensures breaks { OnErr result (Broken A.Host.machine B.machine A.Host.answers B.answers A.Host.lacked B.lacked B.station [] (stage self.old (A.Host.station a.old shelf.old) (B.station b.old inbox.old) shelf.old inbox.old (T.content trace.old)) shelf.new inbox.new (T.content trace.new)) }
+        ensures lacks { LacksAt A.Host B.Host [] (both a.old b.old self.old) (ports_of T.Sink shelf.old inbox.old trace.old) (ports_of T.Sink shelf.new inbox.new trace.new) result }
+        ensures breaks { OnErr result (BrokenAt A.Host B.Host [] (both a.old b.old self.old) (ports_of T.Sink shelf.old inbox.old trace.old) (ports_of T.Sink shelf.new inbox.new trace.new)) }
     {
         let began = self.begin(a, shelf, trace)?;
         let moved_a = self.exchange(Side::A, a, shelf, trace)?;
@@ -191,19 +189,19 @@ impl Scene {
         trace: &mut T,
     ) -> Result<(), WorldFault>
         requires orderly { AreOrderly A.Host.machine B.machine }
-        requires reached { (rest_a : List A.Host.Answer) (rest_b : List B.Answer) → IsReached A.Host.machine B.machine (moment self.old (answering rest_a (A.Host.station a.old shelf.old)) (answering rest_b (B.station b.old inbox.old))) }
+        requires reached { AreReached A.Host B.Host (both a.old b.old self.old) shelf.old inbox.old }
         requires none_back { OwesNoneBack self.old.medium.radio }
         requires sides { (A.Host.side ≡ sides.A) × (B.side ≡ sides.B) }
         requires none_held { (A.Host.held a.old ≡ []) × (B.held b.old ≡ []) }
         requires sound { A.Host.is_sound a.old shelf.old × B.is_sound b.old inbox.old }
-        ensures advances { OnOk result (Advances A.Host.machine B.machine A.Host.answers B.answers [] (stage self.old (A.Host.station a.old shelf.old) (B.station b.old inbox.old) shelf.old inbox.old (T.content trace.old)) (stage self.new (A.Host.station a.new shelf.new) (B.station b.new inbox.new) shelf.new inbox.new (T.content trace.new))) }
-        ensures settled { OnOk result ((rest_a : List A.Host.Answer) (rest_b : List B.Answer) → IsSettled A.Host.machine B.machine (world_at (moment self.new (answering rest_a (A.Host.station a.new shelf.new)) (answering rest_b (B.station b.new inbox.new))))) }
+        ensures advances { OnOk result (AdvancesAt A.Host B.Host [] (both a.old b.old self.old) (ports_of T.Sink shelf.old inbox.old trace.old) (both a.new b.new self.new) (ports_of T.Sink shelf.new inbox.new trace.new)) }
+        ensures settled { OnOk result (AreSettled A.Host B.Host (both a.new b.new self.new) shelf.new inbox.new) }
         ensures none_held { OnOk result ((A.Host.held a.new ≡ []) × (B.held b.new ≡ [])) }
         ensures sound { OnOk result (A.Host.is_sound a.new shelf.new × B.is_sound b.new inbox.new) }
         ensures blames { Blames (T.faults trace.old) (T.faults trace.new) result }
         ensures none_back { OnOk result (OwesNoneBack self.new.medium.radio) }
-        ensures lacks { Lacks (T.shortages trace.old) (T.shortages trace.new) (Wants A.Host.machine B.machine A.Host.answers B.answers A.Host.lacked B.lacked [] (stage self.old (A.Host.station a.old shelf.old) (B.station b.old inbox.old) shelf.old inbox.old (T.content trace.old)) shelf.new inbox.new (T.content trace.new)) result }
-        ensures breaks { OnErr result (Broken A.Host.machine B.machine A.Host.answers B.answers A.Host.lacked B.lacked B.station [] (stage self.old (A.Host.station a.old shelf.old) (B.station b.old inbox.old) shelf.old inbox.old (T.content trace.old)) shelf.new inbox.new (T.content trace.new)) }
+        ensures lacks { LacksAt A.Host B.Host [] (both a.old b.old self.old) (ports_of T.Sink shelf.old inbox.old trace.old) (ports_of T.Sink shelf.new inbox.new trace.new) result }
+        ensures breaks { OnErr result (BrokenAt A.Host B.Host [] (both a.old b.old self.old) (ports_of T.Sink shelf.old inbox.old trace.old) (ports_of T.Sink shelf.new inbox.new trace.new)) }
     {
         'rounds: while self.round(a, shelf, b, inbox, trace)? {}
         Ok(())

@@ -10,12 +10,12 @@ ghost use Rattle.push_terms.specs.declared.word.Side.TheVariants as sides;
 ghost use Rattle.room_laws.specs.world_model.specs.Worlds.{fired, IsAtRest};
 ghost use Rattle.radio_world.specs.Hosts.{answering, Reacts};
 ghost use Rattle.radio_world.specs.Leaving.{in_radio};
-ghost use Rattle.radio_world.specs.Scenes.{stage, moment, world_at, Advances};
+ghost use Rattle.radio_world.specs.Scenes.{moment, world_at};
 ghost use Rattle.radio_world.specs.Turning.{can_be_done, fires, cancels, done_by, is_checked};
 ghost use Rattle.room_laws.specs.Rooms.{OwesNoneBack};
 ghost use Rattle.radio_world.specs.Causes.{Blames};
 ghost use Rattle.radio_world.specs.Shortages.{Lacks, LacksByTrace};
-ghost use Rattle.radio_world.specs.Breaking.{Broken};
+ghost use Rattle.radio_world.specs.Calls.{AdvancesAt, BrokenAt, both, ports_of};
 
 use crate::fault::WorldFault;
 use crate::host::{Client, Host};
@@ -210,13 +210,13 @@ impl Scene {
         requires few { self.old.turned + 1 < 2 ^ 64 }
         requires sides { (A.Host.side ≡ sides.A) × (B.side ≡ sides.B) }
         requires sound { A.Host.is_sound a.old shelf.old × B.is_sound b.old inbox.old }
-        ensures advances { OnOk result (Advances A.Host.machine B.machine A.Host.answers B.answers (word ∷ []) (stage self.old (A.Host.station a.old shelf.old) (B.station b.old inbox.old) shelf.old inbox.old (T.content trace.old)) (stage self.new (A.Host.station a.new shelf.new) (B.station b.new inbox.new) shelf.new inbox.new (T.content trace.new))) }
+        ensures advances { OnOk result (AdvancesAt A.Host B.Host (word ∷ []) (both a.old b.old self.old) (ports_of T.Sink shelf.old inbox.old trace.old) (both a.new b.new self.new) (ports_of T.Sink shelf.new inbox.new trace.new)) }
         ensures held { OnOk result ((A.Host.held a.new ≡ A.Host.held a.old) × (B.held b.new ≡ B.held b.old)) }
         ensures sound { OnOk result (A.Host.is_sound a.new shelf.new × B.is_sound b.new inbox.new) }
         ensures blames { Blames (T.faults trace.old) (T.faults trace.new) result }
         ensures none_back { OnOk result (OwesNoneBack self.new.medium.radio) }
         ensures lacks { Lacks (T.shortages trace.old) (T.shortages trace.new) (A.Host.lacked shelf.old shelf.new ⊎ B.lacked inbox.old inbox.new) result }
-        ensures breaks { OnErr result (Broken A.Host.machine B.machine A.Host.answers B.answers A.Host.lacked B.lacked B.station (word ∷ []) (stage self.old (A.Host.station a.old shelf.old) (B.station b.old inbox.old) shelf.old inbox.old (T.content trace.old)) shelf.new inbox.new (T.content trace.new)) }
+        ensures breaks { OnErr result (BrokenAt A.Host B.Host (word ∷ []) (both a.old b.old self.old) (ports_of T.Sink shelf.old inbox.old trace.old) (ports_of T.Sink shelf.new inbox.new trace.new)) }
     {
         let deed = self.found(word);
         let checked = self.is_checked(deed, a, b);

@@ -1,22 +1,13 @@
 //! The simulated world: two hosts, their controllers and the air between them.
 
-ghost use Rattle.std.specs.Prelude.{◌≡◌, ◌∷◌, ◌++◌, [], List, length, min, slice_get, IfOk, OnErr, OnOk};
+ghost use Rattle.std.specs.Prelude.{◌≡◌, ◌∷◌, ◌++◌, [], List, min, slice_get, IfOk};
 ghost use Rattle.std.specs.Option.{option_map};
 ghost use Rattle.radio_air.specs.Radio.{frames};
-ghost use Rattle.std.specs.List.{AllByRecursion};
-ghost use Rattle.bt_base.specs.Streams.{gained, GainedFront};
 ghost use Rattle.push_script.specs.Runs.{IsWord};
 ghost use Rattle.capture.specs.Air.{words_of};
-ghost use Rattle.capture.specs.Entries.{IsEntry, capture_octets};
 ghost use Rattle.push_terms.specs.declared.word.Side.TheVariants as sides;
 ghost use Rattle.room_laws.specs.rest_laws.specs.Premises.{AreOrderly};
-ghost use Rattle.radio_world.specs.Hosts.{answering};
-ghost use Rattle.radio_world.specs.Scenes.{first_scene, stage, moment, Advances};
-ghost use Rattle.radio_world.specs.Standing.{IsReached, Stands, last_ended, last_entries, all_outcomes};
-ghost use Rattle.room_laws.specs.Rooms.{OwesNoneBack};
-ghost use Rattle.radio_world.specs.Causes.{Blames};
-ghost use Rattle.radio_world.specs.Shortages.{Lacks, LacksByTrace, Wants};
-ghost use Rattle.radio_world.specs.Breaking.{Broken};
+ghost use Rattle.radio_world.specs.Calls.{new_world, ports_of, traced, MayStart, MayTurn, Turns, Finishes};
 
 use crate::fault::WorldFault;
 use crate::host::{Client, Host, Keeps, Measured};
@@ -49,11 +40,19 @@ impl<A, B> Model for World<A, B> {
 }
 
 impl<A: Drop, B: Drop> World<A, B> {
-    /// The world of a scenario at its beginning, with these hosts: nothing has moved, and no push was
-    /// begun. `NoMemory` where what it reserves cannot be had.
-    pub fn new(alloc: Global, scenario: &Scenario, a: A, b: B) -> Result<World<A, B>, NoMemory>
-        ensures { IfOk result (λ world. world ≡ record { a = a; b = b; scene = first_scene scenario.now.acl_length scenario.now.acl_count scenario.now.names }) }
+    /// The world of a scenario at its beginning, with two new hosts of its settings: nothing has happened
+    /// but what they do by themselves as they begin, and no push was begun. `NoMemory` where what it
+    /// reserves cannot be had.
+    pub fn new<P, Q>(alloc: Global, scenario: &Scenario) -> Result<World<A, B>, NoMemory>
+    where
+        A: Host<P>,
+        B: Host<Q>,
+        requires sides { (A.side ≡ sides.A) × (B.side ≡ sides.B) }
+        ensures made { IfOk result (λ world. world ≡ new_world A.Host B.Host scenario.now) }
+        ensures may_start { IfOk result (λ world. (shelf : P) (inbox : Q) → A.is_unused shelf → B.is_unused inbox → MayStart A.Host B.Host world shelf inbox) }
     {
+        let a = A::new(alloc, &scenario.settings)?;
+        let b = B::new(alloc, &scenario.settings)?;
         let medium = Medium::new(
             alloc,
             scenario.acl_length,
@@ -119,10 +118,10 @@ impl<A: Drop, B: Drop> World<A, B> {
     /// Lets both hosts start and begins the first push: all moves that can. It comes once and first.
     ///
     /// It is a run of the pure world, as the trace gained it, after which the world stands where its
-    /// script goes on. It needs what a run of the pure world led to where no packet is owed back, as
-    /// `new` does with two hosts to which nothing has happened, and orderly machines: both say PDUs
-    /// that hosts take, and host a asks for one link in a push. `TraceFault` where the trace fails, and
-    /// `NoMemory` where none could be had (`lacks` says why): then the world goes on no more.
+    /// script goes on. It needs what `new` leads to, where no packet is owed back, and orderly machines:
+    /// both say PDUs that hosts take, and host a asks for one link in a push. `TraceFault` where the
+    /// trace fails, and `NoMemory` where none could be had (`lacks` says why): then the world goes on no
+    /// more, and `breaks` says how far it came.
     pub fn start<P, Q, T: Sink>(
         &mut self,
         trace: &mut T,
@@ -133,18 +132,9 @@ impl<A: Drop, B: Drop> World<A, B> {
         A: Client<P>,
         B: Host<Q>,
         requires orderly { AreOrderly A.Host.machine B.machine }
-        requires reached { (rest_a : List A.Host.Answer) (rest_b : List B.Answer) → IsReached A.Host.machine B.machine (moment self.old.scene (answering rest_a (A.Host.station self.old.a shelf.old)) (answering rest_b (B.station self.old.b inbox.old))) }
-        requires none_back { OwesNoneBack self.old.scene.medium.radio }
+        requires may { MayStart A.Host B.Host self.old shelf.old inbox.old }
         requires sides { (A.Host.side ≡ sides.A) × (B.side ≡ sides.B) }
-        requires none_held { (A.Host.held self.old.a ≡ []) × (B.held self.old.b ≡ []) }
-        requires sound { A.Host.is_sound self.old.a shelf.old × B.is_sound self.old.b inbox.old }
-        ensures advances { OnOk result (Advances A.Host.machine B.machine A.Host.answers B.answers [] (stage self.old.scene (A.Host.station self.old.a shelf.old) (B.station self.old.b inbox.old) shelf.old inbox.old (T.content trace.old)) (stage self.new.scene (A.Host.station self.new.a shelf.new) (B.station self.new.b inbox.new) shelf.new inbox.new (T.content trace.new))) }
-        ensures stands { OnOk result (Stands A.Host.machine B.machine self.new.scene (A.Host.station self.new.a shelf.new) (B.station self.new.b inbox.new)) }
-        ensures none_held { OnOk result ((A.Host.held self.new.a ≡ []) × (B.held self.new.b ≡ [])) }
-        ensures sound { OnOk result (A.Host.is_sound self.new.a shelf.new × B.is_sound self.new.b inbox.new) }
-        ensures blames { Blames (T.faults trace.old) (T.faults trace.new) result }
-        ensures lacks { Lacks (T.shortages trace.old) (T.shortages trace.new) (Wants A.Host.machine B.machine A.Host.answers B.answers A.Host.lacked B.lacked [] (stage self.old.scene (A.Host.station self.old.a shelf.old) (B.station self.old.b inbox.old) shelf.old inbox.old (T.content trace.old)) shelf.new inbox.new (T.content trace.new)) result }
-        ensures breaks { OnErr result (Broken A.Host.machine B.machine A.Host.answers B.answers A.Host.lacked B.lacked B.station [] (stage self.old.scene (A.Host.station self.old.a shelf.old) (B.station self.old.b inbox.old) shelf.old inbox.old (T.content trace.old)) shelf.new inbox.new (T.content trace.new)) }
+        ensures { Turns A.Host B.Host [] self.old (ports_of T.Sink shelf.old inbox.old trace.old) self.new (ports_of T.Sink shelf.new inbox.new trace.new) result }
     {
         self.scene
             .start(&mut self.a, shelf, &mut self.b, inbox, trace)?;
@@ -169,18 +159,10 @@ impl<A: Drop, B: Drop> World<A, B> {
         A: Client<P>,
         B: Host<Q>,
         requires orderly { AreOrderly A.Host.machine B.machine }
-        requires stands { Stands A.Host.machine B.machine self.old.scene (A.Host.station self.old.a shelf.old) (B.station self.old.b inbox.old) }
+        requires may { MayTurn A.Host B.Host self.old shelf.old inbox.old }
         requires word { IsWord word }
         requires sides { (A.Host.side ≡ sides.A) × (B.side ≡ sides.B) }
-        requires none_held { (A.Host.held self.old.a ≡ []) × (B.held self.old.b ≡ []) }
-        requires sound { A.Host.is_sound self.old.a shelf.old × B.is_sound self.old.b inbox.old }
-        ensures turns { OnOk result (Advances A.Host.machine B.machine A.Host.answers B.answers (word ∷ []) (stage self.old.scene (A.Host.station self.old.a shelf.old) (B.station self.old.b inbox.old) shelf.old inbox.old (T.content trace.old)) (stage self.new.scene (A.Host.station self.new.a shelf.new) (B.station self.new.b inbox.new) shelf.new inbox.new (T.content trace.new))) }
-        ensures stands { OnOk result (Stands A.Host.machine B.machine self.new.scene (A.Host.station self.new.a shelf.new) (B.station self.new.b inbox.new)) }
-        ensures none_held { OnOk result ((A.Host.held self.new.a ≡ []) × (B.held self.new.b ≡ [])) }
-        ensures sound { OnOk result (A.Host.is_sound self.new.a shelf.new × B.is_sound self.new.b inbox.new) }
-        ensures blames { Blames (T.faults trace.old) (T.faults trace.new) result }
-        ensures lacks { Lacks (T.shortages trace.old) (T.shortages trace.new) (Wants A.Host.machine B.machine A.Host.answers B.answers A.Host.lacked B.lacked (word ∷ []) (stage self.old.scene (A.Host.station self.old.a shelf.old) (B.station self.old.b inbox.old) shelf.old inbox.old (T.content trace.old)) shelf.new inbox.new (T.content trace.new)) result }
-        ensures breaks { OnErr result (Broken A.Host.machine B.machine A.Host.answers B.answers A.Host.lacked B.lacked B.station (word ∷ []) (stage self.old.scene (A.Host.station self.old.a shelf.old) (B.station self.old.b inbox.old) shelf.old inbox.old (T.content trace.old)) shelf.new inbox.new (T.content trace.new)) }
+        ensures { Turns A.Host B.Host (word ∷ []) self.old (ports_of T.Sink shelf.old inbox.old trace.old) self.new (ports_of T.Sink shelf.new inbox.new trace.new) result }
     {
         self.scene
             .turn_times(1, word, &mut self.a, shelf, &mut self.b, inbox, trace)?;
@@ -200,17 +182,9 @@ impl<A: Drop, B: Drop> World<A, B> {
         A: Client<P>,
         B: Host<Q>,
         requires orderly { AreOrderly A.Host.machine B.machine }
-        requires stands { Stands A.Host.machine B.machine self.old.scene (A.Host.station self.old.a shelf.old) (B.station self.old.b inbox.old) }
+        requires may { MayTurn A.Host B.Host self.old shelf.old inbox.old }
         requires sides { (A.Host.side ≡ sides.A) × (B.side ≡ sides.B) }
-        requires none_held { (A.Host.held self.old.a ≡ []) × (B.held self.old.b ≡ []) }
-        requires sound { A.Host.is_sound self.old.a shelf.old × B.is_sound self.old.b inbox.old }
-        ensures turns { OnOk result (Advances A.Host.machine B.machine A.Host.answers B.answers (words_of script.now) (stage self.old.scene (A.Host.station self.old.a shelf.old) (B.station self.old.b inbox.old) shelf.old inbox.old (T.content trace.old)) (stage self.new.scene (A.Host.station self.new.a shelf.new) (B.station self.new.b inbox.new) shelf.new inbox.new (T.content trace.new))) }
-        ensures stands { OnOk result (Stands A.Host.machine B.machine self.new.scene (A.Host.station self.new.a shelf.new) (B.station self.new.b inbox.new)) }
-        ensures none_held { OnOk result ((A.Host.held self.new.a ≡ []) × (B.held self.new.b ≡ [])) }
-        ensures sound { OnOk result (A.Host.is_sound self.new.a shelf.new × B.is_sound self.new.b inbox.new) }
-        ensures blames { Blames (T.faults trace.old) (T.faults trace.new) result }
-        ensures lacks { Lacks (T.shortages trace.old) (T.shortages trace.new) (Wants A.Host.machine B.machine A.Host.answers B.answers A.Host.lacked B.lacked (words_of script.now) (stage self.old.scene (A.Host.station self.old.a shelf.old) (B.station self.old.b inbox.old) shelf.old inbox.old (T.content trace.old)) shelf.new inbox.new (T.content trace.new)) result }
-        ensures breaks { OnErr result (Broken A.Host.machine B.machine A.Host.answers B.answers A.Host.lacked B.lacked B.station (words_of script.now) (stage self.old.scene (A.Host.station self.old.a shelf.old) (B.station self.old.b inbox.old) shelf.old inbox.old (T.content trace.old)) shelf.new inbox.new (T.content trace.new)) }
+        ensures { Turns A.Host B.Host (words_of script.now) self.old (ports_of T.Sink shelf.old inbox.old trace.old) self.new (ports_of T.Sink shelf.new inbox.new trace.new) result }
     {
         self.scene
             .turn_all(script, &mut self.a, shelf, &mut self.b, inbox, trace)?;
@@ -223,15 +197,7 @@ impl<A: Drop, B: Drop> World<A, B> {
     pub fn finish<P, T: Sink>(&mut self, trace: &mut T, _shelf: &P) -> Result<(), WorldFault>
     where
         A: Client<P>,
-        ensures outcomes { OnOk result ((rest : List A.Host.Answer) → self.new.scene.pushes.outcomes ≡ all_outcomes (last_ended (A.Host.machine.outcome ((A.Host.station self.old.a _shelf.now).upper rest)) self.old.scene.pushes)) }
-        ensures each { OnOk result (length self.new.scene.pushes.outcomes ≡ length self.old.scene.pushes.names) }
-        ensures written { OnOk result ((rest : List A.Host.Answer) → T.content trace.new ≡ gained (T.content trace.old) (capture_octets (last_entries (A.Host.machine.outcome ((A.Host.station self.old.a _shelf.now).upper rest)) self.old.scene.pushes))) }
-        ensures entries { (rest : List A.Host.Answer) → AllByRecursion IsEntry (last_entries (A.Host.machine.outcome ((A.Host.station self.old.a _shelf.now).upper rest)) self.old.scene.pushes) }
-        ensures hosts { (self.new.a ≡ self.old.a) × (self.new.b ≡ self.old.b) }
-        ensures medium { OnOk result (self.new.scene.medium ≡ self.old.scene.medium) }
-        ensures blames { Blames (T.faults trace.old) (T.faults trace.new) result }
-        ensures lacks { LacksByTrace (T.shortages trace.old) (T.shortages trace.new) result }
-        ensures front { (rest : List A.Host.Answer) → GainedFront (T.content trace.old) (T.content trace.new) (capture_octets (last_entries (A.Host.machine.outcome ((A.Host.station self.old.a _shelf.now).upper rest)) self.old.scene.pushes)) }
+        ensures { (rest : List A.Host.Answer) → Finishes (A.Host.machine.outcome ((A.Host.station self.old.a _shelf.now).upper rest)) self.old self.new (traced T.Sink trace.old) (traced T.Sink trace.new) result }
     {
         let came = self.a.outcome();
         self.scene.finish(came, trace)?;

@@ -40,12 +40,6 @@ written_then trace trace' trace'' xs ys first second =
 
 -- ---- the beginning
 
-pub ready_a : IsReady counter A first_counter (started Client)
-ready_a = record { is_seen = (stations_are_seen counter A counter_octets).is_seen; spent = λ none. cc }
-
-pub ready_b : IsReady echo B first_echo (started Server)
-ready_b = record { is_seen = (stations_are_seen echo B echo_octets).is_seen; spent = λ none. cc }
-
 -- both put their first command out
 abbrev beginning : List Happening
 beginning = Tries A Commanding ∷ Tries B Commanding ∷ []
@@ -70,31 +64,6 @@ begins size count names =
 -- a world that is made
 abbrev pub first_world : (size count : ℕ) → List (List ℕ) → Both (Tiny Counter) (Tiny Echo)
 first_world size count names = record { a = record { mind = first_counter; line = started Client; held = [] }; b = record { mind = first_echo; line = started Server; held = [] }; scene = first_scene size count names }
-
-abbrev pub IsBegun : Both (Tiny Counter) (Tiny Echo) → Type 0
-IsBegun world = IsReached counter echo (moment world.scene (seen world.a.mind world.a.line) (seen world.b.mind world.b.line))
-
-pub reached : (size count : ℕ) (names : List (List ℕ)) → IsSize size → IsCount count → length names ≤ 64 → (world : Both (Tiny Counter) (Tiny Echo)) → world ≡ first_world size count names → IsBegun world
-reached size count names sized counted few world same = subst IsBegun (sym same) (record {
-  size = size;
-  count = count;
-  names = names;
-  sized = sized;
-  counted = counted;
-  few = few;
-  first_a = first_counter;
-  first_b = first_echo;
-  idle = refl;
-  happenings = beginning;
-  plays = begins size count names;
-})
-
-pub first_as : (size count : ℕ) (names : List (List ℕ)) (world : Both (Tiny Counter) (Tiny Echo)) (a : Tiny Counter) (b : Tiny Echo) (one : Counter) (two : Echo)
-    → world ≡ record { a = a; b = b; scene = first_scene size count names } → a ≡ record { mind = one; line = started Client; held = [] } → b ≡ record { mind = two; line = started Server; held = [] } → one ≡ first_counter → two ≡ first_echo
-    → world ≡ first_world size count names
-first_as size count names world a b one two made host_a host_b mind_a mind_b =
-    made ∙ ap₂ (λ (x : Tiny Counter) (y : Tiny Echo). record { a = x; b = y; scene = first_scene size count names })
-    (host_a ∙ ap (λ (m : Counter). record { mind = m; line = started Client; held = [] }) mind_a) (host_b ∙ ap (λ (m : Echo). record { mind = m; line = started Server; held = [] }) mind_b)
 
 -- ---- the whole
 

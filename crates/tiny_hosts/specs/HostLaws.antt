@@ -1,17 +1,41 @@
 -- What holds of each tiny host (this project's own).
-use Rattle.std.specs.Prelude.{ℕ, ◌≡◌, List, [], ◌++◌, max, refl}
+use Rattle.std.specs.Prelude.{ℕ, ◌≡◌, true, List, [], ◌∷◌, ◌++◌, max, refl}
 use Rattle.std.proofs.Common.{sym, ap, ◌∙◌, arith}
 use Rattle.push_terms.specs.declared.word.Side.{Side}
+use Rattle.push_terms.specs.declared.word.Side.TheVariants.{A, B}
 use Rattle.host_link.specs.Lines.{Line}
+use Rattle.host_link.specs.PuttingOut.{started}
 use Rattle.line_laws.specs.world_model.specs.Machines.{News, Upper}
-use Rattle.line_laws.specs.world_model.specs.Stations.{IsStopped}
+use Rattle.line_laws.specs.world_model.specs.Stations.{Commanding, IsStopped}
+use Rattle.line_laws.specs.station_laws.specs.Seen.{role_of}
+use Rattle.line_laws.specs.Seeing.{SaysOctets}
+use Rattle.radio_world.specs.Beginning.{Begins}
 use Rattle.radio_world.specs.Hosts.{answering, order_octets, JoinAnswers}
 use Rattle.radio_world.specs.Measures.{IsMostOf}
 use Rattle.radio_world.specs.Speaking.{SpeaksWithin}
 use Rattle.radio_world.specs.settling_laws.specs.Weights.{SaysAtMost}
+use Rattle.line_laws.proofs.Seeing.{stations_are_seen}
 use Rattle.line_laws.proofs.Stopping.{spent_hosts_stop}
 use Rattle.tiny_hosts.specs.Minds.{Unasked, IsCounted}
 use Rattle.tiny_hosts.specs.Hosting.{Tiny, asking, IsReady, Unaltered}
+
+-- its mind has heard nothing, and its first command stands in what it puts out
+abbrev pub fresh_host : {M : Type 0} → Upper M Unasked → Side → Tiny M
+fresh_host U side = record { mind = U.first; line = started (role_of side); held = [] }
+
+never_spent : {X : Type 0} (side : Side) → (started (role_of side)).out ≡ [] → X
+never_spent A none = cc
+never_spent B none = cc
+
+-- it did no more than to put that command out
+pub begins : {M : Type 0} (U : Upper M Unasked) (side : Side) → SaysOctets U → U.is_idle U.first ≡ true → Begins U side (asking U.first (started (role_of side))) [] (IsReady U side U.first (started (role_of side)))
+begins U side octets idle =
+    let first = stations_are_seen U side octets in
+    record {
+      begun = λ rest. record { first = U.first; idle = idle; efforts = Commanding ∷ []; makes = first.makes };
+      none_held = refl;
+      sound = record { is_seen = first.is_seen; spent = λ none. never_spent side none };
+    }
 
 pub joins : {P : Type 0} → JoinAnswers (Unaltered {P = P})
 joins = record {

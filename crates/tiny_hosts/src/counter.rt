@@ -3,6 +3,7 @@
 use crate::echo::{octet_in, one_more, pdu_of};
 use crate::mind::{Mind, PDU};
 use crate::told::Told;
+use host_link::Role;
 use push_terms::Outcome;
 
 /// How far it counts.
@@ -35,19 +36,7 @@ pub struct Counter {
 
 impl Counter {
     ghost use Rattle.std.specs.Prelude.{◌≡◌};
-    ghost use Rattle.tiny_hosts.specs.Counting.{first_counter, heard_at, goes_on};
-
-    /// A counter that has not begun.
-    pub fn new() -> Counter
-        ensures { result ≡ first_counter }
-    {
-        Counter {
-            stage: Stage::Resting,
-            number: 0,
-            outcome: None,
-            heard: 0,
-        }
-    }
+    ghost use Rattle.tiny_hosts.specs.Counting.{heard_at, goes_on};
 
     /// The number that it awaits came back.
     fn go_on(&mut self)
@@ -75,6 +64,7 @@ impl Counter {
 }
 
 impl Mind for Counter {
+    ghost use Rattle.std.specs.Prelude.{refl};
     ghost use Rattle.push_terms.specs.declared.word.Side.TheVariants.{A};
     ghost use Rattle.tiny_hosts.specs.Counting.{counter};
     ghost use Rattle.tiny_hosts.specs.CounterLaws.{counter_called, counter_octets, counter_counted, counter_one_more};
@@ -84,6 +74,19 @@ impl Mind for Counter {
     ghost side = { A };
 
     ghost count = { λ counter. counter.heard };
+
+    fn new() -> Counter {
+        Counter {
+            stage: Stage::Resting,
+            number: 0,
+            outcome: None,
+            heard: 0,
+        }
+    }
+
+    fn role() -> Role {
+        Role::Client
+    }
 
     fn hear(&mut self, told: Told<'_>) {
         match (told, self.stage) {
@@ -151,6 +154,8 @@ impl Mind for Counter {
     fn heard(&self) -> u16 {
         self.heard
     }
+
+    ghost begins_idle = { refl };
 
     ghost called = { counter_called };
 

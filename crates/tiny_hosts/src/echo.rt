@@ -5,6 +5,7 @@ ghost use Rattle.std.specs.Prelude.{◌≡◌};
 
 use crate::mind::{Mind, PDU};
 use crate::told::Told;
+use host_link::Role;
 use push_terms::Outcome;
 
 /// The octet that a PDU carries, and 0 where it has none.
@@ -42,22 +43,6 @@ pub struct Echo {
     heard: u16,
 }
 
-impl Echo {
-    ghost use Rattle.std.specs.Prelude.{◌≡◌};
-    ghost use Rattle.tiny_hosts.specs.Echoing.{first_echo};
-
-    /// An echo that has heard nothing.
-    pub fn new() -> Echo
-        ensures { result ≡ first_echo }
-    {
-        Echo {
-            answer: None,
-            last: None,
-            heard: 0,
-        }
-    }
-}
-
 impl Mind for Echo {
     ghost use Rattle.std.specs.Prelude.{refl};
     ghost use Rattle.push_terms.specs.declared.word.Side.TheVariants.{B};
@@ -69,6 +54,18 @@ impl Mind for Echo {
     ghost side = { B };
 
     ghost count = { λ echo. echo.heard };
+
+    fn new() -> Echo {
+        Echo {
+            answer: None,
+            last: None,
+            heard: 0,
+        }
+    }
+
+    fn role() -> Role {
+        Role::Server
+    }
 
     fn hear(&mut self, told: Told<'_>) {
         match told {
@@ -130,6 +127,8 @@ impl Mind for Echo {
     fn heard(&self) -> u16 {
         self.heard
     }
+
+    ghost begins_idle = { refl };
 
     ghost called = { λ is mind. refl };
 

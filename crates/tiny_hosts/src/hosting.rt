@@ -7,16 +7,21 @@ ghost use Rattle.tiny_hosts.specs.Hosting.{asking, IsReady, Unaltered};
 use crate::mind::Mind;
 use crate::tiny_host::{TinyHost, go_on, hear};
 use crate::told::Told;
-use bt_base::NoMemory;
+use bt_base::{NoMemory, Settings};
 use h4_framing::{Leading, first};
+use host_link::HostLink;
 use push_terms::Outcome;
 use radio_world::{Client, Host, Keeps, Measured};
+use std::alloc::Global;
+
+/// How many octets the longest packet has.
+const LONGEST_PACKET: usize = 1_026;
 
 /// The longest ACL packet that a host takes, in octets.
 const ACL_LIMIT: u16 = 1_021;
 
 impl<P, M: Mind> Host<P> for TinyHost<M> {
-    ghost use Rattle.tiny_hosts.specs.HostLaws.{joins, speaks, stops};
+    ghost use Rattle.tiny_hosts.specs.HostLaws.{begins, joins, speaks, stops, fresh_host};
 
     ghost State = { M };
 
@@ -35,6 +40,16 @@ impl<P, M: Mind> Host<P> for TinyHost<M> {
     ghost is_sound = { λ host port. IsReady M.machine M.side host.mind host.line };
 
     ghost answers = { Unaltered };
+
+    ghost fresh = { λ settings. fresh_host M.machine M.side };
+
+    fn new(alloc: Global, _settings: &Settings) -> Result<TinyHost<M>, NoMemory> {
+        Ok(TinyHost {
+            mind: M::new(),
+            line: HostLink::new(alloc, M::role())?,
+            held: Vec::with_capacity(alloc, LONGEST_PACKET)?,
+        })
+    }
 
     fn out(&self) -> &[u8] {
         self.line.out()
@@ -69,6 +84,8 @@ impl<P, M: Mind> Host<P> for TinyHost<M> {
     fn has_fcs(&self, channel: u16) -> bool {
         self.mind.has_fcs(channel)
     }
+
+    ghost begins = { λ settings port unused. begins M.machine M.side M.octets M.begins_idle };
 
     ghost joins = { joins };
 

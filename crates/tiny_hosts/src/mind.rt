@@ -4,11 +4,13 @@ ghost use Rattle.std.specs.Prelude.{◌≡◌, ℕ, List, true, false, Some, is_
 ghost use Rattle.push_terms.specs.declared.word.Side.{Side};
 ghost use Rattle.push_terms.specs.declared.word.Side.TheVariants.{B};
 ghost use Rattle.line_laws.specs.world_model.specs.Machines.{Upper};
+ghost use Rattle.line_laws.specs.station_laws.specs.Seen.{role_of};
 ghost use Rattle.line_laws.specs.Seeing.{SaysOctets};
 ghost use Rattle.radio_world.specs.settling_laws.specs.Weights.{SaysAtMost};
 ghost use Rattle.tiny_hosts.specs.Minds.{Unasked, news_told, IsCounted};
 
 use crate::told::Told;
+use host_link::Role;
 use push_terms::Outcome;
 
 /// How many octets a PDU has that a mind says: its header of four, and two.
@@ -24,6 +26,14 @@ pub trait Mind: Drop {
 
     /// How many PDUs it heard.
     ghost count: { Self → ℕ };
+
+    /// A mind that has heard nothing.
+    fn new() -> Self
+        ensures { result ≡ machine.first };
+
+    /// What its host is.
+    fn role() -> Role
+        ensures { result ≡ role_of side };
 
     /// Hears what happened.
     fn hear(&mut self, told: Told<'_>)
@@ -69,6 +79,9 @@ pub trait Mind: Drop {
     /// How many PDUs it heard. The number stands still at the greatest one.
     fn heard(&self) -> u16
         ensures { result ≡ count self.now };
+
+    /// No push goes on at first.
+    ghost begins_idle: { machine.is_idle machine.first ≡ true };
 
     /// Host b asks for no link.
     ghost called: { side ≡ B → (mind : Self) → machine.wants_link mind ≡ false };

@@ -1,26 +1,21 @@
 //! A host of a mind over its line.
 
-ghost use Rattle.std.specs.Prelude.{◌≡◌, [], true, false, None, IfOk};
+ghost use Rattle.std.specs.Prelude.{◌≡◌, [], true, false, None};
 ghost use Rattle.push_terms.specs.declared.word.Side.TheVariants as sides;
 ghost use Rattle.h4_framing.specs.Packets.{packet};
 ghost use Rattle.radio_world.specs.radio_air.specs.Controllers.{address};
 ghost use Rattle.host_link.specs.Hearing.{plain_news};
-ghost use Rattle.host_link.specs.PuttingOut.{can_take_pdu, started};
+ghost use Rattle.host_link.specs.PuttingOut.{can_take_pdu};
 ghost use Rattle.host_link.specs.Calling.{may_end};
-ghost use Rattle.line_laws.specs.station_laws.specs.Seen.{role_of};
 ghost use Rattle.line_laws.specs.Seeing.{IsSeen, is_asking};
 ghost use Rattle.tiny_hosts.specs.Hosting.{GoesOn, WaitsMore, IsStuck, IsReady, IsTold, HearsComing};
 
 use crate::mind::Mind;
 use crate::told::Told;
-use bt_base::{BdAddr, NoMemory};
+use bt_base::BdAddr;
 use h4_framing::Unit;
-use host_link::{HostLink, News, Role};
-use std::alloc::Global;
+use host_link::{HostLink, News};
 use std::marker::Model;
-
-/// How many octets the longest packet has.
-const LONGEST_PACKET: usize = 1_026;
 
 /// A mind above the half of a host that faces its controller, and the octets of a packet that is not
 /// whole yet. A clause sees the three.
@@ -37,21 +32,6 @@ impl<M> Model for TinyHost<M> {
     ghost Value = { Tiny M };
 
     ghost view = { λ host. record { mind = host.mind; line = host.line; held = host.held.items } };
-}
-
-impl<M: Mind> TinyHost<M> {
-    /// A host whose first command stands in what it puts out, in that role. `NoMemory` where what it
-    /// reserves cannot be had.
-    pub fn new(alloc: Global, role: Role, mind: M) -> Result<TinyHost<M>, NoMemory>
-        requires { role ≡ role_of M.side }
-        ensures { IfOk result (λ host. host ≡ record { mind = mind; line = started (role_of M.side); held = [] }) }
-    {
-        Ok(TinyHost {
-            mind,
-            line: HostLink::new(alloc, role)?,
-            held: Vec::with_capacity(alloc, LONGEST_PACKET)?,
-        })
-    }
 }
 
 /// Says all PDUs that may be taken now.

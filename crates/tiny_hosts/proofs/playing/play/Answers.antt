@@ -5,15 +5,12 @@ use Rattle.tiny_hosts.specs.declared.counter.Counter.{Counter}
 use Rattle.tiny_hosts.specs.declared.echo.Echo.{Echo}
 use Rattle.tiny_hosts.specs.Hosting.{Tiny}
 use Rattle.tiny_hosts.specs.Playing.{IsPlayed}
-use Rattle.tiny_hosts.proofs.Course.{first_as, reached, played}
+use Rattle.tiny_hosts.proofs.Course.{played}
 use Rattle.tiny_hosts.proofs.Orderly.{are_orderly}
 use Rattle.tiny_hosts.proofs.playing.play.Goals as goal
 
-pub start-requires-clause-reached : goal.start-requires-clause-reached
-start-requires-clause-reached g c = λ rest_a rest_b.
-    let scenario = c.args.scenario.now in
-    reached scenario.acl_length scenario.acl_count scenario.names (scenario.acl_length_low, scenario.acl_length_high) (scenario.acl_count_low, scenario.acl_count_high) scenario.few c.in_ok-world.world
-    (first_as scenario.acl_length scenario.acl_count scenario.names c.in_ok-world.world c.in_ok-a.a c.in_ok-b.b c.new.result c.new-3.result c.in_ok-world.ensures c.in_ok-a.ensures c.in_ok-b.ensures c.new.ensures c.new-3.ensures)
+pub start-requires-clause-may : goal.start-requires-clause-may
+start-requires-clause-may g c = c.in_ok-world.ensures.may_start tt tt tt tt
 
 pub turn_all-requires-clause-orderly : goal.turn_all-requires-clause-orderly
 turn_all-requires-clause-orderly g c = are_orderly
@@ -26,10 +23,10 @@ returns g c =
     let mid = c.start.new.self in
     let last = c.turn_all.new.self in
     let end = c.finish.new.self in
-    let hosts = c.finish.ensures.hosts in
+    let hosts = (c.finish.ensures []).hosts in
     subst (λ (w : Both (Tiny Counter) (Tiny Echo)). IsPlayed scenario.acl_length scenario.acl_count scenario.names (words_of scenario.script) (content c.args.trace.now) (content c.finish.new.trace) w)
     (ap₂ (λ (a : Tiny Counter) (b : Tiny Echo). record { a = a; b = b; scene = end.scene }) (sym hosts.0) (sym hosts.1))
     (played scenario.acl_length scenario.acl_count scenario.names (words_of scenario.script) first.scene mid.scene last.scene end.scene first.a mid.a last.a first.b mid.b last.b
     (content c.args.trace.now) (content c.start.new.trace) (content c.turn_all.new.trace) (content c.finish.new.trace)
-    (first_as scenario.acl_length scenario.acl_count scenario.names first c.in_ok-a.a c.in_ok-b.b c.new.result c.new-3.result c.in_ok-world.ensures c.in_ok-a.ensures c.in_ok-b.ensures c.new.ensures c.new-3.ensures)
-    c.in_ok-start.ensures.advances c.in_ok-turn_all.ensures.turns (c.in_ok-turn_all.ensures.stands.settled [] []) c.in_ok-finish.ensures.medium (c.in_ok-finish.ensures.outcomes []) (c.in_ok-finish.ensures.written []))
+    c.in_ok-world.ensures.made
+    c.in_ok-start.ensures.turned.advances c.in_ok-turn_all.ensures.turned.advances (c.in_ok-turn_all.ensures.turned.may.stands.settled [] []) (c.in_ok-finish.ensures []).finished.medium (c.in_ok-finish.ensures []).finished.outcomes (c.in_ok-finish.ensures []).finished.written)
