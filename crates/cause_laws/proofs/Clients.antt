@@ -36,6 +36,7 @@ use Rattle.scenario_laws.specs.push_model.specs.Steps.{Part, Ask, Stepped, puts,
 use Rattle.scenario_laws.specs.push_model.specs.Streams.{Front, Whole, Partial, Broken, front_of}
 use Rattle.scenario_laws.specs.push_model.proofs.CauseLaws.{first_causes_stay}
 use Rattle.scenario_laws.specs.push_model.proofs.ShownLaws.{outcomes_are_shown}
+use Rattle.cause_laws.specs.FirstCauses.{may_blame}
 use Rattle.cause_laws.specs.Said.{Decision, decision_of}
 use Rattle.push_client.proofs.KeepingLaws.{news_keeps, cancelled_keeps}
 use Rattle.scenario_laws.specs.host_laws.specs.Pushing.{Affair, Begins, Does, client_after, client_behind}
@@ -51,7 +52,7 @@ abbrev pub is_any : Outcome → Bool
 is_any RetryLimit = true
 is_any ShelfFault = true
 is_any PeerClosed = true
-is_any (PeerFault layer reason) = true
+is_any (PeerFault layer reason) = may_blame layer
 is_any outcome = false
 
 -- those that no SDU decides
@@ -143,13 +144,13 @@ found_within transport (found.Refused reason) = query_within reason
 abbrev pub is_responded : Outcome → Bool
 is_responded Done = true
 is_responded (Refused code) = true
-is_responded (PeerFault layer reason) = true
+is_responded (PeerFault layer reason) = may_blame layer
 is_responded outcome = false
 
 responded_heard : (outcome : Outcome) → is_responded outcome ≡ true → is_heard outcome ≡ true
 responded_heard Done is = refl
 responded_heard (Refused code) is = refl
-responded_heard (PeerFault layer reason) is = refl
+responded_heard (PeerFault layer reason) is = any_heard (PeerFault layer reason) is
 responded_heard outcome is = cc
 
 says_responds : (answered : Answered) → Within is_responded (says answered)
@@ -163,7 +164,7 @@ answer_responds : (answered : Option Answered) (client : Client) → Within is_r
 answer_responds None client = refl
 answer_responds (Some answered) client = either is_responded (is_success answered && is_early client) (Some unawaited_response) (says answered) refl (says_responds answered)
 
-response_responds : (packet : List ℕ) (client : Client) → Within is_responded (response_shows packet client)
+pub response_responds : (packet : List ℕ) (client : Client) → Within is_responded (response_shows packet client)
 response_responds packet client = answer_responds (answer_at client.session.awaited client.session packet) client
 
 first_within : (q : Outcome → Bool) (first later : Option Outcome) → Within q first → Within q later → Within q (first_of first later)

@@ -7,24 +7,28 @@ use Rattle.std.proofs.lemmas.Bool.{eq-eqb}
 use Rattle.std.proofs.lemmas.List.Elements.{filter_map-append}
 use Rattle.std.proofs.lemmas.List.Sums.{fold-append}
 use Rattle.scenario_laws.specs.acl_fragments.specs.Pieces.{channel_of}
+use Rattle.scenario_laws.specs.bt_base.specs.declared.settings.Settings.{Settings}
+use Rattle.scenario_laws.specs.l2cap_config.specs.declared.wish.Mode.TheVariants.{Basic, Enhanced}
 use Rattle.scenario_laws.specs.capture.specs.declared.flow.Flow.TheVariants.{Into}
 use Rattle.scenario_laws.specs.link_talk.specs.declared.channel.Channel.{Channel}
 use Rattle.scenario_laws.specs.link_talk.specs.declared.party.Party.{Party}
 use Rattle.scenario_laws.specs.link_talk.specs.Channels.{Entry, reading}
 use Rattle.scenario_laws.specs.link_talk.specs.Sayings.{Saying, Carried}
 use Rattle.scenario_laws.specs.link_talk.specs.Sdus.{sdus}
-use Rattle.scenario_laws.specs.channel_model.specs.Carrying.{Up, Nothing, Received, sdu_at, up_by, up_on, up_at, takes}
-use Rattle.scenario_laws.specs.channel_model.specs.Changing.{held_at}
+use Rattle.scenario_laws.specs.channel_model.specs.Carrying.{Up, Nothing, Received, is_taken_with, sdu_with, sdu_at, up_by, up_on, up_at, takes}
+use Rattle.scenario_laws.specs.channel_model.specs.Changing.{held_at, setup_of}
 use Rattle.scenario_laws.specs.channel_model.specs.Hearing.{up}
-use Rattle.scenario_laws.specs.channel_model.specs.Policies.{Policy}
+use Rattle.scenario_laws.specs.channel_model.specs.Policies.{Policy, policy}
 use Rattle.scenario_laws.specs.channel_model.specs.Telling.{is_told_broken}
-use Rattle.scenario_laws.specs.channel_model.specs.Value.{Stage, Requested, Connected, Leaving, Closing, Crossed, Held, Setup, Channels}
+use Rattle.scenario_laws.specs.channel_model.specs.Value.{Carrier, Plain, Retransmitting, Stage, Requested, Connected, Leaving, Closing, Crossed, Held, Setup, Channels}
 use Rattle.scenario_laws.specs.channel_laws.specs.OwnTalk.{asked_between, said_with_all}
 use Rattle.scenario_laws.specs.channel_laws.specs.Runs.{Occurrence, Comes, Run, new_link, run_on, run_of, arisen, sdu_up, sdus_up}
 use Rattle.scenario_laws.specs.channel_laws.specs.Sdus.{StatesFrame, IsHandedUp}
 use Rattle.scenario_laws.specs.channel_laws.specs.Views.{peer_of, channel_by, IsReadBy, IsRead, read_at}
 use Rattle.scenario_laws.specs.channel_laws.proofs.Incoming.{sdus-are_read}
-use Rattle.scenario_laws.specs.channel_laws.proofs.Running.{channels-are_read}
+use Rattle.scenario_laws.specs.channel_laws.proofs.Holding.{IsRead as IsReadAt, is-read}
+use Rattle.scenario_laws.specs.channel_laws.proofs.Running.{all-sound, channels-are_read}
+use Rattle.scenario_laws.specs.channel_laws.proofs.Sound.{CarrierIs}
 use Rattle.scenario_laws.specs.channel_laws.proofs.Signalling.{bare-asked, bare-comes}
 use Rattle.scenario_laws.specs.channel_laws.proofs.Stretching.{stays-heard}
 
@@ -62,6 +66,40 @@ found_up v own psm pdu sdu is = by (eqb (channel_of pdu) 0x0001) refl is
     by : (signals : Bool) → eqb (channel_of pdu) 0x0001 ≡ signals → cond signals Nothing (up_at (channel_of pdu) pdu v) ≡ Received own psm sdu → IsUp v own psm pdu sdu
     by true signals brought = cc
     by false apart brought = on (held_at (channel_of pdu) v) apart refl brought
+
+-- ---- on a basic channel
+
+pub plain_sdu : (settings : Settings) (list : List Occurrence) (pdu : List ℕ) (own psm : ℕ) (sdu : List ℕ) → psm ≡ 0x0003 → up (channel_of pdu) pdu (run_of (policy settings false) list).value ≡ Received own psm sdu → sdu ≡ drop 4 pdu
+plain_sdu settings list pdu own psm sdu muxed brought = by it.setup.carrier r.agrees.carrier_is handed
+  where
+    wanted : Policy
+    wanted = policy settings false
+
+    v : Channels
+    v = (run_of wanted list).value
+
+    it : IsUp v own psm pdu sdu
+    it = found_up v own psm pdu sdu brought
+
+    r : IsReadAt wanted (run_of wanted list).said (channel_of pdu) it.held it.setup
+    r = is-read wanted (run_of wanted list).said v (channel_of pdu) it.held it.setup it.at (ap setup_of it.stage_is) (all-sound wanted list)
+
+    mode : (wanted.wish it.held.psm).mode ≡ Basic
+    mode = ap (λ (n : ℕ). ((policy settings false).wish n).mode) (it.psm_is ∙ muxed)
+
+    handed : up_by (sdu_with it.setup.carrier it.setup.own pdu) it.held ≡ Received own psm sdu
+    handed =
+        ap (λ (stage : Stage). up_by (sdu_at stage pdu) it.held) (sym it.stage_is)
+        ∙ (ap (λ (found : Option Held). up_on found pdu) (sym it.at) ∙ (ap (λ (b : Bool). cond b Nothing (up_at (channel_of pdu) pdu v)) (sym it.apart) ∙ brought))
+
+    by : (carrier : Option Carrier) → CarrierIs (wanted.wish it.held.psm) carrier → up_by (sdu_with carrier it.setup.own pdu) it.held ≡ Received own psm sdu → sdu ≡ drop 4 pdu
+    by None basic same = cc
+    by (Some (Plain agreed waiting)) basic same = on (is_taken_with it.setup.own (Plain agreed waiting) pdu) same
+      where
+        on : (taken : Bool) → up_by (cond taken (Some (drop 4 pdu)) None) it.held ≡ Received own psm sdu → sdu ≡ drop 4 pdu
+        on true is = let both : Received it.held.own it.held.psm (drop 4 pdu) ≡ Received own psm sdu = is in cc
+        on false is = cc
+    by (Some (Retransmitting machine)) basic same = let no : Enhanced ≡ Basic = basic ∙ mode in absurd cc
 
 -- ---- as it is read
 

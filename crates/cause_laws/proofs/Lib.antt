@@ -1,10 +1,15 @@
 pub mod Clients
 pub mod Profiles
 pub mod Driving
+pub mod Fronts
+pub mod Holding
 pub mod Saying
 pub mod Off
-pub mod Weaves
+pub mod Lacking
+pub mod Seeking
+pub mod AnswersTold
 pub mod Hearings
+pub mod Weaves
 pub mod Links
 pub mod Parts
 pub mod Words

@@ -1,7 +1,7 @@
 -- On the link that is up where a run is at rest: host a heard what brought the outcome of its push about, where an SDU does so.
-use Rattle.std.proofs.Common.{◌≡◌, ℕ, Bool, true, false, eqb, List, [], ◌∷◌, ◌++◌, map, fold, Option, Some, None, refl, sym, ap, subst, ◌∙◌, ◌⊎◌, inl, inr, append_assoc, append-nil, if◌then◌else◌}
-use Rattle.std.specs.Prelude.{drop, is_some, IfSome}
-use Rattle.std.specs.List.{AllByRecursion, AllZip, filter_map, flat_map}
+use Rattle.std.proofs.Common.{◌≡◌, ℕ, Bool, true, false, eqb, List, [], ◌∷◌, ◌++◌, map, Option, Some, None, refl, sym, ap, subst, ◌∙◌, ◌⊎◌, inl, inr, append_assoc, append-nil, if◌then◌else◌}
+use Rattle.std.specs.Prelude.{drop, is_none, is_some, IfSome}
+use Rattle.std.specs.List.{AllByRecursion, AllZip, filter_map, flat_map, list_any}
 use Rattle.std.proofs.lemmas.List.Concat.{flat_map-append}
 use Rattle.std.proofs.lemmas.List.Sums.{fold-append}
 use Rattle.scenario_laws.specs.bt_base.specs.Objects.{Contents}
@@ -9,6 +9,18 @@ use Rattle.scenario_laws.specs.bt_base.specs.declared.settings.Settings.{Setting
 use Rattle.scenario_laws.specs.acl_fragments.specs.Pieces.{channel_of}
 use Rattle.scenario_laws.specs.push_script.specs.declared.scenario.Scenario.{Scenario}
 use Rattle.scenario_laws.specs.push_terms.specs.declared.outcome.Outcome.{Outcome}
+use Rattle.scenario_laws.specs.push_terms.specs.declared.outcome.Outcome.TheVariants.{Done, Refused, NoService}
+use Rattle.scenario_laws.specs.bt_base.specs.declared.settings.Transport.{Transport}
+use Rattle.scenario_laws.specs.bt_base.specs.declared.settings.Transport.TheVariants.{Rfcomm}
+use Rattle.scenario_laws.specs.sdp_elements.specs.declared.target.Target.{Target}
+use Rattle.scenario_laws.specs.push_model.specs.Shown.{way_of}
+use Rattle.scenario_laws.specs.channel_model.specs.declared.event.ChannelEvent.TheVariants.{Closed, FeaturesLost}
+use Rattle.scenario_laws.specs.host_laws.specs.Services.{targets_told}
+use Rattle.scenario_laws.specs.host_laws.proofs.OneChannel.{notes}
+use Rattle.scenario_laws.specs.host_laws.proofs.StandingClients.{Shut, Missed}
+use Rattle.scenario_laws.specs.host_laws.proofs.Stepping.{clients_step}
+use Rattle.scenario_laws.specs.Searched.{CameSearching, CameSearchingAt}
+use Rattle.scenario_laws.proofs.Searched.{runs_search}
 use Rattle.scenario_laws.specs.push_terms.specs.declared.word.Side.TheVariants as sides
 use Rattle.scenario_laws.specs.capture.specs.declared.flow.Flow.TheVariants.{Out, Into}
 use Rattle.scenario_laws.specs.capture.specs.Links.{Link, link_up}
@@ -20,10 +32,10 @@ use Rattle.scenario_laws.specs.channel_model.specs.Carrying.{takes}
 use Rattle.scenario_laws.specs.channel_model.specs.Policies.{Policy, policy}
 use Rattle.scenario_laws.specs.channel_model.specs.Value.{Channels, no_channels}
 use Rattle.scenario_laws.specs.channel_laws.specs.OwnTalk.{asked_between}
-use Rattle.scenario_laws.specs.channel_laws.specs.Runs.{Occurrence, Comes, Connects, AsksFeatures, Disconnects, Sends, Gives, Fires, Tells, said_in, Run, new_link, run_on, run_of}
+use Rattle.scenario_laws.specs.channel_laws.specs.Runs.{Occurrence, Comes, Connects, AsksFeatures, Disconnects, Sends, Gives, Fires, Tells, Run, new_link, run_on, run_of}
 use Rattle.scenario_laws.specs.push_model.specs.declared.course.Point.TheVariants.{Due, Asked}
 use Rattle.scenario_laws.specs.push_model.specs.declared.course.Stage.{Stage}
-use Rattle.scenario_laws.specs.push_model.specs.declared.course.Stage.TheVariants.{Rest, Link as Paged, SearchChannel, LinkEnd, Over}
+use Rattle.scenario_laws.specs.push_model.specs.declared.course.Stage.TheVariants.{Rest, Link as Paged, SearchChannel, SearchEnd, LinkEnd, Over}
 use Rattle.scenario_laws.specs.push_model.specs.Client.{Client}
 use Rattle.scenario_laws.specs.push_model.specs.Events.{is_linked, linked_at}
 use Rattle.scenario_laws.specs.world_model.specs.Machines.{LinkEvent, Up, Down, Linked}
@@ -57,10 +69,15 @@ use Rattle.scenario_laws.proofs.Free.{free_runs_are_gentle}
 use Rattle.scenario_laws.proofs.Onward.{pushes_go_onward}
 use Rattle.scenario_laws.proofs.UnlinkedClients.{clients_keep}
 use Rattle.scenario_laws.proofs.Wishes.{states_frame}
-use Rattle.cause_laws.specs.Said.{Decision, decision_of, Brings, IsHeard}
+use Rattle.cause_laws.specs.Said.{Decision, NoWay, decision_of, Brings, LacksService, LacksWhat, IsHeard}
+use Rattle.cause_laws.proofs.AnswersTold.{IsOut, Told, grown, link_told}
 use Rattle.cause_laws.proofs.Clients.{never}
+use Rattle.cause_laws.proofs.Lacking.{is_search_end, OffOrLacks, Fares, fed_fares}
 use Rattle.cause_laws.proofs.Hearings.{is_read_up, said_then}
+use Rattle.cause_laws.proofs.Holding.{HoldsSo, holds_none, IsFresh, fed_fresh}
+use Rattle.scenario_laws.specs.push_laws.proofs.Late.{IsLate}
 use Rattle.cause_laws.proofs.Off.{IsOff, strand_off}
+use Rattle.cause_laws.proofs.Seeking.{is_seeking}
 use Rattle.cause_laws.proofs.Weaves.{CameIn, HasCame, Knows, weave_knows}
 
 -- ---- where a link begins
@@ -77,7 +94,7 @@ module _ (settings : Settings) where
 
   -- no push goes on over it, or one without an outcome yet, which stands where its way begins
   abbrev StartsSo : Client → Type 0
-  StartsSo c = (is_off c.stage ≡ true) ⊎ ((c.cause ≡ None) × ((walk : Walk) × Stands walk c))
+  StartsSo c = (is_off c.stage ≡ true) ⊎ ((c.cause ≡ None) × ((c.stage ≡ SearchChannel Due) × ((walk : Walk) × Stands walk c)))
 
   abbrev Starts : ClientProfile → Type 0
   Starts p = StartsSo p.client
@@ -86,7 +103,7 @@ module _ (settings : Settings) where
   up_starts circumstances p off = by p.client.stage refl off
     where
       waiting : (cause : Option Outcome) → p.client.cause ≡ cause → (let d : Client = if is_some cause then record (p.client) { stage = LinkEnd Due } else record (p.client) { stage = SearchChannel Due } in StartsSo d)
-      waiting None is = inr (is, (record { transport = p.client.transport; targets = []; taken = [] }, record { same = refl; none = refl; is = refl }))
+      waiting None is = inr (is, (refl, (record { transport = p.client.transport; targets = []; taken = [] }, record { same = refl; none = refl; is = refl })))
       waiting (Some outcome) is = inl refl
 
       by : (stage : Stage) → p.client.stage ≡ stage → is_off stage ≡ true → StartsSo (linked_at stage p.client)
@@ -165,20 +182,28 @@ module _ (settings : Settings) where
   span_over : (span : Span) (p : ClientProfile) (fed : FedSpan (client_profile settings) (hosts_ask.clients settings) span p) → IsOver settings.transport p.client → IsOver settings.transport (behind_span (client_profile settings) (hosts_ask.clients settings) span p fed).client
   span_over span p fed over = subst (λ (q : ClientProfile). IsOver settings.transport q.client) (span_so C asks span p fed) (fed_over settings (span_feeds C asks span p fed) p over)
 
+  -- and ahead of the channel of its object it holds nothing
+  abbrev FreshOver : ClientProfile → Type 0
+  FreshOver p = settings.transport ≡ Rfcomm → IsFresh p.client
+
+  span_fresh : (span : Span) (p : ClientProfile) (fed : FedSpan (client_profile settings) (hosts_ask.clients settings) span p) → IsOver settings.transport p.client → FreshOver p → FreshOver (behind_span (client_profile settings) (hosts_ask.clients settings) span p fed)
+  span_fresh span p fed over fresh muxed = subst (λ (q : ClientProfile). IsFresh q.client) (span_so C asks span p fed) (fed_fresh settings (span_feeds C asks span p fed) p muxed over (fresh muxed))
+
   record LastLink (now : List Occurrence) (last : ClientProfile) : Type 0 where
     feeds : List Feed
     first : ClientProfile
     so : WovenFed (client_profile settings) (hosts_ask.clients settings) now feeds first last
     starts : Starts first
     over : IsOver settings.transport first.client
+    fresh : FreshOver first
 
-  last_link : (up : Bool) (spans : List Span) (now : List Occurrence) (feeds : List Feed) (first last : ClientProfile) → AreFed (client_profile settings) (hosts_ask.clients settings) spans now feeds first last → AreTimely up (all_marks spans now) → Fits up first → IsOver settings.transport first.client
+  last_link : (up : Bool) (spans : List Span) (now : List Occurrence) (feeds : List Feed) (first last : ClientProfile) → AreFed (client_profile settings) (hosts_ask.clients settings) spans now feeds first last → AreTimely up (all_marks spans now) → Fits up first → IsOver settings.transport first.client → FreshOver first
       → IsOff last ⊎ LastLink now last
-  last_link true [] now feeds first last fed timely fits over = inr (record { feeds = feeds; first = first; so = fed; starts = fits; over = over })
-  last_link false [] now feeds first last fed timely fits over = inl (fed_off now feeds first last fed fits)
-  last_link up (span ∷ spans) now feeds first last (here, later, is, fed) timely fits over =
+  last_link true [] now feeds first last fed timely fits over fresh = inr (record { feeds = feeds; first = first; so = fed; starts = fits; over = over; fresh = fresh })
+  last_link false [] now feeds first last fed timely fits over fresh = inl (fed_off now feeds first last fed fits)
+  last_link up (span ∷ spans) now feeds first last (here, later, is, fed) timely fits over fresh =
       let behind = behind_fits up span spans now first here (turn_timely up span spans now timely) fits in
-      last_link behind.up spans now later (behind_span C asks span first here) last fed behind.timely behind.fits (span_over span first here over)
+      last_link behind.up spans now later (behind_span C asks span first here) last fed behind.timely behind.fits (span_over span first here over) (span_fresh span first here over fresh)
 
 -- ---- talk
 
@@ -224,17 +249,6 @@ last_talk policy (list ∷ []) now [] part zip = absurd zip.1
 last_talk policy (list ∷ other ∷ lists) now [] part zip = absurd zip.1
 last_talk policy (list ∷ lists) now (one ∷ before) part zip = last_talk policy lists now before part zip.1
 
--- what is said grows
-record Grown (before after : List Saying) : Type 0 where
-  more : List Saying
-  is : after ≡ before ++ more
-
-grown : (policy : Policy) (list : List Occurrence) (run : Run) → Grown run.said (fold (run_on policy) run list).said
-grown policy [] run = record { more = []; is = sym (append-nil run.said) }
-grown policy (one ∷ list) run =
-    let rest = grown policy list (run_on policy run one) in
-    record { more = said_in policy one run.value ++ rest.more; is = rest.is ∙ append_assoc run.said (said_in policy one run.value) rest.more }
-
 -- ---- at each moment
 
 -- nothing is left to be told
@@ -265,8 +279,8 @@ module _ (scenario : Scenario) (content : Option Contents) (done : List Happenin
 
   -- an SDU that came in on it stands in its talk
   in_talk : (decision : Decision) (now : List Occurrence) → spoken_of (run_of (policy scenario.settings false) now).said ≡ (run_of (policy scenario.settings false) now).said
-      → (outs : List Saying) → spoken_of (run_of (policy scenario.settings false) now).said ≡ talk link ++ outs → AllByRecursion GoesOut outs → CameIn scenario.settings decision now → IsHeard scenario.settings decision (talk link)
-  in_talk decision now keeps outs talk_is out came =
+      → (outs : List Saying) → spoken_of (run_of (policy scenario.settings false) now).said ≡ talk link ++ outs → AllByRecursion GoesOut outs → CameIn scenario.settings decision now → LacksWhat scenario.settings decision (talk link) → IsHeard scenario.settings decision (talk link)
+  in_talk decision now keeps outs talk_is out came lacks =
       let party = party_of scenario.settings sides.A in
       let read = is_read_up own party came.front came.pdu came.own came.psm came.sdu (states_frame scenario.settings false sides.A) came.brought in
       let run = run_of own came.front in
@@ -292,7 +306,8 @@ module _ (scenario : Scenario) (content : Option Contents) (done : List Happenin
         octets = came.sdu;
         later = read.later;
         sdus_are = read.sdus_are;
-        brings = subst (λ (psm : ℕ). Brings scenario.settings.transport decision psm came.sdu) (sym read.psm_is) came.brings;
+        brings = subst (λ (psm : ℕ). Brings scenario.settings.transport decision run.said psm came.sdu) (sym read.psm_is) came.brings;
+        lacks = lacks;
       }
 
   abbrev asking : Asks (client_profile scenario.settings)
@@ -305,15 +320,60 @@ module _ (scenario : Scenario) (content : Option Contents) (done : List Happenin
       subst (λ (p : ClientProfile). Knows scenario.settings asking p now) (sym woven.last_is)
       (subst (Knows scenario.settings asking (woven_profile D asking woven.weave no_channels here.first)) (sym woven.list_is) (weave_knows scenario.settings asking woven.weave [] here.first no_channels refl woven.on_link (at_first here.starts)))
     where
+      empty : here.first.client.stage ≡ SearchChannel Due → IsFresh here.first.client → HoldsSo here.first.client.held []
+      empty at (inl late) = absurd (subst IsLate at late)
+      empty at (inr none) = subst (λ (held : List ℕ). HoldsSo held []) (sym none) (holds_none [])
+
       at_first : Starts scenario.settings here.first → Knows scenario.settings (hosts_ask.clients scenario.settings) here.first []
       at_first (inl off) = inl off
-      at_first (inr (none, (walk, stands))) = inr (record { over = here.over; walk = walk; stands = stands; has = subst (λ (c : Option Outcome). HasCame scenario.settings c []) (sym none) tt })
+      at_first (inr (none, (at, (walk, stands)))) = inr (record { over = here.over; walk = walk; stands = stands; has = subst (λ (c : Option Outcome). HasCame scenario.settings c []) (sym none) tt; held = λ muxed. empty at (here.fresh muxed) })
 
   came_on : (decision : Decision) (now : List Occurrence) → Decides w decision → Knows scenario.settings (hosts_ask.clients scenario.settings) w.a.upper.profile now → CameIn scenario.settings decision now
   came_on decision now (outcome, is, said) (inl off) = on_never off
   came_on decision now (outcome, is, said) (inr known) =
       let has : HasCame scenario.settings (Some outcome) now = subst (λ (c : Option Outcome). HasCame scenario.settings c now) is known.has in
       subst (λ (found : Option Decision). IfSome found (λ one. CameIn scenario.settings one now)) said has
+
+  -- where it found no service an answer that it was told names no way
+  told_lacks : w.a.upper.profile.client.cause ≡ Some NoService → LacksService scenario.settings (talk link)
+  told_lacks cause =
+      let party = party_of scenario.settings sides.A in
+      let came : CameSearching scenario.settings asking (pdus link) w.a.upper = subst (λ (found : Option Link). CameSearchingAt scenario.settings asking found w.a.upper) up (runs_search hosts_ask scenario content done w (clients_step scenario.settings) there rest) in
+      let lives = came.so.lives in
+      let client = w.a.upper.profile.client in
+      let fares : Fares client = subst (λ (p : ClientProfile). Fares p.client) (sym lives.profile_is) (fed_fares scenario.settings lives.feeds) in
+      let over : IsOver scenario.settings.transport client = subst (λ (p : ClientProfile). IsOver scenario.settings.transport p.client) (sym lives.profile_is) (fed_over scenario.settings lives.feeds D.first (first_over scenario.settings)) in
+      let said = (run_of own lives.now).said in
+      let talk_is : spoken_of said ≡ talk link = came.so.talk_is ∙ ap (λ (moved : List Pdu). flat_map said_by moved) came.came.moved_is in
+      let none : (run_of own lives.now).value.events ≡ [] = ap (λ (v : Channels). v.events) (sym lives.channels_run) ∙ lives.all_told in
+      subst (λ (l : List Saying). list_any (λ (target : Target). is_none (way_of scenario.settings.transport target)) (targets_told party l) ≡ true) talk_is
+      (by said (run_of own lives.now).value none (fares cause) over.0 (link_told scenario.settings party asking (clients_step scenario.settings) lives.now came.first w.a.upper.profile came.searches))
+    where
+      none_out : {X : Type 0} (v : Channels) → v.events ≡ [] → IsOut w.a.upper.profile.client v → X
+      none_out v none (inl off) = on_never off
+      none_out v none (inr (Shut own' psm reason more used why told)) = let no : [] ≡ Closed own' psm reason ∷ more = ap notes (sym none) ∙ told in absurd cc
+      none_out v none (inr (Missed asks (more, told))) = let no : [] ≡ FeaturesLost ∷ more = ap notes (sym none) ∙ told in absurd cc
+
+      seeks : (stage : Stage) → is_search_end stage ≡ true → is_seeking stage ≡ true
+      seeks (SearchEnd point) is = refl
+      seeks stage is = never is
+
+      by : (said : List Saying) (v : Channels) → v.events ≡ [] → OffOrLacks w.a.upper.profile.client → w.a.upper.profile.client.transport ≡ scenario.settings.transport → IsOut w.a.upper.profile.client v ⊎ Told (party_of scenario.settings sides.A) w.a.upper.profile.client said
+          → list_any (λ (target : Target). is_none (way_of scenario.settings.transport target)) (targets_told (party_of scenario.settings sides.A) (spoken_of said)) ≡ true
+      by said v none (inl off) same told = on_never off
+      by said v none (inr lacks) same (inl out) = none_out v none out
+      by said v none (inr lacks) same (inr told) =
+          told (seeks w.a.upper.profile.client.stage lacks.stage) lacks.answered lacks.target lacks.read (λ (target : Target). is_none (way_of scenario.settings.transport target)) (ap (λ (t : Transport). is_none (way_of t lacks.target)) (sym same) ∙ lacks.none)
+
+  no_service : (outcome : Outcome) → decision_of outcome ≡ Some NoWay → outcome ≡ NoService
+  no_service NoService is = refl
+  no_service Done is = cc
+  no_service (Refused code) is = cc
+  no_service outcome is = cc
+
+  lacks_what : (decision : Decision) → Decides w decision → LacksWhat scenario.settings decision (talk link)
+  lacks_what NoWay (outcome, is, said) = told_lacks (is ∙ ap Some (no_service outcome said))
+  lacks_what decision decides = tt
 
   gently_hears : (decision : Decision) → Decides w decision → CameGently (client_profile scenario.settings) sides.A (all_entries done) w.a.upper → IsHeard scenario.settings decision (talk link)
   gently_hears decision decides gentle =
@@ -332,13 +392,13 @@ module _ (scenario : Scenario) (content : Option Contents) (done : List Happenin
       ∙ (ap (λ (l : List Saying). l ++ so.waits) (flat_map-append said_by (pdus link) (map out_of unsent)) ∙ append_assoc (talk link) left so.waits)) in
       with_last decision decides lives.now (left ++ so.waits) talk_is (all_both left so.waits (unsent_out unsent) so.go_out)
       (ap (λ (v : Channels). v.events) (sym lives.channels_run) ∙ lives.all_told)
-      (last_link scenario.settings false lives.spans lives.now lives.feeds D.first w.a.upper.profile fed.fed timely refl (first_over scenario.settings))
+      (last_link scenario.settings false lives.spans lives.now lives.feeds D.first w.a.upper.profile fed.fed timely refl (first_over scenario.settings) (λ muxed. inr refl))
     where
       with_last : (decision : Decision) → Decides w decision → (now : List Occurrence) (outs : List Saying) → spoken_of (run_of (policy scenario.settings false) now).said ≡ talk link ++ outs → AllByRecursion GoesOut outs
           → (run_of (policy scenario.settings false) now).value.events ≡ [] → IsOff w.a.upper.profile ⊎ LastLink scenario.settings now w.a.upper.profile → IsHeard scenario.settings decision (talk link)
       with_last decision decides now outs talk_is out none (inl off) = on_never off
       with_last decision decides now outs talk_is out none (inr here) =
-          in_talk decision now (clients_keep_on scenario.settings asking now here.first w.a.upper.profile here.so.woven none goes_on) outs talk_is out (came_on decision now decides (known_on now w.a.upper.profile here))
+          in_talk decision now (clients_keep_on scenario.settings asking now here.first w.a.upper.profile here.so.woven none goes_on) outs talk_is out (came_on decision now decides (known_on now w.a.upper.profile here)) (lacks_what decision decides)
 
   pub rest_hears : (decision : Decision) → Decides w decision → IsHeard scenario.settings decision (talk link)
   rest_hears decision decides =

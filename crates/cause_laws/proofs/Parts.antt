@@ -4,7 +4,7 @@ use Rattle.std.proofs.lemmas.Bool.{eqb-true}
 use Rattle.scenario_laws.specs.push_terms.specs.declared.outcome.Outcome.{Outcome}
 use Rattle.scenario_laws.specs.push_terms.specs.declared.outcome.Outcome.TheVariants.{LinkLost, RetryLimit, ShelfFault, Cancelled as PushCancelled, PeerClosed, PeerFault, ScriptEnded}
 use Rattle.scenario_laws.specs.capture.specs.Entries.{Entry}
-use Rattle.cause_laws.specs.FirstCauses.{is_cancel, is_piece, end_reason, is_firing, IsLoss, BringsAbout, IsNoCause, AreNoCauses, AreNotCancelled, IsBroughtAbout, HasCause}
+use Rattle.cause_laws.specs.FirstCauses.{is_cancel, is_piece, end_reason, is_firing, IsLoss, may_blame, BringsAbout, IsNoCause, AreNoCauses, AreNotCancelled, IsBroughtAbout, HasCause}
 use Rattle.cause_laws.proofs.Clients.{never, is_any, is_heard, is_shelf, Came, HasCome}
 use Rattle.cause_laws.proofs.Driving.{is_timed, is_gone}
 
@@ -87,16 +87,20 @@ brought_by outcome part entry all brings = record { before = part; entry = entry
 
 pub fired_brings : (entry : Entry) → is_cancel entry ≡ false → (is_piece entry || is_firing entry) ≡ true → Brings is_timed entry
 fired_brings entry plain fires RetryLimit part is all = brought_by RetryLimit part entry all fires
-fired_brings entry plain fires (PeerFault layer reason) part is all = brought_by (PeerFault layer reason) part entry all fires
+fired_brings entry plain fires (PeerFault layer reason) part is all = brought_by (PeerFault layer reason) part entry all (is, fires)
 fired_brings entry plain fires ShelfFault part is all = all_more part entry plain (not_cancelled_of part all)
 fired_brings entry plain fires outcome part is all = never is
+
+or_false : (b : Bool) → (b || false) ≡ true → b ≡ true
+or_false true is = refl
+or_false false is = is
 
 pub piece_brings : (entry : Entry) → is_cancel entry ≡ false → is_piece entry ≡ true → Brings is_heard entry
 piece_brings entry plain piece LinkLost part is all = never is
 piece_brings entry plain piece PushCancelled part is all = never is
 piece_brings entry plain piece ScriptEnded part is all = never is
 piece_brings entry plain piece RetryLimit part is all = brought_by RetryLimit part entry all (ap (λ (b : Bool). b || is_firing entry) piece)
-piece_brings entry plain piece (PeerFault layer reason) part is all = brought_by (PeerFault layer reason) part entry all (ap (λ (b : Bool). b || is_firing entry) piece)
+piece_brings entry plain piece (PeerFault layer reason) part is all = brought_by (PeerFault layer reason) part entry all (or_false (may_blame layer) is, ap (λ (b : Bool). b || is_firing entry) piece)
 piece_brings entry plain piece PeerClosed part is all = brought_by PeerClosed part entry all (inl piece)
 piece_brings entry plain piece ShelfFault part is all = all_more part entry plain (not_cancelled_of part all)
 piece_brings entry plain piece outcome part is all = brought_by outcome part entry all piece
@@ -115,5 +119,5 @@ gone_brings reason entry plain ends outcome part is all = never is
 pub timed_any : (outcome : Outcome) → is_timed outcome ≡ true → is_any outcome ≡ true
 timed_any RetryLimit is = refl
 timed_any ShelfFault is = refl
-timed_any (PeerFault layer reason) is = refl
+timed_any (PeerFault layer reason) is = is
 timed_any outcome is = never is

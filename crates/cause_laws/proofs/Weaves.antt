@@ -1,7 +1,8 @@
 -- Through what happens on a link: an outcome that an SDU brings about comes with one.
-use Rattle.std.proofs.Common.{◌≡◌, ℕ, Bool, true, false, List, [], ◌∷◌, ◌++◌, fold, Option, Some, None, Result, Ok, Err, refl, sym, ap, subst, ◌∙◌, ◌⊎◌, inl, inr, append_assoc, append-nil, arith, if◌then◌else◌}
+use Rattle.std.proofs.Common.{◌≡◌, ℕ, Bool, true, false, ◌&&◌, ◌==◌, List, [], ◌∷◌, ◌++◌, fold, Option, Some, None, Result, Ok, Err, refl, sym, ap, subst, ◌∙◌, ◌⊎◌, inl, inr, append_assoc, append-nil, arith, if◌then◌else◌}
 use Rattle.std.specs.Prelude.{IfSome}
 use Rattle.std.specs.List.{AllByRecursion}
+use Rattle.std.proofs.lemmas.Bool.{eq-eqb}
 use Rattle.std.proofs.lemmas.List.Sums.{fold-append}
 use Rattle.scenario_laws.specs.bt_base.specs.declared.ports.PortFault.{PortFault}
 use Rattle.scenario_laws.specs.bt_base.specs.declared.ports.PortFault.TheVariants as fault
@@ -38,12 +39,27 @@ use Rattle.scenario_laws.specs.host_laws.specs.Woven.{Strand, Hearing, Giving, F
 use Rattle.scenario_laws.specs.host_laws.proofs.FramesSent.{IsOver, stays_over}
 use Rattle.scenario_laws.specs.host_laws.proofs.Links.{value_run}
 use Rattle.scenario_laws.specs.push_laws.specs.Opening.{whole_way}
-use Rattle.scenario_laws.specs.push_laws.proofs.Opening.{Walk, Stands, behind_deed, deed_stands}
+use Rattle.scenario_laws.specs.push_laws.proofs.Opening.{Walk, Stands, At, course_of, behind_deed, deed_stands}
+use Rattle.scenario_laws.specs.push_model.specs.Responding.{is_object, hears_frame}
+use Rattle.scenario_laws.specs.push_model.specs.declared.course.Stage.{Stage}
+use Rattle.scenario_laws.specs.push_model.specs.declared.course.Stage.TheVariants.{Object}
+use Rattle.scenario_laws.specs.bt_base.specs.declared.settings.Transport.{Transport}
+use Rattle.scenario_laws.specs.bt_base.specs.declared.settings.Transport.TheVariants.{Rfcomm}
+use Rattle.scenario_laws.specs.push_terms.specs.declared.word.Side.TheVariants.{A}
+use Rattle.scenario_laws.specs.capture.specs.declared.flow.Flow.TheVariants.{Into}
+use Rattle.scenario_laws.specs.link_talk.specs.Sayings.{Carried}
+use Rattle.scenario_laws.specs.channel_model.specs.Carrying.{takes}
+use Rattle.scenario_laws.specs.channel_laws.specs.OwnTalk.{asked_between}
+use Rattle.scenario_laws.specs.Parties.{party_of}
+use Rattle.scenario_laws.proofs.Wishes.{states_frame}
 use Rattle.cause_laws.specs.Said.{Decision, decision_of, Brings}
 use Rattle.cause_laws.proofs.Clients.{is_unsaid, any_unsaid, unsaid_says, some_goes, Within, ShowsWithin, more_shown, timer_shown, Came, IsWithin, came_behind, none_later}
 use Rattle.cause_laws.proofs.Profiles.{any_more, end_within, call_within, event_within, sent_within, step_within}
 use Rattle.cause_laws.proofs.Off.{IsOff, strand_off}
-use Rattle.cause_laws.proofs.Saying.{Says, sdu_says}
+use Rattle.cause_laws.proofs.AnswersTold.{grown}
+use Rattle.cause_laws.proofs.Hearings.{plain_sdu, said_then}
+use Rattle.cause_laws.proofs.Holding.{HoldsSo, holds_none, holds_grow, IsApart, end_apart, call_apart, event_apart, sent_apart, step_apart, both_apart, elsewhere_held, frame_holds, object_is, behind_holds}
+use Rattle.cause_laws.proofs.Saying.{Says, channel_fits, brings_octets, sdu_says}
 
 module _ (settings : Settings) where
   abbrev wanted : Policy
@@ -62,7 +78,7 @@ module _ (settings : Settings) where
     pub psm : ℕ
     pub sdu : List ℕ
     pub brought : up (channel_of pdu) pdu (run_of (policy settings false) front).value ≡ Received own psm sdu
-    pub brings : Brings settings.transport decision psm sdu
+    pub brings : Brings settings.transport decision (run_of (policy settings false) front).said psm sdu
 
   abbrev pub HasCame : Option Outcome → List Occurrence → Type 0
   HasCame None list = Unit {0}
@@ -92,35 +108,42 @@ module _ (settings : Settings) where
 
   -- ---- what is known of a client on its link
 
-  -- its transport and how it stands on its way, and the SDU that its outcome came of
+  -- its transport and how it stands on its way, the SDU that its outcome came of, and over RFCOMM what it holds of a packet
   pub record Known (c : Client) (past : List Occurrence) : Type 0 where
     pub over : IsOver settings.transport c
     pub walk : Walk
     pub stands : Stands walk c
     pub has : HasCame c.cause past
+    pub held : settings.transport ≡ Rfcomm → HoldsSo c.held (run_of (policy settings false) past).said
+
+  held_more : (held : List ℕ) (past more : List Occurrence) → HoldsSo held (run_of wanted past).said → HoldsSo held (run_of wanted (past ++ more)).said
+  held_more held past more so =
+      let rest = grown wanted more (run_of wanted past) in
+      subst (HoldsSo held) (sym (ap (λ (r : Run). r.said) (fold-append (run_on wanted) new_link past more) ∙ rest.is)) (holds_grow held (run_of wanted past).said rest.more so)
 
   known_more : (c : Client) (past more : List Occurrence) → Known c past → Known c (past ++ more)
-  known_more c past more known = record { over = known.over; walk = known.walk; stands = known.stands; has = has_more c.cause past more known.has }
+  known_more c past more known = record { over = known.over; walk = known.walk; stands = known.stands; has = has_more c.cause past more known.has; held = λ muxed. held_more c.held past more (known.held muxed) }
 
   walks_behind : (affairs : List Affair) (c : Client) → AllByRecursion (IsWithin is_unsaid) affairs → (walk : Walk) → Stands walk c → (later : Walk) × Stands later (client_behind affairs c)
   walks_behind [] c all walk stands = (walk, stands)
   walks_behind (Begins size name ∷ affairs) c all walk stands = absurd all.0
   walks_behind (Does deed ∷ affairs) c all walk stands = walks_behind affairs (done deed c) all.1 (behind_deed walk deed c) (deed_stands walk deed c stands)
 
-  known_behind : (affairs : List Affair) (c : Client) (past more : List Occurrence) → AllByRecursion (IsWithin is_unsaid) affairs → Known c past → Known (client_behind affairs c) (past ++ more)
-  known_behind affairs c past more all known =
+  known_behind : (affairs : List Affair) (c : Client) (past more : List Occurrence) → AllByRecursion (IsWithin is_unsaid) affairs → AllByRecursion IsApart affairs → Known c past → Known (client_behind affairs c) (past ++ more)
+  known_behind affairs c past more all apart known =
       let (walk, stands) = walks_behind affairs c all known.walk known.stands in
       record {
         over = stays_over settings.transport affairs c known.over;
         walk = walk;
         stands = stands;
         has = unsaid_has c.cause (client_behind affairs c).cause past more (came_behind is_unsaid affairs c all) known.has;
+        held = λ muxed. held_more (client_behind affairs c).held past more (behind_holds settings.transport affairs c (run_of wanted past).said apart muxed known.over (known.held muxed));
       }
 
   -- ---- it is told something else
 
-  fed_known : (p : ClientProfile) (feed : Feed) (past more : List Occurrence) → AllByRecursion (IsWithin is_unsaid) (pushed_with p feed) → Known p.client past → Known (fed (client_profile settings) p feed).client (past ++ more)
-  fed_known p feed past more all known = subst (λ (c : Client). Known c (past ++ more)) (sym (feed_so settings p feed)) (known_behind (pushed_with p feed) p.client past more all known)
+  fed_known : (p : ClientProfile) (feed : Feed) (past more : List Occurrence) → AllByRecursion (IsWithin is_unsaid) (pushed_with p feed) → AllByRecursion IsApart (pushed_with p feed) → Known p.client past → Known (fed (client_profile settings) p feed).client (past ++ more)
+  fed_known p feed past more all apart known = subst (λ (c : Client). Known c (past ++ more)) (sym (feed_so settings p feed)) (known_behind (pushed_with p feed) p.client past more all apart known)
 
   cancels_unsaid : ShowsWithin is_unsaid Cancels
   cancels_unsaid client = by (may_cancel client)
@@ -144,9 +167,9 @@ module _ (settings : Settings) where
       fresh = record { transport = c.transport; targets = []; taken = [] }
 
       by : (answered : Result ℕ PortFault) → IsOver settings.transport (begun_by answered name c) → Known (begun_by answered name c) past
-      by (Ok n) over = record { over = over; walk = fresh; stands = record { same = refl; none = refl; is = refl }; has = tt }
-      by (Err fault.Failed) over = record { over = over; walk = fresh; stands = record { one = omega arith; behind = whole_way c.transport []; way = refl }; has = tt }
-      by (Err fault.NoMemory) over = record { over = over; walk = known.walk; stands = known.stands; has = known.has }
+      by (Ok n) over = record { over = over; walk = fresh; stands = record { same = refl; none = refl; is = refl }; has = tt; held = λ muxed. holds_none (run_of wanted past).said }
+      by (Err fault.Failed) over = record { over = over; walk = fresh; stands = record { one = omega arith; behind = whole_way c.transport []; way = refl }; has = tt; held = λ muxed. holds_none (run_of wanted past).said }
+      by (Err fault.NoMemory) over = record { over = over; walk = known.walk; stands = known.stands; has = known.has; held = known.held }
 
       on : (failed : Bool) → (let d = if failed then c else begun_by size name c in IsOver settings.transport d → Known d past)
       on true over = known
@@ -162,33 +185,33 @@ module _ (settings : Settings) where
       let begun = begins size (name_for name) p.client in
       let rest = then_ends begun ++ then_calls (ended begun) in
       let within = both_within (then_ends begun) (then_calls (ended begun)) (any_more is_unsaid any_unsaid (then_ends begun) (end_within (steps begun []).step)) (any_more is_unsaid any_unsaid (then_calls (ended begun)) (call_within (steps (ended begun) []).step)) in
-      subst (λ (c : Client). Known c (past ++ [])) (sym (feed_so settings p (Learns circumstances (Opening name)))) (known_behind rest begun past [] within (begun_known size (name_for name) p.client past known))
+      subst (λ (c : Client). Known c (past ++ [])) (sym (feed_so settings p (Learns circumstances (Opening name)))) (known_behind rest begun past [] within (both_apart (then_ends begun) (then_calls (ended begun)) (end_apart (steps begun []).step) (call_apart (steps (ended begun) []).step)) (begun_known size (name_for name) p.client past known))
 
   news_known : (circumstances : List Circumstance) (news : News) (p : ClientProfile) (past : List Occurrence) → tidings_by news ≡ [] → Known p.client past → Known ((client_profile settings).told circumstances news p).client (past ++ [])
   news_known circumstances (Linked event) p past of known = cc
   news_known circumstances (Failed status) p past of known =
       let failed = hears_news (events.LinkFailed status) p.client in
-      fed_known p (Learns circumstances (Failed status)) past [] (fails_unsaid status, any_more is_unsaid any_unsaid (then_ends failed) (end_within (steps failed []).step)) known
+      fed_known p (Learns circumstances (Failed status)) past [] (fails_unsaid status, any_more is_unsaid any_unsaid (then_ends failed) (end_within (steps failed []).step)) (tt, end_apart (steps failed []).step) known
   news_known circumstances (Heard pdu) p past of known = known_more p.client past [] known
-  news_known circumstances TimerFired p past of known = fed_known p (Learns circumstances TimerFired) past [] (more_shown is_unsaid any_unsaid (Hears events.Timer) timer_shown, tt) known
+  news_known circumstances TimerFired p past of known = fed_known p (Learns circumstances TimerFired) past [] (more_shown is_unsaid any_unsaid (Hears events.Timer) timer_shown, tt) (tt, tt) known
   news_known circumstances Cancelled p past of known =
-      fed_known p (Learns circumstances Cancelled) past [] (cancels_unsaid, any_more is_unsaid any_unsaid (then_ends (cancelled p.client)) (end_within (steps (cancelled p.client) []).step)) known
+      fed_known p (Learns circumstances Cancelled) past [] (cancels_unsaid, any_more is_unsaid any_unsaid (then_ends (cancelled p.client)) (end_within (steps (cancelled p.client) []).step)) (tt, end_apart (steps (cancelled p.client) []).step) known
   news_known circumstances (Opening name) p past of known = opening_known circumstances name p past known
 
   next_known : (event_list : List ChannelEvent) (v : Channels) (p : ClientProfile) (past more : List Occurrence) → Known p.client past → Known (told_next (client_profile settings) event_list v p).client (past ++ more)
   next_known [] v p past more known = known_more p.client past more known
   next_known (event ∷ rest) v p past more known =
-      let u : Channels = record v { events = rest } in fed_known p (Happens event u) past more (any_more is_unsaid any_unsaid _ (event_within event u)) known
+      let u : Channels = record v { events = rest } in fed_known p (Happens event u) past more (any_more is_unsaid any_unsaid _ (event_within event u)) (event_apart event u) known
 
   -- ---- an SDU comes in
 
   module _ (past : List Occurrence) (pdu : List ℕ) (own psm : ℕ) (sdu : List ℕ) (is : up (channel_of pdu) pdu (run_of (policy settings false) past).value ≡ Received own psm sdu) where
-    came_now : (decision : Decision) → Brings settings.transport decision psm sdu → CameIn decision (past ++ Comes pdu ∷ [])
+    came_now : (decision : Decision) → Brings settings.transport decision (run_of (policy settings false) past).said psm sdu → CameIn decision (past ++ Comes pdu ∷ [])
     came_now decision brings = record { front = past; pdu = pdu; back = []; list_is = refl; own = own; psm = psm; sdu = sdu; brought = is; brings = brings }
 
-    shown_has : (shown : Option Outcome) → Says settings.transport psm sdu shown → HasCame shown (past ++ Comes pdu ∷ [])
+    shown_has : (shown : Option Outcome) → Says settings.transport (run_of (policy settings false) past).said psm sdu shown → HasCame shown (past ++ Comes pdu ∷ [])
     shown_has None says = tt
-    shown_has (Some outcome) says = some_goes (λ decision. Brings settings.transport decision psm sdu) (λ decision. CameIn decision (past ++ Comes pdu ∷ [])) came_now (decision_of outcome) says
+    shown_has (Some outcome) says = some_goes (λ decision. Brings settings.transport decision (run_of wanted past).said psm sdu) (λ decision. CameIn decision (past ++ Comes pdu ∷ [])) came_now (decision_of outcome) says
 
     received_known : (c : Client) → Known c past → Known (done (Hears (events.Sdu psm sdu)) c) (past ++ Comes pdu ∷ [])
     received_known c known = record {
@@ -196,12 +219,36 @@ module _ (settings : Settings) where
       walk = behind_deed known.walk (Hears (events.Sdu psm sdu)) c;
       stands = deed_stands known.walk (Hears (events.Sdu psm sdu)) c known.stands;
       has = by c.cause refl known.has;
+      held = λ muxed. holds muxed (is_object c.stage && (psm == c.psm)) refl;
     }
       where
+        later : Client
+        later = done (Hears (events.Sdu psm sdu)) c
+
+        -- a frame on the channel of its object
+        framed : settings.transport ≡ Rfcomm → (c.stage ≡ Object) × (psm ≡ c.psm) → HoldsSo later.held (run_of wanted (past ++ Comes pdu ∷ [])).said
+        framed muxed (at, here) =
+            let run = run_of wanted past in
+            let party = party_of settings A in
+            let so : psm ≡ 0x0003 = here ∙ channel_fits Rfcomm known.walk c (known.over.0 ∙ muxed) (subst (λ (s : Stage). At known.walk s (course_of c)) at known.stands) in
+            let came : HoldsSo (hears_frame sdu c).held (run.said ++ Carried Into pdu ∷ []) =
+            frame_holds sdu c run.said (Carried Into pdu) (ap Some (sym (plain_sdu settings past pdu own psm sdu so is))) (λ octets brought. brings_octets sdu c.mux octets brought) (known.held muxed) in
+            let said_is : (run_of wanted (past ++ Comes pdu ∷ [])).said ≡ (run.said ++ Carried Into pdu ∷ []) ++ asked_between run.value (takes (channel_of pdu) pdu run.value) =
+            ap (λ (r : Run). r.said) (fold-append (run_on wanted) new_link past (Comes pdu ∷ [])) ∙ said_then wanted party past pdu own psm sdu (states_frame settings false A) is in
+            let heard_is : later ≡ hears_frame sdu c =
+            ap (λ (s : Stage). events.sdu_at s psm sdu c) at
+            ∙ (ap (λ (b : Bool). if b then events.hears_object c.transport sdu c else c) (eq-eqb psm c.psm here) ∙ ap (λ (t : Transport). events.hears_object t sdu c) (known.over.0 ∙ muxed)) in
+            subst (λ (d : Client). HoldsSo d.held (run_of wanted (past ++ Comes pdu ∷ [])).said) (sym heard_is)
+            (subst (HoldsSo (hears_frame sdu c).held) (sym said_is) (holds_grow (hears_frame sdu c).held (run.said ++ Carried Into pdu ∷ []) (asked_between run.value (takes (channel_of pdu) pdu run.value)) came))
+
+        holds : settings.transport ≡ Rfcomm → (here : Bool) → (is_object c.stage && (psm == c.psm)) ≡ here → HoldsSo later.held (run_of wanted (past ++ Comes pdu ∷ [])).said
+        holds muxed true is' = framed muxed (object_is c.stage psm c.psm is')
+        holds muxed false is' = held_more later.held past (Comes pdu ∷ []) (subst (λ (held : List ℕ). HoldsSo held (run_of wanted past).said) (sym (elsewhere_held c.stage psm sdu c is')) (known.held muxed))
+
         by : (cause : Option Outcome) → c.cause ≡ cause → HasCame cause past → HasCame (done (Hears (events.Sdu psm sdu)) c).cause (past ++ Comes pdu ∷ [])
         by None none has =
             subst (λ (x : Option Outcome). HasCame x (past ++ Comes pdu ∷ [])) (sym (outcomes_are_shown (Hears (events.Sdu psm sdu) ∷ []) c none ∙ none_later (sdu_shows c.stage psm sdu c)))
-            (shown_has (sdu_shows c.stage psm sdu c) (sdu_says settings.transport psm sdu c known.over.0 known.walk c.stage known.stands))
+            (shown_has (sdu_shows c.stage psm sdu c) (sdu_says settings.transport (run_of wanted past).said psm sdu c known.over.0 known.walk known.held c.stage known.stands))
         by (Some outcome) some has =
             subst (λ (x : Option Outcome). HasCame x (past ++ Comes pdu ∷ [])) (sym (first_causes_stay (Hears (events.Sdu psm sdu) ∷ []) c outcome some)) (has_more (Some outcome) past (Comes pdu ∷ []) has)
 
@@ -221,9 +268,9 @@ module _ (settings : Settings) where
     strand_known Telling past p on known = next_known (run_of wanted past).value.events (run_of wanted past).value p past _ known
     strand_known (Gifting circumstances) past p on known = known_more p.client past [] known
     strand_known (Learning circumstances news) past p on known = news_known circumstances news p past on known
-    strand_known Checking past p on known = fed_known p (Sent (run_of wanted past).value) past [] (any_more is_unsaid any_unsaid _ (sent_within p.submitted (run_of wanted past).value)) known
+    strand_known Checking past p on known = fed_known p (Sent (run_of wanted past).value) past [] (any_more is_unsaid any_unsaid _ (sent_within p.submitted (run_of wanted past).value)) (sent_apart p.submitted (run_of wanted past).value) known
     strand_known Stepping past p on known =
-        fed_known p (Steps (run_of wanted past).value) past _ (any_more is_unsaid any_unsaid _ (step_within (steps p.client (fitted p)).step (fitted p))) known
+        fed_known p (Steps (run_of wanted past).value) past _ (any_more is_unsaid any_unsaid _ (step_within (steps p.client (fitted p)).step (fitted p))) (step_apart (steps p.client (fitted p)).step (fitted p)) known
 
     -- no push goes on, or what came is known
     abbrev pub Knows : ClientProfile → List Occurrence → Type 0

@@ -1,6 +1,6 @@
 -- Why each push ended, as its part of the capture shows it: the first thing in it that ends a push (Core 5.1, Volume 2 Part D, 1.3, and Part E, 7.7.5;
 -- IrOBEX 1.5, 3.2 and 3.4).
-use Rattle.std.specs.Prelude.{ℕ, ◌≡◌, ◌==◌, ◌&&◌, ◌||◌, ◌⊎◌, Bool, true, false, List, [], ◌∷◌, ◌++◌, fold, slice_index, Option, Some, None, IfSome, if◌then◌else◌}
+use Rattle.std.specs.Prelude.{ℕ, ◌≡◌, ◌==◌, ◌&&◌, ◌||◌, ◌⊎◌, Bool, true, false, List, [], ◌∷◌, ◌++◌, fold, nat_le, slice_index, Option, Some, None, IfSome, if◌then◌else◌}
 use Rattle.std.specs.List.{AllByRecursion}
 use Rattle.scenario_laws.specs.bt_base.specs.declared.settings.Settings.{Settings}
 use Rattle.scenario_laws.specs.h4_framing.specs.Packets.{Packet, Acl, Event}
@@ -87,14 +87,18 @@ abbrev pub IsLoss : Option ℕ → Type 0
 IsLoss None = ⊥
 IsLoss (Some reason) = (reason == 0x13) ≡ false
 
+-- the layers whose peer may be at fault: 2 L2CAP, 3 service discovery, 4 RFCOMM, 5 OBEX; not 1, HCI, since each link that host a asks for is made
+abbrev pub may_blame : (layer : ℕ) → Bool
+may_blame layer = nat_le 2 layer && nat_le layer 5
+
 -- The entry that brings an outcome about. A response, and what service discovery answers, come in a piece of a PDU; the link of host a is lost where it is
--- told so; and a push is cancelled by that word. The peer closes a channel by a PDU too, or it ends the link as its user; and a limit is met, or the peer at fault,
--- with a PDU or where a word is turned with which the timer of host a fires. The shelf's fault, and the end of the script, need none.
+-- told so; and a push is cancelled by that word. The peer closes a channel by a PDU too, or it ends the link as its user; and a limit is met, or the peer at fault
+-- above HCI, with a PDU or where a word is turned with which the timer of host a fires. The shelf's fault, and the end of the script, need none.
 abbrev pub BringsAbout : Outcome → Entry → Type 0
 BringsAbout LinkLost entry = IsLoss (end_reason entry)
 BringsAbout Cancelled entry = is_cancel entry ≡ true
 BringsAbout RetryLimit entry = (is_piece entry || is_firing entry) ≡ true
-BringsAbout (PeerFault layer reason) entry = (is_piece entry || is_firing entry) ≡ true
+BringsAbout (PeerFault layer reason) entry = (may_blame layer ≡ true) × ((is_piece entry || is_firing entry) ≡ true)
 BringsAbout PeerClosed entry = (is_piece entry ≡ true) ⊎ (end_reason entry ≡ Some 0x13)
 BringsAbout ShelfFault entry = ⊥
 BringsAbout ScriptEnded entry = ⊥
