@@ -1,19 +1,13 @@
 -- How often host a of a run gives its requests for the ends of channels, against the words of the run (Core 5.1, Volume 3 Part A, 4.6 and 6.2.1).
-use Rattle.std.specs.Prelude.{ℕ, ◌≡◌, ◌<◌, List, [], Option, Some}
+use Rattle.std.specs.Prelude.{ℕ, ◌<◌, List, Option}
 use Rattle.pair_laws.specs.bt_base.specs.Objects.{Contents}
 use Rattle.pair_laws.specs.push_script.specs.declared.scenario.Scenario.{Scenario}
 use Rattle.pair_laws.specs.push_terms.specs.declared.word.Side.TheVariants as sides
 use Rattle.pair_laws.specs.capture.specs.Entries.{Entry}
-use Rattle.pair_laws.specs.capture.specs.Histories.{EachAfter}
-use Rattle.pair_laws.specs.l2cap_signal.specs.Commands.{Command}
 use Rattle.channel_laws.specs.channel_model.specs.declared.errand.Errand.TheVariants as errands
-use Rattle.channel_laws.specs.channel_model.specs.Giving.{command_of}
-use Rattle.channel_laws.specs.channel_model.specs.Policies.{Policy}
-use Rattle.channel_laws.specs.channel_model.specs.Value.{Channels}
-use Rattle.channel_laws.specs.Pairs.{Turn, pair_after, pair_of}
-use Rattle.disconnection_laws.specs.Met.{AsksOn}
-use Rattle.disconnection_laws.specs.Waits.{GrantsApart}
-use Rattle.limit_laws.specs.lasting_laws.specs.Ends.{StaysSo}
+use Rattle.channel_laws.specs.Pairs.{pair_of}
+use Rattle.limit_laws.specs.staying_laws.specs.forgoing_laws.specs.disconnection_laws.specs.Waits.{GrantsApart}
+use Rattle.limit_laws.specs.staying_laws.specs.Stays.{AnswerWell}
 use Rattle.pair_laws.specs.world_model.specs.Worlds.{all_words}
 use Rattle.pair_laws.specs.host_model.specs.Clients.{client_profile}
 use Rattle.pair_laws.specs.host_model.specs.Servers.{server_profile}
@@ -25,24 +19,14 @@ use Rattle.pair_laws.specs.Costs.{adverse_in, IsPaidBy, RequestsPaid}
 use Rattle.pair_laws.specs.OnLinks.{happened_on}
 use Rattle.pair_laws.specs.Within.{BothSendWithin}
 
--- one request for an end waits at a time
-abbrev pub LeavesSingly : Channels → Type 0
-LeavesSingly v = (own other : ℕ) (first second : Command) → command_of (errands.Disconnection own) v ≡ Some first → command_of (errands.Disconnection other) v ≡ Some second → own ≡ other
-
--- On a link host a asks for one end at a time, and its identifiers do not come round: from one moment to the next each request of it for an end waited before, or it has one that was
--- not given before. Host b's requests for options are not spent and come to success, and host a has each enhanced channel there that host b has: so host b asks for no end itself.
-pub record EndsInOrder (near far : Policy) (turns : List Turn) : Type 0 where
-  pub single : EachAfter (λ past turn. LeavesSingly (pair_of near far past).near.run.value) [] turns
-  pub on : EachAfter (λ past turn. AsksOn (pair_of near far past).near.run.value (pair_after (pair_of near far past) turn).near.run.value) [] turns
-  pub stays : StaysSo near far turns
-
--- where that is so of a link while fewer words were adverse than the hosts try, host a's requests for ends are paid there
+-- Where, while fewer words were adverse than the hosts try, both answer requests for options with success (so host b asks for no end
+-- itself), host a's requests for ends are paid on a link.
 pub record EndsPaid (asks : HostsAsk) (scenario : Scenario) (content : Option Contents) (capture : List Entry) (ran : Ran scenario content capture) : Type 0 where
   pub requests : RequestsPaid asks scenario content capture ran
   -- host b grants one endpoint alone to each of host a's
   pub apart : (number : ℕ) → GrantsApart (pair_of (client_profile scenario.settings).policy (server_profile scenario.settings content).policy (requests.pairs.turns.pairs.pairs number).turns).far.run.said
   pub ends : (number own : ℕ)
-      → (adverse_in (all_words ran.happenings) < scenario.settings.tries → EndsInOrder (client_profile scenario.settings).policy (server_profile scenario.settings content).policy (requests.pairs.turns.pairs.pairs number).turns)
+      → (adverse_in (all_words ran.happenings) < scenario.settings.tries → AnswerWell (client_profile scenario.settings).policy (server_profile scenario.settings content).policy (requests.pairs.turns.pairs.pairs number).turns)
       → IsPaidBy (adverse_in (all_words ran.happenings)) (client_profile scenario.settings).policy
       (happened_on (client_profile scenario.settings) (asks.clients scenario.settings) sides.A capture ran.world.a.upper requests.pairs.turns.pairs.a number) (errands.Disconnection own)
 

@@ -13,9 +13,9 @@ use Rattle.channel_laws.specs.channel_model.specs.Value.{Request, Retransmitting
 use Rattle.channel_laws.specs.Belonging.{AreRead}
 use Rattle.channel_laws.specs.Ends.{AreFair}
 use Rattle.channel_laws.specs.OwnTalk.{spoken, command_with}
-use Rattle.channel_laws.specs.Pairs.{Happening, Acts, Puts, Takes, Repeats, Loses, Damages, Side, Near, Far, Turn, new_pair, pair_of}
+use Rattle.channel_laws.specs.Pairs.{Happening, Acts, Side, Far, Turn, new_pair, pair_of}
 use Rattle.channel_laws.specs.Pipes.{AreCarried, HaveChannel, CanStateBoth}
-use Rattle.channel_laws.specs.Runs.{Occurrence, Comes, Connects, AsksFeatures, Disconnects, Sends, Gives, Fires, Tells}
+use Rattle.channel_laws.specs.Runs.{Occurrence, Disconnects, Fires}
 use Rattle.channel_laws.specs.Signals.{StandsIn}
 use Rattle.channel_laws.specs.Tries.{request_of}
 use Rattle.recovered_laws.specs.Calm.{all_upsets}
@@ -26,23 +26,12 @@ use Rattle.lasting_laws.specs.Lasting.{AsksForNoEnd, Lasts}
 
 -- its profile does not ask for an end
 abbrev pub IsNoLeave : Occurrence → Type 0
-IsNoLeave (Comes pdu) = Unit {0}
-IsNoLeave (Connects psm) = Unit {0}
-IsNoLeave AsksFeatures = Unit {0}
 IsNoLeave (Disconnects own) = ⊥
-IsNoLeave (Sends own sdu) = Unit {0}
-IsNoLeave (Gives pdu) = Unit {0}
-IsNoLeave Fires = Unit {0}
-IsNoLeave Tells = Unit {0}
+IsNoLeave other = Unit {0}
 
 abbrev pub LeavesNone : Side → Happening → Type 0
-LeavesNone Near happening = Unit {0}
 LeavesNone Far (Acts occurrence) = IsNoLeave occurrence
-LeavesNone Far (Puts pdu) = Unit {0}
-LeavesNone Far Takes = Unit {0}
-LeavesNone Far Repeats = Unit {0}
-LeavesNone Far Loses = Unit {0}
-LeavesNone Far (Damages pdu) = Unit {0}
+LeavesNone side happening = Unit {0}
 
 -- each of its requests for options that waits was given less often than it tries
 abbrev pub OptionsUnspent : (near far : Policy) → List Turn → Type 0

@@ -27,7 +27,7 @@ all_behind : (P : Occurrence → Type 0) (xs ys : List Occurrence) → AllByRecu
 all_behind P [] ys all = all
 all_behind P (x ∷ xs) ys all = all_behind P xs ys all.1
 
-leaves_none : (pair : Pair) (front turns : List Turn) → AllByRecursion AsksForNothing (flat_map far_in (joints_from pair turns)) → EachAfter (λ past turn. LeavesNone turn.side turn.happening) front turns
+pub leaves_none : (pair : Pair) (front turns : List Turn) → AllByRecursion AsksForNothing (flat_map far_in (joints_from pair turns)) → EachAfter (λ past turn. LeavesNone turn.side turn.happening) front turns
 leaves_none pair front [] all = tt
 leaves_none pair front (turn ∷ turns) all = (
   one turn.side turn.happening all,

@@ -1,2 +1,3 @@
 pub mod Upsetting
 pub mod EndingNone
+pub mod GoingOn

@@ -2,6 +2,7 @@
 #![tactic(auto)]
 
 ghost use Rattle.limit_laws.specs.EndsNone.{FewWordsEndNone};
+ghost use Rattle.limit_laws.specs.GoesOn.{FewWordsGoOn};
 ghost use Rattle.limit_laws.specs.Upsets.{MachinesOutlastWords, UpsetsCostWords};
 
 /// On each link of a run at most so many turns upset as words of the run are adverse: those that lose, repeat, change or cut a frame, and those that fire a timer.
@@ -31,4 +32,19 @@ pub fn few_words_end_none()
     pair_laws::pairs_are_carried();
     host_laws::laws::servers_ask_for_nothing();
     lasting_laws::few_upsets_end_none();
+}
+
+/// So it is on each link on which both answer requests for options with success: there host b's requests for options are responded to, and host
+/// a's for ends, none of which it gives up; and each channel for whose end host a did not ask remains at host b.
+pub fn few_words_go_on()
+    ensures { FewWordsGoOn }
+{
+    upsets_cost_words();
+    pair_laws::pairs_are_carried();
+    host_laws::laws::servers_ask_for_nothing();
+    channel_laws::laws::pipes::none_is_called();
+    channel_laws::laws::pipes::grants_are_single();
+    asking_laws::ends_are_asked_singly();
+    asking_laws::identifiers_rise_on_links();
+    staying_laws::few_turns_end_none_of_both();
 }

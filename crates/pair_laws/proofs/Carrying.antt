@@ -6,7 +6,6 @@ use Rattle.scenario_laws.specs.acl_fragments.specs.Pieces.{channel_of}
 use Rattle.scenario_laws.specs.push_terms.specs.declared.word.Side.TheVariants as sides
 use Rattle.scenario_laws.specs.push_terms.specs.declared.outcome.Outcome.{Outcome}
 use Rattle.scenario_laws.specs.push_terms.specs.declared.word.Way.TheVariants.{Ab, Ba}
-use Rattle.scenario_laws.specs.push_terms.specs.declared.word.Word.{Word}
 use Rattle.scenario_laws.specs.radio_air.specs.Controllers.{is_empty}
 use Rattle.scenario_laws.specs.radio_air.specs.declared.deed.Deed.{Deed}
 use Rattle.scenario_laws.specs.radio_air.specs.declared.deed.Deed.TheVariants.{Nothing, Meets, Fires, FiresBoth, Breaks, Cancels}

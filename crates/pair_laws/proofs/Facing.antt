@@ -24,6 +24,7 @@ use Rattle.pair_laws.specs.Changes.{IsChange, IsChangeOfFirst, IsChanged}
 use Rattle.pair_laws.specs.Orders.{first_come, given_as, damaged_come, occurs_by, Joint, AtNear, AtFar, near_in, far_in, joints_with, joints_by, joints_from}
 use Rattle.pair_laws.specs.Pairs.{TakesAll}
 use Rattle.pair_laws.specs.Seen.{IsAddressedAt}
+use Rattle.pair_laws.specs.Waits.{NoneWaitsAt, NoneEverWaits}
 
 -- ---- a turn
 
@@ -81,6 +82,7 @@ pub record PairAt (whole : Bool) (most : ℕ) (near far : Policy) (one other : L
   pub takes : TakesAll near one → TakesAll far other → AllTake near far turns
   pub kept : AllKept whole turns
   pub settled : AreSettled near far turns
+  pub none_waits : NoneEverWaits near far turns
   pub near_due : ℕ
   pub far_due : ℕ
   pub near_comes : IsComing whole near_due (pair_of near far turns).near near_coming near_rest
@@ -99,6 +101,7 @@ pub record Step (whole : Bool) (extra before : ℕ) (mine : Policy) (list later 
   pub takes : TakesAll mine later → TakesAll mine list × DoesSo IsTakeable happening pair.near
   pub kept : IsKept whole happening
   pub settled : IsSettledAt happening pair
+  pub none_waits : NoneWaitsAt happening pair.near
   pub due : ℕ
   pub far_due : ℕ
   pub comes : IsComing whole due next.near coming rest
@@ -162,7 +165,7 @@ spends : (near far : Policy) (turns : List Turn) (turn : Turn) (most m extra bef
 spends near far turns turn most m extra before after more spent cost = let whole = disturbances_more (new_pair near far) turns turn in omega (arith, more, spent, cost, whole)
 
 pub new_at : (whole : Bool) (most : ℕ) (near far : Policy) → PairAt whole most near far [] [] [] [] [] []
-new_at whole most near far = record { turns = []; near_is = refl; far_is = refl; near_list = refl; far_list = refl; goes = tt; takes = λ mine theirs. tt; kept = tt; settled = tt; near_due = 0; far_due = 0; near_comes = refl; far_comes = refl; spent = omega arith }
+new_at whole most near far = record { turns = []; near_is = refl; far_is = refl; near_list = refl; far_list = refl; goes = tt; takes = λ mine theirs. tt; kept = tt; settled = tt; none_waits = tt; near_due = 0; far_due = 0; near_comes = refl; far_comes = refl; spent = omega arith }
 
 near_on : (whole : Bool) (most m extra : ℕ) (near far : Policy) (one later other : List Occurrence) (c r c' r' d s d' s' : List (List ℕ)) (p : PairAt whole most near far one other c r c' r') → extra + most ≤ m → Step whole extra (p.near_due + p.far_due) near one later (pair_of near far p.turns) d s d' s'
     → PairAt whole m near far later other d s d' s'
@@ -179,6 +182,7 @@ near_on whole most m extra near far one later other c r c' r' d s d' s' p more s
       takes = λ mine theirs. let took = step.takes mine in each_after-more (λ past turn. DoesSo IsTakeable turn.happening (end_at turn.side (pair_of near far past))) p.turns turn (p.takes took.0 theirs) took.1;
       kept = kept_more whole p.turns turn p.kept step.kept;
       settled = each_after-more (λ past turn. IsSettledAt turn.happening (seen_from turn.side (pair_of near far past))) p.turns turn p.settled step.settled;
+      none_waits = each_after-more (λ past turn. NoneWaitsAt turn.happening (end_at turn.side (pair_of near far past))) p.turns turn p.none_waits step.none_waits;
       near_due = step.due;
       far_due = step.far_due;
       near_comes = subst (λ (q : Pair). IsComing whole step.due q.near d s) (sym after) step.comes;
@@ -201,6 +205,7 @@ far_on whole most m extra near far one other later c r c' r' d s d' s' p more st
       takes = λ mine theirs. let took = step.takes theirs in each_after-more (λ past turn. DoesSo IsTakeable turn.happening (end_at turn.side (pair_of near far past))) p.turns turn (p.takes mine took.0) took.1;
       kept = kept_more whole p.turns turn p.kept step.kept;
       settled = each_after-more (λ past turn. IsSettledAt turn.happening (seen_from turn.side (pair_of near far past))) p.turns turn p.settled step.settled;
+      none_waits = each_after-more (λ past turn. NoneWaitsAt turn.happening (end_at turn.side (pair_of near far past))) p.turns turn p.none_waits step.none_waits;
       near_due = step.far_due;
       far_due = step.due;
       near_comes = subst (λ (q : Pair). IsComing whole step.far_due q.near d s) (sym after) step.far_comes;
@@ -238,7 +243,7 @@ PairFrom (FarBy whole most) mine theirs list other coming rest far_coming far_re
 richer_at : (whole : Bool) (most m : ℕ) (near far : Policy) (one other : List Occurrence) (c r c' r' : List (List ℕ)) → most ≤ m → PairAt whole most near far one other c r c' r' → PairAt whole m near far one other c r c' r'
 richer_at whole most m near far one other c r c' r' more p =
     let spent = p.spent in
-    record { turns = p.turns; near_is = p.near_is; far_is = p.far_is; near_list = p.near_list; far_list = p.far_list; goes = p.goes; takes = p.takes; kept = p.kept; settled = p.settled; near_due = p.near_due; far_due = p.far_due; near_comes = p.near_comes; far_comes = p.far_comes; spent = omega (arith, spent, more) }
+    record { turns = p.turns; near_is = p.near_is; far_is = p.far_is; near_list = p.near_list; far_list = p.far_list; goes = p.goes; takes = p.takes; kept = p.kept; settled = p.settled; none_waits = p.none_waits; near_due = p.near_due; far_due = p.far_due; near_comes = p.near_comes; far_comes = p.far_comes; spent = omega (arith, spent, more) }
 
 -- more may be spent
 pub richer : (side : View) (m : ℕ) (mine theirs : Policy) (list other : List Occurrence) (c r c' r' : List (List ℕ)) → most_of side ≤ m → PairFrom side mine theirs list other c r c' r' → PairFrom (with_most m side) mine theirs list other c r c' r'
@@ -327,6 +332,7 @@ module _ (side : View) (mine theirs : Policy) (list other : List Occurrence) (fa
         takes = takes_one mine pair.near list one v.run_is;
         kept = tt;
         settled = λ fires quiet. let never : false ≡ true = sym plain ∙ fires in absurd cc;
+        none_waits = λ fires. let never : false ≡ true = sym plain ∙ fires in absurd cc;
         due = v.due;
         far_due = v.far_due;
         comes = v.comes;
@@ -354,7 +360,7 @@ module _ (side : View) (mine theirs : Policy) (list other : List Occurrence) (fa
       far_empty (pdu ∷ coming) comes is = cc
 
   -- its timer fires: that is free where all is still
-  pub fires-it : (free : Bool) (m : ℕ) (rest : List (List ℕ)) → one_if (not free) + most_of side ≤ m → (free ≡ true → IsStill rest) → (list_any gives (run_of mine list).value.held ≡ false) × (owes (run_of theirs other).value ≡ false) → PairFrom side mine theirs list other [] rest far_coming far_rest → PairFrom (with_most m side) mine theirs (list ++ Fires ∷ []) other [] rest far_coming far_rest
+  pub fires-it : (free : Bool) (m : ℕ) (rest : List (List ℕ)) → one_if (not free) + most_of side ≤ m → (free ≡ true → IsStill rest) → (list_any gives (run_of mine list).value.held ≡ false) × (owes (run_of theirs other).value ≡ false) × ((run_of mine list).value.queue ≡ []) → PairFrom side mine theirs list other [] rest far_coming far_rest → PairFrom (with_most m side) mine theirs (list ++ Fires ∷ []) other [] rest far_coming far_rest
   fires-it free m rest more still calm p =
       let v = faced side mine theirs list other [] rest far_coming far_rest p in
       let pair = v.pair in
@@ -369,6 +375,7 @@ module _ (side : View) (mine theirs : Policy) (list other : List Occurrence) (fa
         takes = takes_one mine pair.near list Fires v.run_is;
         kept = tt;
         settled = λ fires quiet. (ap (λ (r : Run). list_any gives r.value.held) v.run_is ∙ calm.0, ap (λ (r : Run). owes r.value) v.far_run_is ∙ calm.1);
+        none_waits = λ fires. ap (λ (r : Run). r.value.queue) v.run_is ∙ calm.2;
         due = v.due;
         far_due = v.far_due;
         comes = v.comes;
@@ -406,6 +413,7 @@ module _ (side : View) (mine theirs : Policy) (list other : List Occurrence) (fa
         takes = takes_one mine pair.near list (Gives pdu) v.run_is;
         kept = tt;
         settled = tt;
+        none_waits = tt;
         due = v.due;
         far_due = v.far_due;
         comes = v.comes;
@@ -429,6 +437,7 @@ module _ (side : View) (mine theirs : Policy) (list other : List Occurrence) (fa
         takes = λ all. (all, tt);
         kept = broken;
         settled = tt;
+        none_waits = tt;
         due = v.due;
         far_due = v.far_due;
         comes = refl;
@@ -437,9 +446,9 @@ module _ (side : View) (mine theirs : Policy) (list other : List Occurrence) (fa
       })
 
   comes_on : (pdu : List ℕ) (rest : List (List ℕ)) (v : Faced side mine theirs list other (pdu ∷ []) rest far_coming far_rest) (happening : Happening) (end' : End) → happens_near happening v.pair ≡ with_near (occurs (Comes pdu) end') v.pair → end'.run ≡ v.pair.near.run → end'.policy ≡ v.pair.near.policy
-      → end'.coming ≡ rest → occurs_by happening v.pair.near ≡ Comes pdu ∷ [] → Goes happening v.pair.near → DoesSo IsTakeable happening v.pair.near → IsKept (whole_of side) happening → IsSettledAt happening v.pair → disturbs happening v.pair ≤ v.due
+      → end'.coming ≡ rest → occurs_by happening v.pair.near ≡ Comes pdu ∷ [] → Goes happening v.pair.near → DoesSo IsTakeable happening v.pair.near → IsKept (whole_of side) happening → IsSettledAt happening v.pair → NoneWaitsAt happening v.pair.near → disturbs happening v.pair ≤ v.due
       → PairFrom side mine theirs (list ++ Comes pdu ∷ []) other [] rest far_coming far_rest
-  comes_on pdu rest v happening end' is run_is policy_is coming_is happens goes takes kept settled paid =
+  comes_on pdu rest v happening end' is run_is policy_is coming_is happens goes takes kept settled none_waits paid =
       let pair = v.pair in
       v.on (list ++ Comes pdu ∷ []) [] rest far_coming far_rest (record {
         happening = happening;
@@ -452,6 +461,7 @@ module _ (side : View) (mine theirs : Policy) (list other : List Occurrence) (fa
         takes = λ all. ((takes_one mine pair.near list (Comes pdu) v.run_is all).0, takes);
         kept = kept;
         settled = settled;
+        none_waits = none_waits;
         due = 0;
         far_due = v.far_due;
         comes = coming_is;
@@ -461,15 +471,15 @@ module _ (side : View) (mine theirs : Policy) (list other : List Occurrence) (fa
 
   passes_in : (pdu : List ℕ) (rest : List (List ℕ)) (v : Faced side mine theirs list other (pdu ∷ []) rest far_coming far_rest) → has_room v.pair.near.run.value ≡ true → Passage (whole_of side) v.due v.pair.near pdu rest → PairFrom side mine theirs (list ++ Comes pdu ∷ []) other [] rest far_coming far_rest
   passes_in pdu rest v room (Whole is) =
-      let pair = v.pair in comes_on pdu rest v Takes (let_go rest pair.near) (ap (λ (l : List (List ℕ)). with_near (takes_first l pair.near) pair) is) refl refl refl (ap first_come is) (record { fair = tt; read = tt; addressed = tt; changed = tt; roomy = room }) tt tt tt (omega arith)
+      let pair = v.pair in comes_on pdu rest v Takes (let_go rest pair.near) (ap (λ (l : List (List ℕ)). with_near (takes_first l pair.near) pair) is) refl refl refl (ap first_come is) (record { fair = tt; read = tt; addressed = tt; changed = tt; roomy = room }) tt tt tt tt (omega arith)
   passes_in pdu rest v room (Again broken some behind is rest_is) =
-      let pair = v.pair in comes_on pdu rest v Repeats pair.near (ap (λ (l : List (List ℕ)). with_near (repeats_first l pair.near) pair) is) refl refl (is ∙ sym rest_is) (ap first_come is) (record { fair = tt; read = tt; addressed = tt; changed = tt; roomy = tt }) tt broken tt some
+      let pair = v.pair in comes_on pdu rest v Repeats pair.near (ap (λ (l : List (List ℕ)). with_near (repeats_first l pair.near) pair) is) refl refl (is ∙ sym rest_is) (ap first_come is) (record { fair = tt; read = tt; addressed = tt; changed = tt; roomy = tt }) tt broken tt tt some
   passes_in pdu rest v room (Other broken some frame is change apart) =
       let pair = v.pair in
       comes_on pdu rest v (Damages pdu) (let_go rest pair.near)
       (ap (λ (l : List (List ℕ)). with_near (damages_first pdu l pair.near) pair) is
       ∙ ap (λ (b : Bool). with_near (if b then occurs (Comes pdu) (let_go rest pair.near) else let_go rest pair.near) pair) change.checked)
-      refl refl refl (ap (λ (l : List (List ℕ)). damaged_come pdu l pair.near) is ∙ ap (λ (b : Bool). if b then Comes pdu ∷ [] else []) change.checked) (record { fair = tt; read = apart; addressed = tt; changed = subst (λ (l : List (List ℕ)). IsChangeOfFirst l pair.near.run.value pdu) (sym is) change; roomy = tt }) tt broken tt some
+      refl refl refl (ap (λ (l : List (List ℕ)). damaged_come pdu l pair.near) is ∙ ap (λ (b : Bool). if b then Comes pdu ∷ [] else []) change.checked) (record { fair = tt; read = apart; addressed = tt; changed = subst (λ (l : List (List ℕ)). IsChangeOfFirst l pair.near.run.value pdu) (sym is) change; roomy = tt }) tt broken tt tt some
 
   -- what is being handed over to it comes in, where there is room for an answer
   pub comes-in : (pdu : List ℕ) (rest : List (List ℕ)) → has_room (run_of mine list).value ≡ true → PairFrom side mine theirs list other (pdu ∷ []) rest far_coming far_rest → PairFrom side mine theirs (list ++ Comes pdu ∷ []) other [] rest far_coming far_rest
@@ -484,7 +494,7 @@ module _ (side : View) (mine theirs : Policy) (list other : List Occurrence) (fa
           → PairFrom (with_most m which) mine theirs list other (pdu ∷ []) rest far_coming far_rest
       by (NearBy whole most) enough passed q =
           let spent = q.spent in
-          record { turns = q.turns; near_is = q.near_is; far_is = q.far_is; near_list = q.near_list; far_list = q.far_list; goes = q.goes; takes = q.takes; kept = q.kept; settled = q.settled; near_due = due; far_due = q.far_due; near_comes = passed (pair_of mine theirs q.turns).near q.near_comes q.near_is; far_comes = q.far_comes; spent = omega (arith, spent, enough) }
+          record { turns = q.turns; near_is = q.near_is; far_is = q.far_is; near_list = q.near_list; far_list = q.far_list; goes = q.goes; takes = q.takes; kept = q.kept; settled = q.settled; none_waits = q.none_waits; near_due = due; far_due = q.far_due; near_comes = passed (pair_of mine theirs q.turns).near q.near_comes q.near_is; far_comes = q.far_comes; spent = omega (arith, spent, enough) }
       by (FarBy whole most) enough passed q =
           let spent = q.spent in
-          record { turns = q.turns; near_is = q.near_is; far_is = q.far_is; near_list = q.near_list; far_list = q.far_list; goes = q.goes; takes = q.takes; kept = q.kept; settled = q.settled; near_due = q.near_due; far_due = due; near_comes = q.near_comes; far_comes = passed (pair_of theirs mine q.turns).far q.far_comes q.far_is; spent = omega (arith, spent, enough) }
+          record { turns = q.turns; near_is = q.near_is; far_is = q.far_is; near_list = q.near_list; far_list = q.far_list; goes = q.goes; takes = q.takes; kept = q.kept; settled = q.settled; none_waits = q.none_waits; near_due = q.near_due; far_due = due; near_comes = q.near_comes; far_comes = passed (pair_of theirs mine q.turns).far q.far_comes q.far_is; spent = omega (arith, spent, enough) }

@@ -15,20 +15,19 @@ use Rattle.scenario_laws.specs.ertm_frames.specs.Frames.{PlainFrame}
 use Rattle.scenario_laws.specs.ertm_frames.specs.Picking.{Passage}
 use Rattle.scenario_laws.specs.ertm_frames.specs.Reading.{frame_in}
 use Rattle.scenario_laws.specs.ertm_model.specs.Giving.{next_frame}
-use Rattle.scenario_laws.specs.ertm_model.specs.Value.{Ertm}
 use Rattle.scenario_laws.specs.l2cap_config.specs.Writing.{written}
 use Rattle.scenario_laws.specs.l2cap_signal.specs.Commands.{Command as Signalled}
 use Rattle.scenario_laws.specs.l2cap_signal.specs.Reading.{Answer as Read, answers}
 use Rattle.scenario_laws.specs.link_talk.specs.Accounts.{passage_in, frames_passed}
-use Rattle.scenario_laws.specs.link_talk.specs.Carriages.{Carriage, endpoint, is_held, is_passed, carried, takes as takes_it}
+use Rattle.scenario_laws.specs.link_talk.specs.Carriages.{Carriage, endpoint, is_passed, carried}
 use Rattle.scenario_laws.specs.link_talk.specs.Channels.{Entry, entry_after, entries_after, life_after, is_there, made_by, Reading, reading, word}
 use Rattle.scenario_laws.specs.link_talk.specs.declared.channel.Channel.{Channel}
 use Rattle.scenario_laws.specs.link_talk.specs.declared.life.Life.{Life}
 use Rattle.scenario_laws.specs.link_talk.specs.declared.life.Life.TheVariants.{Alive, Leaving, Crossed, Over}
 use Rattle.scenario_laws.specs.link_talk.specs.declared.party.Party.{Party}
 use Rattle.scenario_laws.specs.link_talk.specs.declared.word.Word.{Word}
-use Rattle.scenario_laws.specs.link_talk.specs.declared.word.Word.TheVariants.{AsksEnd, AnswersEnd, EndAnswered, EndForgone}
-use Rattle.scenario_laws.specs.link_talk.specs.GrowingLaws.{has_opened, HasOpened}
+use Rattle.scenario_laws.specs.link_talk.specs.declared.word.Word.TheVariants.{AsksEnd, EndForgone}
+use Rattle.scenario_laws.specs.link_talk.specs.GrowingLaws.{has_opened}
 use Rattle.scenario_laws.specs.link_talk.specs.Meanings.{Meaning, Wishes, Parts, Nothing, meant}
 use Rattle.scenario_laws.specs.link_talk.specs.Requests.{Requests}
 use Rattle.scenario_laws.specs.link_talk.specs.Sayings.{Saying, Command, Carried, GaveUp, Forgone, Connection, Disconnection, Information}
@@ -50,7 +49,7 @@ use Rattle.channel_laws.specs.channel_model.specs.Value.{Request, Carrier, Plain
 use Rattle.channel_laws.specs.channel_model.proofs.Walking.{found-own}
 use Rattle.channel_laws.specs.Frames.{IsSpelled, IsUttered, AreUttered}
 use Rattle.channel_laws.specs.OwnTalk.{spoken, reply_to, exchanged, asked_between, said_with, said_with_all}
-use Rattle.channel_laws.specs.Runs.{Occurrence, Comes, Connects, AsksFeatures, Disconnects, Sends, Gives, Fires, Tells, peer_at, given_up, features_given_up, said_again, said_on_firing, said_by_channel, fired_channel, said_by_channels, said_by_features, said_by_carrier, said_as, said_in, Run, new_link, run_on, run_of}
+use Rattle.channel_laws.specs.Runs.{Occurrence, Comes, Connects, AsksFeatures, Disconnects, Sends, Gives, Fires, Tells, peer_at, given_up, features_given_up, said_again, said_on_firing, said_by_channel, fired_channel, said_by_channels, said_by_carrier, said_as, said_in, Run, new_link, run_on, run_of}
 use Rattle.channel_laws.specs.Sdus.{StatesFrame}
 use Rattle.channel_laws.specs.Views.{read_at}
 use Rattle.channel_laws.proofs.Carriages.{carried-none, goes_over}

@@ -48,6 +48,7 @@ use Rattle.pair_laws.proofs.Openings.{names_talked, same_names, news_names, no_n
 use Rattle.pair_laws.proofs.Facing.{View, most_of, with_most, PairFrom, each_split, comes-in, fires-it}
 use Rattle.pair_laws.proofs.Walking.{AreMeant, calm-meant, ComesNot, gives_in, outer-gives, outer-comes_not, all_on}
 use Rattle.pair_laws.proofs.Numbered.{ended, Links, DoesMore, does-more, turns-to, fires-over}
+use Rattle.pair_laws.proofs.Emptied.{calm-empty}
 use Rattle.pair_laws.proofs.Silence.{no-answer, silent-room, calm-silent, PassesNone, all-silent, run-silent, outer-passes_none, fires-once, calm-gives_none, calm-owes_none, run-owes_none, calm-parts}
 
 -- ---- marks
@@ -433,13 +434,14 @@ module _ {P : Type 0} (A : Profile P) (asks : Asks A) (W : P → Type 0) (G : Fe
       let calm_all : IsCalm A.policy no_channels (front ++ Fires ∷ once.behind) =
       subst (λ (l : List Occurrence). IsCalm A.policy no_channels l) (ap (λ (l : List Occurrence). now ++ l) once.is ∙ sym (append_assoc now once.front (Fires ∷ once.behind))) (grown_calm held.host.marks (Fires ∷ []) e.upper e'.upper so grows) in
       let calm_here = calm-parts A.policy no_channels front Fires once.behind calm_all in
-      let gives_none : list_any gives (run_of A.policy front).value.held ≡ false =
-      calm-gives_none A.policy front calm_here.0 (subst (λ (v : Channels). IsQuiet v) (sym (value_run A.policy front new_link)) calm_here.1.0) in
+      let quiet_here : IsQuiet (run_of A.policy front).value = subst (λ (v : Channels). IsQuiet v) (sym (value_run A.policy front new_link)) calm_here.1.0 in
+      let gives_none : list_any gives (run_of A.policy front).value.held ≡ false = calm-gives_none A.policy front calm_here.0 quiet_here in
+      let none_waits : (run_of A.policy front).value.queue ≡ [] = calm-empty A.policy front calm_here.0 quiet_here in
       let all_fires : PairFrom side A.policy theirs now there [] rest [] put → PairFrom (with_most m side) A.policy theirs (now ++ grows.list) there [] rest [] put
       = λ p. subst (λ (l : List Occurrence). PairFrom (with_most m side) A.policy theirs l there [] rest [] put) (append_assoc front (Fires ∷ []) once.behind ∙ (append_assoc now once.front (Fires ∷ once.behind) ∙ ap (λ (l : List Occurrence). now ++ l) (sym once.is)))
       (walks_still (with_most m side) theirs there (front ++ Fires ∷ []) once.behind rest put once.none_behind parts.1.1
       (fires-it side A.policy theirs front there [] put free m rest more
-      (λ on. let so_still = still on in (so_still.1, refl, ap (λ (l : List (List ℕ)). l ++ e.waiting) so_still.0 ∙ waits, silent, so_still.2)) (gives_none, clear)
+      (λ on. let so_still = still on in (so_still.1, refl, ap (λ (l : List (List ℕ)). l ++ e.waiting) so_still.0 ∙ waits, silent, so_still.2)) (gives_none, clear, none_waits)
       (walks_still side theirs there now once.front rest put once.none_front parts.0 p))) in
       let enough : most_of side ≤ m = omega (arith, more) in
       grows_to side (with_most m side) theirs number e e' other j f (Fires ∷ []) held grows (act_told A act e.upper e'.upper refl so.lives.all_told) (λ on. plain.begins) (gives_only (Fires ∷ []) (gifts ∷ []) e.upper e'.upper grows plain.begins plain.gifts_are (allowed, tt)) refl refl

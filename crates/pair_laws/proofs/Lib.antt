@@ -3,6 +3,7 @@ pub mod Walking
 pub mod Numbered
 pub mod Abreast
 pub mod Silence
+pub mod Emptied
 pub mod Awaiting
 pub mod Openings
 pub mod Opened

@@ -17,7 +17,7 @@ use Rattle.scenario_laws.specs.link_talk.specs.declared.channel.Channel.{Channel
 use Rattle.scenario_laws.specs.link_talk.specs.Channels.{Entry, fresh, entry_after, entries_after, is_there, is_owner, made_by, Reading, reading}
 use Rattle.scenario_laws.specs.link_talk.specs.Meanings.{Meaning, meant}
 use Rattle.scenario_laws.specs.link_talk.specs.Packets.{OverL2cap, OverRfcomm, OverNothing, carrier}
-use Rattle.scenario_laws.specs.link_talk.specs.Sayings.{Saying, said_by, talk}
+use Rattle.scenario_laws.specs.link_talk.specs.Sayings.{Saying, said_by}
 use Rattle.scenario_laws.specs.link_talk.specs.Senses.{sense}
 use Rattle.scenario_laws.specs.link_talk.specs.Setups.{Setup, is_set, setup_after, term}
 use Rattle.scenario_laws.specs.link_talk.proofs.OnePass.{reading-more}

@@ -1,5 +1,5 @@
 -- What host a was told to push are the first objects of the scenario.
-use Rattle.std.proofs.Common.{◌≡◌, ℕ, suc, ◌+◌, Bool, true, false, Option, Some, None, List, [], ◌∷◌, ◌++◌, length, refl, sym, ap, subst, ◌∙◌, arith, append-nil, append_assoc, length-append, if◌then◌else◌}
+use Rattle.std.proofs.Common.{◌≡◌, ℕ, ◌+◌, Bool, true, false, Option, Some, None, List, [], ◌∷◌, ◌++◌, length, refl, sym, ap, subst, ◌∙◌, arith, append_assoc, length-append, if◌then◌else◌}
 use Rattle.std.specs.Prelude.{slice_get}
 use Rattle.scenario_laws.specs.push_terms.specs.declared.word.Side.TheVariants.{A, B}
 use Rattle.scenario_laws.specs.push_terms.specs.declared.word.Way.TheVariants.{Ab, Ba}
@@ -7,10 +7,10 @@ use Rattle.scenario_laws.specs.radio_air.specs.declared.deed.Deed.{Deed}
 use Rattle.scenario_laws.specs.radio_air.specs.declared.deed.Deed.TheVariants.{Nothing, Meets, Fires, FiresBoth, Breaks, Cancels}
 use Rattle.scenario_laws.specs.world_model.specs.Machines.{Heard, TimerFired, Cancelled, Opening, Upper}
 use Rattle.scenario_laws.specs.world_model.specs.Pushes.{next_name}
-use Rattle.scenario_laws.specs.world_model.specs.Talks.{Talk, Told, Said, Met, Done}
-use Rattle.scenario_laws.specs.world_model.specs.Carriages.{End, Carriage, Motion, Saying, Departure, Arrival, Telling, DoesMotion, Doing, Moved, Deeds, Misses, Rises, Falls, Opens, Closes, ActsOn, finds, IsDone, first_carriage, told, fired}
+use Rattle.scenario_laws.specs.world_model.specs.Talks.{Told, Said, Met, Done}
+use Rattle.scenario_laws.specs.world_model.specs.Carriages.{End, Carriage, Motion, Saying, Departure, Arrival, Telling, DoesMotion, Doing, Moved, Deeds, Misses, Rises, Falls, Opens, Closes, ActsOn, finds, IsDone, first_carriage, told}
 use Rattle.scenario_laws.specs.turn_laws.proofs.Recounting.{CarriesSo}
-use Rattle.pair_laws.proofs.Openings.{names_talked, same_names, news_names, no_names, turned_names}
+use Rattle.pair_laws.proofs.Openings.{names_talked, same_names, news_names, turned_names}
 
 -- ---- one host
 

@@ -6,14 +6,14 @@ use Rattle.channel_laws.specs.Runs.{Occurrence}
 use Rattle.scenario_laws.specs.world_model.specs.Machines.{LinkEvent, News, Linked, Failed, Heard, TimerFired, Cancelled, Opening}
 use Rattle.scenario_laws.specs.world_model.specs.Talks.{Talk, Told, Said, Unsent, Met, Done}
 use Rattle.scenario_laws.specs.host_model.specs.Circumstances.{Circumstance}
-use Rattle.scenario_laws.specs.host_model.specs.Hosts.{Host, hears_news}
+use Rattle.scenario_laws.specs.host_model.specs.Hosts.{Host}
 use Rattle.scenario_laws.specs.host_model.specs.Profiles.{Profile}
 use Rattle.host_laws.specs.Asked.{BeginsNone}
 use Rattle.host_laws.specs.Calls.{Asks}
 use Rattle.host_laws.specs.Fed.{turned_feeds}
 use Rattle.host_laws.specs.Feeds.{Feed, Gifts, Learns, Receives, Happens, Sent, Steps}
 use Rattle.host_laws.specs.Gifts.{gifts_along}
-use Rattle.host_laws.specs.Lives.{Mark, Occurred, Turned}
+use Rattle.host_laws.specs.Lives.{Mark}
 use Rattle.host_laws.specs.Openings.{name_in, name_told, names_told}
 use Rattle.host_laws.proofs.Living.{goes-on, turns-on}
 use Rattle.host_laws.proofs.OverLinks.{Calmly, goes_calmly, turns_calmly}

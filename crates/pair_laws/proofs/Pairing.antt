@@ -75,6 +75,7 @@ use Rattle.pair_laws.specs.Pairs.{TakesAll, PairOnLink}
 use Rattle.pair_laws.specs.Served.{HeldTakeTurns, ServedTakeTurns}
 use Rattle.pair_laws.specs.ServedOrder.{HeldKeepOrder, ServedKeepOrder}
 use Rattle.pair_laws.specs.Seen.{IsAddressedAt, AreAddressed}
+use Rattle.pair_laws.specs.Waits.{NoneEverWaits}
 use Rattle.pair_laws.proofs.Abreast.{IsShort}
 use Rattle.pair_laws.proofs.Answered.{runs-so, rest-so, rest-back, fits-so, rests-so as carriage_rest}
 use Rattle.pair_laws.proofs.Awaiting.{HasNew, servers-await}
@@ -236,6 +237,7 @@ module _ (whole : Bool) (asks : HostsAsk) (scenario : Scenario) (content : Optio
     cost : (number : ℕ) → disturbances (Pairs.new_pair A.policy B.policy) (turns.pairs.pairs number).turns ≤ adverse_in (all_words ran.happenings)
     room : (number : ℕ) → AreRoomy A.policy B.policy (turns.pairs.pairs number).turns
     settled : (number : ℕ) → AreSettled A.policy B.policy (turns.pairs.pairs number).turns
+    none_waits : (number : ℕ) → NoneEverWaits A.policy B.policy (turns.pairs.pairs number).turns
     heard_a : AllByRecursion (HearsSo GaveNothing_a) (on_links A asks_a (flat_map talk_marks turns.pairs.a.came.talk) ran.world.a.upper turns.pairs.a.fed.so.lives)
     heard_b : AllByRecursion (HearsSo GaveNothing_b) (on_links B asks_b (flat_map talk_marks turns.pairs.b.came.talk) ran.world.b.upper turns.pairs.b.fed.so.lives)
 
@@ -292,6 +294,7 @@ module _ (whole : Bool) (asks : HostsAsk) (scenario : Scenario) (content : Optio
         cost = λ number. let spent = (sane.pairs.links number).pair.spent in omega (arith, spent, most_is);
         room = λ number. let pair = (sane.pairs.links number).pair in all_roomy A.policy B.policy pair.turns pair.goes;
         settled = λ number. (sane.pairs.links number).pair.settled;
+        none_waits = λ number. (sane.pairs.links number).pair.none_waits;
         heard_a = let lives = sane.pairs.a.so.lives in heard-on_links GaveNothing_a lives.spans lives.now sane.pairs.a.heard;
         heard_b = let lives = sane.pairs.b.so.lives in heard-on_links GaveNothing_b lives.spans lives.now sane.pairs.b.heard;
       }
@@ -407,7 +410,7 @@ served-take_turns asks scenario shelf content capture ran happened =
 pub disturbances-cost_words : DisturbancesCostWords
 disturbances-cost_words asks scenario content capture ran =
     let so = takes_turns false asks scenario content as_it_is Always any_allowed as_it_is Always any_allowed capture ran ran.happened (λ on. cc) in
-    record { turns = so.turns; cost = so.cost; room = so.room; settled = so.settled }
+    record { turns = so.turns; cost = so.cost; room = so.room; settled = so.settled; none_waits = so.none_waits }
 
 pub hosts-are_pairs : HostsArePairs
 hosts-are_pairs asks scenario content capture ran = (hosts-take_turns asks scenario content capture ran).pairs

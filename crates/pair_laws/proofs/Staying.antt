@@ -9,7 +9,7 @@ use Rattle.scenario_laws.specs.push_terms.specs.declared.word.Side.{Side}
 use Rattle.scenario_laws.specs.push_terms.specs.declared.word.Side.TheVariants as sides
 use Rattle.scenario_laws.specs.capture.specs.Entries.{Entry}
 use Rattle.scenario_laws.specs.capture.specs.Links.{Link, link_up}
-use Rattle.scenario_laws.specs.capture.specs.Pdus.{Pdu, pdus}
+use Rattle.scenario_laws.specs.capture.specs.Pdus.{pdus}
 use Rattle.channel_laws.specs.channel_model.specs.Policies.{policy}
 use Rattle.channel_laws.specs.channel_model.specs.Value.{Channels}
 use Rattle.channel_laws.specs.Runs.{Occurrence}

@@ -25,7 +25,7 @@ use Rattle.scenario_laws.specs.link_talk.specs.Channels.{Entry as Known, reading
 use Rattle.scenario_laws.specs.link_talk.specs.declared.channel.Channel.{Channel}
 use Rattle.scenario_laws.specs.link_talk.specs.declared.party.Party.{Party}
 use Rattle.scenario_laws.specs.link_talk.specs.GrowingLaws.{has_opened, HasOpened}
-use Rattle.scenario_laws.specs.link_talk.specs.Sayings.{Saying, said_by, talk}
+use Rattle.scenario_laws.specs.link_talk.specs.Sayings.{Saying, said_by}
 use Rattle.scenario_laws.specs.link_talk.specs.Setups.{Setup, is_set, is_enhanced, agreed_mode}
 use Rattle.scenario_laws.specs.link_talk.proofs.Growing.{mode-stands}
 use Rattle.channel_laws.specs.channel_model.specs.Policies.{Policy, policy}

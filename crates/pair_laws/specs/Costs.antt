@@ -27,6 +27,7 @@ use Rattle.host_laws.specs.Searching.{AsksAsItSteps}
 use Rattle.scenario_laws.specs.Captures.{Ran}
 use Rattle.pair_laws.specs.InTurn.{PairsInTurn}
 use Rattle.pair_laws.specs.OnLinks.{happened_on}
+use Rattle.pair_laws.specs.Waits.{NoneEverWaits}
 
 -- ---- words
 
@@ -49,13 +50,14 @@ adverse_in (word ∷ words) = one_if (is_adverse word) + adverse_in words
 
 -- Both hosts' channels are pairs whose links go side by side. On each link at most so many turns disturb as words of the run are adverse: a
 -- `pass` that finds nothing in the air fires both timers while the link is quiet. And when something comes in, an answer has room. When a timer fires,
--- no channel of its host has anything to give, and no machine of the other owes it a reply.
+-- no channel of its host has anything to give, no command of its host waits to be given, and no machine of the other owes it a reply.
 pub record PairsCost (asks : HostsAsk) (scenario : Scenario) (content : Option Contents) (capture : List Entry) (ran : Ran scenario content capture) : Type 0 where
   pub turns : PairsInTurn asks scenario content capture ran
   pub cost : (number : ℕ) → (let near : Policy = (client_profile scenario.settings).policy in let far : Policy = (server_profile scenario.settings content).policy in
       disturbances (new_pair near far) (turns.pairs.pairs number).turns ≤ adverse_in (all_words ran.happenings))
   pub room : (number : ℕ) → AreRoomy (client_profile scenario.settings).policy (server_profile scenario.settings content).policy (turns.pairs.pairs number).turns
   pub settled : (number : ℕ) → AreSettled (client_profile scenario.settings).policy (server_profile scenario.settings content).policy (turns.pairs.pairs number).turns
+  pub none_waits : (number : ℕ) → NoneEverWaits (client_profile scenario.settings).policy (server_profile scenario.settings content).policy (turns.pairs.pairs number).turns
 
 -- So it is at each moment of each run, wherever it broke off.
 abbrev pub DisturbancesCostWords : Type 0

@@ -45,6 +45,7 @@ pub mod Keeping
 pub mod PlainPipes
 pub mod Granted
 pub mod GrantedOrder
+pub mod Waits
 pub mod Costs
 pub mod Served
 pub mod ServedOrder

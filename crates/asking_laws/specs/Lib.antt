@@ -1,0 +1,3 @@
+pub use Rattle.identifier_laws
+pub mod Rising
+pub mod Singly

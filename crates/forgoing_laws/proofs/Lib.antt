@@ -1,0 +1,4 @@
+pub mod Firing
+pub mod Spending
+pub mod Asked
+pub mod Lasting

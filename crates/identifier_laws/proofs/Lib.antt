@@ -1,0 +1,4 @@
+pub mod Ending
+pub mod Growing
+pub mod Hosts
+pub mod Granting

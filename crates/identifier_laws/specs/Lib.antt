@@ -1,0 +1,3 @@
+pub use Rattle.disconnection_laws
+pub mod Rising
+pub mod Granting

@@ -1,0 +1,2 @@
+pub use Rattle.forgoing_laws
+pub mod Stays
