@@ -1,16 +1,14 @@
 -- On orderly input the inbox of a server gains what its own units spell.
-use Rattle.std.proofs.Common.{◌≡◌, true, false, List, [], ◌∷◌, ◌++◌, map, Option, Some, refl, sym, ap, ap₂, subst, ◌∙◌, append_assoc, inl, inr}
+use Rattle.std.proofs.Common.{◌≡◌, true, false, List, [], ◌∷◌, ◌++◌, map, Option, Some, refl, sym, ap, ap₂, subst, ◌∙◌}
 use Rattle.std.specs.List.{AllByRecursion, AllZip, flat_map}
-use Rattle.std.proofs.lemmas.List.Concat.{flat_map-append}
 use Rattle.request_laws.specs.bt_base.specs.declared.settings.Settings.{Settings}
 use Rattle.request_laws.specs.bt_base.specs.declared.settings.Transport.{Transport}
 use Rattle.request_laws.specs.bt_base.specs.declared.settings.Transport.TheVariants.{L2cap}
 use Rattle.request_laws.specs.bt_base.specs.Objects.{Object, Contents}
 use Rattle.request_laws.specs.push_terms.specs.declared.word.Side.TheVariants as sides
-use Rattle.request_laws.specs.capture.specs.Links.{Link, links}
-use Rattle.request_laws.specs.capture.specs.Pdus.{Pdu, pdus}
+use Rattle.request_laws.specs.capture.specs.Links.{links}
+use Rattle.request_laws.specs.capture.specs.Pdus.{pdus}
 use Rattle.request_laws.specs.link_talk.specs.Captures.{talks}
-use Rattle.request_laws.specs.link_talk.specs.Sayings.{Saying, said_by, talk}
 use Rattle.request_laws.specs.channel_model.specs.Policies.{policy}
 use Rattle.request_laws.specs.channel_model.specs.Value.{Channels}
 use Rattle.request_laws.specs.channel_laws.specs.Frames.{AreUttered}
@@ -29,7 +27,6 @@ use Rattle.request_laws.specs.host_laws.specs.Acts.{Act, Hears, Says}
 use Rattle.request_laws.specs.host_laws.specs.Calls.{Asks}
 use Rattle.request_laws.specs.host_laws.specs.Gifts.{gifts_with}
 use Rattle.request_laws.specs.host_laws.specs.InOrder.{AsksForOneObject}
-use Rattle.request_laws.specs.host_laws.specs.Keeping.{GivesNothingUp}
 use Rattle.request_laws.specs.host_laws.specs.Lives.{Span}
 use Rattle.request_laws.specs.host_laws.specs.OneOnLinks.{CarriesOneOn}
 use Rattle.request_laws.specs.host_laws.specs.OverLinks.{AreTimely, parts, moved_in, talk_marks, IsTalkOf}
@@ -42,10 +39,10 @@ use Rattle.request_laws.specs.host_laws.proofs.Keeping.{servers_lend}
 use Rattle.request_laws.specs.host_laws.proofs.OneOnLinks.{servers-carry_alone}
 use Rattle.request_laws.specs.host_laws.proofs.Seeking.{is-served}
 use Rattle.request_laws.specs.host_laws.proofs.Serving.{hosts_gain}
-use Rattle.unit_laws.specs.scenario_laws.specs.Coming.{out_of, FallTo, CameOver}
+use Rattle.unit_laws.specs.scenario_laws.specs.Coming.{CameOver}
 use Rattle.unit_laws.specs.scenario_laws.specs.Gains.{holding, serving}
 use Rattle.unit_laws.specs.scenario_laws.specs.Parties.{party_of}
-use Rattle.unit_laws.specs.scenario_laws.proofs.Gaining.{all-out, both_out, all_spell, link_talks}
+use Rattle.unit_laws.specs.scenario_laws.proofs.Gaining.{all_spell, link_talks}
 use Rattle.unit_laws.specs.scenario_laws.proofs.Orderly.{parts_asked, asked_talks}
 use Rattle.unit_laws.specs.scenario_laws.proofs.Wishes.{states_frame}
 use Rattle.request_laws.specs.pair_laws.specs.Granted.{granted}
@@ -58,87 +55,43 @@ use Rattle.unit_laws.proofs.Running.{units_are_talk}
 use Rattle.orderly_laws.specs.Answered.{AreAnswered}
 use Rattle.orderly_laws.specs.Orderly.{IsGrant, ServersGainAsked}
 use Rattle.orderly_laws.proofs.Counting.{none-ignored}
+use Rattle.orderly_laws.proofs.Falling.{SaidOn, on_links, said_of, parted}
 use Rattle.orderly_laws.proofs.Given.{lives-given, nothing-given_up}
 use Rattle.orderly_laws.proofs.Granting.{act_so, runs-same, frames-same, over-so, over-acts}
-use Rattle.orderly_laws.proofs.Linking.{ReadLink, AllRead, all-carry, all-direct, all-turns}
+use Rattle.orderly_laws.proofs.Linking.{ReadLink, all-carry, all-direct, all-turns}
 
 -- ---- its links, as they are read
-
-abbrev moved_on : List Pdu → List Saying
-moved_on link = flat_map said_by link
-
-abbrev AnswersOn : Settings → List (List Pdu) → Type 0
-AnswersOn settings caught = AllByRecursion (λ (link : List Pdu). AreAnswered (party_of settings sides.B) (moved_on link)) caught
-
-answers_on : (settings : Settings) (list : List Link) → AllByRecursion (AreAnswered (party_of settings sides.B)) (map talk list) → AnswersOn settings (map pdus list)
-answers_on settings [] all = tt
-answers_on settings (link ∷ list) all = (all.0, answers_on settings list all.1)
 
 -- what is so of a list
 record Of (settings : Settings) (list : List Occurrence) : Type 0 where
   uttered : AreUttered (policy settings true) list
-  plain : GivesNothingUp (policy settings true) list
+  said : SaidOn (AreAnswered (party_of settings sides.B)) settings list
   only : CarriesOneOn object_psm (policy settings true) list
   none : AllByRecursion AsksForNoChannel list
   told : (run_of (policy settings true) list).value.events ≡ []
 
-reads_of : (settings : Settings) (lists : List (List Occurrence)) (talks : List (List Talk)) (caught : List (List Pdu)) → AllZip (IsTalkOf (policy settings true)) lists talks → FallTo talks caught → AnswersOn settings caught → AllByRecursion (Of settings) lists
-    → AllByRecursion (ReadLink settings) lists
-reads_of settings [] talks caught are fall answers all = tt
-reads_of settings (list ∷ lists) [] caught are fall answers all = absurd are
-reads_of settings (list ∷ lists) (part ∷ talks) caught are (inl (none, fall)) answers all = (
-  record {
-    talk = [];
-    outs = are.0.waits;
-    said_is = sym all.0.plain ∙ (are.0.talk_is ∙ ap (λ (l : List Pdu). moved_on l ++ are.0.waits) none);
-    go_out = are.0.go_out;
-    uttered = all.0.uttered;
-    answered = tt;
-    only = all.0.only;
-    none = all.0.none;
-    told = all.0.told;
-  },
-  reads_of settings lists talks caught are.1 fall answers all.1,
-)
-reads_of settings (list ∷ lists) (part ∷ talks) caught are (inr (link, rest, unsent, caught_is, part_is, fall)) answers all =
-    let left = moved_on (map out_of unsent) in
-    let here = subst (AnswersOn settings) caught_is answers in (
-      record {
-        talk = moved_on link;
-        outs = left ++ are.0.waits;
-        said_is = sym all.0.plain
-            ∙ (are.0.talk_is ∙ (ap (λ (l : List Pdu). moved_on l ++ are.0.waits) part_is ∙ (ap (λ (l : List Saying). l ++ are.0.waits) (flat_map-append said_by link (map out_of unsent)) ∙ append_assoc (moved_on link) left are.0.waits)));
-        go_out = both_out left are.0.waits (all-out unsent) are.0.go_out;
-        uttered = all.0.uttered;
-        answered = here.0;
-        only = all.0.only;
-        none = all.0.none;
-        told = all.0.told;
-      },
-      reads_of settings lists talks rest are.1 fall here.1 all.1,
+reads_of : (settings : Settings) (lists : List (List Occurrence)) → AllByRecursion (Of settings) lists → AllByRecursion (ReadLink settings) lists
+reads_of settings [] all = tt
+reads_of settings (list ∷ lists) all =
+    let one = all.0 in
+    let said = one.said in (
+      record { talk = said.talk; outs = said.outs; said_is = said.said_is; go_out = said.go_out; uttered = one.uttered; answered = said.holds; only = one.only; none = one.none; told = one.told },
+      reads_of settings lists all.1,
     )
 
 -- those that ended, and the last one
 lists_of : List Span → List Occurrence → List (List Occurrence)
 lists_of spans now = map (λ (span : Span). span.list) spans ++ now ∷ []
 
-all_of : (settings : Settings) (lists : List (List Occurrence)) → AllByRecursion (AreUttered (policy settings true)) lists → AllByRecursion (GivesNothingUp (policy settings true)) lists → AllByRecursion (CarriesOneOn object_psm (policy settings true)) lists → AllByRecursion (AllByRecursion AsksForNoChannel) lists
+all_of : (settings : Settings) (lists : List (List Occurrence)) → AllByRecursion (AreUttered (policy settings true)) lists → AllByRecursion (SaidOn (AreAnswered (party_of settings sides.B)) settings) lists → AllByRecursion (CarriesOneOn object_psm (policy settings true)) lists → AllByRecursion (AllByRecursion AsksForNoChannel) lists
     → AllByRecursion (λ (list : List Occurrence). (run_of (policy settings true) list).value.events ≡ []) lists → AllByRecursion (Of settings) lists
-all_of settings [] utter plain only none told = tt
-all_of settings (list ∷ lists) utter plain only none told =
-    (record { uttered = utter.0; plain = plain.0; only = only.0; none = none.0; told = told.0 }, all_of settings lists utter.1 plain.1 only.1 none.1 told.1)
+all_of settings [] utter said only none told = tt
+all_of settings (list ∷ lists) utter said only none told =
+    (record { uttered = utter.0; said = said.0; only = only.0; none = none.0; told = told.0 }, all_of settings lists utter.1 said.1 only.1 none.1 told.1)
 
 pub on_each : (Q : List Occurrence → Type 0) (spans : List Span) (now : List Occurrence) → AllByRecursion (λ (span : Span). Q span.list) spans → Q now → AllByRecursion Q (map (λ (span : Span). span.list) spans ++ now ∷ [])
 on_each Q [] now before last = (last, tt)
 on_each Q (span ∷ spans) now before last = (before.0, on_each Q spans now before.1 last)
-
-record Parts (settings : Settings) (spans : List Span) (now : List Occurrence) : Type 0 where
-  before : AllRead settings spans
-  last : ReadLink settings now
-
-parts_read : (settings : Settings) (spans : List Span) (now : List Occurrence) → AllByRecursion (ReadLink settings) (map (λ (span : Span). span.list) spans ++ now ∷ []) → Parts settings spans now
-parts_read settings [] now all = record { before = tt; last = all.0 }
-parts_read settings (span ∷ spans) now all = let rest = parts_read settings spans now all.1 in record { before = (all.0, rest.before); last = rest.last }
 
 pub all_served : (transport : Transport) (settings : Settings) (lists : List (List Occurrence)) (talks : List (List Talk)) → AllZip (IsTalkOf (policy settings true)) lists talks → AllByRecursion (AllByRecursion AsksForNoChannel) lists → AllByRecursion (λ part. AsksForOneObject transport (moved_in part)) talks
     → AllByRecursion (λ part. IsServed (moved_in part)) talks
@@ -199,7 +152,9 @@ servers_gain_asked settings before occasions now transport did granted' orderly 
     let only = servers-carry_alone L2cap settings content asks told.talk now.upper so (asks-nothing settings content) sought in
     let last_told : (run_of (policy settings true) list).value.events ≡ [] = ap (λ (v : Channels). v.events) (sym so.lives.channels_run) ∙ so.lives.all_told in
     let events = on_each (λ (l : List Occurrence). (run_of (policy settings true) l).value.events ≡ []) spans list so.lives.spans_told last_told in
-    let reads = parts_read settings spans list (reads_of settings lists (parts told.talk) (map pdus (links sides.B capture)) so.talks_are told.fall (answers_on settings (links sides.B capture) orderly.answered) (all_of settings lists lives.uttered plain only none_all events)) in
+    let here = links sides.B capture in
+    let said = said_of (AreAnswered party) tt settings lists (parts told.talk) (map pdus here) so.talks_are told.fall (on_links (AreAnswered party) here orderly.answered) plain in
+    let reads = parted (ReadLink settings) spans list (reads_of settings lists (all_of settings lists lives.uttered said only none_all events)) in
     let timely = subst (AreTimely false) (sym so.lives.marks_are) so.timely in
     let feeds = so.lives.feeds in
     let direct = all-direct settings content spans list feeds A.first now.upper.profile lives.fed.fed refl reads.before reads.last in

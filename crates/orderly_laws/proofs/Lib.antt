@@ -5,5 +5,9 @@ pub mod Weaving
 pub mod Linking
 pub mod Granting
 pub mod Given
+pub mod Falling
 pub mod Gaining
 pub mod Served
+pub mod Passing
+pub mod Framing
+pub mod Carried

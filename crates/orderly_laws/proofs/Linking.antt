@@ -214,18 +214,18 @@ module _ (settings : Settings) (content : Option Contents) where
       subst (AllByRecursion IsDirect) (sym (served-both settings content (happenings w w.events) (Learns circumstances (Linked (Down reason)) ∷ []) p))
       (all_both IsDirect (served p (happenings w w.events)) _ (happenings_direct w.events w p) (tt, tt))
 
-  new_server : (circumstances : List Circumstance) (event : LinkEvent) (v : Channels) (p : ServerProfile) → (turned B circumstances event v p).endpoints ≡ []
+  pub new_server : (circumstances : List Circumstance) (event : LinkEvent) (v : Channels) (p : ServerProfile) → (turned B circumstances event v p).endpoints ≡ []
   new_server circumstances Up v p = refl
   new_server circumstances (Down reason) v p = refl
 
   none_open : (p : ServerProfile) → p.endpoints ≡ [] → Open object_psm settings content [] p
   none_open p none = subst (AllEndpoints (WasOpened object_psm settings content [])) (sym none) tt
 
-  abbrev value_at : Span → Channels
+  abbrev pub value_at : Span → Channels
   value_at span = values_after B.policy no_channels span.list
 
   -- one link: what is there, what comes as it turns, and all behind it
-  span_served : (span : Span) (first : ServerProfile) (here : FedSpan B asks span first) (feeds later : List Feed) → feeds ≡ span_feeds B asks span first here ++ later
+  pub span_served : (span : Span) (first : ServerProfile) (here : FedSpan B asks span first) (feeds later : List Feed) → feeds ≡ span_feeds B asks span first here ++ later
       → served first feeds ≡ served first here.here ++ (served here.mid (turned_feeds here.circumstances span.event (value_at span)) ++ served (behind_span B asks span first here) later)
   span_served span first here feeds later is =
       let turn = turned_feeds here.circumstances span.event (value_at span) in

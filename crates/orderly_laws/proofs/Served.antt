@@ -6,7 +6,6 @@ use Rattle.request_laws.specs.bt_base.specs.declared.settings.Transport.{Transpo
 use Rattle.request_laws.specs.bt_base.specs.declared.settings.Transport.TheVariants.{L2cap, Rfcomm}
 use Rattle.request_laws.specs.bt_base.specs.Objects.{Object}
 use Rattle.request_laws.specs.push_terms.specs.declared.word.Side.TheVariants as sides
-use Rattle.request_laws.specs.capture.specs.Entries.{Entry}
 use Rattle.request_laws.specs.host_link.specs.declared.role.Role.TheVariants.{Server}
 use Rattle.request_laws.specs.capture.specs.Links.{Link, links}
 use Rattle.request_laws.specs.capture.specs.Pdus.{pdus}
@@ -47,6 +46,7 @@ use Rattle.request_laws.proofs.Paired.{lists_of}
 use Rattle.request_laws.proofs.ReadLinks.{spelled, Reads, reads_all}
 use Rattle.request_laws.specs.pair_laws.specs.Granted.{granted}
 use Rattle.unit_laws.specs.Calls.{gifts_in}
+use Rattle.unit_laws.specs.Laws.{FiresNone, IsUnfired}
 use Rattle.unit_laws.specs.Living.{Did, HaveCommands}
 use Rattle.unit_laws.specs.Units.{Lined, Occasion, units, lone_capture}
 use Rattle.unit_laws.proofs.Living.{servers-gently}
@@ -64,12 +64,13 @@ link_carried settings before (link ∷ list) = ap (λ (l : List Object). objects
 
 -- ---- it lived so, with an inbox that grants all
 
-record Life (settings : Settings) (before : List Object) (capture : List Entry) (now : Host ServerProfile) : Type 0 where
-  came : CameOver (serving settings before) sides.B capture now
-  lives : LivesGiven (serving settings before) (asked_by hosts_ask settings before) IsGrant came.talk now
+pub record Life (settings : Settings) (before : List Object) (occasions : List (Occasion Circumstance)) (now : Host ServerProfile) : Type 0 where
+  pub came : CameOver (serving settings before) sides.B (lone_capture sides.B (units occasions)) now
+  pub unfired : AllByRecursion FiresNone occasions → AllByRecursion IsUnfired came.talk
+  pub lives : LivesGiven (serving settings before) (asked_by hosts_ask settings before) IsGrant came.talk now
 
-lived : (settings : Settings) (before : List Object) (occasions : List (Occasion Circumstance)) (now : Lined (Host ServerProfile)) → Did (serving settings before) Server occasions now → AllByRecursion IsGrant (gifts_in occasions) → HaveCommands sides.B (lone_capture sides.B (units occasions))
-    → Life settings before (lone_capture sides.B (units occasions)) now.upper
+pub lived : (settings : Settings) (before : List Object) (occasions : List (Occasion Circumstance)) (now : Lined (Host ServerProfile)) → Did (serving settings before) Server occasions now → AllByRecursion IsGrant (gifts_in occasions) → HaveCommands sides.B (lone_capture sides.B (units occasions))
+    → Life settings before occasions now.upper
 lived settings before occasions now did grants have =
     let A = serving settings before in
     let U = upper A in
@@ -79,17 +80,18 @@ lived settings before occasions now did grants have =
     let came : CameOver (serving settings before) sides.B (lone_capture sides.B (units occasions)) now.upper = record { talk = told.talk; over = over; fall = told.fall; last = told.up } in
     record {
       came = came;
+      unfired = told.unfired;
       lives = lives-given A (asked_by hosts_ask settings before) IsGrant told.talk now.upper over (servers-gently settings (holding before) capture now.upper have came)
           (subst (AllByRecursion (λ (act : Act Circumstance). AllByRecursion IsGrant (gifts_with act))) (sym (over-acts U (map granted) told.talk now.upper told.over)) (acts_granted U told.over.acts));
     }
 
 -- ---- what is spelled to it over one transport
 
-abbrev Spells : (settings : Settings) (before : List Object) → Transport → (occasions : List (Occasion Circumstance)) (now : Host ServerProfile) → Life settings before (lone_capture sides.B (units occasions)) now → Type 0
+abbrev Spells : (settings : Settings) (before : List Object) → Transport → (occasions : List (Occasion Circumstance)) (now : Host ServerProfile) → Life settings before occasions now → Type 0
 Spells settings before transport occasions now life =
     spelled_by settings (all_told hosts_ask settings before life.came.talk now life.lives.fed.so) ≡ objects_heard (reader settings settings.mps transport) sides.B (lone_capture sides.B (units occasions))
 
-spells_carried : (settings : Settings) (before : List Object) (occasions : List (Occasion Circumstance)) (now : Host ServerProfile) (life : Life settings before (lone_capture sides.B (units occasions)) now) → IsAskedOver Rfcomm (lone_capture sides.B (units occasions)) → Spells settings before Rfcomm occasions now life
+spells_carried : (settings : Settings) (before : List Object) (occasions : List (Occasion Circumstance)) (now : Host ServerProfile) (life : Life settings before occasions now) → IsAskedOver Rfcomm (lone_capture sides.B (units occasions)) → Spells settings before Rfcomm occasions now life
 spells_carried settings before occasions now life asked =
     let content = holding before in
     let A = serving settings before in
@@ -112,7 +114,7 @@ spells_carried settings before occasions now life asked =
     reads_all settings content nothing spans list feeds A.first now.profile (parts said) caught life.lives.fed.fed refl (subst (AreTimely false) (sym so.lives.marks_are) so.timely) so.talks_are once life.came.fall life.lives.uttered muxes packets in
     read_by_carriers settings settings.mps (served_from settings content A.first feeds) reads.links reads.are ∙ (reads.spells ∙ link_carried settings before here)
 
-spells_direct : (settings : Settings) (before : List Object) (occasions : List (Occasion Circumstance)) (now : Host ServerProfile) (life : Life settings before (lone_capture sides.B (units occasions)) now) → IsAskedOver L2cap (lone_capture sides.B (units occasions))
+spells_direct : (settings : Settings) (before : List Object) (occasions : List (Occasion Circumstance)) (now : Host ServerProfile) (life : Life settings before occasions now) → IsAskedOver L2cap (lone_capture sides.B (units occasions))
     → AllByRecursion (IsWhole (policy settings true)) (on_links (serving settings before) (asked_by hosts_ask settings before) (flat_map talk_marks life.came.talk) now life.lives.fed.so.lives) → Spells settings before L2cap occasions now life
 spells_direct settings before occasions now life asked whole =
     let content = holding before in
@@ -129,7 +131,7 @@ spells_direct settings before occasions now life asked whole =
 
 -- ---- the law
 
-gains_over : (transport : Transport) (settings : Settings) (before : List Object) (occasions : List (Occasion Circumstance)) (now : Host ServerProfile) (life : Life settings before (lone_capture sides.B (units occasions)) now) → IsAskedOver transport (lone_capture sides.B (units occasions))
+pub gains_over : (transport : Transport) (settings : Settings) (before : List Object) (occasions : List (Occasion Circumstance)) (now : Host ServerProfile) (life : Life settings before occasions now) → IsAskedOver transport (lone_capture sides.B (units occasions))
     → LosesNone hosts_ask settings before transport life.came.talk now life.lives.fed.so → GainsOver settings before transport occasions now
 gains_over Rfcomm settings before occasions now life asked comes =
     hosts_gain settings before (asked_by hosts_ask settings before) (flat_map talk_marks life.came.talk) now life.lives.fed.so.lives comes ∙ ap (λ (l : List Object). Some (before ++ l)) (spells_carried settings before occasions now life asked)

@@ -2,3 +2,4 @@ pub use Rattle.unit_laws
 pub mod Answered
 pub mod Orderly
 pub mod Served
+pub mod Carried

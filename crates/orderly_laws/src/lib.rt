@@ -1,6 +1,7 @@
 //! What the inbox of a server gains on orderly input, which is read off its own units alone: the packets that move between it and its controller.
 #![tactic(auto)]
 
+ghost use Rattle.orderly_laws.specs.Carried.{ServersGainCarried};
 ghost use Rattle.orderly_laws.specs.Orderly.{ServersGainAsked};
 ghost use Rattle.orderly_laws.specs.Served.{ServersGainServed};
 
@@ -13,4 +14,9 @@ pub fn servers_gain_asked()
 /// objects that its own units spell.
 pub fn servers_gain_served()
     ensures { ServersGainServed }
+{}
+
+/// On input that is orderly by its own units the inbox of a server gains exactly the objects that these spell, over RFCOMM.
+pub fn servers_gain_carried()
+    ensures { ServersGainCarried }
 {}

@@ -18,6 +18,7 @@ use Rattle.receiving.specs.host_model.specs.Circumstances.{Circumstance, answers
 use Rattle.receiving.specs.host_model.specs.Hosts.{Host}
 use Rattle.receiving.specs.host_model.specs.Servers.{ServerProfile}
 use Rattle.noting_laws.specs.host_laws.specs.Calls.{HostsAsk}
+use Rattle.noting_laws.specs.host_laws.specs.Carriers.{reader}
 use Rattle.noting_laws.specs.scenario_laws.specs.Gains.{holding, serving}
 use Rattle.noting_laws.specs.scenario_laws.specs.Parties.{party_of}
 use Rattle.receiving.specs.bt_host.specs.Noting.{Noted}
@@ -28,6 +29,7 @@ use Rattle.orderly_laws.specs.unit_laws.specs.Calls.{gifts_in}
 use Rattle.orderly_laws.specs.unit_laws.specs.Living.{Did}
 use Rattle.orderly_laws.specs.unit_laws.specs.Laws.{FiresNone}
 use Rattle.orderly_laws.specs.Served.{IsAskedOver, GainsAsItLived}
+use Rattle.orderly_laws.specs.Carried.{IsCarriedInput}
 use Rattle.orderly_laws.specs.Orderly.{IsOrderlyInput}
 use Rattle.receiving.specs.Turns.{Begun, begun, Posture, Turn, HasTurns, packets_in}
 use Rattle.receiving.specs.Receiving.{new_server_host, stored_by, Receives}
@@ -80,6 +82,19 @@ ReceivesSpelled = (source source' sink sink' trace trace' : Option (List ℕ)) (
     → IsOrderlyStream received.settings before received.comes.halts.turns received.comes.halts.last received.comes.halts.runs → GainsSpelled (party_of received.settings sides.B) received.settings before received.comes.halts.turns inbox'
 
 -- ---- over RFCOMM
+
+-- At each PDU that comes a buffer is free by the packets that move, they are orderly input over RFCOMM, and no call of the inbox fails.
+pub record IsFramedStream (settings : Settings) (before : List Object) (turns : List Turn) (last : Posture (Noted ServerProfile)) (runs : HasTurns (noted_server settings) turns (new_server settings before).posture last) : Type 0 where
+  pub free : IsFreeStream (new_server settings before).said turns
+  pub orderly : (moves : List Move) → MoveFromStart (new_server settings before).said turns moves → IsCarriedInput settings (lone_capture sides.B moves)
+  pub granted : GrantsAllAsked (noted_server settings) turns (new_server settings before).posture last runs
+
+-- Of such a stream the inbox gains exactly the objects that the packets spell which moved, as a server over RFCOMM reads them.
+abbrev pub ReceivesFramed : Type 0
+ReceivesFramed = (source source' sink sink' trace trace' : Option (List ℕ)) (before : List Object) (inbox' : Option Contents) (result : Status) (received : Receives source source' sink sink' trace trace' (holding before) inbox' result) → result ≢ status.NoMemory
+    → IsFramedStream received.settings before received.comes.halts.turns received.comes.halts.last received.comes.halts.runs → GainsSpelled (reader received.settings received.settings.mps Rfcomm) received.settings before received.comes.halts.turns inbox'
+
+-- ---- over RFCOMM, where input is not orderly
 
 -- At each PDU that comes a buffer is free by the packets that move, on each link one channel is asked for, that of the multiplexer, besides that of service
 -- discovery, and no call of the inbox fails.

@@ -2,7 +2,7 @@
 #![tactic(auto)]
 
 ghost use Rattle.receive_laws.specs.InTurn.{FreeBuffersSuffice};
-ghost use Rattle.receive_laws.specs.Streams.{FreeStreamsComeInTurn, ReceivesCarried, ReceivesSpelled, StreamsAreRuns};
+ghost use Rattle.receive_laws.specs.Streams.{FreeStreamsComeInTurn, ReceivesCarried, ReceivesFramed, ReceivesSpelled, StreamsAreRuns};
 
 /// Each packet of a stream comes in turn where at each PDU that the host is told of its controller takes one packet more.
 pub fn free_buffers_suffice<S>()
@@ -22,6 +22,11 @@ pub fn free_streams_come_in_turn()
 /// What `receive` stores is exactly what the packets of its stream spell, on input that is orderly by these packets alone, over L2CAP.
 pub fn receives_spelled()
     ensures { ReceivesSpelled }
+{}
+
+/// The same over RFCOMM, on input on which each frame of the client comes in order.
+pub fn receives_framed()
+    ensures { ReceivesFramed }
 {}
 
 /// Over RFCOMM its packets are a run of its server; and if nothing that came was lost as that lived through them, it stores exactly what they spell.
