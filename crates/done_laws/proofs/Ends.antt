@@ -18,7 +18,7 @@ use Rattle.tape_laws.specs.host_model.specs.Circumstances.{Circumstance}
 use Rattle.tape_laws.specs.host_model.specs.Clients.{ClientProfile}
 use Rattle.tape_laws.specs.host_model.specs.Hosts.{Host}
 use Rattle.tape_laws.specs.host_model.specs.Servers.{ServerProfile}
-use Rattle.tape_laws.specs.link_talk.specs.Captures.{objects_heard}
+use Rattle.tape_laws.specs.link_talk.specs.Captures.{objects_heard, talks}
 use Rattle.tape_laws.specs.push_laws.specs.Parties.{Push}
 use Rattle.tape_laws.specs.push_laws.specs.Premises.{NoneShort}
 use Rattle.tape_laws.specs.scenario_laws.specs.Captures.{client_of, BothHosts}
@@ -28,8 +28,10 @@ use Rattle.tape_laws.specs.pair_laws.specs.Served.{holding_on}
 use Rattle.tape_laws.specs.OwnPairs.{own_of, own_beginning, RanOwn}
 use Rattle.done_laws.specs.Ends.{HasDone, IsDoneSo, OwnServersEndDone}
 use Rattle.done_laws.specs.Kept.{AreKept}
+use Rattle.done_laws.specs.Lasting.{LastSpellsOne, SpellsDone, OwnServersSpellDone}
+use Rattle.done_laws.specs.Runs.{IsDoneAt}
 use Rattle.done_laws.proofs.Lasts.{done_is_last}
-use Rattle.done_laws.proofs.Runs.{own_servers_keep_done}
+use Rattle.done_laws.proofs.Runs.{own_servers_keep_done, own_links_spell}
 
 module _ (scenario : Scenario) (shelf before : List Object) (answers : List Answer) (direct : scenario.settings.transport ≡ L2cap) (enough : NoneShort answers) where
   abbrev U : Upper (Host ClientProfile) Circumstance
@@ -41,44 +43,71 @@ module _ (scenario : Scenario) (shelf before : List Object) (answers : List Answ
   abbrev first : BothHosts
   first = own_beginning scenario (holding before) answers
 
-  abbrev So : List Entry → Entry → Type 0
-  So = IsDoneSo scenario shelf before answers
-
   -- as a push ends
+  ran_so_far : (done : List Happening) (old : BothHosts) → Runs U V done first old → RanOwn scenario (Some shelf) (holding before) answers (all_entries done)
+  ran_so_far done old runs = record { happenings = done; world = old; happened = runs; ends = []; last = tt; capture_is = sym (append-nil (all_entries done)) }
+
+  done_at : (done : List Happening) (old new : BothHosts) (push : ℕ) (outcome : Outcome) → Does U V (Closes push outcome) old new → outcome ≡ Done → IsDoneAt old
+  done_at done old new push outcome (going, push_is, idle, is, apart, none_a, none_b, quiet_a, quiet_b, same) done_is = record { none_a = none_a; none_b = none_b; cause = is ∙ ap (λ (o : Outcome). Some o) done_is }
+
   closed : (done : List Happening) (old new : BothHosts) (push : ℕ) (outcome : Outcome) → Runs U V done first old → Does U V (Closes push outcome) old new → outcome ≡ Done → HasDone scenario shelf before answers (all_entries done)
-  closed done old new push outcome runs (going, push_is, idle, is, apart, none_a, none_b, quiet_a, quiet_b, same) done_is =
-      let own : RanOwn scenario (Some shelf) (holding before) answers (all_entries done) = record { happenings = done; world = old; happened = runs; ends = []; last = tt; capture_is = sym (append-nil (all_entries done)) } in
+  unfolding ran_so_far
+  closed done old new push outcome runs does done_is =
+      let own = ran_so_far done old runs in
       let keeps = own_servers_keep_done scenario shelf before answers (all_entries done) own direct enough in
-      let ends = keeps.ends (record { none_a = none_a; none_b = none_b; cause = is ∙ ap (λ (o : Outcome). Some o) done_is }) in
+      let ends = keeps.ends (done_at done old new push outcome does done_is) in
       let spelled = objects_heard (party_of scenario.settings sides.B) sides.B (all_entries done) in
       record {
         own = own;
         keeps = keeps;
         ends = ends;
-        stored = λ here. done_is_last ends.ahead ends.one ends.behind keeps.gain spelled (subst (λ (pushes : List Push). AreKept pushes keeps.gain spelled) ends.pushes_are keeps.kept) (record { cause = ends.cause; psm = here }) ends.idle;
+        stored = done_is_last ends.ahead ends.one ends.behind keeps.gain spelled (subst (λ (pushes : List Push). AreKept pushes keeps.gain spelled) ends.pushes_are keeps.kept) ends.done ends.idle;
       }
 
-  one : (happening : Happening) (done : List Happening) (old new : BothHosts) → Runs U V done first old → Does U V happening old new → EachAfter So (all_entries done) (entries_of happening)
-  one (Tries side effort) done old new runs does = tt
-  one (Departure side order) done old new runs does = (tt, tt)
-  one (GivingBack side) done old new runs does = tt
-  one (Piecemeal side handle piece) done old new runs does = (tt, tt)
-  one (Answering side answer) done old new runs does = (tt, tt)
-  one (Turns ordinal word) done old new runs does = (tt, tt)
-  one (Misses word) done old new runs does = tt
-  one (Opens push name) done old new runs does = (tt, tt)
-  one (Closes push outcome) done old new runs does = (closed done old new push outcome runs does, tt)
+  spells : (done : List Happening) (old new : BothHosts) (push : ℕ) (outcome : Outcome) → Runs U V done first old → Does U V (Closes push outcome) old new → outcome ≡ Done → LastSpellsOne (party_of scenario.settings sides.B) (talks sides.B (all_entries done))
+  unfolding ran_so_far
+  spells done old new push outcome runs does done_is = own_links_spell scenario shelf before answers (all_entries done) (ran_so_far done old runs) direct enough (done_at done old new push outcome does done_is)
+
+  one_done : (happening : Happening) (done : List Happening) (old new : BothHosts) → Runs U V done first old → Does U V happening old new → EachAfter (IsDoneSo scenario shelf before answers) (all_entries done) (entries_of happening)
+  one_done (Tries side effort) done old new runs does = tt
+  one_done (Departure side order) done old new runs does = (tt, tt)
+  one_done (GivingBack side) done old new runs does = tt
+  one_done (Piecemeal side handle piece) done old new runs does = (tt, tt)
+  one_done (Answering side answer) done old new runs does = (tt, tt)
+  one_done (Turns ordinal word) done old new runs does = (tt, tt)
+  one_done (Misses word) done old new runs does = tt
+  one_done (Opens push name) done old new runs does = (tt, tt)
+  one_done (Closes push outcome) done old new runs does = (closed done old new push outcome runs does, tt)
+
+  one_spells : (happening : Happening) (done : List Happening) (old new : BothHosts) → Runs U V done first old → Does U V happening old new → EachAfter (SpellsDone scenario.settings) (all_entries done) (entries_of happening)
+  one_spells (Tries side effort) done old new runs does = tt
+  one_spells (Departure side order) done old new runs does = (tt, tt)
+  one_spells (GivingBack side) done old new runs does = tt
+  one_spells (Piecemeal side handle piece) done old new runs does = (tt, tt)
+  one_spells (Answering side answer) done old new runs does = (tt, tt)
+  one_spells (Turns ordinal word) done old new runs does = (tt, tt)
+  one_spells (Misses word) done old new runs does = tt
+  one_spells (Opens push name) done old new runs does = (tt, tt)
+  one_spells (Closes push outcome) done old new runs does = (spells done old new push outcome runs does, tt)
 
   entries_then : (done : List Happening) (happening : Happening) → all_entries done ++ entries_of happening ≡ all_entries (done ++ happening ∷ [])
   entries_then done happening = sym (flat_map-append entries_of done (happening ∷ []) ∙ ap (λ (l : List Entry). all_entries done ++ l) (append-nil (entries_of happening)))
 
-  along : (done rest : List Happening) (now new : BothHosts) → Runs U V done first now → Runs U V rest now new → EachAfter So [] (all_entries done) → EachAfter So [] (all_entries (done ++ rest))
-  along done [] now new runs later each = subst (λ (hs : List Happening). EachAfter So [] (all_entries hs)) (sym (append-nil done)) each
-  along done (happening ∷ rest) now new runs (mid, does, later) each =
-      subst (λ (hs : List Happening). EachAfter So [] (all_entries hs)) (append_assoc done (happening ∷ []) rest)
-      (along (done ++ happening ∷ []) rest mid new (runs_then U V done happening first now mid runs does) later
-      (subst (EachAfter So []) (entries_then done happening) (each_after-both So [] (all_entries done) (entries_of happening) each (one happening done now mid runs does))))
+  module _ (So : List Entry → Entry → Type 0) (one : (happening : Happening) (done : List Happening) (old new : BothHosts) → Runs U V done first old → Does U V happening old new → EachAfter So (all_entries done) (entries_of happening)) where
+    along : (done rest : List Happening) (now new : BothHosts) → Runs U V done first now → Runs U V rest now new → EachAfter So [] (all_entries done) → EachAfter So [] (all_entries (done ++ rest))
+    along done [] now new runs later each = subst (λ (hs : List Happening). EachAfter So [] (all_entries hs)) (sym (append-nil done)) each
+    along done (happening ∷ rest) now new runs (mid, does, later) each =
+        subst (λ (hs : List Happening). EachAfter So [] (all_entries hs)) (append_assoc done (happening ∷ []) rest)
+        (along (done ++ happening ∷ []) rest mid new (runs_then U V done happening first now mid runs does) later
+        (subst (EachAfter So []) (entries_then done happening) (each_after-both So [] (all_entries done) (entries_of happening) each (one happening done now mid runs does))))
 
 pub own_servers_end_done : OwnServersEndDone
 own_servers_end_done scenario shelf before answers capture own direct enough =
-    along scenario shelf before answers direct enough [] own.happenings (own_beginning scenario (holding before) answers) own.world refl own.happened tt
+    along scenario shelf before answers direct enough (IsDoneSo scenario shelf before answers) (one_done scenario shelf before answers direct enough) [] own.happenings (own_beginning scenario (holding before) answers) own.world refl own.happened tt
+
+pub own_servers_spell_done : OwnServersSpellDone
+own_servers_spell_done = record {
+  moments = λ scenario shelf before answers capture own direct enough.
+      along scenario shelf before answers direct enough (SpellsDone scenario.settings) (one_spells scenario shelf before answers direct enough) [] own.happenings (own_beginning scenario (holding before) answers) own.world refl own.happened tt;
+  now = own_links_spell;
+}

@@ -37,7 +37,7 @@ use Rattle.tape_laws.specs.push_laws.proofs.Parties.{begun_so}
 use Rattle.tape_laws.specs.push_laws.proofs.Placing.{task_of}
 use Rattle.tape_laws.specs.push_laws.proofs.Pushing.{Task}
 use Rattle.tape_laws.specs.push_laws.proofs.Readings.{heard_more}
-use Rattle.done_laws.specs.Kept.{client_of, IsKept, AreKept, DonePushesAreKept}
+use Rattle.done_laws.specs.Kept.{client_of, IsKept, AreKept, SpellEach, PushesSpellEach, DonePushesAreKept}
 use Rattle.done_laws.proofs.Successes.{success_in}
 use Rattle.done_laws.proofs.Servers.{stored_with, last_is, stored_later, ends_quiet}
 use Rattle.done_laws.proofs.Walks.{Ends, Behind, walks}
@@ -261,7 +261,7 @@ module _ (settings : Settings) (before : List Object) where
 
   -- ---- push after push
 
-  serve_front : (front behind : List Occurrence) (at : Reacted) → AllServeDirectly NoneShort at (front ++ behind) → AllServeDirectly NoneShort at front × AllServeDirectly NoneShort (all_done front at) behind
+  pub serve_front : (front behind : List Occurrence) (at : Reacted) → AllServeDirectly NoneShort at (front ++ behind) → AllServeDirectly NoneShort at front × AllServeDirectly NoneShort (all_done front at) behind
   serve_front [] behind at serve = (tt, serve)
   serve_front (one ∷ front) behind at serve =
       let rest = serve_front front behind (done one at) serve.1 in
@@ -344,7 +344,43 @@ module _ (settings : Settings) (before : List Object) where
       (two_links push offered.0 (pushes ++ last ∷ []) past at others s b (subst (AllServeDirectly NoneShort at) (sym same) serve) (subst (AllSayMarks settings s.marks at) (sym same) said)
       (λ s' b' serve' said'. all_links pushes last ((past ++ front) ++ LinkDown ∷ []) (done LinkDown (all_done front at)) s' b' offered.1 over serve' said'))
 
--- ---- the law
+  -- ---- what each of them spells
+
+  each_spells : (pushes : List Push) (last : Push) (past : List Occurrence) (at : Reacted) (s : Stays settings before past at) → Begins past at s → AllByRecursion IsOffered pushes → IsOffered last → AllServeDirectly NoneShort at (over_pushes pushes last)
+      → AllSayMarks settings s.marks at (over_pushes pushes last) → SpellEach settings past pushes last
+  unfolding link_of
+  each_spells [] last past at s b offered over serve said =
+      let e = link_ends last over past at [] s b serve (subst (AllSayMarks settings s.marks at) (sym (append-nil (server_side last.moves))) said) in
+      let one = link_of (faulty.objects settings s.marks) (clear.objects settings past) last (task_of last) (past ++ server_side last.moves) (all_done (server_side last.moves) at) [] e.quiet e.still refl e.behind in
+      record { gained = one.kept; here = one.here; spelled = one.spelled; kept = one.fits }
+  each_spells (push ∷ pushes) last past at s b offered over serve said =
+      let ahead = faulty.objects settings s.marks in
+      let spelt = clear.objects settings past in
+      let w = task_of push in
+      let front = server_side push.moves in
+      let others : List Occurrence = over_pushes pushes last in
+      let same : front ++ LinkDown ∷ others ≡ over_pushes (push ∷ pushes) last =
+      sym (ap (λ (os : List Occurrence). os ++ server_side last.moves) (append_assoc front (LinkDown ∷ []) (flat_map ended_with pushes)) ∙ append_assoc front (LinkDown ∷ flat_map ended_with pushes) (server_side last.moves)) in
+      let at' = all_done front at in
+      let past' = past ++ front in
+      let parts = serve_front front (LinkDown ∷ others) at (subst (AllServeDirectly NoneShort at) (sym same) serve) in
+      let e = link_ends push offered.0 past at (LinkDown ∷ others) s b parts.0 (subst (AllSayMarks settings s.marks at) (sym same) said) in
+      let one = link_of ahead spelt push w past' at' (LinkDown ∷ others) e.quiet e.still refl e.behind in
+      let serves = parts.1.0 in
+      let rest_said = down_said ahead spelt w e.quiet (client_of push) past' at' e.behind.ends serves others e.behind.said.1 in (
+        record { gained = one.kept; here = one.here; spelled = one.spelled; kept = one.fits },
+        subst (λ (os : List Occurrence). SpellEach settings os pushes last) (append_assoc past front (LinkDown ∷ []))
+            (each_spells pushes last (past' ++ LinkDown ∷ []) (done LinkDown at') (later ahead spelt w e.quiet (client_of push) past' at' e.behind.ends serves) (down_begins ahead spelt w e.quiet (client_of push) past' at' e.behind.ends serves)
+            offered.1 over parts.1.1 rest_said),
+      )
+
+-- ---- the laws
+
+pub pushes-spell_each : PushesSpellEach
+pushes-spell_each settings before pushes last offered over serve =
+    let first = first_stays settings before in
+    let but = gains-all_but_refusals settings before (over_pushes pushes last) (all_may_miss settings before (over_pushes pushes last) [] (new_over settings before) first serve) in
+    each_spells settings before pushes last [] (new_over settings before) first (record { empty = refl; none = refl }) offered over serve but.said
 
 pub done-pushes_are_kept : DonePushesAreKept
 done-pushes_are_kept settings before pushes last offered over serve =

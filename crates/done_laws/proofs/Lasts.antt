@@ -19,7 +19,7 @@ none_kept (push ∷ pushes) gained spelled still (keeps, here, gains, rest, gain
     let later = none_kept pushes gains rest still.1 kept in
     (gained_is ∙ ap₂ (λ (a b : List Object). a ++ b) left later.0, spelled_is ∙ ap₂ (λ (a b : List Object). a ++ b) none later.1)
 
-one_object : (objects : List Object) → length objects ≡ 1 → (object : Object) × (objects ≡ object ∷ [])
+pub one_object : (objects : List Object) → length objects ≡ 1 → (object : Object) × (objects ≡ object ∷ [])
 one_object [] is = absurd (omega (arith, is))
 one_object (object ∷ []) is = (object, refl)
 one_object (object ∷ other ∷ objects) is = absurd (omega (arith, is))

@@ -7,5 +7,7 @@ pub mod Walks
 pub mod Kept
 pub mod Lasts
 pub mod Off
+pub mod Linked
+pub mod LastSpells
 pub mod Runs
 pub mod Ends

@@ -16,7 +16,7 @@ use Rattle.tape_laws.specs.obex_session.specs.InboxCalls.{Answer}
 use Rattle.tape_laws.specs.push_script.specs.declared.scenario.Scenario.{Scenario}
 use Rattle.tape_laws.specs.push_terms.specs.declared.word.Side.TheVariants as sides
 use Rattle.tape_laws.specs.capture.specs.Entries.{Entry}
-use Rattle.tape_laws.specs.link_talk.specs.Captures.{objects_heard}
+use Rattle.tape_laws.specs.link_talk.specs.Captures.{objects_heard, talks}
 use Rattle.tape_laws.specs.push_laws.specs.Faults.{spent_from}
 use Rattle.tape_laws.specs.push_laws.specs.Gains.{objects}
 use Rattle.tape_laws.specs.push_laws.specs.Laws.{new_over, stored_in}
@@ -45,15 +45,17 @@ use Rattle.tape_laws.specs.pair_laws.specs.Served.{holding_on}
 use Rattle.tape_laws.specs.pair_laws.proofs.Pairing.{answers_allowed}
 use Rattle.tape_laws.specs.request_laws.specs.Losing.{served_in}
 use Rattle.tape_laws.specs.request_laws.proofs.AllSizes.{run_offered}
-use Rattle.tape_laws.specs.request_laws.proofs.Heard.{Offered, links_tied, all_offered}
+use Rattle.tape_laws.specs.request_laws.proofs.Feeding.{all_ahead, all_both}
+use Rattle.tape_laws.specs.request_laws.proofs.Heard.{Offered, all_offered}
 use Rattle.tape_laws.specs.request_laws.proofs.Latest.{IsIdle, IsLast}
 use Rattle.tape_laws.specs.request_laws.proofs.Lending.{serve_all}
 use Rattle.tape_laws.specs.request_laws.proofs.Objects.{IsOfObject}
+use Rattle.tape_laws.specs.request_laws.proofs.Sound.{GoesToObject, runs_sound, links_told}
 use Rattle.tape_laws.specs.request_laws.proofs.Summing.{both_ask}
 use Rattle.tape_laws.specs.request_laws.proofs.Told.{none_longer, all_answer}
 use Rattle.tape_laws.specs.Once.{once, SpendsOnce}
 use Rattle.tape_laws.specs.Own.{own_server}
-use Rattle.tape_laws.specs.OwnPairs.{own_beginning, IsThereToo}
+use Rattle.tape_laws.specs.OwnPairs.{RanOwn, own_beginning, IsThereToo}
 use Rattle.tape_laws.specs.Pairs.{TapedHosts, HappenedTapedHeld}
 use Rattle.tape_laws.specs.Runs.{untaped_world}
 use Rattle.tape_laws.proofs.Once.{servers_spend_once}
@@ -61,7 +63,9 @@ use Rattle.tape_laws.proofs.Own.{own_servers_are_taped}
 use Rattle.tape_laws.proofs.OwnPairs.{there_so, bare_so}
 use Rattle.tape_laws.proofs.Pairs.{takes_turns}
 use Rattle.done_laws.specs.Kept.{AreKept, KeepsDone}
+use Rattle.done_laws.specs.Lasting.{LastSpellsOne}
 use Rattle.done_laws.specs.Runs.{EndsDone, IsDoneAt, KeepsPushes, OwnServersKeepDone}
+use Rattle.done_laws.proofs.LastSpells.{last_spells}
 use Rattle.done_laws.proofs.Kept.{done-pushes_are_kept}
 use Rattle.done_laws.proofs.Off.{HasDone, between_off, turned_off}
 
@@ -98,9 +102,20 @@ module _ (shelf : List Object) where
 -- ---- the last push
 
 -- a new client is not done
-ended : (settings : Settings) (pushes : List Push) → (HasDone (new_client settings) × AllByRecursion IsIdle pushes) ⊎ IsLast HasDone pushes → EndsDone pushes
-ended settings pushes (inl first) = absurd (let never : None ≡ Some Done = first.0 in cc)
-ended settings pushes (inr last) = record { ahead = last.ahead; one = last.one; behind = last.behind; pushes_are = last.is; cause = last.so; idle = last.idle }
+ended : (settings : Settings) (pushes : List Push) → AllByRecursion GoesToObject pushes → (HasDone (new_client settings) × AllByRecursion IsIdle pushes) ⊎ IsLast HasDone pushes → EndsDone pushes
+ended settings pushes go (inl first) = absurd (let never : None ≡ Some Done = first.0 in cc)
+ended settings pushes go (inr last) =
+    let there = (all_ahead GoesToObject last.ahead (last.one ∷ last.behind) (subst (AllByRecursion GoesToObject) last.is go)).1.0 in
+    record { ahead = last.ahead; one = last.one; behind = last.behind; pushes_are = last.is; done = record { cause = last.so; psm = there last.so }; idle = last.idle }
+
+-- what each of them is of the shelf, and where it goes
+record BothSo (shelf : Option (List Object)) (most : ℕ) (pushes : List Push) : Type 0 where
+  offered : AllByRecursion (Offered shelf most) pushes
+  go : AllByRecursion GoesToObject pushes
+
+both_so : (shelf : Option (List Object)) (most : ℕ) (pushes : List Push) → AllByRecursion (λ (push : Push). Offered shelf most push × GoesToObject push) pushes → BothSo shelf most pushes
+both_so shelf most [] all = record { offered = tt; go = tt }
+both_so shelf most (push ∷ pushes) all = let rest = both_so shelf most pushes all.1 in record { offered = (all.0.0, rest.offered); go = (all.0.1, rest.go) }
 
 -- ---- a run
 
@@ -122,9 +137,12 @@ module _ (scenario : Scenario) (shelf before : List Object) (answers : List Answ
       let answered = all_answer NoneShort far (spends.enough enough) in
       let served = served_in both_ask scenario before capture ran pairs in
       let run = run_offered NoneShort scenario before capture ran turns direct small answered in
-      let tied = links_tied HasDone (Some shelf) longest_octets (omega arith) both_ask settings before direct (between_off settings (both_ask.clients settings)) (turned_off settings) pairs.a.came.talk pairs.b.came.talk ran.world.a.upper ran.world.b.upper pairs.a.fed pairs.b.fed run.offered.twined small
+      let sound = runs_sound scenario before capture ran pairs run.offered.twined in
+      let tied = links_told HasDone (Some shelf) longest_octets (omega arith) both_ask settings before direct (between_off settings (both_ask.clients settings)) (turned_off settings) pairs.a.came.talk pairs.b.came.talk ran.world.a.upper ran.world.b.upper pairs.a.fed pairs.b.fed sound small
       (clients_are_given_objects (Some shelf) settings A.first near tt told) in
       let all = tied.all in
+      let so = both_so (Some shelf) longest_octets all.pushes all.pushed in
+      let last = all.last_pushed in
       let told_names = names_told near in
       let begun : AreAmong (names_begun (pushed_from settings A.first near)) scenario.names =
       subst (AreAmong (names_begun (pushed_from settings A.first near))) (sym turns.named.1)
@@ -132,14 +150,14 @@ module _ (scenario : Scenario) (shelf before : List Object) (answers : List Answ
       let among = among_trans (names_of (all.pushes ++ all.last ∷ [])) (names_begun (pushed_from settings A.first near)) scenario.names all.named begun in
       let units = among_all HasUnits (names_of (all.pushes ++ all.last ∷ [])) scenario.names among (have_units scenario.names scenario.named) in
       let serve : AllServeDirectly NoneShort (new_over settings before) (over_pushes all.pushes all.last) = subst (AllServeDirectly NoneShort (new_over settings before)) all.is (serve_all NoneShort settings (holding before) far B.first answered run.direct) in
-      let kept : KeepsDone settings before all.pushes all.last = done-pushes_are_kept settings before all.pushes all.last (all_offered (Some shelf) longest_octets all.pushes all.pushed) all.last_pushed.0 serve in
+      let kept : KeepsDone settings before all.pushes all.last = done-pushes_are_kept settings before all.pushes all.last (all_offered (Some shelf) longest_octets all.pushes so.offered) last.0.0 serve in
       let spells : objects settings (over_pushes all.pushes all.last) ≡ objects_heard (party_of settings sides.B) sides.B capture = ap (objects settings) (sym all.is) ∙ run.spells in
       let holds : stored_in ran.world.b.upper.profile.inbox.content ≡ Some (before ++ kept.gain) =
       run.holds ∙ ap (λ (os : List Occurrence). stored_in (all_done os (new_over settings before)).gift.content) all.is ∙ kept.stored in
       record {
         pushes = all.pushes ++ all.last ∷ [];
         named = among;
-        of_shelf = pushed_of_shelf shelf longest_octets all.pushes all.last all.pushed all.last_pushed units;
+        of_shelf = pushed_of_shelf shelf longest_octets all.pushes all.last so.offered last.0 units;
         gain = kept.gain;
         stored_is = holds;
         kept = subst (AreKept (all.pushes ++ all.last ∷ []) kept.gain) spells kept.kept;
@@ -148,14 +166,19 @@ module _ (scenario : Scenario) (shelf before : List Object) (answers : List Answ
             let same = ap length spells in
             let spent = ap (spent_from (new_over settings before)) all.is in
             omega (arith, few, less, same, spent));
-        ends = λ done. ended settings (all.pushes ++ all.last ∷ []) (tied.ties (level done.none_a done.none_b) done.cause);
+        ends = λ done. ended settings (all.pushes ++ all.last ∷ []) (all_both GoesToObject all.pushes (all.last ∷ []) so.go (last.1, tt)) (tied.ties (level done.none_a done.none_b) done.cause);
       }
 
+  -- and the last link of host b on which anything is spelled spells one object where the client is done
+  abbrev Spells : Type 0
+  Spells = IsDoneAt ran.world → LastSpellsOne (party_of scenario.settings sides.B) (talks sides.B capture)
+
   -- of the tape of its answers
-  taped_so : (world : TapedHosts Bool) → HappenedTapedHeld scenario (Some shelf) (holding before) (once answers) ran.happenings world → ran.world ≡ untaped_world world → Keeps
+  taped_so : (world : TapedHosts Bool) → HappenedTapedHeld scenario (Some shelf) (holding before) (once answers) ran.happenings world → ran.world ≡ untaped_world world → Keeps × Spells
   taped_so world happened is =
       let so = takes_turns false both_ask scenario (holding before) (once answers) (held_by (Some shelf)) (AnswersOf (Some shelf)) (answers_allowed (Some shelf)) capture ran world happened is (λ on. cc) in
-      keeps_so so.turns so.told (subst (SpendsOnce scenario.settings (holding before) answers) (sym so.given.2) (servers_spend_once scenario.settings (holding before) answers so.given.0 so.given.1)) so.level
+      let spends = subst (SpendsOnce scenario.settings (holding before) answers) (sym so.given.2) (servers_spend_once scenario.settings (holding before) answers so.given.0 so.given.1) in
+      (keeps_so so.turns so.told spends so.level, λ done. last_spells scenario shelf before answers capture enough direct ran so.turns so.told spends (so.level done.none_a done.none_b) done.cause)
 
 -- what both servers have stored is the same
 stored_so : (scenario : Scenario) (before : List Object) (answers : List Answer) (own plain : Host ServerProfile)
@@ -171,20 +194,39 @@ plainly scenario before answers own plain there done = record {
   cause = ap (λ (h : Host ClientProfile). h.profile.client.cause) there.a ∙ done.cause;
 }
 
-pub own_servers_keep_done : OwnServersKeepDone
-own_servers_keep_done scenario shelf before answers capture own direct enough =
+-- how such a run keeps its pushes, and what its links spell
+OwnSo : (scenario : Scenario) (shelf before : List Object) (answers : List Answer) (capture : List Entry) → RanOwn scenario (Some shelf) (holding before) answers capture → Type 0
+OwnSo scenario shelf before answers capture own =
+    KeepsPushes scenario shelf before answers (objects_heard (party_of scenario.settings sides.B) sides.B capture) (stored_in own.world.b.upper.profile.inbox.content) (IsDoneAt own.world)
+    × (IsDoneAt own.world → LastSpellsOne (party_of scenario.settings sides.B) (talks sides.B capture))
+
+own_so : (scenario : Scenario) (shelf before : List Object) (answers : List Answer) (capture : List Entry) (own : RanOwn scenario (Some shelf) (holding before) answers capture) → scenario.settings.transport ≡ L2cap → NoneShort answers → OwnSo scenario shelf before answers capture own
+unfolding OwnSo
+own_so scenario shelf before answers capture own direct enough =
     let (there, alike, happened) = own_servers_are_taped (holding_on (Some shelf) (client_of scenario)) scenario.settings (holding before) answers own.happenings (own_beginning scenario (holding before) answers) own.world refl own.happened in
     let last : IsLastEnd there.pushes own.ends = subst (λ (pushes : Pushes). IsLastEnd pushes own.ends) (sym (ap (λ (w : TapedHosts Bool). w.pushes) alike.same)) own.last in
     let ran : Ran scenario (holding before) capture =
     record { happenings = own.happenings; world = untaped_world there; happened = bare_so both_ask scenario (Some shelf) (holding before) answers capture own there happened; ends = own.ends; last = last; capture_is = own.capture_is } in
-    let so = taped_so scenario shelf before answers capture enough direct ran there happened refl in
-    record {
-      pushes = so.pushes;
-      named = so.named;
-      of_shelf = so.of_shelf;
-      gain = so.gain;
-      stored_is = stored_so scenario before answers own.world.b.upper (untaped_world there).b.upper (there_so both_ask scenario (Some shelf) (holding before) answers capture own there alike).b ∙ so.stored_is;
-      kept = so.kept;
-      few = so.few;
-      ends = λ done. so.ends (plainly scenario before answers own.world (untaped_world there) (there_so both_ask scenario (Some shelf) (holding before) answers capture own there alike) done);
-    }
+    let (so, spells) = taped_so scenario shelf before answers capture enough direct ran there happened refl in
+    let alike_so = there_so both_ask scenario (Some shelf) (holding before) answers capture own there alike in (
+      record {
+        pushes = so.pushes;
+        named = so.named;
+        of_shelf = so.of_shelf;
+        gain = so.gain;
+        stored_is = stored_so scenario before answers own.world.b.upper (untaped_world there).b.upper (there_so both_ask scenario (Some shelf) (holding before) answers capture own there alike).b ∙ so.stored_is;
+        kept = so.kept;
+        few = so.few;
+        ends = λ done. so.ends (plainly scenario before answers own.world (untaped_world there) alike_so done);
+      },
+      λ done. spells (plainly scenario before answers own.world (untaped_world there) alike_so done),
+    )
+
+pub own_servers_keep_done : OwnServersKeepDone
+unfolding OwnSo
+own_servers_keep_done scenario shelf before answers capture own direct enough = (own_so scenario shelf before answers capture own direct enough).0
+
+pub own_links_spell : (scenario : Scenario) (shelf before : List Object) (answers : List Answer) (capture : List Entry) (own : RanOwn scenario (Some shelf) (holding before) answers capture) → scenario.settings.transport ≡ L2cap → NoneShort answers
+    → IsDoneAt own.world → LastSpellsOne (party_of scenario.settings sides.B) (talks sides.B capture)
+unfolding OwnSo
+own_links_spell scenario shelf before answers capture own direct enough = (own_so scenario shelf before answers capture own direct enough).1

@@ -10,22 +10,21 @@ use Rattle.tape_laws.specs.capture.specs.Entries.{Entry, Moved, Acted, Begun, En
 use Rattle.tape_laws.specs.capture.specs.Histories.{EachAfter}
 use Rattle.tape_laws.specs.link_talk.specs.Captures.{objects_heard}
 use Rattle.tape_laws.specs.world_model.specs.Worlds.{all_entries}
-use Rattle.tape_laws.specs.push_model.specs.Server.{object_psm}
 use Rattle.tape_laws.specs.push_laws.specs.Laws.{stored_in}
 use Rattle.tape_laws.specs.push_laws.specs.Premises.{NoneShort}
 use Rattle.tape_laws.specs.scenario_laws.specs.Gains.{holding}
 use Rattle.tape_laws.specs.scenario_laws.specs.Parties.{party_of}
 use Rattle.tape_laws.specs.OwnPairs.{RanOwn}
-use Rattle.done_laws.specs.Kept.{client_of, EndsKept}
+use Rattle.done_laws.specs.Kept.{EndsKept}
 use Rattle.done_laws.specs.Runs.{EndsDone, KeepsPushes, IsDoneAt}
 
--- The run came so far, and of the pushes by then the last one in which the client of host a did anything is done. Where that went to the PSM of the object, the last object that the inbox
--- has gained by then is the last one that the packets spell, and so it is of the pushes ahead of it and what stands before these.
+-- The run came so far, and of the pushes by then the last one in which the client of host a did anything is done. The last object that the inbox has gained by then is the last one
+-- that the packets spell, and so it is of the pushes ahead of it and what stands before these.
 pub record HasDone (scenario : Scenario) (shelf before : List Object) (answers : List Answer) (past : List Entry) : Type 0 where
   pub own : RanOwn scenario (Some shelf) (holding before) answers past
   pub keeps : KeepsPushes scenario shelf before answers (objects_heard (party_of scenario.settings sides.B) sides.B past) (stored_in own.world.b.upper.profile.inbox.content) (IsDoneAt own.world)
   pub ends : EndsDone keeps.pushes
-  pub stored : (client_of ends.one).psm ≡ object_psm → EndsKept ends.ahead keeps.gain (objects_heard (party_of scenario.settings sides.B) sides.B past)
+  pub stored : EndsKept ends.ahead keeps.gain (objects_heard (party_of scenario.settings sides.B) sides.B past)
 
 abbrev pub IsDoneSo : Scenario → (shelf before : List Object) → List Answer → List Entry → Entry → Type 0
 IsDoneSo scenario shelf before answers past (Moved side flow packet) = Unit {0}

@@ -12,8 +12,8 @@ use Rattle.tape_laws.specs.push_laws.specs.Faults.{spent_from}
 use Rattle.tape_laws.specs.push_laws.specs.Gains.{objects}
 use Rattle.tape_laws.specs.push_laws.specs.Laws.{new_over, stored_in}
 use Rattle.tape_laws.specs.push_laws.specs.Losing.{LeavesOut}
-use Rattle.tape_laws.specs.push_laws.specs.Occurrences.{all_done}
-use Rattle.tape_laws.specs.push_laws.specs.Parties.{client_side, Push, IsOffered, begun_of, over_pushes, AllServeDirectly}
+use Rattle.tape_laws.specs.push_laws.specs.Occurrences.{Occurrence, all_done}
+use Rattle.tape_laws.specs.push_laws.specs.Parties.{server_side, client_side, Push, IsOffered, begun_of, ended_with, over_pushes, AllServeDirectly}
 use Rattle.tape_laws.specs.push_laws.specs.Premises.{NoneShort}
 use Rattle.tape_laws.specs.push_laws.specs.Spelled.{ArePushed, IsOfShelfOrStill, name_of}
 
@@ -60,6 +60,24 @@ DoneIsLast = (ahead : List Push) (done : Push) (behind : List Push) (gained spel
 -- What is gained so is what is spelled, in its order, but for as many at most as it has less.
 abbrev pub KeptLeaveOut : Type 0
 KeptLeaveOut = (pushes : List Push) (gained spelled : List Object) (most : ℕ) → AreKept pushes gained spelled → length spelled ≤ length gained + most → LeavesOut gained spelled most
+
+-- ---- push after push
+
+-- With what happened to the server in a push the packets spell its object more, or none; and with the end of its link no more.
+pub record SpellsHere (settings : Settings) (past : List Occurrence) (push : Push) : Type 0 where
+  pub gained : List Object
+  pub here : List Object
+  pub spelled : objects settings (past ++ server_side push.moves) ≡ objects settings past ++ here
+  pub kept : IsKept push gained here
+
+abbrev pub SpellEach : Settings → (past : List Occurrence) → (pushes : List Push) → (last : Push) → Type 0
+SpellEach settings past [] last = SpellsHere settings past last
+SpellEach settings past (push ∷ pushes) last = SpellsHere settings past push × SpellEach settings (past ++ ended_with push) pushes last
+
+-- So it is of each of them over L2CAP, where the inbox does not lack memory, whatever becomes of the pushes.
+abbrev pub PushesSpellEach : Type 0
+PushesSpellEach = (settings : Settings) (before : List Object) (pushes : List Push) (last : Push) → AllByRecursion IsOffered pushes → IsOffered last → AllServeDirectly NoneShort (new_over settings before) (over_pushes pushes last)
+    → SpellEach settings [] pushes last
 
 -- ---- all pushes
 

@@ -1,3 +1,5 @@
+pub use Rattle.tape_laws
 pub mod Kept
 pub mod Runs
 pub mod Ends
+pub mod Lasting

@@ -19,15 +19,15 @@ use Rattle.tape_laws.specs.scenario_laws.specs.Captures.{BothHosts}
 use Rattle.tape_laws.specs.scenario_laws.specs.Gains.{holding}
 use Rattle.tape_laws.specs.scenario_laws.specs.Parties.{party_of}
 use Rattle.tape_laws.specs.OwnPairs.{RanOwn}
-use Rattle.done_laws.specs.Kept.{client_of, AreKept}
+use Rattle.done_laws.specs.Kept.{IsDone, AreKept}
 
--- One of these pushes is done, and no client of those behind it did anything.
+-- One of these pushes is done, on the channel of the object, and no client of those behind it did anything.
 pub record EndsDone (pushes : List Push) : Type 0 where
   pub ahead : List Push
   pub one : Push
   pub behind : List Push
   pub pushes_are : pushes ≡ ahead ++ one ∷ behind
-  pub cause : (client_of one).cause ≡ Some Done
+  pub done : IsDone one
   pub idle : AllByRecursion (λ (push : Push). client_side push.moves ≡ []) behind
 
 -- nothing is owed to either host, and the client of host a is done

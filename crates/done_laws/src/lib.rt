@@ -2,13 +2,19 @@
 #![tactic(auto)]
 
 ghost use Rattle.done_laws.specs.Ends.{OwnServersEndDone};
-ghost use Rattle.done_laws.specs.Kept.{DoneIsLast, DonePushesAreKept, KeptLeaveOut};
+ghost use Rattle.done_laws.specs.Kept.{DoneIsLast, DonePushesAreKept, KeptLeaveOut, PushesSpellEach};
+ghost use Rattle.done_laws.specs.Lasting.{OwnServersSpellDone};
 ghost use Rattle.done_laws.specs.Runs.{OwnServersKeepDone};
 
 /// Over L2CAP, push after push, whatever becomes of the pushes and whatever the inbox answers but want of memory: each push has one object at most in what
 /// the packets spell, and the inbox gained it or left it out; that of a push that is done is there, and was gained. Of one that was cancelled none is there.
 pub fn done_pushes_are_kept()
     ensures { DonePushesAreKept }
+{}
+
+/// So push after push the packets spell one object more, or none: one with each push that is done.
+pub fn pushes_spell_each()
+    ensures { PushesSpellEach }
 {}
 
 /// Behind a push that is done, where no other did anything since, the last object that the inbox gained is the last one that the packets spell: that push's.
@@ -29,7 +35,12 @@ pub fn own_servers_keep_done()
 {}
 
 /// Wherever a push ends in such a run that is done, by the time of its end host a's pushes are so by a reading of the run, and the last one of them in which its
-/// client did anything is done; where that went to PSM 1001, the last object that the inbox has gained by then is the last one that the packets spell.
+/// client did anything is done, and went to PSM 1001; the last object that the inbox has gained by then is the last one that the packets spell.
 pub fn own_servers_end_done()
     ensures { OwnServersEndDone }
+{}
+
+/// And over the capture alone: by the time that a push ends in such a run that is done, the last link of host b whose packets spell anything spells one object.
+pub fn own_servers_spell_done()
+    ensures { OwnServersSpellDone }
 {}

@@ -45,6 +45,7 @@ without_ends answered =
       own = record { happenings = own.happenings; world = own.world; happened = own.happened; ends = []; last = tt; capture_is = ap (λ (hs : List Happening). all_entries hs) (sym answered.happenings_are) ∙ sym (append-nil (all_entries own.happenings)) };
       happenings_are = answered.happenings_are;
       stored = answered.stored;
+      at_end = λ push is. cc;
     }
 
 pub broken_at_end : (scenario : Scenario) (shelf : Option (List Object)) (before after : Option Contents) (trace trace' : Option (List ℕ)) (outcomes : List Outcome) (peaks : Peaks) (counts counts' : Counts) → IsPlayed scenario shelf before after trace trace' outcomes peaks counts counts'

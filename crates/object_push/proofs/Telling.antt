@@ -4,6 +4,7 @@ use Rattle.std.proofs.lemmas.List.{append_cancel_left}
 use Rattle.std.specs.Prelude.{◌^◌}
 use Rattle.bt_base.specs.Counts.{HasRisen}
 use Rattle.bt_base.specs.Objects.{Object, Contents}
+use Rattle.bt_base.specs.declared.settings.Transport.TheVariants.{L2cap}
 use Rattle.scenario_play.specs.capture.specs.Air.{words_of}
 use Rattle.scenario_play.specs.capture.specs.Entries.{Entry}
 use Rattle.scenario_play.specs.obex_session.specs.Counting.{Counts, HasRisenBy}
@@ -17,12 +18,14 @@ use Rattle.scenario_play.specs.scenario_laws.specs.Gains.{holding}
 use Rattle.scenario_play.specs.scenario_laws.proofs.Broken.{crowds_are_told}
 use Rattle.scenario_play.specs.Breaking as breaking
 use Rattle.scenario_play.specs.Breaking.{IsBroken, IsWanting}
+use Rattle.scenario_play.specs.Doing.{DoneAreSpelled}
 use Rattle.scenario_play.specs.Failing.{shelf_faults}
 use Rattle.scenario_play.specs.Losing.{LeavesOutCounted, GainsLess}
 use Rattle.scenario_play.specs.Playing.{LackedNever, IsPlayed}
 use Rattle.scenario_play.specs.Pushed.{SpellsOfShelf}
 use Rattle.scenario_play.proofs.BufferPeaks.{buffer_peaks_are_told}
 use Rattle.scenario_play.proofs.Causes.{causes_so_far, losses_so_far}
+use Rattle.scenario_play.proofs.Doing.{plays_spell_done}
 use Rattle.scenario_play.proofs.Gained.{plays_keep}
 use Rattle.scenario_play.proofs.Lost.{none_left_out, plays_gain_less}
 use Rattle.scenario_play.proofs.Pushed.{plays_spell_pushed}
@@ -66,6 +69,14 @@ has_pushed : (scenario : Scenario) (content : Option (List Object)) (capture : L
 has_pushed scenario None capture known = tt
 has_pushed scenario (Some shelf) capture known = known shelf refl
 
+-- what was done, where it is known of a shelf and an inbox that tell what they hold
+has_done : (scenario : Scenario) (shelf : Option (List Object)) (before : Option Contents) (counts counts' : Counts) (capture : List Entry) → IfSome before (λ held. held.pending ≡ None)
+    → ((objects stored : List Object) → shelf ≡ Some objects → before ≡ holding stored → scenario.settings.transport ≡ L2cap → LackedNever counts counts' → DoneAreSpelled scenario.settings capture)
+    → IfSome shelf (λ objects. IfSome before (λ held. scenario.settings.transport ≡ L2cap → LackedNever counts counts' → DoneAreSpelled scenario.settings capture))
+has_done scenario None before counts counts' capture none known = tt
+has_done scenario (Some objects) None counts counts' capture none known = tt
+has_done scenario (Some objects) (Some held) counts counts' capture none known = known objects held.stored refl (held_is held none)
+
 -- ---- to its end
 
 module _ (scenario : Scenario) (old new : Ports) where
@@ -91,6 +102,16 @@ module _ (scenario : Scenario) (old new : Ports) where
       subst (λ (c : Option (List Object)). (played : PlayedOf c outcomes peaks) → SpellsOfShelf scenario shelf played.capture) (sym of)
       (λ played. plays_spell_pushed.plays scenario shelf old.inbox.content new.inbox.content old.trace.content new.trace.content outcomes peaks (counts_in old.inbox) (counts_in new.inbox) played)
 
+  done_played : (content : Option (List Object)) (before : Option Contents) (outcomes : List Outcome) (peaks : Peaks) (shelf stored : List Object) → content ≡ Some shelf → before ≡ holding stored
+      → (played : IsPlayed scenario content before new.inbox.content old.trace.content new.trace.content outcomes peaks (counts_in old.inbox) (counts_in new.inbox))
+      → scenario.settings.transport ≡ L2cap → LackedNever (counts_in old.inbox) (counts_in new.inbox) → DoneAreSpelled scenario.settings played.capture
+  done_played content before outcomes peaks shelf stored of is =
+      subst (λ (c : Option (List Object)). (played : IsPlayed scenario c before new.inbox.content old.trace.content new.trace.content outcomes peaks (counts_in old.inbox) (counts_in new.inbox))
+      → scenario.settings.transport ≡ L2cap → LackedNever (counts_in old.inbox) (counts_in new.inbox) → DoneAreSpelled scenario.settings played.capture) (sym of)
+      (subst (λ (b : Option Contents). (played : IsPlayed scenario (Some shelf) b new.inbox.content old.trace.content new.trace.content outcomes peaks (counts_in old.inbox) (counts_in new.inbox))
+      → scenario.settings.transport ≡ L2cap → LackedNever (counts_in old.inbox) (counts_in new.inbox) → DoneAreSpelled scenario.settings played.capture) (sym is)
+      (λ played direct enough. plays_spell_done.plays scenario shelf stored new.inbox.content old.trace.content new.trace.content outcomes peaks (counts_in old.inbox) (counts_in new.inbox) played direct enough))
+
   ends_so : (outcomes : List Outcome) (kept : ℕ) (peaks : Peaks) (played : Played old.inbox.content outcomes peaks) → IfSome old.inbox.content (λ before. before.pending ≡ None) → Gains old.inbox.content kept new.inbox.content
       → HasRisenBy (shelf_faults outcomes) old.shelf.faults new.shelf.faults → EndsSo scenario old new outcomes kept peaks played.capture
   ends_so outcomes kept peaks played none gains faults =
@@ -98,6 +119,7 @@ module _ (scenario : Scenario) (old new : Ports) where
         captured = record { each = played.entries_are; written = played.written };
         keeps = plays_keep.plays scenario old.shelf.content old.inbox.content new.inbox.content old.trace.content new.trace.content outcomes peaks (counts_in old.inbox) (counts_in new.inbox) played;
         pushed = has_pushed scenario old.shelf.content played.capture (λ shelf of. pushed_played old.shelf.content outcomes peaks shelf of played);
+        done = has_done scenario old.shelf.content old.inbox.content (counts_in old.inbox) (counts_in new.inbox) played.capture none (λ shelf stored of is direct enough. done_played old.shelf.content old.inbox.content outcomes peaks shelf stored of is played direct enough);
         gains = has_gained scenario old.inbox.content new.inbox.content kept (counts_in old.inbox) (counts_in new.inbox) played.capture none gains (less_played old.inbox.content outcomes peaks played);
         counted = gains;
         faulted = faults;
@@ -130,6 +152,16 @@ module _ (scenario : Scenario) (old new : Ports) where
       subst (λ (c : Option (List Object)). (broken : BrokeOf c) → SpellsOfShelf scenario shelf (all_entries broken.happenings)) (sym of)
       (λ broken. plays_spell_pushed.breaks scenario shelf old.inbox.content new.inbox.content old.trace.content new.trace.content (counts_in old.inbox) (counts_in new.inbox) broken)
 
+  done_broken : (content : Option (List Object)) (before : Option Contents) (shelf stored : List Object) → content ≡ Some shelf → before ≡ holding stored
+      → (broken : IsBroken scenario content before new.inbox.content old.trace.content new.trace.content (counts_in old.inbox) (counts_in new.inbox))
+      → scenario.settings.transport ≡ L2cap → LackedNever (counts_in old.inbox) (counts_in new.inbox) → DoneAreSpelled scenario.settings (all_entries broken.happenings)
+  done_broken content before shelf stored of is =
+      subst (λ (c : Option (List Object)). (broken : IsBroken scenario c before new.inbox.content old.trace.content new.trace.content (counts_in old.inbox) (counts_in new.inbox))
+      → scenario.settings.transport ≡ L2cap → LackedNever (counts_in old.inbox) (counts_in new.inbox) → DoneAreSpelled scenario.settings (all_entries broken.happenings)) (sym of)
+      (subst (λ (b : Option Contents). (broken : IsBroken scenario (Some shelf) b new.inbox.content old.trace.content new.trace.content (counts_in old.inbox) (counts_in new.inbox))
+      → scenario.settings.transport ≡ L2cap → LackedNever (counts_in old.inbox) (counts_in new.inbox) → DoneAreSpelled scenario.settings (all_entries broken.happenings)) (sym is)
+      (λ broken direct enough. plays_spell_done.breaks scenario shelf stored new.inbox.content old.trace.content new.trace.content (counts_in old.inbox) (counts_in new.inbox) broken direct enough))
+
   stops_so : (broken : Broke old.inbox.content) → IfSome old.inbox.content (λ before. before.pending ≡ None) → Grows old.inbox.content new.inbox.content → StopsSo scenario old new (all_entries broken.happenings) broken.next
   stops_so broken none (kept, gains) = record {
     few = broken.few;
@@ -139,6 +171,7 @@ module _ (scenario : Scenario) (old new : Ports) where
     causes = causes_so_far scenario old.shelf.content old.inbox.content new.inbox.content old.trace.content new.trace.content (counts_in old.inbox) (counts_in new.inbox) broken;
     drops = losses_so_far scenario old.shelf.content old.inbox.content new.inbox.content old.trace.content new.trace.content (counts_in old.inbox) (counts_in new.inbox) broken;
     pushed = has_pushed scenario old.shelf.content (all_entries broken.happenings) (λ shelf of. pushed_broken old.shelf.content shelf of broken);
+    done = has_done scenario old.shelf.content old.inbox.content (counts_in old.inbox) (counts_in new.inbox) (all_entries broken.happenings) none (λ shelf stored of is direct enough. done_broken old.shelf.content old.inbox.content shelf stored of is broken direct enough);
     gains = has_gained scenario old.inbox.content new.inbox.content kept (counts_in old.inbox) (counts_in new.inbox) (all_entries broken.happenings) none gains (less_broken old.inbox.content broken);
     credits = plays_stay_solvent.breaks scenario old.shelf.content old.inbox.content new.inbox.content old.trace.content new.trace.content (counts_in old.inbox) (counts_in new.inbox) broken;
     service = plays_keep_service.breaks scenario old.shelf.content old.inbox.content new.inbox.content old.trace.content new.trace.content (counts_in old.inbox) (counts_in new.inbox) broken;

@@ -4,6 +4,7 @@ use Rattle.std.specs.List.{AllByRecursion}
 use Rattle.bt_base.specs.Counts.{HasRisen}
 use Rattle.bt_base.specs.Objects.{Object}
 use Rattle.bt_base.specs.Streams.{gained, GainedFront}
+use Rattle.bt_base.specs.declared.settings.Transport.TheVariants.{L2cap}
 use Rattle.scenario_play.specs.capture.specs.Air.{words_of}
 use Rattle.scenario_play.specs.capture.specs.Entries.{Entry, IsEntry, capture_octets}
 use Rattle.scenario_play.specs.air_laws.specs.Crowded.{IsCrowded}
@@ -24,6 +25,7 @@ use Rattle.scenario_play.specs.cause_laws.specs.FirstCauses.{CausesAreShown}
 use Rattle.scenario_play.specs.drop_laws.specs.Dropped.{LossesAreDrops}
 use Rattle.scenario_play.specs.credit_laws.specs.Kept.{StaysSolvent}
 use Rattle.scenario_play.specs.BufferPeaks.{AreBufferPeaks}
+use Rattle.scenario_play.specs.Doing.{DoneAreSpelled}
 use Rattle.scenario_play.specs.Failing.{shelf_faults}
 use Rattle.scenario_play.specs.Gaining.{KeepsPlayed, KeepsBroken}
 use Rattle.scenario_play.specs.Losing.{LeavesOutCounted}
@@ -60,6 +62,14 @@ HasGained scenario old new capture = IfSome old.inbox.content (λ before. IfSome
 abbrev pub HasPushed : (scenario : Scenario) (old : Ports) (capture : List Entry) → Type 0
 HasPushed scenario old capture = IfSome old.shelf.content (λ shelf. ArePushed shelf scenario.names (spelled_in scenario capture))
 
+-- ---- what is done
+
+-- Over L2CAP, where the inbox never lacked memory: by the time that a push ends which is done, the last link of host b whose packets spell anything spells one object.
+-- So it is where shelf and inbox tell what they hold.
+abbrev pub HasDone : (scenario : Scenario) (old new : Ports) (capture : List Entry) → Type 0
+HasDone scenario old new capture =
+    IfSome old.shelf.content (λ shelf. IfSome old.inbox.content (λ before. scenario.settings.transport ≡ L2cap → LackedNever (counts_in old.inbox) (counts_in new.inbox) → DoneAreSpelled scenario.settings capture))
+
 -- ---- credits
 
 -- At each moment of the capture the credits that either host holds are a whole number that is not below nothing, whatever any port answers.
@@ -79,12 +89,13 @@ pub record ArePeaks (scenario : Scenario) (capture : List Entry) (peaks : Peaks)
   pub buffers : AreBufferPeaks capture peaks
   pub windows : AreWindowPeaks scenario capture peaks
 
--- It was played to its end: what its hosts kept to, what was pushed, what the inbox gained and how much of that was counted, that the shelf's count of faults rose
+-- It was played to its end: what its hosts kept to, what was pushed and what was done, what the inbox gained and how much of that was counted, that the shelf's count of faults rose
 -- with each push that ended for one, the credits, the service, and what was held at most.
 pub record EndsSo (scenario : Scenario) (old new : Ports) (outcomes : List Outcome) (kept : ℕ) (peaks : Peaks) (capture : List Entry) : Type 0 where
   pub captured : HasCapture old.trace.content new.trace.content capture
   pub keeps : KeepsPlayed scenario outcomes capture
   pub pushed : HasPushed scenario old capture
+  pub done : HasDone scenario old new capture
   pub gains : HasGained scenario old new capture
   pub counted : Gains old.inbox.content kept new.inbox.content
   pub faulted : HasRisenBy (shelf_faults outcomes) old.shelf.faults new.shelf.faults
@@ -104,6 +115,7 @@ pub record StopsSo (scenario : Scenario) (old new : Ports) (past next : List Ent
   pub causes : CausesAreShown scenario.settings past
   pub drops : LossesAreDrops past
   pub pushed : HasPushed scenario old past
+  pub done : HasDone scenario old new past
   pub gains : HasGained scenario old new past
   pub credits : HoldsCredits scenario (past ++ next)
   pub service : KeepsService scenario.settings (past ++ next)

@@ -71,7 +71,7 @@ module _ {P : Type 0} (A : Profile P) (asks : Asks A) where
   strand_told Checking v p on = refl
   strand_told Stepping v p on = none_told A asks (Unit {0}) (asks.call v p) v
 
-  weave_told : (weave : List Strand) (v : Channels) (p : P) → AllByRecursion IsOnLink weave → tidings_of (woven_feeds A asks weave v p) ≡ tidings_from A.policy v (woven_list A asks weave v p)
+  pub weave_told : (weave : List Strand) (v : Channels) (p : P) → AllByRecursion IsOnLink weave → tidings_of (woven_feeds A asks weave v p) ≡ tidings_from A.policy v (woven_list A asks weave v p)
   weave_told [] v p on = refl
   weave_told (strand ∷ weave) v p on =
       let here = strand_list A asks strand v p in

@@ -44,7 +44,7 @@ use Rattle.request_laws.proofs.Sole.{is_of}
 -- ---- SDUs of a PSM are those of its channels
 
 -- each of them is so where those of each channel of the talk with that PSM are
-ups-all : (F : List ℕ → Type 0) (psm : ℕ) (said : List Saying) (ups : List Handed) → ((own : ℕ) → Opened said psm own → AllByRecursion F (sdus_up own ups)) → AllByRecursion (OpenedUp said) ups → AllByRecursion F (handed_for psm ups)
+pub ups-all : (F : List ℕ → Type 0) (psm : ℕ) (said : List Saying) (ups : List Handed) → ((own : ℕ) → Opened said psm own → AllByRecursion F (sdus_up own ups)) → AllByRecursion (OpenedUp said) ups → AllByRecursion F (handed_for psm ups)
 ups-all F psm said [] each opened = tt
 ups-all F psm said (Nothing ∷ ups) each opened = ups-all F psm said ups each opened.1
 ups-all F psm said (Received own at sdu ∷ ups) each opened = by (eqb at psm) refl (ups-all F psm said ups (λ other is. behind (eqb own other) other (each other is)) opened.1)

@@ -156,7 +156,7 @@ module _ (carrier : ℕ) (settings : Settings) (asks : Asks (client_profile sett
   strand_heard Checking v p none = quiet_heard (Sent v ∷ []) p (tt, tt)
   strand_heard Stepping v p none = quiet_heard (Steps v ∷ []) p (tt, tt) ∙ sym (call_hands carrier (policy settings false) (asks.call v p) v)
 
-  weave_heard : (weave : List Strand) (v : Channels) (p : ClientProfile) → AllByRecursion OpensNone weave
+  pub weave_heard : (weave : List Strand) (v : Channels) (p : ClientProfile) → AllByRecursion OpensNone weave
       → flat_map (heard_on carrier) (all_deeds (pushed_from settings p (woven_feeds (client_profile settings) asks weave v p))) ≡ handed_from carrier (policy settings false) v (woven_list (client_profile settings) asks weave v p)
   weave_heard [] v p none = refl
   weave_heard (strand ∷ weave) v p none =

@@ -61,10 +61,10 @@ use Rattle.request_laws.proofs.Piping.{moved, pipes_both, stay_both, server_both
 -- ---- deeds of affairs
 
 -- the shelf answers with as many octets as were asked for, and with those of its objects where it tells what it holds
-abbrev IsAskedSo : Option (List Object) → ℕ → Affair → Client → Type 0
+abbrev pub IsAskedSo : Option (List Object) → ℕ → Affair → Client → Type 0
 IsAskedSo shelf most one client = IsAnswered most one client × IsGiven shelf one client
 
-both_asked : (shelf : Option (List Object)) (most : ℕ) (affairs : List Affair) (client : Client) → AllAsked (IsAnswered most) affairs client → AllAsked (IsGiven shelf) affairs client → AllAsked (IsAskedSo shelf most) affairs client
+pub both_asked : (shelf : Option (List Object)) (most : ℕ) (affairs : List Affair) (client : Client) → AllAsked (IsAnswered most) affairs client → AllAsked (IsGiven shelf) affairs client → AllAsked (IsAskedSo shelf most) affairs client
 both_asked shelf most [] client answered given = tt
 both_asked shelf most (one ∷ rest) client answered given = ((answered.0, given.0), both_asked shelf most rest (client_after one client) answered.1 given.1)
 
@@ -85,7 +85,7 @@ Offered shelf most push = IsOffered push × (push.size ≤ most) × IsOfObject s
 
 module _ (shelf : Option (List Object)) (set : Set) (maximum : ℕ) (wanted : Bool) (most : ℕ) (fits : most < 2 ^ 32) where
   -- a client over L2CAP that takes packets so long, and wants single response mode or not
-  abbrev G : Client → Type 0
+  abbrev pub G : Client → Type 0
   G client = Good L2cap maximum wanted client
 
   -- the client moves as its profile does
@@ -170,7 +170,7 @@ module _ (shelf : Option (List Object)) (set : Set) (maximum : ℕ) (wanted : Bo
       (stay_on twists next channel_after after opens good answered then_carries piped.0 piped.1 then_quiet.0 then_quiet.1)
 
   -- the push on a link, with its client as the link left it
-  one_tied : IsOneTied set (IsAskedSo shelf most) G (Offered shelf most) (Twined set)
+  pub one_tied : IsOneTied set (IsAskedSo shelf most) G (Offered shelf most) (Twined set)
   one_tied client server names ahead tail near far start good still quiet twined answered =
       let begun = with_object start.name start.size start.old in
       let both = new_both client server in
@@ -228,7 +228,7 @@ module _ (shelf : Option (List Object)) (set : Set) (maximum : ℕ) (wanted : Bo
       }
 
 -- a push of its own, on which nothing comes: its client does nothing
-none_tied : (shelf : Option (List Object)) (maximum : ℕ) (wanted : Bool) (most : ℕ) → most < 2 ^ 32 → IsNoneTied (Good L2cap maximum wanted) (Offered shelf most)
+pub none_tied : (shelf : Option (List Object)) (maximum : ℕ) (wanted : Bool) (most : ℕ) → most < 2 ^ 32 → IsNoneTied (Good L2cap maximum wanted) (Offered shelf most)
 none_tied shelf maximum wanted most fits client occurrences good quiet =
     let small : IsSmall most (Ok 0) [] = record { short = no_units; bounded = λ count is. none_left count is } in
     record {

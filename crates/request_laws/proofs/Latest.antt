@@ -118,10 +118,10 @@ module _ (set : Set) (Is : Affair → Client → Type 0) (G : Client → Type 0)
     (D : Client → Type 0)
     (off : (list : List channels.Occurrence) (feeds : List Feed) (first last : ClientProfile) → WovenFed (client_profile set.settings) (set.asks.clients set.settings) list feeds first last → AllByRecursion HearsNothing list → D last.client → D first.client)
     (turned_off : (circumstances : List Circumstance) (event : LinkEvent) (v : Channels) (p : ClientProfile) → D (turned (client_profile set.settings) circumstances event v p).client → D p.client) where
-  one_old : IsOne set Is G IsP T
+  pub one_old : IsOne set Is G IsP T
   one_old = one_plain set Is G IsP T one_push
 
-  none_old : IsNone G IsP
+  pub none_old : IsNone G IsP
   none_old = none_plain G IsP no_push
 
   -- what is said of all pushes from a client on to another one: where the hosts are level and the last client is so, it was so at first and no client did
@@ -135,7 +135,7 @@ module _ (set : Set) (Is : Affair → Client → Type 0) (G : Client → Type 0)
       tied_one IsP IsIdle (Ties Level client last) occurrences occurrences [] names push refl (none_among names) (λ level d. inl (so level d, (push.pushed.1, tt)))
 
   -- the client at the end of what stands on a link
-  on_link : (list : List channels.Occurrence) (feeds : List Feed) (up last : ClientProfile) (a : WovenFed (client_profile set.settings) (set.asks.clients set.settings) list feeds up last) → last.client ≡ client_behind (pushed_on set a.woven.weave no_channels up) up.client
+  pub on_link : (list : List channels.Occurrence) (feeds : List Feed) (up last : ClientProfile) (a : WovenFed (client_profile set.settings) (set.asks.clients set.settings) list feeds up last) → last.client ≡ client_behind (pushed_on set a.woven.weave no_channels up) up.client
   on_link list feeds up last a =
       let A = client_profile set.settings in
       let asks = set.asks.clients set.settings in
@@ -143,7 +143,7 @@ module _ (set : Set) (Is : Affair → Client → Type 0) (G : Client → Type 0)
       ap (λ (p : ClientProfile). p.client) (sym (woven_so A asks a.woven.weave no_channels up ∙ sym a.woven.last_is)) ∙ all_pushed set.settings here up
 
   -- a link, and what happened to the server by the time that it came up
-  link_one : (near far : Span) (client : ClientProfile) (server : ServerProfile) (weave_a weave_b : List Strand) (tail : List Occurrence)
+  pub link_one : (near far : Span) (client : ClientProfile) (server : ServerProfile) (weave_a weave_b : List Strand) (tail : List Occurrence)
       (here_a : FedSpan (client_profile set.settings) (set.asks.clients set.settings) near client) (here_b : FedSpan (server_profile set.settings set.content) (set.asks.servers set.settings set.content) far server)
       → Between set Is G IsP T goes one_old none_old near far client server here_a here_b
       → T weave_a weave_b (behind_span (client_profile set.settings) (set.asks.clients set.settings) near client here_a) (behind_span (server_profile set.settings set.content) (set.asks.servers set.settings set.content) far server here_b)
@@ -160,22 +160,22 @@ module _ (set : Set) (Is : Affair → Client → Type 0) (G : Client → Type 0)
       (between_still set.settings set.content (set.asks.servers set.settings set.content) far.list here_b.here server here_b.mid here_b.so far_deaf) quiet twined answered_up.1
 
   -- numbers of turns that are the same, or not
-  abbrev AreLevel : ℕ → ℕ → Type 0
+  abbrev pub AreLevel : ℕ → ℕ → Type 0
   AreLevel m n = m ≡ n
 
-  some_none : (n : ℕ) → suc n ≡ 0 → ⊥
+  pub some_none : (n : ℕ) → suc n ≡ 0 → ⊥
   some_none n is = cc
 
-  none_one : AreLevel 0 1 → ⊥
+  pub none_one : AreLevel 0 1 → ⊥
   none_one is = cc
 
-  more_one : (n : ℕ) → suc (suc n) ≡ 1 → ⊥
+  pub more_one : (n : ℕ) → suc (suc n) ≡ 1 → ⊥
   more_one n is = cc
 
-  one_more : (n : ℕ) → 1 ≡ suc (suc n) → ⊥
+  pub one_more : (n : ℕ) → 1 ≡ suc (suc n) → ⊥
   one_more n is = cc
 
-  one_less : (m n : ℕ) → suc (suc m) ≡ suc (suc n) → m ≡ n
+  pub one_less : (m n : ℕ) → suc (suc m) ≡ suc (suc n) → m ≡ n
   one_less m n is = cc
 
   pub latest : (number : ℕ → ℕ) (spans_a : List Span) (now_a : List channels.Occurrence) (feeds_a : List Feed) (client last_a : ClientProfile) (spans_b : List Span) (now_b : List channels.Occurrence) (feeds_b : List Feed) (server last_b : ServerProfile)

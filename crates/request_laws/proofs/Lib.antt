@@ -62,3 +62,7 @@ pub mod Scripts
 pub mod GivenOctets
 mod Quiet
 pub mod AsTold
+pub mod OnService
+pub mod Unserved
+pub mod Sound
+pub mod LastLinks

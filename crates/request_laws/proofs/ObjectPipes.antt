@@ -59,7 +59,7 @@ down_carries : (own : Policy) (event : LinkEvent) (list : List channels.Occurren
 down_carries own Up list down carried = absurd down
 down_carries own (Down reason) list down carried = inr carried
 
-carries_at : (own : Policy) (spans : List Span) (now : List channels.Occurrence) → AreTimely false (all_marks spans now) → AllByRecursion (λ (span : Span). CarriedOne own span.event span.list) spans → CarriesOne own now
+pub carries_at : (own : Policy) (spans : List Span) (now : List channels.Occurrence) → AreTimely false (all_marks spans now) → AllByRecursion (λ (span : Span). CarriedOne own span.event span.list) spans → CarriesOne own now
     → (number : ℕ) → CarriesOne own (get_or (map (λ (span : Span). span.list) spans ++ now ∷ []) number [])
 carries_at own [] now timely carried carries zero = carries
 carries_at own [] now timely carried carries (suc number) = inl tt

@@ -32,7 +32,7 @@ use Rattle.noting_laws.specs.pair_laws.specs.Enough.{remembered, remembering, Ha
 use Rattle.noting_laws.specs.pair_laws.specs.Granted.{answered_by, granted, granting}
 use Rattle.noting_laws.specs.pair_laws.specs.Served.{holding_on, HappenedHeld, HappenedServed}
 use Rattle.noting_laws.specs.pair_laws.proofs.Answered.{IsSame, same_alike, runs-so}
-use Rattle.tape_laws.specs.OwnPairs.{own_of, own_beginning, RanOwn}
+use Rattle.done_laws.specs.tape_laws.specs.OwnPairs.{own_of, own_beginning, RanOwn}
 
 -- what is told of both of two is told of each of them
 told_same : {S X : Type 0} (tell : S → X) (first other s t : S) → tell other ≡ tell first → IsOther first other s t → tell t ≡ tell s
@@ -196,11 +196,13 @@ module _ {S T : Type 0} (U : Upper S Circumstance) (V : Upper T Circumstance) (s
 -- ---- where the server has all answers of its inbox from its first moment on
 
 -- a run like that one, in which the server is that of the world in code, and the shelf told what it holds
-pub record IsLikeOwn {S T : Type 0} (scenario : Scenario) (shelf : Option (List Object)) (content : Option Contents) (answers : List Answer) (as_b : Host ServerProfile → T) (happenings : List Happening) (at : World S T) : Type 0 where
+pub record IsLikeOwn {S T : Type 0} (scenario : Scenario) (shelf : Option (List Object)) (content : Option Contents) (answers : List Answer) (as_b : Host ServerProfile → T) (happenings : List Happening) (at : World S T) (came : Option Outcome) : Type 0 where
   pub world : BothHosts
   pub happened : Runs (holding_on shelf (client_of scenario)) (own_of scenario content answers) happenings (own_beginning scenario content answers) world
   pub server_is : as_b world.b.upper ≡ at.b.upper
   pub pushes_are : world.pushes ≡ at.pushes
+  pub radio_is : world.radio ≡ at.radio
+  pub outcome_is : (client_of scenario).outcome world.a.upper ≡ came
 
 module _ {S T : Type 0} (U : Upper S Circumstance) (V : Upper T Circumstance) (scenario : Scenario) (shelf : Option (List Object)) (content : Option Contents) (answers : List Answer) (as_a : Host ClientProfile → S) (as_b : Host ServerProfile → T)
     (a : Embeds as_a (client_of scenario) U) (b : Embeds as_b (own_of scenario content answers) V) (s : S) (holding_a : AreTwins (holding_on shelf U) s (as_a (client_of scenario).first)) where
@@ -208,7 +210,7 @@ module _ {S T : Type 0} (U : Upper S Circumstance) (V : Upper T Circumstance) (s
   Own = world_at (first_moment (starting s U) (starting (as_b (own_of scenario content answers).first) V) scenario.acl_length scenario.acl_count scenario.names)
 
   abbrev LikeOwn : List Happening → World S T → Type 0
-  LikeOwn happenings at = IsLikeOwn scenario shelf content answers as_b happenings at
+  LikeOwn happenings at = IsLikeOwn scenario shelf content answers as_b happenings at (U.outcome at.a.upper)
 
   pub like_own : (happenings : List Happening) (at : World S T) → Runs (holding_on shelf U) V happenings Own at → LikeOwn happenings at
   like_own happenings at run =
@@ -221,7 +223,13 @@ module _ {S T : Type 0} (U : Upper S Circumstance) (V : Upper T Circumstance) (s
         happened = happened;
         server_is = sym (ap (λ (w : World S T). w.b.upper) same) ∙ alike.b;
         pushes_are = sym (ap (λ (w : World S T). w.pushes) same) ∙ ap (λ (w : World S T). w.pushes) alike.same;
+        radio_is = sym (ap (λ (w : World S T). w.radio) same) ∙ ap (λ (w : World S T). w.radio) alike.same;
+        outcome_is = sym (a.outcome world.a.upper) ∙ (sym (ap (λ (w : World S T). U.outcome w.a.upper) same) ∙ came new.a.upper at.a.upper alike.a);
       }
+    where
+      came : (other now : S) → IsOther s (as_a (client_of scenario).first) now other → U.outcome other ≡ U.outcome now
+      came other now (inl is) = ap U.outcome is
+      came other now (inr (is, first)) = ap U.outcome first ∙ (holding_a.outcome ∙ ap U.outcome (sym is))
 
   -- with the end of the push that goes on behind it, it is the run of a capture
   abbrev pub own_ran : (happenings : List Happening) (at : World S T) (like : LikeOwn happenings at) (ends capture : List Entry) → IsLastEnd at.pushes ends → capture ≡ all_entries happenings ++ ends → RanOwn scenario shelf content answers capture

@@ -44,7 +44,7 @@ use Rattle.bt_host.specs.Playing.{playing}
 use Rattle.noting_laws.specs.scenario_laws.specs.Captures.{beginning as first_world}
 use Rattle.noting_laws.specs.scenario_laws.proofs.Played.{last_is}
 use Rattle.noting_laws.specs.scenario_laws.proofs.SetHosts.{set_hosts_are_hosts}
-use Rattle.tape_laws.specs.OwnPairs.{own_beginning}
+use Rattle.done_laws.specs.tape_laws.specs.OwnPairs.{own_beginning}
 use Rattle.scenario_play.specs.Playing.{fresh_world, KeepsShelf, LackedNever, RoseNever, RanAnswered}
 use Rattle.scenario_play.specs.Breaking as breaking
 use Rattle.scenario_play.specs.Breaking.{BreaksThrough, OnItsWay, AtItsEnd, MayWant, IsBroken, IsWanting, NothingYet, ShelfWants, InboxWants, ManyWords}
@@ -129,6 +129,7 @@ untouched scenario shelf content content' trace trace' counts counts' stay store
     own = record { happenings = []; world = own_beginning scenario content []; happened = refl; ends = []; last = tt; capture_is = refl };
     happenings_are = refl;
     stored = stored;
+    at_end = λ push is. cc;
   };
   stored = inl stored;
 }
@@ -255,7 +256,7 @@ module _ {P Q : Type 0} (holds : P → Option (List Object)) (content : Q → Op
       → Plays noted_client_machine noted_server_machine happenings (first_moment (starting (new_client holds shelf scenario.settings for_a) noted_client_machine) (starting (new_server content inbox scenario.settings for_b) noted_server_machine) scenario.acl_length scenario.acl_count scenario.names) at
       → (counts counts' : Counts) → Says (answers_in for_b) counts counts' → LackedNever counts counts' → content inbox' ≡ at.b.upper.host.profile.end.inbox.content → RanAnswered scenario (holds shelf) (content inbox) (content inbox') counts counts' happenings (all_entries happenings)
   answered_so_far shelf inbox inbox' for_a for_b happenings at plays counts counts' says none stored =
-      ran_answered holds content scenario shelf inbox for_a for_b happenings at plays [] (all_entries happenings) tt (sym (append-nil (all_entries happenings))) (content inbox') stored counts counts' says none
+      ran_answered holds content scenario shelf inbox for_a for_b happenings at plays [] (all_entries happenings) tt (sym (append-nil (all_entries happenings))) (λ push is. cc) (content inbox') stored counts counts' says none
 
   pub broke :
       (first : Hosts) (shelf shelf' : P) (inbox inbox' : Q) (trace trace' : Option (List ℕ)) → first ≡ fresh_world scenario

@@ -1,16 +1,19 @@
 -- The world of two new hosts from its beginning to its end.
-use Rattle.std.proofs.Common.{◌≡◌, ◌⊎◌, ℕ, false, List, [], ◌++◌, Option, refl, sym, ap, ◌∙◌, subst, arith}
+use Rattle.std.proofs.Common.{◌≡◌, ◌⊎◌, ℕ, Bool, true, false, cond, List, [], ◌∷◌, ◌++◌, Option, Some, None, refl, sym, ap, ◌∙◌, subst, arith}
+use Rattle.std.specs.Prelude.{unwrap_or}
 use Rattle.std.proofs.lemmas.Grind.{flat_map-append}
 use Rattle.bt_base.specs.Objects.{Object, Contents}
 use Rattle.bt_base.specs.Streams.{gained}
 use Rattle.noting_laws.specs.obex_session.specs.Counting.{Counts, counts_of}
 use Rattle.push_script.specs.declared.scenario.Scenario.{Scenario}
 use Rattle.push_terms.specs.declared.outcome.Outcome.{Outcome}
+use Rattle.push_terms.specs.declared.outcome.Outcome.TheVariants.{Done, ScriptEnded}
 use Rattle.push_terms.specs.declared.peaks.Peaks.{Peaks}
 use Rattle.push_terms.specs.declared.word.Word.{Word}
 use Rattle.capture.specs.Air.{words_of}
-use Rattle.capture.specs.Entries.{Entry, capture_octets}
-use Rattle.noting_laws.specs.world_model.specs.Worlds.{Happening, all_entries, all_words, entries_of, words_in}
+use Rattle.capture.specs.Entries.{Entry, Ended, capture_octets}
+use Rattle.noting_laws.specs.world_model.specs.Pushes.{Pushes}
+use Rattle.noting_laws.specs.world_model.specs.Worlds.{Happening, IsAtRest, all_entries, all_words, entries_of, words_in}
 use Rattle.radio_world.specs.Both.{Both}
 use Rattle.radio_world.specs.Leaving.{Medium}
 use Rattle.radio_world.specs.Hosts.{Asking, answering}
@@ -45,7 +48,7 @@ use Rattle.scenario_play.proofs.Plainness.{PlainWorld, plain_world, orderly, eno
 use Rattle.scenario_play.proofs.Newness.{new_client, new_server, client_twins, holding_twins, server_twins, answering_twins, beginning, hosts_begin}
 use Rattle.scenario_play.proofs.Alikeness.{IsLike, IsWhole, IsLikeServed, like_served, like_ends, told_a, told_b}
 use Rattle.scenario_play.proofs.Counting.{Says, rose_or_not, asked_twice, asked_says}
-use Rattle.scenario_play.proofs.OwnServers.{ran_answered}
+use Rattle.scenario_play.proofs.OwnServers.{EndsAtRest, ran_answered}
 
 pub shelf_kept :
     (content content' content'' : Option (List Object)) (faults faults' faults'' shortages shortages' shortages'' : ℕ) (xs ys : List Circumstance) → AreOf content content' faults faults' shortages shortages' xs
@@ -119,6 +122,15 @@ module _ {P Q : Type 0} (holds : P → Option (List Object)) (content : Q → Op
   abbrev came : Hosts → P → Option Outcome
   came end shelf' = noted_client_machine.outcome ((client_at end shelf').upper [])
 
+  -- where the push that goes on ends as done, nothing is owed to either host, which are at rest
+  ends_at_rest : (now : NotedMoment) (outcome : Option Outcome) (pushes : Pushes) → client_machine.outcome (plain_world (world_at now)).a.upper ≡ outcome → IsAtRest client_machine server_machine (plain_world (world_at now)) → (push : ℕ) → last_entries outcome pushes ≡ Ended push Done ∷ [] → EndsAtRest (plain_world (world_at now))
+  ends_at_rest now outcome pushes is rests push ends = record { none_a = rests.still_a.none_owed; none_b = rests.still_b.none_owed; came = is ∙ by pushes.going outcome ends }
+    where
+      by : (going : Bool) (outcome : Option Outcome) → cond going (Ended pushes.begun (unwrap_or outcome ScriptEnded) ∷ []) [] ≡ Ended push Done ∷ [] → outcome ≡ Some Done
+      by false outcome ends = cc
+      by true None ends = cc
+      by true (Some other) ends = let same : other ≡ Done = cc in ap (λ (o : Outcome). Some o) same
+
   pub played : (first end : Hosts) (shelf shelf' : P) (inbox inbox' : Q) (trace trace' : Option (List ℕ)) (outcomes : List Outcome) (peaks : Peaks) → first ≡ fresh_world scenario → Through first end shelf shelf' inbox inbox' trace trace'
       → end.a.stack.upper.end.end.client.failed ≡ false → outcomes ≡ end.scene.pushes.outcomes → AreNoted end.scene.medium (at_moment end shelf' inbox' [] []) peaks → IsPlayed scenario (holds shelf) (content inbox) (content inbox') trace trace' outcomes peaks (counts_of faults shortages inbox) (counts_of faults shortages inbox')
   played first end shelf shelf' inbox inbox' trace trace' outcomes peaks fresh through works same noted =
@@ -172,7 +184,7 @@ module _ {P Q : Type 0} (holds : P → Option (List Object)) (content : Q → Op
             (subst (λ (w : BothHosts). HappenedServed scenario (holds shelf) (content inbox) run.happenings w) (sym whole.world_is) (so.granted never));
         answered = λ none. subst (λ (hs : List Happening). RanAnswered scenario (holds shelf) (content inbox) (content inbox') counts counts' hs (all_entries run.happenings ++ last_entries (came end shelf') last.pushes)) (sym whole.happenings_are)
             (ran_answered holds content scenario shelf inbox run.for_a run.for_b run.happenings now run.plays (last_entries (came end shelf') last.pushes) (all_entries run.happenings ++ last_entries (came end shelf') last.pushes)
-            (last_is (came end shelf') last.pushes) refl (content inbox') refl counts counts' says none);
+            (last_is (came end shelf') last.pushes) refl (ends_at_rest now (came end shelf') last.pushes refl (plain_rest (world_at now) rests)) (content inbox') refl counts counts' says none);
         stored = sym (ap (λ (w : BothHosts). w.b.upper.profile.inbox.content) whole.world_is ∙ held);
         written = written_then trace through.trace trace' (all_entries run.happenings) (last_entries (came end shelf') last.pushes) (all_entries run.happenings ++ last_entries (came end shelf') last.pushes) refl run.written through.written;
         entries_are = each_of_both (all_entries run.happenings) (last_entries (came end shelf') last.pushes) run.each through.each;

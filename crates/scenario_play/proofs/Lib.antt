@@ -1,3 +1,4 @@
+mod Blaming
 pub mod Causes
 mod Embedded
 mod Counting
@@ -27,3 +28,5 @@ pub mod WindowPeaks
 pub mod Solvent
 pub mod Pushed
 pub mod Services
+mod Untouched
+pub mod Doing

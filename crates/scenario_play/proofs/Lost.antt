@@ -13,7 +13,7 @@ use Rattle.noting_laws.specs.push_laws.specs.Losing.{LeavesOut}
 use Rattle.noting_laws.specs.push_laws.proofs.Losing.{nothing-is_left_out}
 use Rattle.noting_laws.specs.scenario_laws.specs.Gains.{holding}
 use Rattle.noting_laws.specs.pair_laws.specs.Keeping.{LosesNothing}
-use Rattle.tape_laws.proofs.OwnGains.{own_servers_gain_less}
+use Rattle.done_laws.specs.tape_laws.proofs.OwnGains.{own_servers_gain_less}
 use Rattle.scenario_play.specs.Losing.{LeavesOutCounted, GainsLess, PlaysGainLess}
 use Rattle.scenario_play.specs.Playing.{RanAnswered}
 use Rattle.scenario_play.proofs.Streamed.{loses_nothing, broke_gently}

@@ -2,6 +2,7 @@ pub use Rattle.noting_laws.specs.air_laws
 pub use Rattle.capture
 pub use Rattle.drop_laws.specs.cause_laws
 pub use Rattle.credit_laws
+pub use Rattle.done_laws
 pub use Rattle.drop_laws
 pub use Rattle.noting_laws.specs.host_laws
 pub use Rattle.noting_laws.specs.link_talk
@@ -25,3 +26,5 @@ pub mod WindowPeaks
 pub mod Solvent
 pub mod Pushed
 pub mod Services
+pub mod Through
+pub mod Doing

@@ -1,5 +1,5 @@
 -- A scenario that both hosts played (this project's own).
-use Rattle.std.specs.Prelude.{ℕ, ◌≡◌, ◌≤◌, false, List, Option, None}
+use Rattle.std.specs.Prelude.{ℕ, ◌≡◌, ◌≤◌, false, List, [], ◌∷◌, Option, None}
 use Rattle.std.specs.List.{AllByRecursion}
 use Rattle.bt_base.specs.Counts.{HasRisen}
 use Rattle.bt_base.specs.Objects.{Object, Contents}
@@ -8,8 +8,9 @@ use Rattle.noting_laws.specs.obex_session.specs.Counting.{Counts, faults_of, Has
 use Rattle.noting_laws.specs.obex_session.specs.InboxCalls.{Answer}
 use Rattle.push_script.specs.declared.scenario.Scenario.{Scenario}
 use Rattle.push_terms.specs.declared.outcome.Outcome.{Outcome}
+use Rattle.push_terms.specs.declared.outcome.Outcome.TheVariants.{Done}
 use Rattle.push_terms.specs.declared.peaks.Peaks.{Peaks}
-use Rattle.capture.specs.Entries.{Entry, capture_octets, IsEntry}
+use Rattle.capture.specs.Entries.{Entry, Ended, capture_octets, IsEntry}
 use Rattle.noting_laws.specs.world_model.specs.Worlds.{Happening}
 use Rattle.radio_world.specs.Both.{Both}
 use Rattle.radio_world.specs.Scenes.{first_scene}
@@ -26,7 +27,8 @@ use Rattle.noting_laws.specs.scenario_laws.specs.Captures.{client_of, Finished}
 use Rattle.noting_laws.specs.scenario_laws.specs.Outcomes.{outcomes_of}
 use Rattle.noting_laws.specs.pair_laws.specs.Enough.{HappenedEnough}
 use Rattle.noting_laws.specs.pair_laws.specs.Served.{HappenedServed}
-use Rattle.tape_laws.specs.OwnPairs.{RanOwn}
+use Rattle.done_laws.specs.tape_laws.specs.OwnPairs.{RanOwn}
+use Rattle.done_laws.specs.Runs.{IsDoneAt}
 use Rattle.scenario_play.specs.Peaks.{AreReached}
 
 -- two new hosts with the settings of a scenario, and its air, to which nothing has happened
@@ -52,7 +54,8 @@ abbrev pub RoseNever : Counts → Counts → Type 0
 RoseNever counts counts' = (HasRisen counts.faults counts'.faults → ⊥) × LackedNever counts counts'
 
 -- So the scenario ran with a server that has these answers of its inbox from its first moment on, and this is what the inbox then holds. None of them
--- is want of memory, and the count of faults rose with each that says that a call failed.
+-- is want of memory, and the count of faults rose with each that says that a call failed. Where the last push ended as done behind all that happened, nothing was
+-- owed to either host.
 pub record RanAnswered (scenario : Scenario) (shelf : Option (List Object)) (before after : Option Contents) (counts counts' : Counts) (happenings : List Happening) (capture : List Entry) : Type 0 where
   pub answers : List Answer
   pub enough : NoneShort answers
@@ -60,6 +63,7 @@ pub record RanAnswered (scenario : Scenario) (shelf : Option (List Object)) (bef
   pub own : RanOwn scenario shelf before answers capture
   pub happenings_are : own.happenings ≡ happenings
   pub stored : after ≡ own.world.b.upper.profile.inbox.content
+  pub at_end : (push : ℕ) → own.ends ≡ Ended push Done ∷ [] → IsDoneAt own.world
 
 -- The scenario ran to its end, as the trace gained it: from an inbox that held `before` both hosts came to where all words were turned and
 -- all is at rest. The push that went on then ended with what had come of it, or else with the script; the outcomes are those that the

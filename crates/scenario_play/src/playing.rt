@@ -7,18 +7,15 @@ ghost use Rattle.radio_world.specs.Causes.{Blames};
 ghost use Rattle.radio_world.specs.Shortages.{Lacks};
 ghost use Rattle.scenario_play.specs.Breaking.{IsBroken, IsWanting};
 ghost use Rattle.scenario_play.specs.Failing.{shelf_faults};
-ghost use Rattle.scenario_play.specs.Playing.{fresh_world, KeepsShelf, IsPlayed};
+ghost use Rattle.scenario_play.specs.Playing.{KeepsShelf, IsPlayed};
 
 use crate::running::{peaks_of, play_out};
-use bt_base::{Inbox, NoMemory, Shelf, Sink};
+use bt_base::{Inbox, Shelf, Sink};
 use bt_host::{ClientHost, ServerHost};
 use push_script::Scenario;
 use push_terms::{Outcome, Peaks};
-use radio_world::{World, WorldFault};
+use radio_world::WorldFault;
 use std::alloc::Global;
-
-/// The world of both hosts of Object Push.
-type HostsWorld = World<ClientHost, ServerHost>;
 
 /// What a scenario came to.
 #[derive(Drop)]
@@ -27,42 +24,6 @@ pub struct Played {
     pub outcomes: Vec<Outcome>,
     /// The greatest numbers that were reached. Those of the buffers stand still at 65,535.
     pub peaks: Peaks,
-}
-
-/// A world of two new hosts with the settings of a scenario, to which nothing has happened.
-fn new_world(alloc: Global, scenario: &Scenario) -> Result<HostsWorld, NoMemory>
-    ensures { IfOk result (λ world. world ≡ fresh_world scenario.now) }
-{
-    let a = ClientHost::new(alloc, &scenario.settings)?;
-    let b = ServerHost::new(alloc, &scenario.settings)?;
-    World::new(alloc, scenario, a, b)
-}
-
-/// Plays a scenario in the world of two new hosts, and answers what it came to.
-fn play_in<F: Shelf, I: Inbox, T: Sink>(
-    alloc: Global,
-    world: HostsWorld,
-    scenario: &Scenario,
-    shelf: &mut F,
-    inbox: &mut I,
-    trace: &mut T,
-) -> Result<Played, WorldFault>
-    requires fresh { world ≡ fresh_world scenario.now }
-    requires none_pending { I.is_pending inbox.old ≡ false }
-    ensures plays { IfOk result (λ played. IsPlayed scenario.now (F.content shelf.old) (I.content inbox.old) (I.content inbox.new) (T.content trace.old) (T.content trace.new) played.outcomes.items played.peaks (counts_of I.faults I.shortages inbox.old) (counts_of I.faults I.shortages inbox.new)) }
-    ensures faulted { IfOk result (λ played. HasRisenBy (shelf_faults played.outcomes.items) (F.faults shelf.old) (F.faults shelf.new)) }
-    ensures each { IfOk result (λ played. length played.outcomes.items ≡ length scenario.now.names) }
-    ensures shelf { OnOk result (KeepsShelf (F.content shelf.old) (F.content shelf.new) (F.faults shelf.old) (F.faults shelf.new) (F.shortages shelf.old) (F.shortages shelf.new)) }
-    ensures breaks { OnErr result (IsBroken scenario.now (F.content shelf.old) (I.content inbox.old) (I.content inbox.new) (T.content trace.old) (T.content trace.new) (counts_of I.faults I.shortages inbox.old) (counts_of I.faults I.shortages inbox.new)) }
-    ensures left { OnErr result (KeepsShelf (F.content shelf.old) (F.content shelf.new) (F.faults shelf.old) (F.faults shelf.new) (F.shortages shelf.old) (F.shortages shelf.new) ⊎ HasRisen (F.shortages shelf.old) (F.shortages shelf.new)) }
-    ensures inbox { I.shortages inbox.old ≤ I.shortages inbox.new }
-    ensures blames { Blames (T.faults trace.old) (T.faults trace.new) result }
-    ensures lacks { Lacks (T.shortages trace.old) (T.shortages trace.new) (IsWanting scenario.now (I.content inbox.old) (I.content inbox.new) (T.content trace.old) (T.content trace.new) (HasRisen (F.shortages shelf.old) (F.shortages shelf.new)) (HasRisen (I.shortages inbox.old) (I.shortages inbox.new))) result }
-{
-    let count = scenario.names.len();
-    let (outcomes, world) = play_out(alloc, count, world, &scenario.script, shelf, inbox, trace)?;
-    let peaks = peaks_of(world, shelf, inbox);
-    Ok(Played { outcomes, peaks })
 }
 
 /// Plays a scenario: host a pushes its objects, which lie on the shelf, and host b stores in the inbox what arrives, while the
@@ -90,6 +51,9 @@ pub fn play<F: Shelf, I: Inbox, T: Sink>(
     ensures blames { Blames (T.faults trace.old) (T.faults trace.new) result }
     ensures lacks { Lacks (T.shortages trace.old) (T.shortages trace.new) (IsWanting scenario.now (I.content inbox.old) (I.content inbox.new) (T.content trace.old) (T.content trace.new) (HasRisen (F.shortages shelf.old) (F.shortages shelf.new)) (HasRisen (I.shortages inbox.old) (I.shortages inbox.new))) result }
 {
-    let world = new_world(alloc, scenario)?;
-    play_in(alloc, world, scenario, shelf, inbox, trace)
+    let (outcomes, world) = play_out::<F, ClientHost, I, ServerHost, T>(
+        alloc, scenario, shelf, inbox, trace,
+    )?;
+    let peaks = peaks_of(world, shelf, inbox);
+    Ok(Played { outcomes, peaks })
 }
