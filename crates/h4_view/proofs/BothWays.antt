@@ -1,7 +1,7 @@
 -- What is kept of links where it is known which way each packet goes.
-use Rattle.std.proofs.Common.{◌≡◌, ◌≢◌, ℕ, ◌<◌, List, [], ◌∷◌, ◌++◌, length, get_or, set, true, false, eqb, Option, Some, None, replicate, refl, sym, ap, subst, ◌∙◌, append_assoc, inl, inr, arith}
+use Rattle.std.proofs.Common.{◌≡◌, ◌≢◌, ℕ, zero, suc, ◌<◌, List, [], ◌∷◌, ◌++◌, length, get_or, set, true, false, eqb, Option, Some, None, refl, sym, ap, subst, ◌∙◌, append_assoc, inl, inr}
 use Rattle.std.specs.List.{AllByRecursion}
-use Rattle.std.proofs.lemmas.List.{append-nil, get_or_default, get_or-set_same, get_or-set_other, length-set, length-replicate, get_or-replicate}
+use Rattle.std.proofs.lemmas.List.{append-nil, get_or_default, get_or-set_same, get_or-set_other}
 use Rattle.std.proofs.lemmas.List.Sums.{fold-append}
 use Rattle.std.proofs.lemmas.Grind.{flat_map-append}
 use Rattle.std.proofs.lemmas.Bool.Decides.{eqb_tells}
@@ -73,23 +73,27 @@ sent-last handle past s = fold-append (with_sent handle) [] past (s ∷ [])
 -- a packet that touches no link, and adds no piece
 both_same : (past : List Sent) (links : BothLinks) (s : Sent) → ((handle : ℕ) → with_sent handle (sent_on handle past) s ≡ sent_on handle past) → KnowsBoth past links → KnowsBoth (past ++ s ∷ []) links
 both_same past links s same knows = record {
-  size = knows.size;
   each = λ handle lt. subst (λ (ps : List SentPiece). IsBothOf ps (get_or links.places.items handle None)) (sym (sent-last handle past s ∙ same handle)) (knows.each handle lt);
   spare = knows.spare;
 }
 
+-- a place without a link, wherever it is
+none_stands : (places : List (Option BothLink)) (at : ℕ) → get_or (set places at None) at None ≡ None
+none_stands [] at = refl
+none_stands (place ∷ places) zero = refl
+none_stands (place ∷ places) (suc at) = none_stands places at
+
 -- a packet that changes what is kept of one link
 both_changed : (past : List Sent) (links links' : BothLinks) (s : Sent) (at : ℕ) (new : Option BothLink) (pieces : List SentPiece) → at < 0x0F00
     → with_sent at (sent_on at past) s ≡ pieces → IsBothOf pieces new → ((handle : ℕ) → handle ≢ at → with_sent handle (sent_on handle past) s ≡ sent_on handle past)
-    → links'.places.items ≡ set links.places.items at new → AllByRecursion IsSpare links'.spare.items → KnowsBoth past links → KnowsBoth (past ++ s ∷ []) links'
-both_changed past links links' s at new pieces below here is others placed spare knows = record {
-  size = ap length placed ∙ length-set links.places.items at new ∙ knows.size;
+    → get_or (set links.places.items at new) at None ≡ new → links'.places.items ≡ set links.places.items at new → AllByRecursion IsSpare links'.spare.items → KnowsBoth past links → KnowsBoth (past ++ s ∷ []) links'
+both_changed past links links' s at new pieces below here is others stands placed spare knows = record {
   each = λ handle lt. elim (eqb_tells handle at) [
     | inl same ↦
         let there : get_or links'.places.items handle None ≡ new =
         ap (λ (ls : List (Option BothLink)). get_or ls handle None) placed
         ∙ ap (λ (k : ℕ). get_or (set links.places.items at new) k None) same.1
-        ∙ get_or-set_same links.places.items at new None (omega (arith, knows.size))
+        ∙ stands
         in
         let ps : sent_on handle (past ++ s ∷ []) ≡ pieces = sent-last handle past s ∙ ap (λ (k : ℕ). with_sent k (sent_on k past) s) same.1 ∙ here in
         subst (λ (o : Option BothLink). IsBothOf (sent_on handle (past ++ s ∷ [])) o) (sym there) (subst (λ (qs : List SentPiece). IsBothOf qs new) (sym ps) is)
@@ -119,20 +123,20 @@ stray_both past links direction word octets text text' link wrote knows = (
 )
 
 -- a piece of a link, and its text
-pub piece_both : (past : List Sent) (links links' : BothLinks) (direction : Direction) (word : ℕ) (octets : List ℕ) (at : ℕ) (boundary : Boundary) (old new : Option BothLink) (text text' : List ℕ) → at < 0x0F00 → Some (at, boundary) ≡ link_of word
+pub piece_both : (past : List Sent) (links links' : BothLinks) (direction : Direction) (word : ℕ) (octets : List ℕ) (at : ℕ) (boundary : Boundary) (old new : Option BothLink) (text text' : List ℕ) → at < 0x0F00 → at < length links.places.items → Some (at, boundary) ≡ link_of word
     → old ≡ get_or links.places.items at old
     → ((pieces : List SentPiece) → IsBothOf pieces old → AllByRecursion IsSpare links.spare.items
     → (text' ≡ text ++ both_text pieces direction (record { boundary = boundary; octets = octets })) × IsBothOf (pieces ++ record { direction = direction; piece = record { boundary = boundary; octets = octets } } ∷ []) new × AllByRecursion IsSpare links'.spare.items)
     → links'.places.items ≡ set links.places.items at new
     → KnowsBoth past links → (text' ≡ text ++ under_by past direction (Acl word octets)) × KnowsBoth (past ++ record { direction = direction; packet = Acl word octets } ∷ []) links'
-piece_both past links links' direction word octets at boundary old new text text' below link there pushed placed knows =
+piece_both past links links' direction word octets at boundary old new text text' below within link there pushed placed knows =
     let s : Sent = record { direction = direction; packet = Acl word octets } in
     let more : List SentPiece = sent_on at past ++ record { direction = direction; piece = record { boundary = boundary; octets = octets } } ∷ [] in
-    let is : old ≡ get_or links.places.items at None = there ∙ get_or_default links.places.items at old None (omega (arith, knows.size)) in
+    let is : old ≡ get_or links.places.items at None = there ∙ get_or_default links.places.items at old None within in
     let pieces = pushed (sent_on at past) (subst (λ (o : Option BothLink). IsBothOf (sent_on at past) o) (sym is) (knows.each at below)) knows.spare in
     let here : with_sent at (sent_on at past) s ≡ more = ap (with_sent_piece at direction octets (sent_on at past)) (sym link) ∙ rw (eqb_same at) refl in
     let others : (other : ℕ) → other ≢ at → with_sent other (sent_on other past) s ≡ sent_on other past = λ other ne. ap (with_sent_piece other direction octets (sent_on other past)) (sym link) ∙ rw (eqb_other at other (λ e. ne (sym e))) refl in
-    (pieces.0 ∙ ap (λ (l : Option (ℕ × Boundary)). text ++ sent_piece_text past direction octets l) link, both_changed past links links' s at new more below here pieces.1 others placed pieces.2 knows)
+    (pieces.0 ∙ ap (λ (l : Option (ℕ × Boundary)). text ++ sent_piece_text past direction octets l) link, both_changed past links links' s at new more below here pieces.1 others (get_or-set_same links.places.items at new None within) placed pieces.2 knows)
 
 pub command_both : (past : List Sent) (links : BothLinks) (direction : Direction) (opcode : ℕ) (params : List ℕ) → KnowsBoth past links → KnowsBoth (past ++ record { direction = direction; packet = Command opcode params } ∷ []) links
 command_both past links direction opcode params knows = both_same past links (record { direction = direction; packet = Command opcode params }) (λ handle. refl) knows
@@ -148,22 +152,25 @@ event_both None past links links' direction code params by placed spare knows =
     let s : Sent = record { direction = direction; packet = Event code params } in
     let same = both_same past links s (λ handle. rw (by handle) refl) knows in
     record {
-      size = ap length placed ∙ same.size;
       each = λ handle lt. subst (λ (ls : List (Option BothLink)). IsBothOf (sent_on handle (past ++ s ∷ [])) (get_or ls handle None)) (sym placed) (same.each handle lt);
       spare = subst (λ t. AllByRecursion IsSpare t.items) (sym spare) same.spare;
     }
 event_both (Some at) past links links' direction code params by placed spare knows =
-    both_changed past links links' (record { direction = direction; packet = Event code params }) at None [] by.0 (rw (by.1 at ∙ eqb_same at) refl) refl (λ handle ne. rw (by.1 handle ∙ eqb_other at handle (λ e. ne (sym e))) refl) placed
+    both_changed past links links' (record { direction = direction; packet = Event code params }) at None [] by.0 (rw (by.1 at ∙ eqb_same at) refl) refl (λ handle ne. rw (by.1 handle ∙ eqb_other at handle (λ e. ne (sym e))) refl) (none_stands links.places.items at) placed
     (subst (λ t. AllByRecursion IsSpare t.items) (sym spare) knows.spare) knows
 
 -- nothing is kept before the first packet
-pub both_none : (links : BothLinks) → links.places.items ≡ replicate 0x0F00 None → links.spare.items ≡ [] → KnowsBoth [] links
+pub both_none : (links : BothLinks) → links.places.items ≡ [] → links.spare.items ≡ [] → KnowsBoth [] links
 both_none links is spare = record {
-  size = ap length is ∙ length-replicate {A = Option BothLink} 0x0F00 None;
-  each = λ handle lt.
-      let none : get_or links.places.items handle None ≡ None = ap (λ (ls : List (Option BothLink)). get_or ls handle None) is ∙ get_or-replicate {A = Option BothLink} 0x0F00 handle None None lt in
-      subst (λ (o : Option BothLink). IsBothOf [] o) (sym none) refl;
+  each = λ handle lt. subst (λ (ls : List (Option BothLink)). IsBothOf [] (get_or ls handle None)) (sym is) refl;
   spare = subst (λ (js : List Held). AllByRecursion IsSpare js) (sym spare) tt;
+}
+
+-- more places for handles without a link change nothing
+pub both_placed : (past : List Sent) (links links' : BothLinks) → ((handle : ℕ) → get_or links'.places.items handle None ≡ get_or links.places.items handle None) → links'.spare ≡ links.spare → KnowsBoth past links → KnowsBoth past links'
+both_placed past links links' same spare knows = record {
+  each = λ handle lt. subst (λ (o : Option BothLink). IsBothOf (sent_on handle past) o) (sym (same handle)) (knows.each handle lt);
+  spare = subst (λ t. AllByRecursion IsSpare t.items) (sym spare) knows.spare;
 }
 
 -- three parts added one after the other

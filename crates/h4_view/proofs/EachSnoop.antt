@@ -3,7 +3,6 @@ use Rattle.std.proofs.Common.{◌≡◌, ◌≢◌, ℕ, ◌+◌, ◌<◌, ◌�
 use Rattle.std.specs.List.{AllByRecursion}
 use Rattle.std.proofs.lemmas.Bool.{cases_lt}
 use Rattle.std.proofs.lemmas.List.{append-nil, take-append-drop, take_all, length-take, length-drop}
-use Rattle.bt_base.specs.Octets.{IsOctets}
 use Rattle.h4_framing.proofs.OctetLists.{IsOctets-take}
 use Rattle.tagged_entries.proofs.Fronts.{packet_in}
 use Rattle.btsnoop.specs.declared.fields.Part.{Part}

@@ -2,13 +2,12 @@
 use Rattle.std.proofs.Common.{◌≡◌, ◌≢◌, ℕ, ◌+◌, ◌<◌, ◌≤◌, ◌⊎◌, List, [], ◌∷◌, ◌++◌, length, take, drop, min, Option, Some, None, Result, Ok, Err, refl, sym, ap, subst, ◌∙◌, append_assoc, arith, inl, inr, length-append}
 use Rattle.std.proofs.lemmas.Bool.{cases_lt}
 use Rattle.std.proofs.lemmas.List.{append-nil, take-append-drop, length-take, length-drop}
-use Rattle.bt_base.specs.Octets.{IsOctets}
 use Rattle.h4_framing.proofs.OctetLists.{IsOctets-take}
 use Rattle.capture.specs.declared.entry_refusal.EntryRefusal.{EntryRefusal}
 use Rattle.capture.specs.declared.entry_refusal.EntryRefusal.TheVariants as entry
 use Rattle.capture.specs.Entries.{Entry, capture_octets}
 use Rattle.capture.specs.EntryReading.{IsFront}
-use Rattle.capture.specs.CaptureReading.{IsReading, IsRefused}
+use Rattle.capture.specs.CaptureReading.{IsReading}
 use Rattle.capture.proofs.FrontLaws.{cut_at_once}
 use Rattle.tagged_entries.specs.Records.{least_length}
 use Rattle.tagged_entries.proofs.Lengths.{cut_short}

@@ -1,8 +1,8 @@
 -- What is kept of links after one packet more.
-use Rattle.std.proofs.Common.{◌≡◌, ◌≢◌, ℕ, ◌<◌, ◌≤◌, List, [], ◌∷◌, ◌++◌, length, get_or, set, Bool, true, false, cond, nat_lt, eqb, ◌&&◌, Option, Some, None, replicate, refl, sym, ap, subst, ◌∙◌, inl, inr, arith}
+use Rattle.std.proofs.Common.{◌≡◌, ◌≢◌, ℕ, zero, suc, ◌<◌, ◌≤◌, List, [], ◌∷◌, ◌++◌, length, get_or, set, Bool, true, false, cond, nat_lt, eqb, ◌&&◌, Option, Some, None, refl, sym, ap, subst, ◌∙◌, inl, inr, arith}
 use Rattle.std.specs.Prelude.{is_none}
 use Rattle.std.specs.List.{AllByRecursion}
-use Rattle.std.proofs.lemmas.List.{get_or_default, get_or-set_same, get_or-set_other, length-set, length-replicate, get_or-replicate}
+use Rattle.std.proofs.lemmas.List.{get_or_default, get_or-set_same, get_or-set_other}
 use Rattle.std.proofs.lemmas.List.Sums.{fold-append}
 use Rattle.std.proofs.lemmas.Bool.Decides.{eqb_tells}
 use Rattle.std.proofs.lemmas.Bool.{ltb-false}
@@ -26,23 +26,27 @@ pieces-last handle past p = fold-append (with_packet handle) [] past (p ∷ [])
 pub knows_same : (past : List Packet) (links : Links) (p : Packet) → ((handle : ℕ) → with_packet handle (pieces_on handle past) p ≡ pieces_on handle past)
     → Knows past links → Knows (past ++ p ∷ []) links
 knows_same past links p same knows = record {
-  size = knows.size;
   each = λ handle lt. subst (λ (ps : List Piece). IsLinkOf ps (get_or links.places.items handle None)) (sym (pieces-last handle past p ∙ same handle)) (knows.each handle lt);
   spare = knows.spare;
 }
 
+-- a place without a link, wherever it is
+none_stands : (places : List (Option Link)) (at : ℕ) → get_or (set places at None) at None ≡ None
+none_stands [] at = refl
+none_stands (place ∷ places) zero = refl
+none_stands (place ∷ places) (suc at) = none_stands places at
+
 -- a packet that changes what is kept of one link
 pub knows_changed : (past : List Packet) (links links' : Links) (p : Packet) (at : ℕ) (new : Option Link) (pieces : List Piece) → at < 0x0F00
     → with_packet at (pieces_on at past) p ≡ pieces → IsLinkOf pieces new → ((handle : ℕ) → handle ≢ at → with_packet handle (pieces_on handle past) p ≡ pieces_on handle past)
-    → links'.places.items ≡ set links.places.items at new → AllByRecursion IsSpare links'.spare.items → Knows past links → Knows (past ++ p ∷ []) links'
-knows_changed past links links' p at new pieces below here is others placed spare knows = record {
-  size = ap length placed ∙ length-set links.places.items at new ∙ knows.size;
+    → get_or (set links.places.items at new) at None ≡ new → links'.places.items ≡ set links.places.items at new → AllByRecursion IsSpare links'.spare.items → Knows past links → Knows (past ++ p ∷ []) links'
+knows_changed past links links' p at new pieces below here is others stands placed spare knows = record {
   each = λ handle lt. elim (eqb_tells handle at) [
     | inl same ↦
         let there : get_or links'.places.items handle None ≡ new =
         ap (λ (ls : List (Option Link)). get_or ls handle None) placed
         ∙ ap (λ (k : ℕ). get_or (set links.places.items at new) k None) same.1
-        ∙ get_or-set_same links.places.items at new None (omega (arith, knows.size))
+        ∙ stands
         in
         let ps : pieces_on handle (past ++ p ∷ []) ≡ pieces = pieces-last handle past p ∙ ap (λ (k : ℕ). with_packet k (pieces_on k past) p) same.1 ∙ here in
         subst (λ (o : Option Link). IsLinkOf (pieces_on handle (past ++ p ∷ [])) o) (sym there) (subst (λ (qs : List Piece). IsLinkOf qs new) (sym ps) is)
@@ -64,13 +68,13 @@ eqb_same : (a : ℕ) → eqb a a ≡ true
 eqb_same a = elim (eqb_tells a a) [ inl same ↦ same.0 | inr other ↦ absurd (other.1 refl) ]
 
 -- a piece of a link
-pub knows_piece : (past : List Packet) (links links' : Links) (word : ℕ) (octets : List ℕ) (at : ℕ) (boundary : Boundary) (new : Option Link) → at < 0x0F00 → link_of word ≡ Some (at, boundary)
+pub knows_piece : (past : List Packet) (links links' : Links) (word : ℕ) (octets : List ℕ) (at : ℕ) (boundary : Boundary) (new : Option Link) → at < 0x0F00 → at < length links.places.items → link_of word ≡ Some (at, boundary)
     → IsLinkOf (pieces_on at past ++ record { boundary = boundary; octets = octets } ∷ []) new → links'.places.items ≡ set links.places.items at new → AllByRecursion IsSpare links'.spare.items
     → Knows past links → Knows (past ++ Acl word octets ∷ []) links'
-knows_piece past links links' word octets at boundary new below link is placed spare knows =
+knows_piece past links links' word octets at boundary new below within link is placed spare knows =
     let here : with_packet at (pieces_on at past) (Acl word octets) ≡ pieces_on at past ++ record { boundary = boundary; octets = octets } ∷ [] = ap (with_piece at octets (pieces_on at past)) link ∙ rw (eqb_same at) refl in
     let others : (other : ℕ) → other ≢ at → with_packet other (pieces_on other past) (Acl word octets) ≡ pieces_on other past = λ other ne. ap (with_piece other octets (pieces_on other past)) link ∙ rw (eqb_other at other (λ e. ne (sym e))) refl in
-    knows_changed past links links' (Acl word octets) at new _ below here is others placed spare knows
+    knows_changed past links links' (Acl word octets) at new _ below here is others (get_or-set_same links.places.items at new None within) placed spare knows
 
 -- a piece on no handle
 pub knows_stray : (past : List Packet) (links : Links) (word : ℕ) (octets : List ℕ) → link_of word ≡ None → Knows past links → Knows (past ++ Acl word octets ∷ []) links
@@ -82,16 +86,16 @@ pub stray_shown : (past : List Packet) (links : Links) (word : ℕ) (octets text
 stray_shown past links word octets text text' link wrote knows = (wrote ∙ ap (λ (l : Option (ℕ × Boundary)). text ++ piece_text past octets l) link, knows_stray past links word octets (sym link) knows)
 
 -- a piece of a link, and its text
-pub piece_shown : (past : List Packet) (links links' : Links) (word : ℕ) (octets : List ℕ) (at : ℕ) (boundary : Boundary) (old new : Option Link) (text text' : List ℕ) → at < 0x0F00 → Some (at, boundary) ≡ link_of word
+pub piece_shown : (past : List Packet) (links links' : Links) (word : ℕ) (octets : List ℕ) (at : ℕ) (boundary : Boundary) (old new : Option Link) (text text' : List ℕ) → at < 0x0F00 → at < length links.places.items → Some (at, boundary) ≡ link_of word
     → old ≡ get_or links.places.items at old
     → ((pieces : List Piece) → IsLinkOf pieces old → AllByRecursion IsSpare links.spare.items
     → (text' ≡ text ++ joined_text pieces (record { boundary = boundary; octets = octets })) × IsLinkOf (pieces ++ record { boundary = boundary; octets = octets } ∷ []) new × AllByRecursion IsSpare links'.spare.items)
     → links'.places.items ≡ set links.places.items at new
     → Knows past links → (text' ≡ text ++ under past (Acl word octets)) × Knows (past ++ Acl word octets ∷ []) links'
-piece_shown past links links' word octets at boundary old new text text' below link there pushed placed knows =
-    let is : old ≡ get_or links.places.items at None = there ∙ get_or_default links.places.items at old None (omega (arith, knows.size)) in
+piece_shown past links links' word octets at boundary old new text text' below within link there pushed placed knows =
+    let is : old ≡ get_or links.places.items at None = there ∙ get_or_default links.places.items at old None within in
     let here = pushed (pieces_on at past) (subst (λ (o : Option Link). IsLinkOf (pieces_on at past) o) (sym is) (knows.each at below)) knows.spare in
-    (here.0 ∙ ap (λ (l : Option (ℕ × Boundary)). text ++ piece_text past octets l) link, knows_piece past links links' word octets at boundary new below (sym link) here.1 placed here.2 knows)
+    (here.0 ∙ ap (λ (l : Option (ℕ × Boundary)). text ++ piece_text past octets l) link, knows_piece past links links' word octets at boundary new below within (sym link) here.1 placed here.2 knows)
 
 -- a command
 pub knows_command : (past : List Packet) (links : Links) (opcode : ℕ) (params : List ℕ) → Knows past links → Knows (past ++ Command opcode params ∷ []) links
@@ -107,22 +111,25 @@ pub knows_by : (closed : Option ℕ) (past : List Packet) (links links' : Links)
 knows_by None past links links' code params by placed spare knows =
     let same = knows_same past links (Event code params) (λ handle. rw (by handle) refl) knows in
     record {
-      size = ap length placed ∙ same.size;
       each = λ handle lt. subst (λ (ls : List (Option Link)). IsLinkOf (pieces_on handle (past ++ Event code params ∷ [])) (get_or ls handle None)) (sym placed) (same.each handle lt);
       spare = subst (λ s. AllByRecursion IsSpare s.items) (sym spare) same.spare;
     }
 knows_by (Some at) past links links' code params by placed spare knows =
-    knows_changed past links links' (Event code params) at None [] by.0 (rw (by.1 at ∙ eqb_same at) refl) refl (λ handle ne. rw (by.1 handle ∙ eqb_other at handle (λ e. ne (sym e))) refl) placed
+    knows_changed past links links' (Event code params) at None [] by.0 (rw (by.1 at ∙ eqb_same at) refl) refl (λ handle ne. rw (by.1 handle ∙ eqb_other at handle (λ e. ne (sym e))) refl) (none_stands links.places.items at) placed
     (subst (λ s. AllByRecursion IsSpare s.items) (sym spare) knows.spare) knows
 
 -- nothing is kept before the first packet
-pub knows_none : (links : Links) → links.places.items ≡ replicate 0x0F00 None → links.spare.items ≡ [] → Knows [] links
+pub knows_none : (links : Links) → links.places.items ≡ [] → links.spare.items ≡ [] → Knows [] links
 knows_none links is spare = record {
-  size = ap length is ∙ length-replicate {A = Option Link} 0x0F00 None;
-  each = λ handle lt.
-      let none : get_or links.places.items handle None ≡ None = ap (λ (ls : List (Option Link)). get_or ls handle None) is ∙ get_or-replicate {A = Option Link} 0x0F00 handle None None lt in
-      subst (λ (o : Option Link). IsLinkOf [] o) (sym none) refl;
+  each = λ handle lt. subst (λ (ls : List (Option Link)). IsLinkOf [] (get_or ls handle None)) (sym is) refl;
   spare = subst (λ (js : List Held). AllByRecursion IsSpare js) (sym spare) tt;
+}
+
+-- more places for handles without a link change nothing
+pub knows_placed : (past : List Packet) (links links' : Links) → ((handle : ℕ) → get_or links'.places.items handle None ≡ get_or links.places.items handle None) → links'.spare ≡ links.spare → Knows past links → Knows past links'
+knows_placed past links links' same spare knows = record {
+  each = λ handle lt. subst (λ (o : Option Link). IsLinkOf (pieces_on handle past) o) (sym (same handle)) (knows.each handle lt);
+  spare = subst (λ s. AllByRecursion IsSpare s.items) (sym spare) knows.spare;
 }
 
 passed : {X : Type 0} (b : Bool) (x : X) (o : Option X) → cond b (Some x) o ≡ None → (b ≡ false) × (o ≡ None)

@@ -16,3 +16,4 @@ pub mod OneTagged
 pub mod OneSnoop
 pub mod EachSnoop
 pub mod EachTagged
+pub mod Places

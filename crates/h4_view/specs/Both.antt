@@ -1,7 +1,7 @@
 -- What stands under a packet's line where it is known which way each packet goes: each direction of a handle has pieces of
 -- its own, and its channels are told by both (this project's own).
 use Rattle.std.proofs.Common.{set}
-use Rattle.std.specs.Prelude.{ℕ, ◌≡◌, ◌<◌, List, [], ◌∷◌, ◌++◌, length, get_or, fold, cond, ◌==◌, codes, Option, None, Some}
+use Rattle.std.specs.Prelude.{ℕ, ◌≡◌, ◌<◌, List, [], ◌∷◌, ◌++◌, get_or, fold, cond, ◌==◌, codes, Option, None, Some}
 use Rattle.std.specs.List.{AllByRecursion, flat_map}
 use Rattle.h4_framing.specs.Packets.{Packet, Command, Acl, Sync, Event}
 use Rattle.hci_packets.specs.declared.acl.Boundary.{Boundary}
@@ -90,9 +90,8 @@ abbrev pub IsBothOf : List SentPiece → Option BothLink → Type 0
 IsBothOf pieces None = pieces ≡ []
 IsBothOf pieces (Some link) = IsBoth pieces link
 
--- there is a place for each handle, and each says what these packets say of its link
+-- The place of each handle says what these packets say of its link. Of a handle without a place they say nothing.
 pub record KnowsBoth (past : List Sent) (links : BothLinks) : Type 0 where
-  pub size : length links.places.items ≡ 0x0F00
   pub each : (handle : ℕ) → handle < 0x0F00 → IsBothOf (sent_on handle past) (get_or links.places.items handle None)
   pub spare : AllByRecursion IsSpare links.spare.items
 

@@ -128,9 +128,8 @@ abbrev pub IsLinkOf : List Piece → Option Link → Type 0
 IsLinkOf pieces None = pieces ≡ []
 IsLinkOf pieces (Some link) = IsLink pieces link
 
--- there is a place for each handle, and each says what these packets say of its link
+-- The place of each handle says what these packets say of its link. Of a handle without a place they say nothing.
 pub record Knows (past : List Packet) (links : Links) : Type 0 where
-  pub size : length links.places.items ≡ 0x0F00
   pub each : (handle : ℕ) → handle < 0x0F00 → IsLinkOf (pieces_on handle past) (get_or links.places.items handle None)
   pub spare : AllByRecursion IsSpare links.spare.items
 

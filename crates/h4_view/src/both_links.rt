@@ -10,7 +10,7 @@ ghost use Rattle.h4_view.specs.Both.{Sent, SentPiece, both_text, under_by, under
 use crate::details::{closed_by, push_bad_command, push_bad_event};
 use crate::joined::{link_of, push_on_lane};
 use crate::line::{Text, push_packet, push_text};
-use crate::links::HANDLES;
+use crate::links::{FIRST_PLACES, make_place};
 use acl_fragments::Joiner;
 use bt_base::NoMemory;
 use h4_framing::Unit;
@@ -28,7 +28,7 @@ pub(crate) struct BothLink {
     channels: Channels,
 }
 
-/// What is kept of all links: a place for each handle. There are no more joiners than groups were
+/// What is kept of all links: a place for each handle up to the greatest that had one. There are no more joiners than groups were
 /// ever open at once.
 #[derive(Drop)]
 pub(crate) struct BothLinks {
@@ -54,12 +54,8 @@ impl BothLinks {
     pub(crate) fn new(alloc: Global) -> Result<BothLinks, NoMemory>
         ensures { IfOk result (λ links. KnowsBoth [] links) }
     {
-        let mut places = Vec::new(alloc);
-        for _ in 0..HANDLES {
-            places.push(None)?;
-        }
         Ok(BothLinks {
-            places,
+            places: Vec::with_capacity(alloc, FIRST_PLACES)?,
             spare: Vec::new(alloc),
         })
     }
@@ -145,6 +141,7 @@ fn push_both_piece(
         push_text(text, "  drop BadWord\n")?;
         return Ok(());
     };
+    make_place(&mut links.places, at)?;
     let Some(place) = links.places.get_mut(at) else {
         return Ok(());
     };

@@ -13,7 +13,7 @@ ghost use Rattle.h4_view.specs.Details.{drop_name, joined_text, link_of, under, 
 ghost use Rattle.h4_view.specs.Lanes.{LaneShown, LaneKept, MakesFew, IsAlone, IsWholeStart};
 
 use crate::line::{Text, push_decimal, push_hex, push_reason, push_text};
-use crate::links::{Link, Links, keep_joiner, take_joiner};
+use crate::links::{Link, Links, keep_joiner, make_place, take_joiner};
 use crate::nested::{SIGNALLING, payload_of, push_nested};
 use acl_fragments::{DropReason, Got, Joiner};
 use bt_base::NoMemory;
@@ -272,6 +272,7 @@ pub(crate) fn push_piece(
         push_text(text, "  drop BadWord\n")?;
         return Ok(());
     };
+    make_place(&mut links.places, at)?;
     let Some(place) = links.places.get_mut(at) else {
         return Ok(());
     };

@@ -1,6 +1,6 @@
 //! What is kept of each link: a group of pieces that is open, and the channels.
 
-ghost use Rattle.std.specs.Prelude.{◌≡◌, ◌+◌, ◌≤◌, ◌⊎◌, ◌++◌, ◌∷◌, List, length, Option, [], None, Some, IfOk, OnOk, if◌then◌else◌};
+ghost use Rattle.std.specs.Prelude.{◌≡◌, ◌+◌, ◌<◌, ◌≤◌, ◌⊎◌, ℕ, get_or, ◌++◌, ◌∷◌, List, length, Option, [], None, Some, IfOk, OnOk, if◌then◌else◌};
 ghost use Rattle.std.specs.List.{AllByRecursion};
 ghost use Rattle.acl_fragments.specs.Pieces.{Piece};
 ghost use Rattle.h4_view.specs.Details.{IsHolding, IsJoinerOf, IsSpare, IsLink, Knows};
@@ -14,8 +14,8 @@ use std::alloc::Global;
 /// The longest PDU that a length field of two octets can state, with its header, in octets.
 const PDU_LIMIT: u32 = 65_539;
 
-/// How many handles there are.
-pub(crate) const HANDLES: usize = 0x0F00;
+/// For how many handles there is room at first. Most links have a small one.
+pub(crate) const FIRST_PLACES: usize = 16;
 
 /// What is kept of a link.
 #[derive(Drop)]
@@ -27,7 +27,7 @@ pub(crate) struct Link {
     pub(crate) channels: Channels,
 }
 
-/// What is kept of all links: a place for each handle. Joiners take much room, so there are no more
+/// What is kept of all links: a place for each handle up to the greatest that had one. Joiners take much room, so there are no more
 /// than groups were ever open at once.
 #[derive(Drop)]
 pub(crate) struct Links {
@@ -53,15 +53,25 @@ impl Links {
     pub(crate) fn new(alloc: Global) -> Result<Links, NoMemory>
         ensures { IfOk result (λ links. Knows [] links) }
     {
-        let mut places = Vec::new(alloc);
-        for _ in 0..HANDLES {
-            places.push(None)?;
-        }
         Ok(Links {
-            places,
+            places: Vec::with_capacity(alloc, FIRST_PLACES)?,
             spare: Vec::new(alloc),
         })
     }
+}
+
+/// Makes a place for a handle where there is none yet: the kernel hands out memory slowly, and most
+/// handles never have a link.
+pub(crate) fn make_place<T: Drop>(places: &mut Vec<Option<T>>, at: usize) -> Result<(), NoMemory>
+    requires { at < 0x0F00 }
+    ensures there { OnOk result (at < length places.new.items) }
+    ensures same { OnOk result ((handle : ℕ) → get_or places.new.items handle None ≡ get_or places.old.items handle None) }
+{
+    let wanting = (at + 1).saturating_sub(places.len());
+    for _ in 0..wanting {
+        places.push(None)?;
+    }
+    Ok(())
 }
 
 /// A joiner for a piece of a link: that which holds the link's open group, or one that holds nothing.

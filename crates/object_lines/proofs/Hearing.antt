@@ -3,11 +3,9 @@ use Rattle.std.proofs.Common.{◌≡◌, ℕ, Bool, true, false, cond, List, [],
 use Rattle.std.specs.List.{AllByRecursion, flat_map, cons_option}
 use Rattle.std.specs.Prelude.{option_to_list, is_some}
 use Rattle.push_terms.specs.declared.word.Side.{Side}
-use Rattle.push_terms.specs.declared.word.Side.TheVariants as sides
 use Rattle.capture.specs.Entries.{Entry, IsEntry, IsCapture, capture_octets}
 use Rattle.capture.specs.Links.{linking}
 use Rattle.capture.specs.Moves.{Move, move_of, moves}
-use Rattle.link_talk.specs.declared.party.Party.{Party}
 use Rattle.link_talk.specs.Sayings.{talk}
 use Rattle.link_talk.specs.ObjectsHeard.{objects}
 use Rattle.h4_view.specs.Keeping.{is_of, of_side}

@@ -1,3 +1,6 @@
 pub mod Hearing
 pub mod Whole
 pub mod OneChannel
+pub mod Tallying
+pub mod Telling
+pub mod Mattering

@@ -1,12 +1,10 @@
 -- The objects of a link on which one channel alone has some.
-use Rattle.std.proofs.Common.{◌≡◌, ℕ, ◌+◌, ◌<◌, List, [], ◌∷◌, ◌++◌, Bool, true, false, cond, eqb, map, drop, get_or, length, Option, Some, None, refl, sym, ap, subst, ◌∙◌, append-nil, add-one, drop-cons, arith}
+use Rattle.std.proofs.Common.{◌≡◌, ℕ, ◌+◌, ◌<◌, List, [], ◌∷◌, ◌++◌, Bool, true, false, cond, eqb, map, drop, get_or, length, Some, None, refl, sym, ap, subst, ◌∙◌, append-nil, add-one, drop-cons, arith}
 use Rattle.std.specs.List.{AllByRecursion, filter_map, cons_option}
 use Rattle.std.specs.Prelude.{find}
 use Rattle.std.proofs.lemmas.Bool.{eqb-true, eq-eqb}
 use Rattle.std.proofs.lemmas.List.Elements.{filter_map-append}
 use Rattle.bt_base.specs.Objects.{Object}
-use Rattle.obex_headers.specs.declared.runs.SpelledObject.{SpelledObject}
-use Rattle.obex_headers.specs.Reader.{objects_seen}
 use Rattle.capture.specs.declared.flow.Flow.{Flow}
 use Rattle.capture.specs.declared.flow.Flow.TheVariants.{Out, Into}
 use Rattle.capture.specs.Histories.{given_by}
@@ -22,7 +20,7 @@ use Rattle.link_talk.specs.ObjectsHeard.{spelled_within, channel_objects, object
 use Rattle.link_readers.specs.declared.entries.Entry.{Entry as LentEntry}
 use Rattle.link_readers.specs.Lent.{plain_entry, plain_entries}
 use Rattle.link_talk.proofs.Ways.{over_l2cap, over_nothing}
-use Rattle.link_readers.specs.talk_laws.specs.Sdus.{Ears, sdus_with, ears_so_far, spoken_now, ear_of, heard_so_far}
+use Rattle.link_readers.specs.talk_laws.specs.Sdus.{sdus_with, ears_so_far, spoken_now, ear_of}
 use Rattle.link_readers.specs.talk_laws.proofs.Passes.{from_end}
 use Rattle.link_readers.specs.talk_laws.proofs.Sdus.{sdus-grow, sdus-look_back}
 use Rattle.link_readers.specs.talk_laws.proofs.Owning.{found_passes, some_is}
@@ -114,13 +112,6 @@ true_false e = cc
 
 pub same_silent : (party : Party) (said : List Saying) (own : ℕ) (entry : Entry) → entry.channel.own ≡ own → IsSilent party said own entry
 same_silent party said own entry same apart = absurd (true_false (sym (eq-eqb entry.channel.own own same) ∙ apart))
-
-none_of : (found : List SpelledObject) → length found ≡ 0 → objects_seen found ≡ []
-none_of [] is = refl
-none_of (one ∷ found) is = absurd (omega (arith, is))
-
-pub seen_none : (found : List SpelledObject) (len : ℕ) → len ≡ length found → eqb len 0 ≡ true → objects_seen found ≡ []
-seen_none found len same is = none_of found (sym same ∙ eqb-true len 0 is)
 
 -- ---- no channel at all
 

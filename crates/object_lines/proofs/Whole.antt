@@ -1,5 +1,5 @@
 -- What the view of a capture with its objects comes to.
-use Rattle.std.proofs.Common.{◌≡◌, ℕ, ◌⊎◌, List, [], ◌++◌, Option, Some, None, Result, Ok, Err, refl, sym, ap, subst, ◌∙◌, inl, inr}
+use Rattle.std.proofs.Common.{◌≡◌, ℕ, List, [], ◌++◌, Option, None, Result, Ok, Err, ap, subst, ◌∙◌, inl, inr}
 use Rattle.std.specs.Prelude.{OnOk, IfErr}
 use Rattle.std.proofs.lemmas.List.{append-nil}
 use Rattle.bt_base.specs.Objects.{Object}

@@ -3,3 +3,5 @@ pub mod Lines
 pub mod Viewing
 pub mod Alone
 pub mod Laws
+pub mod Tallies
+pub mod Matters

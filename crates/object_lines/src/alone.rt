@@ -1,21 +1,21 @@
 //! The objects of a link where one channel alone has some. The plain reader of a link reads its whole talk
 //! anew at each saying; here each channel is read once or twice.
 
-ghost use Rattle.std.specs.Prelude.{◌≡◌, find, IfOk, IfSome, IsTrue, MatchOption, Some, None};
-ghost use Rattle.obex_headers.specs.Reader.{octets_of_all, objects_seen};
+ghost use Rattle.std.specs.Prelude.{◌≡◌, find, map, IfOk, IfSome, IsTrue, MatchOption, Some, None};
+ghost use Rattle.obex_headers.specs.Reader.{octets_of_all};
 ghost use Rattle.link_talk.specs.Packets.{packets_heard};
 ghost use Rattle.link_talk.specs.ObjectsHeard.{channel_objects, objects};
 ghost use Rattle.link_readers.specs.Lent.{plain_sayings, plain_entry, plain_entries};
+ghost use Rattle.object_lines.specs.Tallies.{told, plain_told};
 ghost use Rattle.object_lines.specs.Alone.{has_endpoint, AreSilent, IsSole};
 
+use crate::tally::{Told, told_all, told_within};
 use bt_base::NoMemory;
 use capture::Flow;
 use link_readers::{
-    Entry, Saying, channel_objects, link_objects, mode_of, reading_of, sdus_of, spelled_within,
-    stretch,
+    Entry, Saying, link_objects, mode_of, packets_heard, reading_of, sdus_of, stretch,
 };
 use link_talk::{Channel, Party};
-use obex_headers::runs::SpelledObject;
 use std::alloc::Global;
 
 /// The PSM of Object Push.
@@ -40,22 +40,24 @@ fn packets_on(
     Ok(packets)
 }
 
-/// The objects that the packets spell which a host heard on a channel.
+/// What is told of the objects that the packets spell which a host heard on a channel.
 fn objects_on(
     alloc: Global,
     party: &Party,
     channel: &Channel,
     said: &[Saying<'_>],
-) -> Result<Vec<SpelledObject>, NoMemory>
-    ensures { IfOk result (λ found. objects_seen found.items ≡ channel_objects party.now channel.now (plain_sayings said.now)) }
+) -> Result<Vec<Told>, NoMemory>
+    ensures { IfOk result (λ found. map plain_told found.items ≡ map told (channel_objects party.now channel.now (plain_sayings said.now))) }
 {
     if channel.psm == OBJECT_PUSH {
         let packets = packets_on(alloc, party, channel, said)?;
-        let found = spelled_within(alloc, party.packet, &packets)?;
+        let found = told_within(alloc, party.packet, &packets)?;
         return Ok(found);
     }
     if channel.psm == RFCOMM {
-        return channel_objects(alloc, party, channel, said);
+        let packets = packets_heard(alloc, party, channel, said)?;
+        let found = told_within(alloc, party.packet, &packets)?;
+        return Ok(found);
     }
     Ok(Vec::new(alloc))
 }
@@ -149,14 +151,14 @@ fn sole_channel<'e>(
     Ok(None)
 }
 
-/// The objects of a link, in the order of their last packets. `NoMemory` is answered for want of
+/// What is told of the objects of a link, in the order of their last packets. `NoMemory` is answered for want of
 /// memory alone.
 pub(crate) fn objects_said(
     alloc: Global,
     party: &Party,
     said: &[Saying<'_>],
-) -> Result<Vec<SpelledObject>, NoMemory>
-    ensures { IfOk result (λ found. objects_seen found.items ≡ objects party.now (plain_sayings said.now)) }
+) -> Result<Vec<Told>, NoMemory>
+    ensures { IfOk result (λ found. map plain_told found.items ≡ map told (objects party.now (plain_sayings said.now))) }
 {
     let held = reading_of(alloc, said)?;
     if held.entries.is_empty() {
@@ -167,6 +169,10 @@ pub(crate) fn objects_said(
             let found = objects_on(alloc, party, &entry.channel, said)?;
             Ok(found)
         }
-        None => link_objects(alloc, party, said),
+        None => {
+            let objects = link_objects(alloc, party, said)?;
+            let found = told_all(alloc, &objects)?;
+            Ok(found)
+        }
     }
 }

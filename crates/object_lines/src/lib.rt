@@ -5,6 +5,7 @@ mod alone;
 pub mod laws;
 mod line;
 mod objects;
+mod tally;
 mod viewing;
 
 pub use viewing::view_tagged;

@@ -1,14 +1,14 @@
 //! The line of an object.
 
-ghost use Rattle.std.specs.Prelude.{◌≡◌, ◌++◌, codes, decimal, OnOk};
+ghost use Rattle.std.specs.Prelude.{◌≡◌, ◌++◌, codes, decimal, map, OnOk};
 ghost use Rattle.std.specs.List.{flat_map};
 ghost use Rattle.hex.specs.Hex.{encode_upper};
-ghost use Rattle.obex_headers.specs.Reader.{object_seen, objects_seen};
 ghost use Rattle.h4_view.specs.Texts.{word_text};
-ghost use Rattle.object_lines.specs.Lines.{units_text, object_line, lines_of};
+ghost use Rattle.object_lines.specs.Lines.{units_text};
+ghost use Rattle.object_lines.specs.Tallies.{told_line, told_lines, plain_told};
 
+use crate::tally::Told;
 use bt_base::NoMemory;
-use obex_headers::runs::SpelledObject;
 
 /// The digits of a number below 16.
 const DIGITS: [u8; 16] = *b"0123456789ABCDEF";
@@ -67,19 +67,19 @@ fn push_units(text: &mut Vec<u8>, units: &[u16]) -> Result<(), NoMemory>
 }
 
 /// Adds the line of an object.
-fn push_object(text: &mut Vec<u8>, object: &SpelledObject) -> Result<(), NoMemory>
-    ensures { OnOk result (text.new.items ≡ text.old.items ++ object_line (object_seen object.now)) }
+fn push_object(text: &mut Vec<u8>, object: &Told) -> Result<(), NoMemory>
+    ensures { OnOk result (text.new.items ≡ text.old.items ++ told_line (plain_told object.now)) }
 {
     push_text(text, "object ")?;
     push_units(text, &object.name)?;
     push_text(text, " ")?;
-    push_decimal(text, object.octets.len() as u64)?;
+    push_decimal(text, object.size as u64)?;
     push_text(text, "\n")
 }
 
 /// Adds a line for each object.
-pub(crate) fn push_objects(text: &mut Vec<u8>, objects: &[SpelledObject]) -> Result<(), NoMemory>
-    ensures { OnOk result (text.new.items ≡ text.old.items ++ lines_of (objects_seen objects.now)) }
+pub(crate) fn push_objects(text: &mut Vec<u8>, objects: &[Told]) -> Result<(), NoMemory>
+    ensures { OnOk result (text.new.items ≡ text.old.items ++ told_lines (map plain_told objects.now)) }
 {
     for object in objects {
         push_object(text, object)?;

@@ -1,22 +1,22 @@
 //! The objects that the receiving host of a capture heard.
 
-ghost use Rattle.std.specs.Prelude.{◌≡◌, ◌++◌, List, IfOk, OnOk};
-ghost use Rattle.obex_headers.specs.Reader.{objects_seen};
+ghost use Rattle.std.specs.Prelude.{◌≡◌, ◌++◌, List, map, IfOk, OnOk};
 ghost use Rattle.capture.specs.Entries.{Entry, IsCapture};
 ghost use Rattle.capture.specs.Lent.{plain_entries, plain_link};
 ghost use Rattle.link_talk.specs.Sayings.{talk};
 ghost use Rattle.link_talk.specs.ObjectsHeard.{objects};
 ghost use Rattle.link_talk.specs.Captures.{objects_heard};
 ghost use Rattle.object_lines.specs.Lines.{viewed, object_lines};
+ghost use Rattle.object_lines.specs.Tallies.{told, plain_told};
 
 use crate::alone::objects_said;
 use crate::line::push_objects;
+use crate::tally::Told;
 use bt_base::NoMemory;
 use capture::readers::{Link, links};
 use capture::{CaptureFault, Entry as Happening, entries_of};
 use link_readers::{link_pdus, sayings_of};
 use link_talk::Party;
-use obex_headers::runs::SpelledObject;
 use push_terms::Side;
 use rfcomm_frames::Role;
 use std::alloc::Global;
@@ -35,30 +35,31 @@ fn viewed() -> Party
 }
 
 /// Adds objects behind others.
-fn append(objects: &mut Vec<SpelledObject>, mut more: Vec<SpelledObject>) -> Result<(), NoMemory>
-    ensures { OnOk result (objects_seen objects.new.items ≡ objects_seen objects.old.items ++ objects_seen more.items) }
+fn append(objects: &mut Vec<Told>, mut more: Vec<Told>) -> Result<(), NoMemory>
+    ensures { OnOk result (map plain_told objects.new.items ≡ map plain_told objects.old.items ++ map plain_told more.items) }
 {
     objects.append(&mut more)?;
     Ok(())
 }
 
-/// The objects of one link of a capture.
-fn objects_on(alloc: Global, party: &Party, link: &Link<'_>) -> Result<Vec<SpelledObject>, NoMemory>
-    ensures { IfOk result (λ found. objects_seen found.items ≡ objects party.now (talk (plain_link link.now))) }
+/// What is told of the objects of one link of a capture.
+fn objects_on(alloc: Global, party: &Party, link: &Link<'_>) -> Result<Vec<Told>, NoMemory>
+    ensures { IfOk result (λ found. map plain_told found.items ≡ map told (objects party.now (talk (plain_link link.now)))) }
 {
     let pdus = link_pdus(alloc, link)?;
     let said = sayings_of(alloc, &pdus)?;
     objects_said(alloc, party, &said)
 }
 
-/// The objects that the packets spell which a side heard, in the order of their last packets.
+/// What is told of the objects that the packets spell which a side heard, in the order of their last packets.
+#[tactic(auto, using(crate::proofs::Telling::all_told))]
 fn objects_heard(
     alloc: Global,
     party: &Party,
     entries: &[Happening<'_>],
     side: Side,
-) -> Result<Vec<SpelledObject>, NoMemory>
-    ensures { IfOk result (λ found. objects_seen found.items ≡ objects_heard party.now side (plain_entries entries.now)) }
+) -> Result<Vec<Told>, NoMemory>
+    ensures { IfOk result (λ found. map plain_told found.items ≡ map told (objects_heard party.now side (plain_entries entries.now))) }
 {
     let links = links(alloc, entries, side)?;
     let mut found = Vec::new(alloc);
