@@ -8,13 +8,15 @@ use crate::tests::runs::{
 use btpush_forms::Status;
 use std::alloc::Global;
 
-/// A scenario whose ports fail, and what comes of it: the status, how the sink begins, what is stored, and whether ABORT stands in the capture.
+/// A scenario whose ports fail, and what comes of it: the status, how the sink begins and ends, what is stored, and whether ABORT stands in the
+/// capture.
 struct Row {
     text: &'static str,
     objects: &'static [(&'static str, Content)],
     failing: Failing,
     status: Status,
     said: &'static str,
+    ends: &'static str,
     stored: &'static [Stored],
     aborts: bool,
 }
@@ -23,6 +25,7 @@ impl Judge for Row {
     fn judges(&self, _alloc: Global, status: Status, sink: &[u8], trace: &[u8]) -> bool {
         status == self.status
             && sink.starts_with(self.said.as_bytes())
+            && sink.ends_with(self.ends.as_bytes())
             && contains(trace, ABORT) == self.aborts
     }
 }
@@ -42,6 +45,7 @@ const ROWS: &[Row] = &[
         },
         status: Status::SomeFailed,
         said: "1 refused D0 a\nkept 0\n",
+        ends: "\nwindow 1 1\ncredits 0 0\n",
         stored: &[],
         aborts: false,
     },
@@ -55,6 +59,7 @@ const ROWS: &[Row] = &[
         },
         status: Status::SomeFailed,
         said: "1 shelf a\nkept 0\n",
+        ends: "\nwindow 2 1\ncredits 0 0\n",
         stored: &[],
         aborts: true,
     },
@@ -68,6 +73,7 @@ const ROWS: &[Row] = &[
         },
         status: Status::SomeFailed,
         said: "1 shelf a\nkept 0\nbuffers 0 0\nwindow 0 0\ncredits 0 0\n",
+        ends: "",
         stored: &[],
         aborts: false,
     },
@@ -78,6 +84,7 @@ const ROWS: &[Row] = &[
         failing: Failing { sink: &[1], ..WELL },
         status: Status::WriteFault,
         said: "",
+        ends: "",
         stored: INBOX,
         aborts: false,
     },
@@ -91,6 +98,7 @@ const ROWS: &[Row] = &[
         },
         status: Status::WriteFault,
         said: "",
+        ends: "",
         stored: &[],
         aborts: false,
     },
@@ -103,6 +111,7 @@ const ROWS: &[Row] = &[
         },
         status: Status::WriteFault,
         said: "",
+        ends: "",
         stored: &[],
         aborts: false,
     },
@@ -115,6 +124,7 @@ const ROWS: &[Row] = &[
         },
         status: Status::WriteFault,
         said: "",
+        ends: "",
         stored: &[],
         aborts: false,
     },
@@ -128,6 +138,7 @@ const ROWS: &[Row] = &[
         },
         status: Status::ReadFault,
         said: "",
+        ends: "",
         stored: &[],
         aborts: false,
     },
@@ -138,6 +149,7 @@ const ROWS: &[Row] = &[
         failing: WELL,
         status: Status::SomeFailed,
         said: "1 cancelled a\nkept 0\n",
+        ends: "\nwindow 2 1\ncredits 0 0\n",
         stored: &[],
         aborts: true,
     },

@@ -309,7 +309,7 @@ const LONG: Row = Row {
     ],
     status: Status::Ok,
     begins: "1 done card.vcf\n2 done photo.jpg\n3 done größe.txt\nkept 3\nbuffers ",
-    ends: "\ncredits 0 0\n",
+    ends: "\nwindow 32 1\ncredits 0 0\n",
     stored: &[
         (
             &[0x63, 0x61, 0x72, 0x64, 0x2E, 0x76, 0x63, 0x66],
