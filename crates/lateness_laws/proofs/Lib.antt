@@ -1,0 +1,4 @@
+pub mod Hearing
+pub mod Keeping
+pub mod Meeting
+pub mod Parts
