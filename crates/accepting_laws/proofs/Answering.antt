@@ -257,11 +257,7 @@ comes policy past v pdu true sound succeeds holds = subst (λ (list : List Read)
 
     new : NewSucceed policy past v sound c.identifier holds.last c.content
     new own flags options is anew content same peer more result given response =
-        let (to, f, os, success) = it.success own flags options is anew in
-        let both : Some content ≡ Some (configuration_response to f 0 os) = sym same ∙ success in
-        let one : content ≡ configuration_response to f 0 os = cc in
-        let equal : configuration_response to f 0 os ≡ configuration_response peer more result given = sym one ∙ response in
-        let zero : 0 ≡ result = cc in sym zero
+        it.success own flags options is anew peer more result given (same ∙ ap Some response)
 
     w : Channels
     w = hears_content policy c.identifier c.content v

@@ -1,13 +1,15 @@
 -- Two hosts that wish the same answer all requests for options with success where each comes in time.
-use Rattle.std.proofs.Common.{◌≡◌, ℕ, List, [], ◌∷◌, ◌++◌, drop, Bool, true, false, cond, eqb, Option, Some, None, Ok, refl, sym, ap, subst, ◌∙◌, inl, append_assoc, append-nil, arith}
+use Rattle.std.proofs.Common.{◌≡◌, ℕ, List, [], ◌∷◌, ◌++◌, drop, Bool, true, false, cond, eqb, Option, Some, None, Ok, refl, sym, ap, subst, ◌∙◌, inl, inr, append_assoc, append-nil, arith}
 use Rattle.std.proofs.lemmas.List.Sums.{fold-append}
 use Rattle.channel_laws.specs.acl_fragments.specs.Pieces.{channel_of}
 use Rattle.channel_laws.specs.capture.specs.Histories.{EachAfter}
 use Rattle.channel_laws.specs.l2cap_signal.specs.Commands.{configuration_request, configuration_response}
 use Rattle.channel_laws.specs.l2cap_signal.specs.Reading.{answers}
 use Rattle.channel_laws.specs.link_talk.specs.Channels.{reading}
-use Rattle.channel_laws.specs.channel_model.specs.Answers.{answer_to}
+use Rattle.channel_laws.specs.channel_model.specs.Answers.{answer_to, configuration_answer}
 use Rattle.channel_laws.specs.channel_model.specs.Calls.{has_fcs}
+use Rattle.channel_laws.specs.channel_model.specs.Changing.{held_at}
+use Rattle.channel_laws.specs.channel_model.specs.Configuring.{verdict_on}
 use Rattle.channel_laws.specs.channel_model.specs.Giving.{Given, next_given}
 use Rattle.channel_laws.specs.channel_model.specs.Policies.{Policy}
 use Rattle.channel_laws.specs.channel_model.specs.Value.{Channels}
@@ -105,6 +107,16 @@ far_holds pair Repeats holds = holds
 far_holds pair Loses holds = holds
 far_holds pair (Damages other) holds = holds
 
+-- where its channel has gone it is rejected, which states no result
+no_response : (policy : Policy) (own flags : ℕ) (options : List ℕ) (v : Channels) → held_at own v ≡ None → (peer more result : ℕ) (given : List ℕ)
+    → answer_to policy (configuration_request own flags options) v ≡ Some (configuration_response peer more result given) → result ≡ 0
+no_response policy own flags options v gone peer more result given said =
+    let rejected : Some (configuration_answer (verdict_on None policy flags options) own) ≡ Some (configuration_response peer more result given) = sym (ap (λ found. Some (configuration_answer (verdict_on found policy flags options) own)) gone) ∙ said in
+    absurd cc
+
+one_result : (to peer more result : ℕ) (stated given : List ℕ) → Some (configuration_response to 0 0 stated) ≡ Some (configuration_response peer more result given) → result ≡ 0
+one_result to peer more result stated given same = cc
+
 -- ---- both
 
 record BothHold (pair : Pair) : Type 0 where
@@ -131,11 +143,16 @@ module _ (near far : Policy) (same : WishTheSame near far) where
       record {
         command = command;
         is_one = one;
-        success = λ own flags options asks anew.
+        success = λ own flags options asks anew peer more result given said.
             let it : answers (drop 4 pdu) ≡ Ok (command_with command.identifier (configuration_request own flags options)) ∷ [] = one ∙ ap (λ c. Ok (command_with command.identifier c) ∷ []) asks in
-            let (peer, psm, awaits) = now command.identifier own flags options signals it anew in
-            let (given, success) = options-in_time_succeed near far past read same asker (suggests_none past read both asker) pdu command.identifier own flags options stands signals it peer psm awaits in
-            (peer, 0, given, ap (λ c. answer_to policy c (end_at asker (turned (pair_of near far past))).run.value) asks ∙ (ap (λ p. answer_to p (configuration_request own flags options) (end_at asker (turned (pair_of near far past))).run.value) is ∙ success));
+            let v : Channels = (end_at asker (turned (pair_of near far past))).run.value in
+            let answered : answer_to policy (configuration_request own flags options) v ≡ Some (configuration_response peer more result given) = sym (ap (λ c. answer_to policy c v) asks) ∙ said in
+            elim (now command.identifier own flags options signals it anew) [
+              | inl gone ↦ no_response policy own flags options v gone peer more result given answered
+              | inr (to, psm, awaits) ↦
+                  let (stated, success) = options-in_time_succeed near far past read same asker (suggests_none past read both asker) pdu command.identifier own flags options stands signals it to psm awaits in
+                  one_result to peer more result stated given (sym (ap (λ p. answer_to p (configuration_request own flags options) v) is ∙ success) ∙ answered)
+            ];
       }
 
   one_turn : (past : List Turn) (at : Side) (happening : Happening) → AreRead near far past → IsRead happening (end_at at (pair_of near far past)) → IsInTime happening (end_at at (pair_of near far past)) → BothHold (pair_of near far past)

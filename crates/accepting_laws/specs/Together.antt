@@ -1,9 +1,10 @@
 -- That two hosts that wish the same answer all requests for options with success where each comes in time (Core 5.1, Volume 3 Part A, 4, 4.4 and 4.5).
-use Rattle.std.specs.Prelude.{ℕ, ◌≡◌, ◌==◌, true, List, [], ◌∷◌, drop, Some, Ok}
+use Rattle.std.specs.Prelude.{ℕ, ◌≡◌, ◌==◌, true, List, [], ◌∷◌, drop, None, Some, Ok, ◌⊎◌}
 use Rattle.channel_laws.specs.acl_fragments.specs.Pieces.{channel_of}
 use Rattle.channel_laws.specs.capture.specs.Histories.{EachAfter}
 use Rattle.channel_laws.specs.l2cap_signal.specs.Commands.{configuration_request}
 use Rattle.channel_laws.specs.l2cap_signal.specs.Reading.{answers}
+use Rattle.channel_laws.specs.channel_model.specs.Changing.{held_at}
 use Rattle.channel_laws.specs.channel_model.specs.Policies.{Policy}
 use Rattle.channel_laws.specs.channel_model.specs.Value.{Remembered, Channels}
 use Rattle.channel_laws.specs.Belonging.{AreRead}
@@ -14,11 +15,11 @@ use Rattle.lasting_laws.specs.Ends.{AnswersSuccess}
 use Rattle.accepting_laws.specs.Accepted.{AwaitsOptions}
 use Rattle.accepting_laws.specs.InTime.{WishTheSame}
 
--- where what comes first to a host is a request for options, and not the last one again, its channel awaits options
+-- where what comes first to a host is a request for options, and not the last one again, its channel awaits options, or has gone
 abbrev pub ComesInTime : List (List ℕ) → Channels → Type 0
 ComesInTime [] v = Unit {0}
 ComesInTime (pdu ∷ coming) v = (identifier own flags : ℕ) (options : List ℕ) → (channel_of pdu == 0x0001) ≡ true → answers (drop 4 pdu) ≡ Ok (command_with identifier (configuration_request own flags options)) ∷ []
-    → ((last : Remembered) → v.memory.configuration ≡ Some last → last.identifier ≡ identifier → ⊥) → (peer : ℕ) × (psm : ℕ) × AwaitsOptions own peer psm v
+    → ((last : Remembered) → v.memory.configuration ≡ Some last → last.identifier ≡ identifier → ⊥) → (held_at own v ≡ None) ⊎ ((peer : ℕ) × (psm : ℕ) × AwaitsOptions own peer psm v)
 
 abbrev pub IsInTime : Happening → End → Type 0
 IsInTime (Acts occurrence) end' = Unit {0}
