@@ -246,7 +246,7 @@ module _ (settings : Settings) (before ahead spelt : List Object) (w : Task) (wi
 
   bounds : w.size ≤ 16777215 → (past : List Occurrence) → Bounds w (serving settings past)
   bounds bounded past =
-      let same = serving_most (packets_over L2cap past) (new_session (own_maximum L2cap settings) settings.srm) in
+      let same = serving_most (packets_over L2cap past) (new_session (own_maximum L2cap settings) true) in
       let obex_low = settings.obex_low in
       let obex_high = settings.obex_high in
       let mtu_low = settings.mtu_low in

@@ -218,7 +218,7 @@ module _ (settings : Settings) (before : List Object) where
   session_then : (past : List Occurrence) (at : Reacted) (s : Stays settings before past at) → Begins past at s → at.server.listener.service.sessions.direct ≡ serving settings past
   session_then past at s b =
       let packets : packets_over L2cap past ≡ [] = ap (packets_over L2cap) (sym s.same) ∙ sym s.holds.direct ∙ ap (map octets_of) b.none in
-      b.fresh ∙ s.set ∙ ap (session_behind (new_session (own_maximum L2cap settings) settings.srm)) (sym packets)
+      b.fresh ∙ s.set ∙ ap (session_behind (new_session (own_maximum L2cap settings) true)) (sym packets)
 
   not_met : Unmet ≡ Met → ⊥
   not_met e = cc

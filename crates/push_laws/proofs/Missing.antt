@@ -102,7 +102,7 @@ module _ (past : List Occurrence) (at : Reacted) where
 pub record Stays (settings : Settings) (before : List Object) (past : List Occurrence) (at : Reacted) : Type 0 where
   pub calm : IsCalm past at.server
   pub whole : LendsWhole at.server
-  pub set : set_by at.server ≡ new_session (own_maximum L2cap settings) settings.srm
+  pub set : set_by at.server ≡ new_session (own_maximum L2cap settings) true
   -- it does not lack memory
   pub marks : List Marked
   pub same : unmarked marks ≡ past

@@ -118,7 +118,7 @@ module _ (settings : Settings) (before : List Object) (rest : List Occurrence) w
 
     bounds : (past : List Occurrence) → Bounds w (serving settings past)
     bounds past =
-        let same = serving_most (packets_over L2cap past) (new_session (own_maximum L2cap settings) settings.srm) in
+        let same = serving_most (packets_over L2cap past) (new_session (own_maximum L2cap settings) true) in
         let obex_low = settings.obex_low in
         let obex_high = settings.obex_high in
         let mtu_low = settings.mtu_low in

@@ -132,7 +132,7 @@ grants (Answering answers) at spared = tt
 
 module _ (settings : Settings) (before : List Object) (past : List Occurrence) where
   pub same_session : (one : Occurrence) → closes object_psm one ≡ false → came_on object_psm one ≡ None → serving settings past ≡ serving settings (past ++ one ∷ [])
-  same_session one on none = ap (session_behind (new_session (own_maximum L2cap settings) settings.srm)) (sym (read_same (came_on object_psm) object_psm past one on none))
+  same_session one on none = ap (session_behind (new_session (own_maximum L2cap settings) true)) (sym (read_same (came_on object_psm) object_psm past one on none))
 
   -- an occurrence that is none of the session's
   same_still : (one : Occurrence) (due due' : Bool) (server new : Server) → closes object_psm one ≡ false → came_on object_psm one ≡ None → due' ≡ due → new.listener.service.response ≡ server.listener.service.response
@@ -141,8 +141,8 @@ module _ (settings : Settings) (before : List Object) (past : List Occurrence) w
 
   rested_now : (one : Occurrence) (session : Serving) → closes object_psm one ≡ true → session ≡ serving settings past → rested session ≡ serving settings (past ++ one ∷ [])
   rested_now one session closing is =
-      ap rested is ∙ rest_behind (packets_over L2cap past) (new_session (own_maximum L2cap settings) settings.srm)
-      ∙ ap (session_behind (new_session (own_maximum L2cap settings) settings.srm)) (sym (read_closed (came_on object_psm) object_psm past one closing))
+      ap rested is ∙ rest_behind (packets_over L2cap past) (new_session (own_maximum L2cap settings) true)
+      ∙ ap (session_behind (new_session (own_maximum L2cap settings) true)) (sym (read_closed (came_on object_psm) object_psm past one closing))
 
   -- ---- a request comes in turn
 
@@ -177,8 +177,8 @@ module _ (settings : Settings) (before : List Object) (past : List Occurrence) w
             ∙ ap (λ (x : Sessions). x.direct) (over_sessions h.response (record service { sessions = h.sessions; failed = service.failed || h.short }))
             ∙ heard_direct sdu service.sessions at.gift (λ named. s.calm.idle) ∙ turn_alike session sdu at.gift.answers come
             ∙ ap (λ (x : Serving). (heard_with x sdu []).session) s.session
-            ∙ sym (behind_more (packets_over L2cap past) sdu (new_session (own_maximum L2cap settings) settings.srm))
-            ∙ ap (session_behind (new_session (own_maximum L2cap settings) settings.srm)) (sym (read_more (came_on object_psm) object_psm past (Came 0x1001 sdu) refl));
+            ∙ sym (behind_more (packets_over L2cap past) sdu (new_session (own_maximum L2cap settings) true))
+            ∙ ap (session_behind (new_session (own_maximum L2cap settings) true)) (sym (read_more (came_on object_psm) object_psm past (Came 0x1001 sdu) refl));
       }
     where
       no_both : 0x1001 ≡ rfcomm_psm → ⊥
@@ -187,8 +187,8 @@ module _ (settings : Settings) (before : List Object) (past : List Occurrence) w
   -- what the session is behind it
   pub serving_more : (sdu : List ℕ) → serving settings (past ++ Came 0x1001 sdu ∷ []) ≡ (heard_with (serving settings past) sdu []).session
   serving_more sdu =
-      ap (session_behind (new_session (own_maximum L2cap settings) settings.srm)) (read_more (came_on object_psm) object_psm past (Came 0x1001 sdu) refl)
-      ∙ behind_more (packets_over L2cap past) sdu (new_session (own_maximum L2cap settings) settings.srm)
+      ap (session_behind (new_session (own_maximum L2cap settings) true)) (read_more (came_on object_psm) object_psm past (Came 0x1001 sdu) refl)
+      ∙ behind_more (packets_over L2cap past) sdu (new_session (own_maximum L2cap settings) true)
 
   -- and the response that waits
   pub response_now : (due : Bool) (sdu : List ℕ) (at : Reacted) → Stands settings past due at.server → IsGranted at sdu → (due && not (in_silence settings past sdu)) ≡ false

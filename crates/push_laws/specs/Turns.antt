@@ -17,7 +17,7 @@ use Rattle.push_laws.specs.Readings.{packets_over}
 
 -- the session that the packets heard over L2CAP leave behind
 abbrev pub serving : Settings → List Occurrence → Serving
-serving settings past = session_behind (new_session (own_maximum L2cap settings) settings.srm) (packets_over L2cap past)
+serving settings past = session_behind (new_session (own_maximum L2cap settings) true) (packets_over L2cap past)
 
 -- a packet has no response behind them
 abbrev pub in_silence : Settings → List Occurrence → List ℕ → Bool

@@ -233,7 +233,7 @@ abbrev pub new_server : Settings → Server
 new_server settings = record {
   serves = settings.serves;
   reply = [];
-  listener = record { service = new_service (min settings.obex settings.mtu) settings.obex settings.srm; breaks = false };
+  listener = record { service = new_service (min settings.obex settings.mtu) settings.obex true; breaks = false };
   mux = machine.new_mux Responder (2 * server_channel) (settings.mtu - 6) (settings.mtu - 6) settings.credits;
   held = [];
   frame = None;

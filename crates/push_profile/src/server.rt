@@ -78,7 +78,7 @@ impl PushServer {
             settings.credits,
         )?;
         let reception = Reception {
-            listener: Listener::new(settings.obex.min(settings.mtu), settings.obex, settings.srm),
+            listener: Listener::new(settings.obex.min(settings.mtu), settings.obex, true),
             assembler: Assembler::new(alloc, settings.obex)?,
         };
         let frame = WaitingFrame::new(alloc)?;
