@@ -1,6 +1,6 @@
 -- Requests that come one at a time over L2CAP, read off what came and went (IrOBEX 1.5, 3.2: a client sends its next request
 -- behind the response to the one before; Generic Object Exchange Profile 2.1, 4.6, for what is passed over in silence).
-use Rattle.std.specs.Prelude.{ℕ, ◌≡◌, ◌==◌, ◌&&◌, ◌||◌, not, Bool, false, List, [], ◌∷◌, ◌++◌, if◌then◌else◌}
+use Rattle.std.specs.Prelude.{ℕ, ◌≡◌, ◌==◌, ◌&&◌, ◌||◌, not, Bool, true, false, List, [], ◌∷◌, ◌++◌, if◌then◌else◌}
 use Rattle.link_talk.specs.bt_base.specs.declared.settings.Settings.{Settings}
 use Rattle.link_talk.specs.bt_base.specs.declared.settings.Transport.TheVariants.{L2cap}
 use Rattle.link_talk.specs.bt_base.specs.Objects.{Object}
