@@ -56,19 +56,19 @@ fires planned x settled fit =
 -- ---- the poll
 
 -- what is known of an end that fires, with what it gives for it, and of the direction in which it sends
-record Fired (planned : ℕ) (x y after : End) (paid owed : ℕ) : Type 0 where
-  sent : List Sent
-  waits : Bool
-  window_is : after.machine.agreed.send_window ≡ x.machine.agreed.send_window
-  acknowledged_is : acknowledged_by after ≡ acknowledged_by x
-  given_is : given_by after ≡ given_by x
-  rejecting_is : after.machine.receiver.rejecting ≡ x.machine.receiver.rejecting
-  accepted_is : accepted_by after ≡ accepted_by x
-  waits_is : is_waiting after.machine.sender.poll ≡ waits
-  queue : under_way after ≡ under_way x ++ sent
-  says : AllByRecursion (Says (accepted_by x)) sent
-  onward : Goes (weights sent + paid) owed (under planned x y) (record (under planned x y) { waits = waits; going = under_way x ++ sent })
-  fit : IsFit planned after
+pub record Fired (planned : ℕ) (x y after : End) (paid owed : ℕ) : Type 0 where
+  pub sent : List Sent
+  pub waits : Bool
+  pub window_is : after.machine.agreed.send_window ≡ x.machine.agreed.send_window
+  pub acknowledged_is : acknowledged_by after ≡ acknowledged_by x
+  pub given_is : given_by after ≡ given_by x
+  pub rejecting_is : after.machine.receiver.rejecting ≡ x.machine.receiver.rejecting
+  pub accepted_is : accepted_by after ≡ accepted_by x
+  pub waits_is : is_waiting after.machine.sender.poll ≡ waits
+  pub queue : under_way after ≡ under_way x ++ sent
+  pub says : AllByRecursion (Says (accepted_by x)) sent
+  pub onward : Goes (weights sent + paid) owed (under planned x y) (record (under planned x y) { waits = waits; going = under_way x ++ sent })
+  pub fit : IsFit planned after
 
 poll_queue : (planned : ℕ) (x : End) → IsSettled x → IsFit planned x → under_way (polling_end x) ≡ under_way x ++ sent_by Polling (polling_end x) ∷ []
 poll_queue planned x settled fit =
@@ -98,7 +98,7 @@ fired_late planned x y settled fit h =
     }
 
 -- an end that is not armed
-fired_stays : (planned owed : ℕ) (x y : End) → IsFit planned x → IsSound (under planned x y) → Fired planned x y x 0 owed
+pub fired_stays : (planned owed : ℕ) (x y : End) → IsFit planned x → IsSound (under planned x y) → Fired planned x y x 0 owed
 fired_stays planned owed x y fit h =
     let e = append-nil (under_way x) in
     record {
@@ -122,7 +122,7 @@ is_armed_so : (x y : End) → Stands x y → (x.machine.sender.poll ≡ Waits) �
 is_armed_so x y h (inl waits) = inl (rw waits refl)
 is_armed_so x y h (inr (no_poll, some)) = inr (rw no_poll refl, (let put = put-length h.there.sends in omega arith))
 
-fired_rest : (planned other : ℕ) (x y : End) → IsSettled x → IsSettled y → x.queue ≡ [] → y.queue ≡ [] → Holds planned other x y → (x.machine.sender.poll ≡ Waits) ⊎ ((x.machine.sender.poll ≡ NoPoll) × (1 ≤ length x.machine.sender.unacked))
+pub fired_rest : (planned other : ℕ) (x y : End) → IsSettled x → IsSettled y → x.queue ≡ [] → y.queue ≡ [] → Holds planned other x y → (x.machine.sender.poll ≡ Waits) ⊎ ((x.machine.sender.poll ≡ NoPoll) × (1 ≤ length x.machine.sender.unacked))
     → Fired planned x y (polling_end x) 1 0
 fired_rest planned other x y settled_x settled_y none_x none_y h armed_ =
     let poll = sent_by Polling (polling_end x) in
@@ -154,7 +154,7 @@ both_under : (planned_x planned_y : ℕ) (x y after other : End) {paid owed paid
     → under planned_x after other ≡ record (under planned_x x y) { waits = f.waits; going = under_way x ++ f.sent; coming = under_way y ++ g.sent }
 both_under planned_x planned_y x y after other f g = same_direction f.window_is f.acknowledged_is f.given_is f.waits_is f.queue g.accepted_is g.rejecting_is g.queue
 
-fired_both : (planned_x planned_y : ℕ) (x y after other : End) {paid owed paid' owed' : ℕ} → Fired planned_x x y after paid owed → Fired planned_y y x other paid' owed' → Stands after other
+pub fired_both : (planned_x planned_y : ℕ) (x y after other : End) {paid owed paid' owed' : ℕ} → Fired planned_x x y after paid owed → Fired planned_y y x other paid' owed' → Stands after other
     → Does planned_x planned_y (paid + paid') (owed + owed') x y after other
 fired_both planned_x planned_y x y after other {paid} {owed} {paid'} {owed'} f g stands =
     let one = after-goes f.onward (told-many g.sent (record (under planned_x x y) { waits = f.waits; going = under_way x ++ f.sent }) g.says f.onward.sound) in
@@ -178,7 +178,7 @@ does-more less more le le' h = record { holds = h.holds; falls = let f = h.falls
 pub same-does : (planned_x planned_y : ℕ) (x y : End) → Holds planned_x planned_y x y → Does planned_x planned_y 0 0 x y x y
 same-does planned_x planned_y x y h = record { holds = h; falls = omega arith }
 
-never_both : (m : Ertm) → m.closed ≡ None → m.closed ≡ Some RetryLimit → ⊥
+pub never_both : (m : Ertm) → m.closed ≡ None → m.closed ≡ Some RetryLimit → ⊥
 never_both m open_ shut = let e : None ≡ Some RetryLimit = sym open_ ∙ shut in cc
 
 -- a timer fires out of turn

@@ -11,8 +11,10 @@ pub mod Repeating
 pub mod Passing
 pub mod Losing
 pub mod Firing
+pub mod Waking
 pub mod Mild
 pub mod Turning
 pub mod Running
+pub mod Within
 pub mod Silencing
 pub mod Asking

@@ -3,7 +3,6 @@ use Rattle.std.proofs.Common.{ℕ, ◌≡◌, ◌+◌, ◌≤◌, Bool, true, fa
 use Rattle.std.specs.List.{AllByRecursion}
 use Rattle.std.proofs.lemmas.List.{append_assoc}
 use Rattle.ertm_frames.specs.Frames.{PlainFrame, information, supervisory}
-use Rattle.ertm_frames.specs.Segments.{Segment}
 use Rattle.ertm_frames.specs.Picking.{is_final}
 use Rattle.ertm_model.specs.Value.{Poll, NoPoll}
 use Rattle.ertm_model.specs.Hearing.{acknowledged, poll_after, sender_after}

@@ -84,7 +84,7 @@ deed-does planned_x planned_y (Damage refusal) x y settled_x settled_y h may ope
 
 -- ---- from ends that have nothing to give to all that is under way, and back
 
-recovers-holds : (planned_a planned_b : ℕ) (p : Pair) → Recovers planned_a planned_b p → Holds planned_a planned_b p.a p.b
+pub recovers-holds : (planned_a planned_b : ℕ) (p : Pair) → Recovers planned_a planned_b p → Holds planned_a planned_b p.a p.b
 recovers-holds planned_a planned_b p h = record {
   stands = h.stands;
   there = rw (settled-direction planned_a planned_a planned_b p.a p.b h.fit_a h.fit_b h.settled_a h.settled_b) h.there;
@@ -93,7 +93,7 @@ recovers-holds planned_a planned_b p h = record {
   fit_y = h.fit_b;
 }
 
-holds-recovers : (planned_a planned_b : ℕ) (p : Pair) → Holds planned_a planned_b p.a p.b → IsSettled p.a → IsSettled p.b → Recovers planned_a planned_b p
+pub holds-recovers : (planned_a planned_b : ℕ) (p : Pair) → Holds planned_a planned_b p.a p.b → IsSettled p.a → IsSettled p.b → Recovers planned_a planned_b p
 holds-recovers planned_a planned_b p h settled_a settled_b = record {
   stands = h.stands;
   settled_a = settled_a;
@@ -104,7 +104,7 @@ holds-recovers planned_a planned_b p h settled_a settled_b = record {
   fit_b = h.fit_y;
 }
 
-total-is : (planned_a planned_b : ℕ) (p : Pair) → IsFit planned_a p.a → IsFit planned_b p.b → IsSettled p.a → IsSettled p.b → total planned_a planned_b p.a p.b ≡ passes_left planned_a planned_b p
+pub total-is : (planned_a planned_b : ℕ) (p : Pair) → IsFit planned_a p.a → IsFit planned_b p.b → IsSettled p.a → IsSettled p.b → total planned_a planned_b p.a p.b ≡ passes_left planned_a planned_b p
 total-is planned_a planned_b p fit_a fit_b settled_a settled_b =
     let a = ap weights (settled-queue planned_a p.a fit_a settled_a) in
     let b = ap weights (settled-queue planned_b p.b fit_b settled_b) in

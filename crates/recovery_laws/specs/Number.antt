@@ -29,6 +29,12 @@ is_waiting NoPoll = false
 is_waiting Due = true
 is_waiting Waits = true
 
+-- a poll is to be given
+abbrev pub is_due : Poll → Bool
+is_due NoPoll = false
+is_due Due = true
+is_due Waits = false
+
 -- from x to y
 abbrev pub direction : ℕ → (x y : End) → Direction
 direction planned x y = record {

@@ -1,0 +1,4 @@
+pub mod Ending
+pub mod Hearing
+pub mod Stepping
+pub mod Deeds

@@ -1,0 +1,2 @@
+pub use Rattle.push_model
+pub mod Left

@@ -1,0 +1,9 @@
+pub mod Known
+pub mod Onsets
+pub mod Timing
+pub mod Counting
+pub mod Idle
+pub mod Recovering
+pub mod Handing
+pub mod Polling
+pub mod TimersFind

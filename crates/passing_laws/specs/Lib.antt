@@ -1,0 +1,4 @@
+pub mod Words
+pub mod Channels
+pub mod Handed
+pub mod Timers
