@@ -35,7 +35,13 @@ use Rattle.channel_laws.proofs.Sound.{ReadsBy, Reads, Sound}
 use Rattle.channel_laws.proofs.Words.{Words, words-asked, words-again, words-left, words-firing}
 use Rattle.disconnection_laws.proofs.Ending.{command_same}
 use Rattle.accepting_laws.specs.First.{SuggestsNone, IsForFirst, FirstOptionsAreAsked}
-use Rattle.accepting_laws.proofs.Firsts.{IsFirst, FirstAt, AllFirst, setup-first, found-first, follows-first, answered-first, taken-first, times-first, ends-first, features-first, single-first}
+use Rattle.accepting_laws.proofs.Firsts.{FirstOwn, IsFirst, first-stays}
+use Rattle.accepting_laws.proofs.Owning.{HeldOf, AllOf, setup-so, found-so, follows-so, answered-so, taken-so, times-so, ends-so, features-so, single-so}
+
+-- ---- what waits
+
+abbrev AllFirst : Policy → Channels → Type 0
+AllFirst policy v = AllOf (IsFirst policy) v
 
 -- ---- requests
 
@@ -80,8 +86,8 @@ module _ (policy : Policy) (talk : List Saying) where
       → IsForFirst policy talk peer 0 (written options)
   for_first w sound all own peer held setup request options at has to is = by (read_at own (reading talk).entries) refl (subst (λ p. ReadsBy policy held p (read_at own (reading talk).entries)) to (subst (λ h. Reads policy h (read_at own (reading talk).entries)) at (sound.core.reads own)))
     where
-      first : IsFirst (policy.wish held.psm) (Asking request options)
-      first = subst (IsFirst (policy.wish held.psm)) is (setup-first (policy.wish held.psm) held.stage setup (found-first policy own w held all at) has)
+      first : FirstOwn policy held.psm held.own peer (Asking request options)
+      first = subst (FirstOwn policy held.psm held.own peer) is (setup-so (IsFirst policy) held setup (found-so policy (IsFirst policy) (first-stays policy) own w held all at) has peer to)
 
       by : (found : Option Entry) → read_at own (reading talk).entries ≡ found → ReadsBy policy held (Some peer) found → IsForFirst policy talk peer 0 (written options)
       by None found reads = elim reads [ ]
@@ -182,7 +188,7 @@ converses policy = record {
   asked = λ past v u one identifier response content asking reply alike waits before holds after.
       let w : Channels = follows policy content u in
       let said : List Saying = exchanged one (command_if identifier response) v ++ asked_between v w in
-      goes_on policy past said v w (λ none all. follows-first policy content u (subst (AllByRecursion (FirstAt policy)) (sym alike.held_is) all))
+      goes_on policy past said v w (λ none all. follows-so policy (IsFirst policy) (first-stays policy) content u (λ psm peer. tt) (subst (AllByRecursion (HeldOf (IsFirst policy))) (sym alike.held_is) all))
       (λ words. ask_both policy (past ++ said) (exchanged one (command_if identifier response) v) (asked_between v w) (ask_exchanged policy (past ++ said) v one identifier response reply) (words-asked w (AllAsk policy (past ++ said)) words v))
       holds after;
   answered = λ past v identifier content is before holds after.
@@ -190,31 +196,31 @@ converses policy = record {
       let one : Read = Ok (command_with identifier content) in
       let said : List Saying = exchanged one None v ++ asked_between v w in
       goes_on policy past said v w
-      (λ none all. answered-first policy identifier content v is (λ own flags options same. none identifier own flags options (inl (ap (λ c. sayings.Command Into (Ok (command_with identifier c))) same))) all)
+      (λ none all. answered-so policy (IsFirst policy) (first-stays policy) identifier content v is (λ own flags options same. none identifier own flags options (inl (ap (λ c. sayings.Command Into (Ok (command_with identifier c))) same))) (λ held request found made peer. refl) all)
       (λ words. ask_both policy (past ++ said) (exchanged one None v) (asked_between v w) (ask_exchanged policy (past ++ said) v one identifier None tt) (words-asked w (AllAsk policy (past ++ said)) words v))
       holds after;
   taken = λ past v pdu known before holds after.
       let w : Channels = takes (channel_of pdu) pdu v in
       let said : List Saying = Carried Into pdu ∷ asked_between v w in
-      goes_on policy past said v w (λ none all. taken-first policy (channel_of pdu) pdu v all)
+      goes_on policy past said v w (λ none all. taken-so policy (IsFirst policy) (first-stays policy) (channel_of pdu) pdu v all)
       (λ words. ask_both policy (past ++ said) (Carried Into pdu ∷ []) (asked_between v w) (ask_other policy (past ++ said) (Carried Into pdu) (λ c same. cc)) (words-asked w (AllAsk policy (past ++ said)) words v)) holds after;
   waits = λ past v tries own before holds after.
       let w : Channels = times_held (held_at own v) tries v in
       let said : List Saying = said_on_firing own v w in
-      goes_on policy past said v w (λ none all. times-first policy tries own v all) (λ words. words-firing w (AllAsk policy (past ++ said)) words own v) holds after;
+      goes_on policy past said v w (λ none all. times-so policy (IsFirst policy) (first-stays policy) tries own v all) (λ words. words-firing w (AllAsk policy (past ++ said)) words own v) holds after;
   ends = λ past v tries own before holds after.
       let w : Channels = times_end (held_at own v) tries v in
       let said : List Saying = said_on_firing own v w in
-      goes_on policy past said v w (λ none all. ends-first policy tries own v all) (λ words. words-firing w (AllAsk policy (past ++ said)) words own v) holds after;
+      goes_on policy past said v w (λ none all. ends-so policy (IsFirst policy) (first-stays policy) tries own v all) (λ words. words-firing w (AllAsk policy (past ++ said)) words own v) holds after;
   loses = λ past v tries before holds after.
       let w : Channels = times_features v.features tries v in
       let said : List Saying = said_by_features tries v in
-      goes_on policy past said v w (λ none all. features-first policy tries v all)
+      goes_on policy past said v w (λ none all. features-so policy (IsFirst policy) (first-stays policy) tries v all)
       (λ words. ask_both policy (past ++ said) (said_again errands.Features v w) (features_given_up v.features w.features) (words-again w (AllAsk policy (past ++ said)) words errands.Features v) (ask_features policy (past ++ said) v.features w.features)) holds after;
   single = λ past v more is known before holds after.
       let w : Channels = value_after policy more v in
       let said : List Saying = said_in policy more v in
-      goes_on policy past said v w (λ none all. single-first policy v more is all) (λ words. ask_single policy (past ++ said) more v is words) holds after;
+      goes_on policy past said v w (λ none all. single-so policy (IsFirst policy) (first-stays policy) v more is all) (λ words. ask_single policy (past ++ said) more v is words) holds after;
 }
 
 pub asks-so : (policy : Policy) (list : List Occurrence) → SuggestsNone (run_of policy list).said → AllFirst policy (run_of policy list).value × AllAsk policy (run_of policy list).said (run_of policy list).said

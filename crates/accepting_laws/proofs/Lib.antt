@@ -1,4 +1,8 @@
 pub mod Accepting
+pub mod Hearing
+pub mod Turning
+pub mod Owning
+pub mod Walking
 pub mod Firsts
 pub mod Demands
 pub mod Coming

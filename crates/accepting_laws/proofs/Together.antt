@@ -9,10 +9,10 @@ use Rattle.channel_laws.specs.link_talk.specs.Channels.{reading}
 use Rattle.channel_laws.specs.channel_model.specs.Answers.{answer_to, configuration_answer}
 use Rattle.channel_laws.specs.channel_model.specs.Calls.{has_fcs}
 use Rattle.channel_laws.specs.channel_model.specs.Changing.{held_at}
-use Rattle.channel_laws.specs.channel_model.specs.Configuring.{verdict_on}
+use Rattle.channel_laws.specs.channel_model.specs.Configuring.{verdict_on, judged_stage}
 use Rattle.channel_laws.specs.channel_model.specs.Giving.{Given, next_given}
 use Rattle.channel_laws.specs.channel_model.specs.Policies.{Policy}
-use Rattle.channel_laws.specs.channel_model.specs.Value.{Channels}
+use Rattle.channel_laws.specs.channel_model.specs.Value.{Stage, Requested, Connected, Leaving, Closing, Crossed, Held, Channels}
 use Rattle.channel_laws.specs.Belonging.{AreRead, IsRead, said_at}
 use Rattle.channel_laws.specs.Ends.{end_at}
 use Rattle.channel_laws.specs.Modes.{policy_of}
@@ -20,6 +20,7 @@ use Rattle.channel_laws.specs.OwnTalk.{command_with}
 use Rattle.channel_laws.specs.Pairs.{Pair, new_pair, Happening, Acts, Puts, Takes, Repeats, Loses, Damages, is_alone, occurs, with_near, puts, let_go, takes_first, repeats_first, loses_first, damages_first, happens_near, Side, Near, Far, turned, Turn, pair_after, pair_of, IsRunOf}
 use Rattle.channel_laws.specs.Runs.{Occurrence, Comes, Connects, AsksFeatures, Disconnects, Sends, Gives, Fires, Tells, Run}
 use Rattle.channel_laws.specs.Signals.{StandsIn}
+use Rattle.channel_laws.specs.Views.{peer_of}
 use Rattle.channel_laws.proofs.Belonging.{pledges-were_said}
 use Rattle.channel_laws.proofs.Mating.{front-each}
 use Rattle.channel_laws.proofs.Pairing.{each-end_runs, end-policy}
@@ -29,7 +30,7 @@ use Rattle.channel_laws.proofs.UnderWay.{AllPlainly, come-plainly}
 use Rattle.accepting_laws.specs.Anew.{SucceedsIn}
 use Rattle.accepting_laws.specs.First.{SuggestsNone}
 use Rattle.accepting_laws.specs.InTime.{WishTheSame}
-use Rattle.accepting_laws.specs.Together.{ComesInTime, IsInTime, AllInTimeSucceed}
+use Rattle.accepting_laws.specs.Together.{HasNoChannel, ComesInTime, IsInTime, AllInTimeSucceed}
 use Rattle.accepting_laws.proofs.Answering.{Holds, step}
 use Rattle.accepting_laws.proofs.Succeeding.{options-in_time_succeed}
 
@@ -107,12 +108,27 @@ far_holds pair Repeats holds = holds
 far_holds pair Loses holds = holds
 far_holds pair (Damages other) holds = holds
 
--- where its channel has gone it is rejected, which states no result
-no_response : (policy : Policy) (own flags : ℕ) (options : List ℕ) (v : Channels) → held_at own v ≡ None → (peer more result : ℕ) (given : List ℕ)
+-- where it has no channel it is rejected, which states no result
+no_response : (policy : Policy) (own flags : ℕ) (options : List ℕ) (v : Channels) → HasNoChannel own v → (peer more result : ℕ) (given : List ℕ)
     → answer_to policy (configuration_request own flags options) v ≡ Some (configuration_response peer more result given) → result ≡ 0
-no_response policy own flags options v gone peer more result given said =
-    let rejected : Some (configuration_answer (verdict_on None policy flags options) own) ≡ Some (configuration_response peer more result given) = sym (ap (λ found. Some (configuration_answer (verdict_on found policy flags options) own)) gone) ∙ said in
-    absurd cc
+no_response policy own flags options v none peer more result given said = by (held_at own v) refl
+  where
+    rejected : (found : Option Held) → held_at own v ≡ found → Some (configuration_answer (verdict_on found policy flags options) own) ≡ Some (configuration_response peer more result given)
+    rejected found at = sym (ap (λ h. Some (configuration_answer (verdict_on h policy flags options) own)) at) ∙ said
+
+    on : (held : Held) → held_at own v ≡ Some held → (stage : Stage) → held.stage ≡ stage → result ≡ 0
+    on held at (Requested request) is =
+        let never : Some (configuration_answer (judged_stage (Requested request) (policy.wish held.psm) flags options) own) ≡ Some (configuration_response peer more result given) =
+        sym (ap (λ s. Some (configuration_answer (judged_stage s (policy.wish held.psm) flags options) own)) is) ∙ rejected (Some held) at in
+        absurd cc
+    on held at (Connected to setup) is = let never : Some to ≡ None = sym (ap peer_of is) ∙ none held at in absurd cc
+    on held at (Leaving to setup request) is = let never : Some to ≡ None = sym (ap peer_of is) ∙ none held at in absurd cc
+    on held at (Closing to request checked) is = let never : Some to ≡ None = sym (ap peer_of is) ∙ none held at in absurd cc
+    on held at (Crossed to request) is = let never : Some to ≡ None = sym (ap peer_of is) ∙ none held at in absurd cc
+
+    by : (found : Option Held) → held_at own v ≡ found → result ≡ 0
+    by None at = let never = rejected None at in absurd cc
+    by (Some held) at = on held at held.stage refl
 
 one_result : (to peer more result : ℕ) (stated given : List ℕ) → Some (configuration_response to 0 0 stated) ≡ Some (configuration_response peer more result given) → result ≡ 0
 one_result to peer more result stated given same = cc

@@ -6,20 +6,25 @@ use Rattle.channel_laws.specs.l2cap_signal.specs.Commands.{configuration_request
 use Rattle.channel_laws.specs.l2cap_signal.specs.Reading.{answers}
 use Rattle.channel_laws.specs.channel_model.specs.Changing.{held_at}
 use Rattle.channel_laws.specs.channel_model.specs.Policies.{Policy}
-use Rattle.channel_laws.specs.channel_model.specs.Value.{Remembered, Channels}
+use Rattle.channel_laws.specs.channel_model.specs.Value.{Held, Remembered, Channels}
 use Rattle.channel_laws.specs.Belonging.{AreRead}
 use Rattle.channel_laws.specs.Ends.{end_at}
 use Rattle.channel_laws.specs.OwnTalk.{command_with}
 use Rattle.channel_laws.specs.Pairs.{End, Happening, Acts, Puts, Takes, Repeats, Loses, Damages, Turn, pair_of}
+use Rattle.channel_laws.specs.Views.{peer_of}
 use Rattle.lasting_laws.specs.Ends.{AnswersSuccess}
 use Rattle.accepting_laws.specs.Accepted.{AwaitsOptions}
 use Rattle.accepting_laws.specs.InTime.{WishTheSame}
 
--- where what comes first to a host is a request for options, and not the last one again, its channel awaits options, or has gone
+-- a host has no channel of this endpoint for which its peer has an endpoint: none at all, or one that it only asks for, so it rejects a request for the options (4.1)
+abbrev pub HasNoChannel : (own : ℕ) → Channels → Type 0
+HasNoChannel own v = (held : Held) → held_at own v ≡ Some held → peer_of held.stage ≡ None
+
+-- where what comes first to a host is a request for options, and not the last one again, its channel awaits options, or it has none
 abbrev pub ComesInTime : List (List ℕ) → Channels → Type 0
 ComesInTime [] v = Unit {0}
 ComesInTime (pdu ∷ coming) v = (identifier own flags : ℕ) (options : List ℕ) → (channel_of pdu == 0x0001) ≡ true → answers (drop 4 pdu) ≡ Ok (command_with identifier (configuration_request own flags options)) ∷ []
-    → ((last : Remembered) → v.memory.configuration ≡ Some last → last.identifier ≡ identifier → ⊥) → (held_at own v ≡ None) ⊎ ((peer : ℕ) × (psm : ℕ) × AwaitsOptions own peer psm v)
+    → ((last : Remembered) → v.memory.configuration ≡ Some last → last.identifier ≡ identifier → ⊥) → HasNoChannel own v ⊎ ((peer : ℕ) × (psm : ℕ) × AwaitsOptions own peer psm v)
 
 abbrev pub IsInTime : Happening → End → Type 0
 IsInTime (Acts occurrence) end' = Unit {0}

@@ -47,7 +47,8 @@ use Rattle.pair_laws.specs.OnLinks.{LivedOver, happened_on}
 use Rattle.pair_laws.specs.Pairs.{PairOnLink}
 use Rattle.pair_laws.proofs.PlainPipes.{at_number}
 use Rattle.asking_laws.specs.Rising.{IdentifiersRiseOnLinks}
-use Rattle.asking_laws.specs.Singly.{CountsOne, HoldsOne, ClientsHoldOne, EndsAreAskedSingly}
+use Rattle.lateness_laws.specs.Once.{CountsOne}
+use Rattle.asking_laws.specs.Singly.{HoldsOne, ClientsHoldOne, OneCountsOnLinks, EndsAreAskedSingly}
 use Rattle.asking_laws.proofs.Fronts.{each-step, each-state}
 
 -- ---- a host that asks for nothing makes no requests of its own accord
@@ -117,6 +118,40 @@ each_rises : (near far : Policy) (past turns : List Turn) → EachAfter (λ p tu
     → EachAfter (λ p turn. (pair_of near far p).near.run.value.identifier ≤ (pair_after (pair_of near far p) turn).near.run.value.identifier) past turns
 each_rises near far past [] on = tt
 each_rises near far past (turn ∷ turns) on = (on.0.rises, each_rises near far (past ++ turn ∷ []) turns on.1)
+
+-- ---- host a counts one
+
+pub one-counts_on_links : ClientsHoldOne → OneCountsOnLinks
+one-counts_on_links holds asks scenario content capture ran turns as_steps number = (
+  each-state near far Near (λ (run : Run). CountsOne run.value) [] link.turns [] refl (subst (λ l. EachAfter (λ front more. CountsOne (run_of near front).value) [] l × CountsOne (run_of near l).value) (sym link.near_list) now),
+  subst (λ (run : Run). CountsOne run.value) (sym link.near_is) now.1,
+)
+  where
+    A : Profile ClientProfile
+    A = client_profile scenario.settings
+
+    near : Policy
+    near = (client_profile scenario.settings).policy
+
+    far : Policy
+    far = (server_profile scenario.settings content).policy
+
+    a : LivedOver (client_profile scenario.settings) (asks.clients scenario.settings) sides.A capture ran.world.a.upper
+    a = turns.pairs.a
+
+    list : List Occurrence
+    list = happened_on (client_profile scenario.settings) (asks.clients scenario.settings) sides.A capture ran.world.a.upper turns.pairs.a number
+
+    link : PairOnLink (client_profile scenario.settings).policy (server_profile scenario.settings content).policy list (happened_on (server_profile scenario.settings content) (asks.servers scenario.settings content) sides.B capture ran.world.b.upper turns.pairs.b number)
+    link = turns.pairs.pairs number
+
+    woven : TalksWoven A (asks.clients scenario.settings) a.came.talk ran.world.a.upper
+    woven = record { so = a.fed.so; woven = fed_woven A (asks.clients scenario.settings) a.fed.so.lives.spans a.fed.so.lives.now a.fed.so.lives.feeds A.first ran.world.a.upper.profile a.fed.fed }
+
+    now : HoldsOne scenario.settings list
+    now =
+        at_number (HoldsOne scenario.settings) (tt, λ own other held also found again. cc) (on_links A (asks.clients scenario.settings) (flat_map talk_marks a.came.talk) ran.world.a.upper a.fed.so.lives)
+        (holds scenario.settings (asks.clients scenario.settings) a.came.talk ran.world.a.upper as_steps woven) number
 
 -- ---- both hosts of a run
 
@@ -188,17 +223,10 @@ module _ (in_order : ClientsAskInOrder) (nothing : ServersAskForNothing) (anew :
       each-state near far Near (λ (run : Run). HaveNames run.value) [] (link number).turns [] refl
       (subst (λ l. EachAfter (λ front more. HaveNames (run_of near front).value) [] l × HaveNames (run_of near l).value) (sym (link number).near_list) (each_names names near (λ psm. refl) [] (one number) (omega (arith, few)), names near (one number) (λ psm. refl) (omega (arith, few))))
 
-  counts_at : ClientsHoldOne → (number : ℕ) → EachAfter (λ p turn. CountsOne (pair_of near far p).near.run.value) [] (link number).turns
-  counts_at holds number =
-      each-state near far Near (λ (run : Run). CountsOne run.value) [] (link number).turns [] refl
-      (subst (λ l. EachAfter (λ front more. CountsOne (run_of near front).value) [] l × CountsOne (run_of near l).value) (sym (link number).near_list)
-      (at_number (HoldsOne scenario.settings) (tt, λ own other' held also found again. cc) (on_links A (asks.clients scenario.settings) (flat_map talk_marks a.came.talk) ran.world.a.upper a.fed.so.lives)
-      (holds scenario.settings (asks.clients scenario.settings) a.came.talk ran.world.a.upper as_steps woven) number))
-
 pub identifiers-rise_on_links : ClientsAskInOrder → ServersAskForNothing → EndsAreAskedAnew → TwoAreGranted → GrantersNeverFall → IdentifiersRiseOnLinks
 identifiers-rise_on_links in_order nothing anew two never asks scenario content capture ran turns as_steps as_lends side number = rises in_order nothing anew asks scenario content capture ran turns as_steps as_lends two never side number
 
-pub ends-are_asked_singly : ClientsAskInOrder → ServersAskForNothing → EndsAreAskedAnew → RequestsHaveNames → ClientsHoldOne → EndsAreAskedSingly
-ends-are_asked_singly in_order nothing anew names holds asks scenario content capture ran turns as_steps as_lends number =
+pub ends-are_asked_singly : ClientsAskInOrder → ServersAskForNothing → EndsAreAskedAnew → RequestsHaveNames → OneCountsOnLinks → EndsAreAskedSingly
+ends-are_asked_singly in_order nothing anew names counts asks scenario content capture ran turns as_steps as_lends number =
     each_both (client_profile scenario.settings).policy (server_profile scenario.settings content).policy [] (turns.pairs.pairs number).turns
-    (names_at in_order nothing anew asks scenario content capture ran turns as_steps as_lends names number) (counts_at in_order nothing anew asks scenario content capture ran turns as_steps as_lends holds number) (asks_on in_order nothing anew asks scenario content capture ran turns as_steps as_lends number)
+    (names_at in_order nothing anew asks scenario content capture ran turns as_steps as_lends names number) (counts asks scenario content capture ran turns as_steps number).0 (asks_on in_order nothing anew asks scenario content capture ran turns as_steps as_lends number)

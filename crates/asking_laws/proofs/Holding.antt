@@ -38,7 +38,8 @@ use Rattle.pair_laws.specs.host_laws.proofs.KeepingClients.{Stands, Off, Doomed,
 use Rattle.pair_laws.specs.host_laws.proofs.Links.{value_run}
 use Rattle.pair_laws.specs.host_laws.proofs.Refusing.{value-more, stays-free}
 use Rattle.pair_laws.specs.host_laws.proofs.StandingClients.{Lives, Ends, Idle, Waits, Told, Shut, Missed}
-use Rattle.asking_laws.specs.Singly.{CountsOne, HoldsOne, ClientsHoldOne}
+use Rattle.lateness_laws.specs.Once.{CountsOne}
+use Rattle.asking_laws.specs.Singly.{HoldsOne, ClientsHoldOne}
 
 -- ---- one channel, or none
 

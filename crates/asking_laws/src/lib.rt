@@ -2,12 +2,19 @@
 #![tactic(auto)]
 
 ghost use Rattle.asking_laws.specs.Rising.{IdentifiersRiseOnLinks};
-ghost use Rattle.asking_laws.specs.Singly.{ClientsHoldOne, EndsAreAskedSingly};
+ghost use Rattle.asking_laws.specs.Singly.{ClientsHoldOne, EndsAreAskedSingly, OneCountsOnLinks};
 
 /// Whatever happens to a client, one channel counts at most on each of its links, at each moment: it asks for a channel where none counts.
 pub fn clients_hold_one()
     ensures { ClientsHoldOne }
 {}
+
+/// So it is on each link of a run, at each moment of it, and behind all.
+pub fn one_counts_on_links()
+    ensures { OneCountsOnLinks }
+{
+    clients_hold_one();
+}
 
 /// On each link of a run the identifiers of both hosts rise: host a asks for two channels at most, with its question for features between them, and host b grants these.
 pub fn identifiers_rise_on_links()
@@ -28,5 +35,5 @@ pub fn ends_are_asked_singly()
     host_laws::laws::servers_ask_for_nothing();
     identifier_laws::ends_are_asked_anew();
     channel_laws::laws::requests_have_names();
-    clients_hold_one();
+    one_counts_on_links();
 }

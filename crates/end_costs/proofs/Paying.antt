@@ -21,7 +21,7 @@ pub ends-cost_words : GrantsAreSingle → RequestsCostWords → FewWordsGoOn →
 ends-cost_words single costs goes asks scenario content capture ran within as_steps as_lends = record {
   requests = paid;
   apart = apart;
-  ends = λ number own stays. paid.near number (errands.Disconnection own) (λ few. (goes asks scenario content capture ran paid.pairs within as_steps as_lends few number (stays few)).ends own);
+  ends = λ number own. paid.near number (errands.Disconnection own) (λ few. (goes asks scenario content capture ran paid.pairs within as_steps as_lends few number).ends own);
 }
   where
     near : Policy

@@ -1,5 +1,5 @@
 -- How often host a of a run gives its requests for the ends of channels, against the words of the run (Core 5.1, Volume 3 Part A, 4.6 and 6.2.1).
-use Rattle.std.specs.Prelude.{ℕ, ◌<◌, List, Option}
+use Rattle.std.specs.Prelude.{ℕ, List, Option}
 use Rattle.pair_laws.specs.bt_base.specs.Objects.{Contents}
 use Rattle.pair_laws.specs.push_script.specs.declared.scenario.Scenario.{Scenario}
 use Rattle.pair_laws.specs.push_terms.specs.declared.word.Side.TheVariants as sides
@@ -7,7 +7,6 @@ use Rattle.pair_laws.specs.capture.specs.Entries.{Entry}
 use Rattle.channel_laws.specs.channel_model.specs.declared.errand.Errand.TheVariants as errands
 use Rattle.channel_laws.specs.Pairs.{pair_of}
 use Rattle.limit_laws.specs.staying_laws.specs.forgoing_laws.specs.disconnection_laws.specs.Waits.{GrantsApart}
-use Rattle.limit_laws.specs.staying_laws.specs.Stays.{AnswerWell}
 use Rattle.pair_laws.specs.world_model.specs.Worlds.{all_words}
 use Rattle.pair_laws.specs.host_model.specs.Clients.{client_profile}
 use Rattle.pair_laws.specs.host_model.specs.Servers.{server_profile}
@@ -19,15 +18,12 @@ use Rattle.pair_laws.specs.Costs.{adverse_in, IsPaidBy, RequestsPaid}
 use Rattle.pair_laws.specs.OnLinks.{happened_on}
 use Rattle.pair_laws.specs.Within.{BothSendWithin}
 
--- Where, while fewer words were adverse than the hosts try, both answer requests for options with success (so host b asks for no end
--- itself), host a's requests for ends are paid on a link.
+-- On each link host a's requests for ends are paid.
 pub record EndsPaid (asks : HostsAsk) (scenario : Scenario) (content : Option Contents) (capture : List Entry) (ran : Ran scenario content capture) : Type 0 where
   pub requests : RequestsPaid asks scenario content capture ran
   -- host b grants one endpoint alone to each of host a's
   pub apart : (number : ℕ) → GrantsApart (pair_of (client_profile scenario.settings).policy (server_profile scenario.settings content).policy (requests.pairs.turns.pairs.pairs number).turns).far.run.said
-  pub ends : (number own : ℕ)
-      → (adverse_in (all_words ran.happenings) < scenario.settings.tries → AnswerWell (client_profile scenario.settings).policy (server_profile scenario.settings content).policy (requests.pairs.turns.pairs.pairs number).turns)
-      → IsPaidBy (adverse_in (all_words ran.happenings)) (client_profile scenario.settings).policy
+  pub ends : (number own : ℕ) → IsPaidBy (adverse_in (all_words ran.happenings)) (client_profile scenario.settings).policy
       (happened_on (client_profile scenario.settings) (asks.clients scenario.settings) sides.A capture ran.world.a.upper requests.pairs.turns.pairs.a number) (errands.Disconnection own)
 
 abbrev pub EndsCostWords : Type 0

@@ -3,9 +3,8 @@
 
 ghost use Rattle.end_costs.specs.Ends.{EndsCostWords};
 
-/// On each link of a run host a's requests for the ends of channels are given for the t-th time only behind t - 1 adverse words, where, while fewer words were
-/// adverse than the hosts try, both answer requests for options with success. On each link host b grants
-/// one endpoint alone to each of host a's.
+/// On each link of a run host a's requests for the ends of channels are given for the t-th time only behind t - 1 adverse words. On each link host b grants one
+/// endpoint alone to each of host a's.
 pub fn ends_cost_words()
     ensures { EndsCostWords }
 {

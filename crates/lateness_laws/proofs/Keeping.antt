@@ -1,6 +1,6 @@
 -- What is kept of requests for options that are under way, and of what is remembered of them, where one waits at a time.
 use Rattle.std.proofs.Common.{◌≡◌, ◌<◌, ◌≤◌, arith, ℕ, List, [], ◌∷◌, ◌++◌, Option, Some, None, Ok, refl, sym, ap, subst, ◌∙◌, ◌⊎◌, inl, inr}
-use Rattle.channel_laws.specs.l2cap_signal.specs.Commands.{Command}
+use Rattle.channel_laws.specs.l2cap_signal.specs.Commands.{Command, configuration_request}
 use Rattle.channel_laws.specs.link_talk.specs.Channels.{reading}
 use Rattle.channel_laws.specs.link_talk.specs.Sayings.{Saying}
 use Rattle.channel_laws.specs.channel_model.specs.declared.errand.Errand.TheVariants as errands
@@ -8,7 +8,7 @@ use Rattle.channel_laws.specs.channel_model.specs.Changing.{held_at}
 use Rattle.channel_laws.specs.channel_model.specs.Hearing.{hears_command}
 use Rattle.channel_laws.specs.channel_model.specs.Policies.{Policy}
 use Rattle.channel_laws.specs.channel_model.specs.Value.{Request, Own, Unasked, Asking, Granted, Stage, Requested, Connected, Leaving, Closing, Crossed, Held, Remembered, Channels}
-use Rattle.channel_laws.specs.OwnTalk.{said_with_all}
+use Rattle.channel_laws.specs.OwnTalk.{command_with, said_with_all}
 use Rattle.channel_laws.specs.Signals.{StandsIn}
 use Rattle.channel_laws.specs.Tries.{own_request, for_options, request_at, request_of}
 use Rattle.channel_laws.proofs.Demanding.{asked_at, asked_on}
@@ -20,7 +20,8 @@ use Rattle.configuration_laws.proofs.Going.{Goes}
 use Rattle.configuration_laws.proofs.Hearing.{Heard, Quiet, Other, Again, Anew, heard}
 use Rattle.configuration_laws.proofs.Keeping.{IsPlain, one-more}
 use Rattle.lateness_laws.specs.Late.{AsksOptionsOnce, OneChannelAsksOnce}
-use Rattle.lateness_laws.proofs.Hearing.{heard_options, Deaf, heard-last}
+use Rattle.accepting_laws.proofs.Hearing.{Deaf}
+use Rattle.lateness_laws.proofs.Hearing.{heard_options, heard-last}
 
 -- ---- the host that asks
 
@@ -220,7 +221,7 @@ quiet-on v theirs more memory after to_peer to_host same deaf inv = subst (λ (m
   where
     before : (i o f : ℕ) (p : List ℕ) → StandsIn (heard_options i o f p) theirs ⊎ StandsIn (heard_options i o f p) more → StandsIn (heard_options i o f p) theirs
     before i o f p (inl old) = old
-    before i o f p (inr new) = absurd (deaf i o f p new)
+    before i o f p (inr new) = absurd (deaf (command_with i (configuration_request o f p)) new)
 
 -- ---- the peer hears a command
 

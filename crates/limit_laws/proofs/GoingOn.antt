@@ -1,11 +1,16 @@
--- Host b of a run asks for the end of no channel, and host a gives up none of its requests for one, while few words are adverse.
-use Rattle.std.proofs.Common.{◌≤◌, List, [], sym, subst, arith}
+-- The channels of both hosts of a run go on while few words are adverse.
+use Rattle.std.proofs.Common.{◌≡◌, ◌≤◌, ℕ, List, [], ◌∷◌, ◌++◌, true, refl, sym, ap, subst, arith}
 use Rattle.std.specs.List.{AllByRecursion, flat_map}
 use Rattle.pair_laws.specs.push_terms.specs.declared.word.Side.TheVariants as sides
+use Rattle.pair_laws.specs.capture.specs.Histories.{EachAfter}
+use Rattle.channel_laws.specs.channel_model.specs.declared.errand.Errand.TheVariants as errands
 use Rattle.channel_laws.specs.channel_model.specs.Policies.{Policy}
+use Rattle.channel_laws.specs.Adverse.{is_quiet}
 use Rattle.channel_laws.specs.Belonging.{HasAsked}
-use Rattle.channel_laws.specs.Pairs.{Near, Far, new_pair}
-use Rattle.channel_laws.specs.Runs.{Occurrence, Run}
+use Rattle.channel_laws.specs.Pairs.{Pair, Happening, Acts, Side, Near, Far, Turn, new_pair, pair_of}
+use Rattle.channel_laws.specs.Runs.{Occurrence, Run, Fires}
+use Rattle.channel_laws.specs.Ends.{end_at}
+use Rattle.channel_laws.specs.Tries.{copies}
 use Rattle.channel_laws.specs.Singly.{GrantsAreSingle, NoneIsCalled}
 use Rattle.staying_laws.specs.forgoing_laws.specs.disconnection_laws.specs.Waits.{GrantsApart}
 use Rattle.staying_laws.specs.Stays.{FewTurnsEndNoneOfBoth}
@@ -25,18 +30,20 @@ use Rattle.pair_laws.specs.Within.{PairsAreCarried}
 use Rattle.pair_laws.proofs.PlainPipes.{at_number}
 use Rattle.pair_laws.proofs.Whole.{both_can}
 use Rattle.asking_laws.specs.Rising.{IdentifiersRiseOnLinks}
-use Rattle.asking_laws.specs.Singly.{EndsAreAskedSingly}
+use Rattle.asking_laws.specs.Singly.{EndsAreAskedSingly, OneCountsOnLinks}
+use Rattle.timely_laws.specs.accepting_laws.specs.Accepted.{WishesMeet}
+use Rattle.timely_laws.specs.Timely.{FewTurnsAnswerWell}
+use Rattle.pair_laws.specs.Waits.{NoneWaitsAt}
 use Rattle.asking_laws.specs.identifier_laws.proofs.Granting.{none-asked}
 use Rattle.asking_laws.proofs.Asking.{none_for, heard-one_by_one}
-use Rattle.limit_laws.specs.GoesOn.{FewWordsGoOn}
+use Rattle.limit_laws.specs.GoesOn.{LinksAreOrderly, FewWordsAnswerWell, FewWordsGoOn}
 use Rattle.limit_laws.specs.Upsets.{UpsetsCostWords}
-use Rattle.limit_laws.proofs.EndingNone.{leaves_none}
+use Rattle.limit_laws.proofs.LeavingNone.{leaves_none}
 use Rattle.limit_laws.proofs.Upsetting.{wishes-tries}
 
-pub few-words_go_on : UpsetsCostWords → PairsAreCarried → ServersAskForNothing → NoneIsCalled → GrantsAreSingle → EndsAreAskedSingly → IdentifiersRiseOnLinks → FewTurnsEndNoneOfBoth → FewWordsGoOn
-few-words_go_on upsets carried nothing none single singly rises go asks scenario content capture ran pairs within as_steps as_lends few number answers =
-    go near far link.turns (both_can scenario.settings)
-    (record {
+pub links-are_orderly : UpsetsCostWords → PairsAreCarried → ServersAskForNothing → NoneIsCalled → GrantsAreSingle → EndsAreAskedSingly → IdentifiersRiseOnLinks → LinksAreOrderly
+links-are_orderly upsets carried nothing none single singly rises asks scenario content capture ran pairs within as_steps as_lends few number =
+    record {
       fair = link.fair;
       read = link.read;
       room = pairs.room number;
@@ -50,7 +57,7 @@ few-words_go_on upsets carried nothing none single singly rises go asks scenario
       few_near = omega (arith, most, few);
       few_far = omega (arith, most, few);
       few_machines = λ psm. let tries = wishes-tries scenario.settings psm in omega (arith, tries, most, few);
-    }) (λ psm. let tries = wishes-tries scenario.settings psm in omega (arith, tries, most, few)) answers
+    }
   where
     B : Profile ServerProfile
     B = server_profile scenario.settings content
@@ -78,3 +85,32 @@ few-words_go_on upsets carried nothing none single singly rises go asks scenario
     asked =
         at_number (AllByRecursion AsksForNothing) tt (on_links B (asks.servers scenario.settings content) (flat_map talk_marks b.came.talk) ran.world.b.upper b.fed.so.lives)
         (nothing scenario.settings content (asks.servers scenario.settings content) (flat_map talk_marks b.came.talk) ran.world.b.upper b.fed.so.lives as_lends) number
+
+-- when its timer fires no command of host a waits, and so no request for an end
+pub none_in_quiet : (own : ℕ) (near far : Policy) (past turns : List Turn) → EachAfter (λ front turn. NoneWaitsAt turn.happening (end_at turn.side (pair_of near far front))) past turns
+    → EachAfter (λ front turn. turn.side ≡ Near → turn.happening ≡ Acts Fires → is_quiet (pair_of near far front) ≡ true → copies (errands.Disconnection own) (pair_of near far front).near.run.value.queue ≡ 0) past turns
+none_in_quiet own near far past [] none = tt
+none_in_quiet own near far past (turn ∷ turns) (now, later) = (one, none_in_quiet own near far (past ++ turn ∷ []) turns later)
+  where
+    p : Pair
+    p = pair_of near far past
+
+    one : turn.side ≡ Near → turn.happening ≡ Acts Fires → is_quiet p ≡ true → copies (errands.Disconnection own) p.near.run.value.queue ≡ 0
+    one side happening quiet =
+        let here : NoneWaitsAt turn.happening p.near = subst (λ (s : Side). NoneWaitsAt turn.happening (end_at s p)) side now in
+        ap (copies (errands.Disconnection own)) (subst (λ (h : Happening). NoneWaitsAt h p.near) happening here refl)
+
+pub few-words_answer_well : LinksAreOrderly → OneCountsOnLinks → WishesMeet → FewTurnsAnswerWell → FewWordsAnswerWell
+few-words_answer_well orderly counts meet answer asks scenario content capture ran pairs within as_steps as_lends few number =
+    let near : Policy = (client_profile scenario.settings).policy in
+    let far : Policy = (server_profile scenario.settings content).policy in
+    let turns : List Turn = (pairs.turns.pairs.pairs number).turns in
+    answer near far turns (meet scenario.settings) (orderly asks scenario content capture ran pairs within as_steps as_lends few number) (counts asks scenario content capture ran pairs.turns as_steps number).0
+    (λ own. none_in_quiet own near far [] turns (pairs.none_waits number))
+
+pub few-words_go_on : LinksAreOrderly → FewWordsAnswerWell → FewTurnsEndNoneOfBoth → FewWordsGoOn
+few-words_go_on orderly well go asks scenario content capture ran pairs within as_steps as_lends few number =
+    let near : Policy = (client_profile scenario.settings).policy in
+    let far : Policy = (server_profile scenario.settings content).policy in
+    let so = orderly asks scenario content capture ran pairs within as_steps as_lends few number in
+    go near far (pairs.turns.pairs.pairs number).turns (both_can scenario.settings) so so.few_machines (well asks scenario content capture ran pairs within as_steps as_lends few number)

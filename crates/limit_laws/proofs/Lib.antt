@@ -1,3 +1,3 @@
 pub mod Upsetting
-pub mod EndingNone
+pub mod LeavingNone
 pub mod GoingOn

@@ -26,7 +26,7 @@ use Rattle.pair_laws.specs.host_model.specs.Clients.{client_profile}
 use Rattle.pair_laws.specs.host_model.specs.Servers.{server_profile}
 use Rattle.pair_laws.specs.Within.{PairsAreCarried}
 use Rattle.pair_laws.proofs.Whole.{both_can}
-use Rattle.lasting_laws.proofs.Machines.{upsets-ahead, none-closes}
+use Rattle.staying_laws.specs.forgoing_laws.specs.lasting_laws.proofs.Machines.{upsets-ahead, none-closes}
 use Rattle.limit_laws.specs.Upsets.{UpsetsCostWords, EndOutlasts, MachinesOutlastWords}
 
 pub upsets-cost_words : SettledUpsetNoMore → UpsetsCostWords

@@ -1,8 +1,7 @@
 //! What the limits on how often something is sent come to in a run: which words have to be adverse before one is reached.
 #![tactic(auto)]
 
-ghost use Rattle.limit_laws.specs.EndsNone.{FewWordsEndNone};
-ghost use Rattle.limit_laws.specs.GoesOn.{FewWordsGoOn};
+ghost use Rattle.limit_laws.specs.GoesOn.{FewWordsAnswerWell, FewWordsGoOn, LinksAreOrderly};
 ghost use Rattle.limit_laws.specs.Upsets.{MachinesOutlastWords, UpsetsCostWords};
 
 /// On each link of a run at most so many turns upset as words of the run are adverse: those that lose, repeat, change or cut a frame, and those that fire a timer.
@@ -23,21 +22,10 @@ pub fn machines_outlast_words()
     channel_laws::laws::agreements_are_on_heard();
 }
 
-/// And host b asks for the end of no channel then, and closes none, on each link on which its timer finds no request for options that was given as often as it
-/// tries, both hosts answer such requests with success, and host a has each enhanced channel there that host b has.
-pub fn few_words_end_none()
-    ensures { FewWordsEndNone }
-{
-    upsets_cost_words();
-    pair_laws::pairs_are_carried();
-    host_laws::laws::servers_ask_for_nothing();
-    lasting_laws::few_upsets_end_none();
-}
-
-/// So it is on each link on which both answer requests for options with success: there host b's requests for options are responded to, and host
-/// a's for ends, none of which it gives up; and each channel for whose end host a did not ask remains at host b.
-pub fn few_words_go_on()
-    ensures { FewWordsGoOn }
+/// Then both hosts ask in order: their identifiers rise, host a asks for one end at a time, and host b, whose profile asks for nothing, grants one endpoint alone to each
+/// of host a's.
+pub fn links_are_orderly()
+    ensures { LinksAreOrderly }
 {
     upsets_cost_words();
     pair_laws::pairs_are_carried();
@@ -46,5 +34,24 @@ pub fn few_words_go_on()
     channel_laws::laws::pipes::grants_are_single();
     asking_laws::ends_are_asked_singly();
     asking_laws::identifiers_rise_on_links();
+}
+
+/// So both answer all requests for options with success.
+pub fn few_words_answer_well()
+    ensures { FewWordsAnswerWell }
+{
+    links_are_orderly();
+    asking_laws::one_counts_on_links();
+    accepting_laws::wishes_meet();
+    timely_laws::few_turns_answer_well();
+}
+
+/// And host b asks for the end of no channel, and closes none; its requests for options are responded to, and host a's for ends, none of which it gives up; and each
+/// channel for whose end host a did not ask remains at host b.
+pub fn few_words_go_on()
+    ensures { FewWordsGoOn }
+{
+    links_are_orderly();
+    few_words_answer_well();
     staying_laws::few_turns_end_none_of_both();
 }

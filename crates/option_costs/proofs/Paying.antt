@@ -1,65 +1,32 @@
 -- The requests for options of both hosts are paid by adverse words.
-use Rattle.std.proofs.Common.{◌≡◌, ℕ, ◌+◌, ◌≤◌, ◌<◌, List, [], ◌∷◌, ◌++◌, Bool, true, false, leb, Some, refl, sym, ap, subst, arith}
+use Rattle.std.proofs.Common.{◌≡◌, ℕ, ◌+◌, ◌≤◌, ◌<◌, List, [], Bool, true, false, leb, Some, refl, sym, subst, arith}
 use Rattle.std.proofs.lemmas.Bool.{leb-true, leb-false}
 use Rattle.pair_laws.specs.channel_model.specs.Value.{Request}
-use Rattle.pair_laws.specs.capture.specs.Histories.{EachAfter}
-use Rattle.pair_laws.specs.channel_laws.specs.Adverse.{is_quiet, disturbances}
-use Rattle.pair_laws.specs.channel_laws.specs.Ends.{end_at}
-use Rattle.pair_laws.specs.channel_laws.specs.Runs.{Occurrence, Fires, Run, run_of}
+use Rattle.pair_laws.specs.channel_laws.specs.Adverse.{disturbances}
+use Rattle.pair_laws.specs.channel_laws.specs.Runs.{Occurrence, Run, run_of}
 use Rattle.pair_laws.specs.channel_laws.specs.Tries.{request_of, copies, TriesAreKept}
 use Rattle.leaving_laws.specs.Left.{OptionsOfLeftAreCounted}
 use Rattle.pair_laws.specs.host_model.specs.Clients.{client_profile}
 use Rattle.pair_laws.specs.host_model.specs.Servers.{server_profile}
 use Rattle.pair_laws.specs.channel_model.specs.declared.errand.Errand.TheVariants as errands
 use Rattle.pair_laws.specs.channel_model.specs.Policies.{Policy}
-use Rattle.pair_laws.specs.channel_laws.specs.Pairs.{Pair, Happening, Acts, Side, Near, Far, Turn, new_pair, pair_of}
-use Rattle.configuration_laws.specs.Met.{OptionsAreMet}
+use Rattle.pair_laws.specs.channel_laws.specs.Pairs.{new_pair}
 use Rattle.pair_laws.specs.Costs.{adverse_in, IsPaidBy, RequestsPaid, RequestsCostWords}
 use Rattle.pair_laws.specs.OnLinks.{happened_on}
 use Rattle.pair_laws.specs.Pairs.{PairOnLink}
-use Rattle.pair_laws.specs.Waits.{NoneWaitsAt}
 use Rattle.pair_laws.specs.push_terms.specs.declared.word.Side.TheVariants as sides
 use Rattle.pair_laws.specs.world_model.specs.Worlds.{all_words}
-use Rattle.asking_laws.specs.Rising.{IdentifiersRiseOnLinks}
-use Rattle.limit_laws.specs.staying_laws.specs.Stays.{AnswerWell}
 use Rattle.limit_laws.specs.staying_laws.specs.forgoing_laws.specs.Lasts.{GoOn}
 use Rattle.limit_laws.specs.GoesOn.{FewWordsGoOn}
-use Rattle.option_costs.specs.Options.{OptionsCostWords, StayingOptionsCostWords}
+use Rattle.limit_laws.proofs.GoingOn.{none_in_quiet}
+use Rattle.option_costs.specs.Options.{OptionsCostWords}
 
-pub options-cost_words : IdentifiersRiseOnLinks → OptionsAreMet → RequestsCostWords → OptionsCostWords
-options-cost_words rises met costs asks scenario content capture ran as_steps as_lends =
-    let near : Policy = (client_profile scenario.settings).policy in
-    let far : Policy = (server_profile scenario.settings content).policy in
-    let paid = costs asks scenario content capture ran as_steps as_lends in
-    let link = paid.pairs.turns.pairs.pairs in
-    record {
-      requests = paid;
-      near = λ number own remains. paid.near number (errands.Configuration own) (λ few.
-          met near far (link number).turns (link number).read (paid.pairs.room number) Near (rises asks scenario content capture ran paid.pairs.turns as_steps as_lends Near number) own (remains few));
-      far = λ number own remains. paid.far number (errands.Configuration own) (λ few.
-          met near far (link number).turns (link number).read (paid.pairs.room number) Far (rises asks scenario content capture ran paid.pairs.turns as_steps as_lends Far number) own (remains few));
-    }
-
--- when its timer fires no command of host a waits, and so no request for an end
-none_in_quiet : (own : ℕ) (near far : Policy) (past turns : List Turn) → EachAfter (λ front turn. NoneWaitsAt turn.happening (end_at turn.side (pair_of near far front))) past turns
-    → EachAfter (λ front turn. turn.side ≡ Near → turn.happening ≡ Acts Fires → is_quiet (pair_of near far front) ≡ true → copies (errands.Disconnection own) (pair_of near far front).near.run.value.queue ≡ 0) past turns
-none_in_quiet own near far past [] none = tt
-none_in_quiet own near far past (turn ∷ turns) (now, later) = (one, none_in_quiet own near far (past ++ turn ∷ []) turns later)
-  where
-    p : Pair
-    p = pair_of near far past
-
-    one : turn.side ≡ Near → turn.happening ≡ Acts Fires → is_quiet p ≡ true → copies (errands.Disconnection own) p.near.run.value.queue ≡ 0
-    one side happening quiet =
-        let here : NoneWaitsAt turn.happening p.near = subst (λ (s : Side). NoneWaitsAt turn.happening (end_at s p)) side now in
-        ap (copies (errands.Disconnection own)) (subst (λ (h : Happening). NoneWaitsAt h p.near) happening here refl)
-
--- where channels stay, host a's requests are paid beside those for the ends of channels
-pub staying-options_cost_words : TriesAreKept → OptionsOfLeftAreCounted → FewWordsGoOn → RequestsCostWords → StayingOptionsCostWords
-staying-options_cost_words kept counted goes costs asks scenario content capture ran within as_steps as_lends = record {
+-- host a's requests are paid beside those for the ends of channels
+pub options-cost_words : TriesAreKept → OptionsOfLeftAreCounted → FewWordsGoOn → RequestsCostWords → OptionsCostWords
+options-cost_words kept counted goes costs asks scenario content capture ran within as_steps as_lends = record {
   requests = paid;
-  near = λ number own staying request waits. near_paid number own staying request waits (leb scenario.settings.tries (adverse_in (all_words ran.happenings))) refl;
-  far = λ number own staying. paid.far number (errands.Configuration own) (λ few. (go number few (staying few)).options own);
+  near = λ number own request waits. near_paid number own request waits (leb scenario.settings.tries (adverse_in (all_words ran.happenings))) refl;
+  far = λ number own. paid.far number (errands.Configuration own) (λ few. (go number few).options own);
 }
   where
     near : Policy
@@ -75,24 +42,23 @@ staying-options_cost_words kept counted goes costs asks scenario content capture
         (happened_on (server_profile scenario.settings content) (asks.servers scenario.settings content) sides.B capture ran.world.b.upper paid.pairs.turns.pairs.b number)
     link = paid.pairs.turns.pairs.pairs
 
-    go : (number : ℕ) → adverse_in (all_words ran.happenings) < scenario.settings.tries → AnswerWell near far (link number).turns → GoOn near far (link number).turns
-    go number few stays = goes asks scenario content capture ran paid.pairs within as_steps as_lends few number stays
+    go : (number : ℕ) → adverse_in (all_words ran.happenings) < scenario.settings.tries → GoOn near far (link number).turns
+    go number few = goes asks scenario content capture ran paid.pairs within as_steps as_lends few number
 
     list : ℕ → List Occurrence
     list number = happened_on (client_profile scenario.settings) (asks.clients scenario.settings) sides.A capture ran.world.a.upper paid.pairs.turns.pairs.a number
 
-    few_paid : (number own : ℕ) → adverse_in (all_words ran.happenings) < scenario.settings.tries → AnswerWell near far (link number).turns → IsPaidBy (adverse_in (all_words ran.happenings)) near (list number) (errands.Configuration own)
-    few_paid number own few stays request waits =
-        let on = go number few stays in
+    few_paid : (number own : ℕ) → adverse_in (all_words ran.happenings) < scenario.settings.tries → IsPaidBy (adverse_in (all_words ran.happenings)) near (list number) (errands.Configuration own)
+    few_paid number own few request waits =
+        let on = go number few in
         let less = paid.pairs.cost number in
         let quiet = none_in_quiet own near far [] (link number).turns (paid.pairs.none_waits number) in
         let most = subst (λ (r : Run). copies (errands.Configuration own) r.value.queue + request.given ≤ 1 + disturbances (new_pair near far) (link number).turns) (link number).near_is
         (counted near far (link number).turns (link number).fair (link number).read own (on.ends own) (on.until_left own) quiet request (subst (λ (r : Run). request_of (errands.Configuration own) r.value ≡ Some request) (sym (link number).near_is) waits)) in
         omega (arith, less, most)
 
-    near_paid : (number own : ℕ) → (adverse_in (all_words ran.happenings) < scenario.settings.tries → AnswerWell near far (link number).turns)
-        → (request : Request) → request_of (errands.Configuration own) (run_of near (list number)).value ≡ Some request → (most : Bool) → leb scenario.settings.tries (adverse_in (all_words ran.happenings)) ≡ most
+    near_paid : (number own : ℕ) (request : Request) → request_of (errands.Configuration own) (run_of near (list number)).value ≡ Some request → (most : Bool) → leb scenario.settings.tries (adverse_in (all_words ran.happenings)) ≡ most
         → copies (errands.Configuration own) (run_of near (list number)).value.queue + request.given ≤ 1 + adverse_in (all_words ran.happenings)
-    near_paid number own staying request waits true is =
+    near_paid number own request waits true is =
         let many = leb-true scenario.settings.tries (adverse_in (all_words ran.happenings)) is in kept near (list number) (1 + adverse_in (all_words ran.happenings)) (omega arith) (omega (arith, many)) (errands.Configuration own) request waits
-    near_paid number own staying request waits false is = let few = leb-false scenario.settings.tries (adverse_in (all_words ran.happenings)) is in few_paid number own few (staying few) request waits
+    near_paid number own request waits false is = let few = leb-false scenario.settings.tries (adverse_in (all_words ran.happenings)) is in few_paid number own few request waits

@@ -53,7 +53,7 @@ use Rattle.lasting_laws.proofs.Machines.{none-closes}
 
 -- ---- one host
 
-held_of : (own : ℕ) (v : Channels) (setup : Setup) → setup_on (held_at own v) ≡ Some setup → (held : Held) × (held_at own v ≡ Some held) × (setup_of held.stage ≡ Some setup)
+pub held_of : (own : ℕ) (v : Channels) (setup : Setup) → setup_on (held_at own v) ≡ Some setup → (held : Held) × (held_at own v ≡ Some held) × (setup_of held.stage ≡ Some setup)
 held_of own v setup = by (held_at own v) refl
   where
     by : (found : Option Held) → held_at own v ≡ found → setup_on found ≡ Some setup → (held : Held) × (held_at own v ≡ Some held) × (setup_of held.stage ≡ Some setup)
@@ -77,7 +77,7 @@ stated_at policy list own held setup found has = by held.stage has (subst (λ h.
     by (Closing peer request checked) is now = cc
     by (Crossed peer request) is now = cc
 
-options_wait : (own : ℕ) (v : Channels) (held : Held) (setup : Setup) (request : Request) (options : _) → held_at own v ≡ Some held → setup_of held.stage ≡ Some setup → setup.own ≡ Asking request options → request_of (Configuration own) v ≡ Some request
+pub options_wait : (own : ℕ) (v : Channels) (held : Held) (setup : Setup) (request : Request) (options : _) → held_at own v ≡ Some held → setup_of held.stage ≡ Some setup → setup.own ≡ Asking request options → request_of (Configuration own) v ≡ Some request
 options_wait own v held setup request options found has asks = ap (request_at for_options) found ∙ by held.stage has
   where
     by : (stage : Stage) → setup_of stage ≡ Some setup → for_options stage ≡ Some request

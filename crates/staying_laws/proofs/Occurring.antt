@@ -19,7 +19,8 @@ use Rattle.channel_laws.specs.Runs.{Occurrence, Comes, Connects, AsksFeatures, D
 use Rattle.channel_laws.proofs.Running.{all-sound}
 use Rattle.channel_laws.proofs.Saying.{stands-left}
 use Rattle.lasting_laws.specs.Lasting.{OptionsSucceed, IsUnspent}
-use Rattle.staying_laws.proofs.Kept.{AllKept, command-kept, taken-kept, calls-kept, features-kept, leaves-kept, sends-kept, gives-kept}
+use Rattle.staying_laws.specs.Stays.{AllKept}
+use Rattle.staying_laws.proofs.Kept.{command-kept, taken-kept, calls-kept, features-kept, leaves-kept, sends-kept, gives-kept}
 use Rattle.staying_laws.proofs.Timed.{all-kept, all-last, channels-timed, features-timed}
 
 module _ (mine : ℕ) where

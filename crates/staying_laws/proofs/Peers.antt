@@ -33,14 +33,13 @@ use Rattle.forgoing_laws.specs.Forgone.{FewDisturbancesForgoNone}
 use Rattle.forgoing_laws.specs.Lasts.{AreOrderly, StaysThere, GoOn, FewTurnsEndNone}
 use Rattle.forgoing_laws.proofs.Lasting.{said_ahead, orderly_ahead, far_forgoes}
 use Rattle.forgoing_laws.proofs.Spending.{unspent-at, said_apart}
-use Rattle.staying_laws.specs.Stays.{AnswerWell, FewTurnsKeepPeers, FewTurnsEndNoneOfBoth}
-use Rattle.staying_laws.proofs.Kept.{AllKept}
+use Rattle.staying_laws.specs.Stays.{AnswerWell, AllKept, FewTurnsCloseNone, FewTurnsKeepPeers, FewTurnsEndNoneOfBoth}
 use Rattle.staying_laws.proofs.Machines.{withstands-front, withstands-damage, withstands-timer}
 use Rattle.staying_laws.proofs.Standing.{IsSingle, near-single, far-single, Withstands, near-kept}
 use Rattle.staying_laws.proofs.There.{far-there, far-remains, near-there}
 
 -- what is so of each, and of one more
-each_more : {X : Type 0} (P : List X → X → Type 0) (front xs : List X) (x : X) → EachAfter P front xs → P (front ++ xs) x → EachAfter P front (xs ++ x ∷ [])
+pub each_more : {X : Type 0} (P : List X → X → Type 0) (front xs : List X) (x : X) → EachAfter P front xs → P (front ++ xs) x → EachAfter P front (xs ++ x ∷ [])
 each_more P front [] x all is = (subst (λ l. P l x) (append-nil front) is, tt)
 each_more P front (y ∷ ys) x (now, rest) is = (now, each_more P (front ++ y ∷ []) ys x rest (subst (λ l. P l x) (sym (append_assoc front (y ∷ []) ys)) is))
 
@@ -60,10 +59,10 @@ module _ (near far : Policy) where
   }
 
   -- what the near host heard, the far one said
-  options_succeed : (turns : List Turn) → AreRead near far turns → Well near far turns → OptionsSucceed (pair_of near far turns).near.run.said
-  options_succeed turns read well Out identifier peer flags result options stood = well.answers.near_answers identifier peer flags result options stood
+  pub options_succeed : (turns : List Turn) → AreRead near far turns → AnswerWell near far turns → OptionsSucceed (pair_of near far turns).near.run.said
+  options_succeed turns read well Out identifier peer flags result options stood = well.near_answers identifier peer flags result options stood
   options_succeed turns read well Into identifier peer flags result options stood =
-      well.answers.far_answers identifier peer flags result options (pledges-were_said near far turns read Near (command_with identifier (configuration_response peer flags result options)) refl stood)
+      well.far_answers identifier peer flags result options (pledges-were_said near far turns read Near (command_with identifier (configuration_response peer flags result options)) refl stood)
 
   remains_ahead : (past later : List Turn) (own : ℕ) → Remains own (pair_of near far (past ++ later)).far.run.said → Remains own (pair_of near far past).far.run.said
   remains_ahead past later own stays = record {
@@ -138,7 +137,7 @@ module _ (near far : Policy) where
           subst (λ (p : Pair). AllKept own p.near.run.value) (sym (next past Near happening orderly well stays holds))
           (near-kept own near (pair_of near far past) happening (end-policy near far past Near) (each-end_runs near far past).0 (withstands past Near happening orderly well stays holds own mine)
           (now_read past Near happening orderly well stays holds) (now_carried past Near happening orderly well stays holds) holds.coming
-          (subst (λ (p : Pair). OptionsSucceed p.near.run.said) (next past Near happening orderly well stays holds) (options_succeed (past ++ record { side = Near; happening = happening } ∷ []) orderly.read well)) (holds.kept own mine));
+          (subst (λ (p : Pair). OptionsSucceed p.near.run.said) (next past Near happening orderly well stays holds) (options_succeed (past ++ record { side = Near; happening = happening } ∷ []) orderly.read well.answers)) (holds.kept own mine));
       coming = subst (λ (p : Pair). AllByRecursion IsSingle p.near.coming) (sym (next past Near happening orderly well stays holds)) (near-single (pair_of near far past) happening holds.coming);
     }
     turn_holds past Far happening orderly well stays holds = record {
@@ -150,8 +149,8 @@ module _ (near far : Policy) where
           (far-single (turned (pair_of near far past)) happening (now_read past Far happening orderly well stays holds) holds.coming);
     }
 
-    all_stay : (turns : List Turn) → AreOrderly near far turns → Well near far turns → (past later : List Turn) → turns ≡ past ++ later → StaysThere near far past → Holds past → StaysThere near far turns
-    all_stay turns orderly well past [] is stays holds = subst (StaysThere near far) (sym (is ∙ append-nil past)) stays
+    all_stay : (turns : List Turn) → AreOrderly near far turns → Well near far turns → (past later : List Turn) → turns ≡ past ++ later → StaysThere near far past → Holds past → StaysThere near far turns × Holds turns
+    all_stay turns orderly well past [] is stays holds = subst (λ list. StaysThere near far list × Holds list) (sym (is ∙ append-nil past)) (stays, holds)
     all_stay turns orderly well past (turn ∷ later) is stays holds =
         let further : turns ≡ (past ++ turn ∷ []) ++ later = is ∙ sym (append_assoc past (turn ∷ []) later) in
         let so = orderly_ahead near far (past ++ turn ∷ []) later (subst (AreOrderly near far) further orderly) in
@@ -164,10 +163,19 @@ module _ (near far : Policy) where
         })
         (turn_holds past turn.side turn.happening so also stays holds)
 
+    both_stay : (turns : List Turn) → AreOrderly near far turns → Well near far turns → StaysThere near far turns × Holds turns
+    both_stay turns orderly well =
+        all_stay turns orderly well [] turns refl
+        (record { peer = tt; near_answers = λ identifier peer flags result options stands. elim stands [ ]; far_answers = λ identifier peer flags result options stands. elim stands [ ] }) (record { kept = λ own remains. tt; coming = tt })
+
 pub few-turns_keep_peers : MetIsHeeded → FewDisturbancesForgoNone → EndsAreMet → OptionsAreMet → StayingRemains → FewUpsetsEndNone → CalmIsQuiet → EndsAreAskedFor → AnsweredEndsAreEnded → MachinesArePaid → FewTurnsEndNone → FewTurnsKeepPeers
 few-turns_keep_peers heeded forgo ends_met options_met remaining few_end calm asked_for ended paid go near far turns can orderly few answers =
-    all_stay near far heeded forgo ends_met options_met remaining few_end calm asked_for ended paid go can turns orderly (record { few_machines = few; answers = answers }) [] turns refl
-    (record { peer = tt; near_answers = λ identifier peer flags result options stands. elim stands [ ]; far_answers = λ identifier peer flags result options stands. elim stands [ ] }) (record { kept = λ own remains. tt; coming = tt })
+    (both_stay near far heeded forgo ends_met options_met remaining few_end calm asked_for ended paid go can turns orderly (record { few_machines = few; answers = answers })).0
+
+pub few-turns_close_none : MetIsHeeded → FewDisturbancesForgoNone → EndsAreMet → OptionsAreMet → StayingRemains → FewUpsetsEndNone → CalmIsQuiet → EndsAreAskedFor → AnsweredEndsAreEnded → MachinesArePaid → FewTurnsEndNone → FewTurnsCloseNone
+few-turns_close_none heeded forgo ends_met options_met remaining few_end calm asked_for ended paid go near far turns can orderly few answers =
+    let (stays, holds) = both_stay near far heeded forgo ends_met options_met remaining few_end calm asked_for ended paid go can turns orderly (record { few_machines = few; answers = answers }) in
+    record { kept = holds.kept; forgoes = far_forgoes heeded forgo ends_met options_met remaining few_end calm near far can turns orderly stays }
 
 pub few-turns_end_none_of_both : FewTurnsKeepPeers → FewTurnsEndNone → FewTurnsEndNoneOfBoth
 few-turns_end_none_of_both keep go near far turns can orderly few answers = go near far turns can orderly (keep near far turns can orderly few answers)

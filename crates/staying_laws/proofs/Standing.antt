@@ -15,7 +15,7 @@ use Rattle.channel_laws.specs.Signals.{StandsIn}
 use Rattle.channel_laws.proofs.Saying.{stands-right}
 use Rattle.lasting_laws.specs.Lasting.{OptionsSucceed}
 use Rattle.lasting_laws.proofs.Lasting.{less-succeed}
-use Rattle.staying_laws.proofs.Kept.{AllKept}
+use Rattle.staying_laws.specs.Stays.{AllKept}
 use Rattle.staying_laws.proofs.Occurring.{IsSpared, occurs as keeps}
 
 -- ---- what is under way

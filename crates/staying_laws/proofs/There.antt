@@ -32,13 +32,14 @@ use Rattle.recovered_laws.specs.Paid.{IsThere}
 use Rattle.channel_laws.specs.Belonging.{HasAsked}
 use Rattle.forgoing_laws.specs.Forgone.{ForgoesNoEnd}
 use Rattle.channel_laws.specs.channel_model.proofs.Lookups.{own_of, found-has}
-use Rattle.staying_laws.proofs.Kept.{IsKept, AllKept, found-kept}
+use Rattle.staying_laws.specs.Stays.{IsKept, AllKept}
+use Rattle.staying_laws.proofs.Kept.{found-kept}
 use Rattle.staying_laws.proofs.Crossing.{all-crossed}
 
 -- ---- one host
 
 -- it has not closed the channel
-abbrev IsLive : Stage → Type 0
+abbrev pub IsLive : Stage → Type 0
 IsLive (Requested request) = Unit {0}
 IsLive (Connected peer setup) = Unit {0}
 IsLive (Leaving peer setup request) = Unit {0}

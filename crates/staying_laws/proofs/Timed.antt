@@ -22,7 +22,8 @@ use Rattle.channel_laws.specs.channel_model.proofs.Lookups.{own_of, Distinct, eq
 use Rattle.lasting_laws.specs.Lasting.{OutlastsTimer, IsUnspent}
 use Rattle.lasting_laws.proofs.Kept.{all-placed, all-left, all-found}
 use Rattle.lasting_laws.proofs.Timed.{StageLasts, each-found}
-use Rattle.staying_laws.proofs.Kept.{IsKept, KeptAt, AllKept, kept-with}
+use Rattle.staying_laws.specs.Stays.{IsKept, KeptAt, AllKept}
+use Rattle.staying_laws.proofs.Kept.{kept-with}
 
 -- ---- a machine that outlasts the timer does so again
 

@@ -2,4 +2,4 @@ use Rattle.option_costs.proofs.Paying.{options-cost_words}
 use Rattle.option_costs.proofs.options_cost_words.Goals as goal
 
 pub returns : goal.returns
-returns c = options-cost_words c.identifiers_rise_on_links.ensures c.options_are_met.ensures c.requests_cost_words.ensures
+returns c = options-cost_words c.tries_are_kept.ensures c.options_of_left_are_counted.ensures c.few_words_go_on.ensures c.requests_cost_words.ensures

@@ -1,5 +1,0 @@
-use Rattle.option_costs.proofs.Paying.{staying-options_cost_words}
-use Rattle.option_costs.proofs.staying_options_cost_words.Goals as goal
-
-pub returns : goal.returns
-returns c = staying-options_cost_words c.tries_are_kept.ensures c.options_of_left_are_counted.ensures c.few_words_go_on.ensures c.requests_cost_words.ensures

@@ -1,0 +1,4 @@
+pub mod Coming
+pub mod Unheard
+pub mod Unclosed
+pub mod InTime

@@ -1,0 +1,3 @@
+pub use Rattle.accepting_laws
+pub use Rattle.staying_laws
+pub mod Timely
