@@ -1,4 +1,4 @@
--- How often host a of a run gives its requests for the ends of channels, against the words of the run (Core 5.1, Volume 3 Part A, 4.6 and 6.2.1).
+-- How often the hosts of a run give their requests for the ends of channels, against the words of the run (Core 5.1, Volume 3 Part A, 4.6 and 6.2.1).
 use Rattle.std.specs.Prelude.{ℕ, List, Option}
 use Rattle.pair_laws.specs.bt_base.specs.Objects.{Contents}
 use Rattle.pair_laws.specs.push_script.specs.declared.scenario.Scenario.{Scenario}
@@ -18,13 +18,15 @@ use Rattle.pair_laws.specs.Costs.{adverse_in, IsPaidBy, RequestsPaid}
 use Rattle.pair_laws.specs.OnLinks.{happened_on}
 use Rattle.pair_laws.specs.Within.{BothSendWithin}
 
--- On each link host a's requests for ends are paid.
+-- On each link the requests for ends of both hosts are paid.
 pub record EndsPaid (asks : HostsAsk) (scenario : Scenario) (content : Option Contents) (capture : List Entry) (ran : Ran scenario content capture) : Type 0 where
   pub requests : RequestsPaid asks scenario content capture ran
   -- host b grants one endpoint alone to each of host a's
   pub apart : (number : ℕ) → GrantsApart (pair_of (client_profile scenario.settings).policy (server_profile scenario.settings content).policy (requests.pairs.turns.pairs.pairs number).turns).far.run.said
   pub ends : (number own : ℕ) → IsPaidBy (adverse_in (all_words ran.happenings)) (client_profile scenario.settings).policy
       (happened_on (client_profile scenario.settings) (asks.clients scenario.settings) sides.A capture ran.world.a.upper requests.pairs.turns.pairs.a number) (errands.Disconnection own)
+  pub far_ends : (number own : ℕ) → IsPaidBy (adverse_in (all_words ran.happenings)) (server_profile scenario.settings content).policy
+      (happened_on (server_profile scenario.settings content) (asks.servers scenario.settings content) sides.B capture ran.world.b.upper requests.pairs.turns.pairs.b number) (errands.Disconnection own)
 
 abbrev pub EndsCostWords : Type 0
 EndsCostWords = (asks : HostsAsk) (scenario : Scenario) (content : Option Contents) (capture : List Entry) (ran : Ran scenario content capture)
