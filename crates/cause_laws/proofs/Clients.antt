@@ -2,6 +2,7 @@
 use Rattle.std.proofs.Common.{◌≡◌, ℕ, zero, suc, Bool, true, false, not, ◌&&◌, ◌||◌, ◌==◌, List, [], ◌∷◌, ◌++◌, length, Option, Some, None, is_none, Result, Ok, Err, refl, sym, ap, subst, ◌∙◌, if◌then◌else◌}
 use Rattle.std.specs.Prelude.{nat_lt, IfSome}
 use Rattle.std.specs.List.{AllByRecursion}
+use Rattle.std.proofs.lemmas.Bool.{eqb-true}
 use Rattle.scenario_laws.specs.bt_base.specs.declared.ports.PortFault.{PortFault}
 use Rattle.scenario_laws.specs.bt_base.specs.declared.ports.PortFault.TheVariants as fault
 use Rattle.scenario_laws.specs.bt_base.specs.declared.settings.Transport.{Transport}
@@ -52,7 +53,7 @@ abbrev pub is_any : Outcome → Bool
 is_any RetryLimit = true
 is_any ShelfFault = true
 is_any PeerClosed = true
-is_any (PeerFault layer reason) = may_blame layer
+is_any (PeerFault layer reason) = layer == 2
 is_any outcome = false
 
 -- those that no SDU decides
@@ -61,6 +62,7 @@ is_unsaid outcome = is_none (decision_of outcome)
 
 -- and those that come of an SDU besides
 abbrev pub is_heard : Outcome → Bool
+is_heard (PeerFault layer reason) = may_blame layer
 is_heard outcome = is_any outcome || not (is_unsaid outcome)
 
 pub any_unsaid : (outcome : Outcome) → is_any outcome ≡ true → is_unsaid outcome ≡ true
@@ -85,6 +87,7 @@ Within q None = Unit {0}
 Within q (Some outcome) = q outcome ≡ true
 
 pub any_heard : (outcome : Outcome) → is_any outcome ≡ true → is_heard outcome ≡ true
+any_heard (PeerFault layer reason) is = ap may_blame (eqb-true layer 2 is)
 any_heard outcome is = ap (λ (b : Bool). b || not (is_unsaid outcome)) is
 
 pub within_more : (p q : Outcome → Bool) → ((outcome : Outcome) → p outcome ≡ true → q outcome ≡ true) → (shown : Option Outcome) → Within p shown → Within q shown
@@ -150,7 +153,7 @@ is_responded outcome = false
 responded_heard : (outcome : Outcome) → is_responded outcome ≡ true → is_heard outcome ≡ true
 responded_heard Done is = refl
 responded_heard (Refused code) is = refl
-responded_heard (PeerFault layer reason) is = any_heard (PeerFault layer reason) is
+responded_heard (PeerFault layer reason) is = is
 responded_heard outcome is = cc
 
 says_responds : (answered : Answered) → Within is_responded (says answered)

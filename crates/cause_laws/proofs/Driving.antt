@@ -51,7 +51,6 @@ use Rattle.scenario_laws.specs.host_laws.proofs.OnwardSteps.{IsSo, keeps_so}
 use Rattle.scenario_laws.specs.host_laws.specs.Feeds.{Learns, Happens, Sent, Steps}
 use Rattle.scenario_laws.specs.host_laws.specs.Pushing.{Affair, Begins, Does, client_behind, end_asked, link_asked, then_ends, then_calls, closed_pushed, event_pushed, sent_pushed, step_pushed}
 use Rattle.scenario_laws.specs.host_laws.proofs.Pushing.{feed_so}
-use Rattle.cause_laws.specs.FirstCauses.{may_blame}
 use Rattle.cause_laws.proofs.Clients.{never, is_shelf, is_unsaid, either, Within, within_more, ShowsWithin, asks_within, Came, came_same, came_then, came_more, IsWithin, came_behind, HasCome, has_come, over_comes, lame_behind, begins_shelf}
 use Rattle.cause_laws.proofs.Profiles.{came_fed, keeps_lame, well_before, cancelled_so}
 
@@ -61,7 +60,7 @@ use Rattle.cause_laws.proofs.Profiles.{came_fed, keeps_lame, well_before, cancel
 abbrev pub is_timed : Outcome → Bool
 is_timed RetryLimit = true
 is_timed ShelfFault = true
-is_timed (PeerFault layer reason) = may_blame layer
+is_timed (PeerFault layer reason) = layer == 2
 is_timed outcome = false
 
 -- of the end of a link

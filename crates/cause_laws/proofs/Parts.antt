@@ -1,10 +1,10 @@
 -- How the part of a push stands, as its outcome is so far; and which entries bring which outcomes about.
-use Rattle.std.proofs.Common.{◌≡◌, ℕ, Bool, true, false, not, ◌||◌, ◌==◌, List, [], ◌∷◌, ◌++◌, Option, Some, None, refl, sym, ap, subst, ◌∙◌, append_assoc, inl, inr}
+use Rattle.std.proofs.Common.{◌≡◌, ℕ, Bool, true, false, not, ◌&&◌, ◌||◌, ◌==◌, List, [], ◌∷◌, ◌++◌, Option, Some, None, refl, sym, ap, subst, ◌∙◌, append_assoc, inl, inr}
 use Rattle.std.proofs.lemmas.Bool.{eqb-true}
 use Rattle.scenario_laws.specs.push_terms.specs.declared.outcome.Outcome.{Outcome}
 use Rattle.scenario_laws.specs.push_terms.specs.declared.outcome.Outcome.TheVariants.{LinkLost, RetryLimit, ShelfFault, Cancelled as PushCancelled, PeerClosed, PeerFault, ScriptEnded}
 use Rattle.scenario_laws.specs.capture.specs.Entries.{Entry}
-use Rattle.cause_laws.specs.FirstCauses.{is_cancel, is_piece, end_reason, is_firing, IsLoss, may_blame, BringsAbout, IsNoCause, AreNoCauses, AreNotCancelled, IsBroughtAbout, HasCause}
+use Rattle.cause_laws.specs.FirstCauses.{is_cancel, is_piece, end_reason, is_firing, IsLoss, may_blame, finds_fault, BringsAbout, IsNoCause, AreNoCauses, AreNotCancelled, IsBroughtAbout, HasCause}
 use Rattle.cause_laws.proofs.Clients.{never, is_any, is_heard, is_shelf, Came, HasCome}
 use Rattle.cause_laws.proofs.Driving.{is_timed, is_gone}
 
@@ -87,20 +87,19 @@ brought_by outcome part entry all brings = record { before = part; entry = entry
 
 pub fired_brings : (entry : Entry) → is_cancel entry ≡ false → (is_piece entry || is_firing entry) ≡ true → Brings is_timed entry
 fired_brings entry plain fires RetryLimit part is all = brought_by RetryLimit part entry all fires
-fired_brings entry plain fires (PeerFault layer reason) part is all = brought_by (PeerFault layer reason) part entry all (is, fires)
+fired_brings entry plain fires (PeerFault layer reason) part is all = brought_by (PeerFault layer reason) part entry all (subst (λ (n : ℕ). finds_fault n entry ≡ true) (sym (eqb-true layer 2 is)) fires)
 fired_brings entry plain fires ShelfFault part is all = all_more part entry plain (not_cancelled_of part all)
 fired_brings entry plain fires outcome part is all = never is
 
-or_false : (b : Bool) → (b || false) ≡ true → b ≡ true
-or_false true is = refl
-or_false false is = is
+piece_finds : (layer : ℕ) (entry : Entry) → is_piece entry ≡ true → may_blame layer ≡ true → finds_fault layer entry ≡ true
+piece_finds layer entry piece may = ap (λ (b : Bool). (b && is_piece entry) || ((layer == 2) && is_firing entry)) may ∙ ap (λ (b : Bool). b || ((layer == 2) && is_firing entry)) piece
 
 pub piece_brings : (entry : Entry) → is_cancel entry ≡ false → is_piece entry ≡ true → Brings is_heard entry
 piece_brings entry plain piece LinkLost part is all = never is
 piece_brings entry plain piece PushCancelled part is all = never is
 piece_brings entry plain piece ScriptEnded part is all = never is
 piece_brings entry plain piece RetryLimit part is all = brought_by RetryLimit part entry all (ap (λ (b : Bool). b || is_firing entry) piece)
-piece_brings entry plain piece (PeerFault layer reason) part is all = brought_by (PeerFault layer reason) part entry all (or_false (may_blame layer) is, ap (λ (b : Bool). b || is_firing entry) piece)
+piece_brings entry plain piece (PeerFault layer reason) part is all = brought_by (PeerFault layer reason) part entry all (piece_finds layer entry piece is)
 piece_brings entry plain piece PeerClosed part is all = brought_by PeerClosed part entry all (inl piece)
 piece_brings entry plain piece ShelfFault part is all = all_more part entry plain (not_cancelled_of part all)
 piece_brings entry plain piece outcome part is all = brought_by outcome part entry all piece

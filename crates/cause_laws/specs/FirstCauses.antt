@@ -91,14 +91,19 @@ IsLoss (Some reason) = (reason == 0x13) ≡ false
 abbrev pub may_blame : (layer : ℕ) → Bool
 may_blame layer = nat_le 2 layer && nat_le layer 5
 
+-- an entry with which the peer may be found at fault of it: a piece of a PDU, or, of L2CAP, a word with which the timer of host a fires
+abbrev pub finds_fault : (layer : ℕ) → Entry → Bool
+finds_fault layer entry = (may_blame layer && is_piece entry) || ((layer == 2) && is_firing entry)
+
 -- The entry that brings an outcome about. A response, and what service discovery answers, come in a piece of a PDU; the link of host a is lost where it is
--- told so; and a push is cancelled by that word. The peer closes a channel by a PDU too, or it ends the link as its user; and a limit is met, or the peer at fault
--- above HCI, with a PDU or where a word is turned with which the timer of host a fires. The shelf's fault, and the end of the script, need none.
+-- told so; and a push is cancelled by that word. The peer closes a channel by a PDU too, or it ends the link as its user; it is at fault above HCI with a PDU; and a limit
+-- is met with one too. Where a word is turned with which the timer of host a fires, a limit is met besides, or the peer at fault of L2CAP. The shelf's fault, and the end of
+-- the script, need none.
 abbrev pub BringsAbout : Outcome → Entry → Type 0
 BringsAbout LinkLost entry = IsLoss (end_reason entry)
 BringsAbout Cancelled entry = is_cancel entry ≡ true
 BringsAbout RetryLimit entry = (is_piece entry || is_firing entry) ≡ true
-BringsAbout (PeerFault layer reason) entry = (may_blame layer ≡ true) × ((is_piece entry || is_firing entry) ≡ true)
+BringsAbout (PeerFault layer reason) entry = finds_fault layer entry ≡ true
 BringsAbout PeerClosed entry = (is_piece entry ≡ true) ⊎ (end_reason entry ≡ Some 0x13)
 BringsAbout ShelfFault entry = ⊥
 BringsAbout ScriptEnded entry = ⊥

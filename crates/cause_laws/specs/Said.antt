@@ -84,7 +84,8 @@ AreAmong [] all = Unit {0}
 AreAmong (one ∷ some) [] = ⊥
 AreAmong (one ∷ some) (first ∷ all) = ((one ≡ first) × AreAmong some all) ⊎ AreAmong (one ∷ some) all
 
--- a frame of a user channel: behind the octets of some frames that had come in on the link, in their order, a packet ends in its own that is such a one
+-- a frame of a user channel: behind the octets of some frames that had come in on the link, on whatever channel, in their order, a packet ends in its own that is such
+-- a one
 pub record IsCarried (Is : List ℕ → Type 0) (ahead : List Saying) (octets : List ℕ) : Type 0 where
   pub frame : PlainFrame
   pub is : frame_answer octets ≡ Ok frame

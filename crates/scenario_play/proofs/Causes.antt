@@ -1,5 +1,5 @@
 -- The capture of a played scenario shows why its pushes ended.
-use Rattle.std.proofs.Common.{◌≡◌, ℕ, List, ◌++◌, Option, sym, ap, subst, ◌∙◌}
+use Rattle.std.proofs.Common.{ℕ, List, ◌++◌, Option, sym, ap, subst, ◌∙◌}
 use Rattle.bt_base.specs.Objects.{Object, Contents}
 use Rattle.noting_laws.specs.obex_session.specs.Counting.{Counts}
 use Rattle.push_script.specs.declared.scenario.Scenario.{Scenario}
@@ -11,6 +11,8 @@ use Rattle.drop_laws.specs.cause_laws.specs.FirstCauses.{CausesAreShown}
 use Rattle.drop_laws.specs.cause_laws.proofs.Runs.{runs_show_causes}
 use Rattle.drop_laws.specs.Dropped.{LossesAreDrops}
 use Rattle.drop_laws.proofs.Runs.{runs_lose_by_drops}
+use Rattle.blame_laws.specs.Blamed.{SparesRecords}
+use Rattle.blame_laws.proofs.Runs.{runs_spare_records}
 use Rattle.scenario_play.specs.Breaking.{IsBroken}
 use Rattle.scenario_play.specs.Playing.{IsPlayed}
 
@@ -33,3 +35,13 @@ losses_shown scenario shelf before after trace trace' outcomes peaks counts coun
 
 pub losses_so_far : (scenario : Scenario) (shelf : Option (List Object)) (before after : Option Contents) (trace trace' : Option (List ℕ)) (counts counts' : Counts) (broken : IsBroken scenario shelf before after trace trace' counts counts') → LossesAreDrops (all_entries broken.happenings)
 losses_so_far scenario shelf before after trace trace' counts counts' broken = runs_lose_by_drops.moments scenario before broken.happenings broken.world broken.happened broken.able
+
+-- and that none blames service discovery
+pub records_spared : (scenario : Scenario) (shelf : Option (List Object)) (before after : Option Contents) (trace trace' : Option (List ℕ)) (outcomes : List Outcome) (peaks : Peaks) (counts counts' : Counts) (played : IsPlayed scenario shelf before after trace trace' outcomes peaks counts counts')
+    → SparesRecords played.capture
+records_spared scenario shelf before after trace trace' outcomes peaks counts counts' played =
+    let ran = played.finished.ran in
+    subst SparesRecords (sym (ran.capture_is ∙ ap (λ (ends : List Entry). all_entries ran.happenings ++ ends) played.ends)) (runs_spare_records.ends scenario before ran.happenings ran.world ran.happened)
+
+pub records_spared_so_far : (scenario : Scenario) (shelf : Option (List Object)) (before after : Option Contents) (trace trace' : Option (List ℕ)) (counts counts' : Counts) (broken : IsBroken scenario shelf before after trace trace' counts counts') → SparesRecords (all_entries broken.happenings)
+records_spared_so_far scenario shelf before after trace trace' counts counts' broken = runs_spare_records.moments scenario before broken.happenings broken.world broken.happened

@@ -1,4 +1,5 @@
 pub use Rattle.noting_laws.specs.air_laws
+pub use Rattle.blame_laws
 pub use Rattle.capture
 pub use Rattle.drop_laws.specs.cause_laws
 pub use Rattle.credit_laws

@@ -1,0 +1,10 @@
+//! Laws of which layers of its peer no push blames, over the capture of a run alone, whatever shelf and inbox answer and whatever the script says.
+#![tactic(auto)]
+
+ghost use Rattle.blame_laws.specs.Blamed.{RunsSpareRecords};
+
+/// No push of a run ends with its peer at fault of service discovery: each reply that comes to host a there is the one that host b gives to its request, whole, and it
+/// names a service. That is so over either transport, whatever a link loses, repeats, cuts and damages (Core 5.1, Volume 3 Part B, 4.2 and 4.7).
+pub fn runs_spare_records()
+    ensures { RunsSpareRecords }
+{}
