@@ -1,5 +1,5 @@
--- In each run over L2CAP the last link of host b on which anything is spelled spells one object, where host a's client is done.
-use Rattle.std.proofs.Common.{arith, ◌≡◌, ◌⊎◌, inl, inr, ℕ, true, false, List, [], ◌∷◌, ◌++◌, length, map, Some, None, refl, sym, ap, subst, ◌∙◌, append-nil, append_assoc}
+-- In each run over L2CAP the last link of host b spells one object, where host a's client is done.
+use Rattle.std.proofs.Common.{arith, ◌≡◌, ◌≤◌, ◌⊎◌, inl, inr, ℕ, true, false, List, [], ◌∷◌, ◌++◌, length, map, Some, None, refl, sym, ap, subst, ◌∙◌, append-nil, append_assoc}
 use Rattle.std.specs.Prelude.{get_or}
 use Rattle.std.specs.List.{AllByRecursion, AllZip, flat_map}
 use Rattle.std.proofs.lemmas.List.{map-append}
@@ -17,7 +17,7 @@ use Rattle.tape_laws.specs.capture.specs.Pdus.{Pdu, pdus}
 use Rattle.tape_laws.specs.link_talk.specs.declared.party.Party.{Party}
 use Rattle.tape_laws.specs.link_talk.specs.Captures.{talks}
 use Rattle.tape_laws.specs.link_talk.specs.ObjectsHeard.{objects as objects_on}
-use Rattle.tape_laws.specs.link_talk.specs.Sayings.{said_by, talk}
+use Rattle.tape_laws.specs.link_talk.specs.Sayings.{Saying, said_by, talk}
 use Rattle.tape_laws.specs.push_model.specs.Client.{new_client, own_maximum}
 use Rattle.tape_laws.specs.push_laws.specs.Laws.{new_over}
 use Rattle.tape_laws.specs.push_laws.specs.Occurrences.{Occurrence}
@@ -34,7 +34,7 @@ use Rattle.tape_laws.specs.host_laws.specs.Calm.{pdus_in}
 use Rattle.tape_laws.specs.host_laws.specs.Gaining.{IsDirect}
 use Rattle.tape_laws.specs.host_laws.specs.GainingOver.{CarriesOne}
 use Rattle.tape_laws.specs.host_laws.specs.Lives.{Span}
-use Rattle.tape_laws.specs.host_laws.specs.OverLinks.{parts, moved_in, IsTalkOf, AreTimely}
+use Rattle.tape_laws.specs.host_laws.specs.OverLinks.{parts, talk_marks, moved_in, IsTalkOf, AreTimely}
 use Rattle.tape_laws.specs.host_laws.specs.Pushing.{pushed_from}
 use Rattle.tape_laws.specs.host_laws.specs.ShelfAnswers.{AnswersOf}
 use Rattle.tape_laws.specs.host_laws.specs.Spoken.{IsServed}
@@ -46,10 +46,10 @@ use Rattle.tape_laws.specs.host_laws.proofs.InOrder.{asks-nothing}
 use Rattle.tape_laws.specs.host_laws.proofs.ShelfAnswers.{clients_are_given_objects}
 use Rattle.tape_laws.specs.host_laws.proofs.Spoken.{all-out}
 use Rattle.tape_laws.specs.scenario_laws.specs.Captures.{Ran}
-use Rattle.tape_laws.specs.scenario_laws.specs.Coming.{FallTo}
+use Rattle.tape_laws.specs.scenario_laws.specs.Coming.{out_of}
 use Rattle.tape_laws.specs.scenario_laws.specs.Gains.{holding}
 use Rattle.tape_laws.specs.scenario_laws.specs.Parties.{party_of}
-use Rattle.tape_laws.specs.scenario_laws.proofs.Gaining.{spelled_on, all_spell, link_talks}
+use Rattle.tape_laws.specs.scenario_laws.proofs.Gaining.{all_spell, all-out as unsent-out}
 use Rattle.tape_laws.specs.scenario_laws.proofs.Wishes.{states_frame}
 use Rattle.tape_laws.specs.shelf_model.specs.Held.{longest_octets}
 use Rattle.tape_laws.specs.pair_laws.specs.InTurn.{PairsInTurn}
@@ -72,11 +72,11 @@ use Rattle.tape_laws.specs.request_laws.proofs.Summing.{both_ask}
 use Rattle.tape_laws.specs.request_laws.proofs.Timely.{HearsNothing}
 use Rattle.tape_laws.specs.request_laws.proofs.Told.{none_longer, all_answer}
 use Rattle.tape_laws.specs.Once.{SpendsOnce}
+use Rattle.tape_laws.proofs.Falling.{IsCaptured, falls_last}
 use Rattle.done_laws.specs.Kept.{client_of, SpellsHere, SpellEach}
-use Rattle.done_laws.specs.Lasting.{LastSpellsOne}
 use Rattle.done_laws.proofs.Kept.{serve_front, pushes-spell_each}
 use Rattle.done_laws.proofs.Lasts.{one_object}
-use Rattle.done_laws.proofs.Linked.{here_gained, side_gained, one_on, none_on, zip_split, at_place, FallsHere, falls_here}
+use Rattle.done_laws.proofs.Linked.{here_gained, side_gained, one_on, zip_split, at_place}
 use Rattle.done_laws.proofs.Off.{HasDone, between_off, turned_off}
 
 -- ---- of the last push
@@ -92,22 +92,21 @@ all_lists : (E : List channels.Occurrence → Type 0) (spans : List Span) (now :
 all_lists E [] now all last = (last, tt)
 all_lists E (span ∷ spans) now all last = (all.0, all_lists E spans now all.1 last)
 
-record SplitLinks (list : List Link) (ahead : List (List Pdu)) (link : List Pdu) (rest : List (List Pdu)) : Type 0 where
-  before : List Link
-  one : Link
-  after : List Link
-  list_is : list ≡ before ++ one ∷ after
-  one_is : pdus one ≡ link
-  after_are : map pdus after ≡ rest
+split_links : (list : List Link) (ahead : List (List Pdu)) (link : List Pdu) → map pdus list ≡ ahead ++ link ∷ [] → (before : List Link) × (one : Link) × (list ≡ before ++ one ∷ []) × (pdus one ≡ link)
+split_links [] [] link is = cc
+split_links [] (first ∷ ahead) link is = cc
+split_links (one ∷ []) [] link is = ([], one, refl, cc)
+split_links (one ∷ other ∷ list) [] link is = cc
+split_links (one ∷ list) (first ∷ ahead) link is =
+    let later : map pdus list ≡ ahead ++ link ∷ [] = cc in let so = split_links list ahead link later in (one ∷ so.0, so.1, ap (λ (l : List Link). one ∷ l) so.2, so.3)
 
-split_links : (list : List Link) (ahead : List (List Pdu)) (link : List Pdu) (rest : List (List Pdu)) → map pdus list ≡ ahead ++ link ∷ rest → SplitLinks list ahead link rest
-split_links [] [] link rest is = cc
-split_links [] (first ∷ ahead) link rest is = cc
-split_links (one ∷ list) [] link rest is = record { before = []; one = one; after = list; list_is = refl; one_is = cc; after_are = cc }
-split_links (one ∷ list) (first ∷ ahead) link rest is =
-    let later : map pdus list ≡ ahead ++ link ∷ rest = cc in
-    let so = split_links list ahead link rest later in
-    record { before = one ∷ so.before; one = so.one; after = so.after; list_is = ap (λ (l : List Link). one ∷ l) so.list_is; one_is = so.one_is; after_are = so.after_are }
+-- the last of these links spells one object
+pub record SpellsLast (party : Party) (links : List (List Saying)) : Type 0 where
+  pub ahead : List (List Saying)
+  pub last : List Saying
+  pub links_are : links ≡ ahead ++ last ∷ []
+  pub object : Object
+  pub spelled : objects_on party last ≡ object ∷ []
 
 -- ---- a part that spells one object, and the links
 
@@ -121,44 +120,38 @@ module _ (settings : Settings) where
   abbrev spells_of : List Talk → List Object
   spells_of part = objects_on (party_of settings sides.B) (moved_in part)
 
-  -- nothing is spelled behind it
-  after_none : (rest : List (List channels.Occurrence)) (after : List (List Talk)) → AllZip (IsTalkOf (policy settings true)) rest after → (rest ≡ []) ⊎ ((last : List channels.Occurrence) × (rest ≡ last ∷ []) × AllByRecursion HearsNothing last) → flat_map spells_of after ≡ []
-  after_none [] [] zip place = refl
-  after_none [] (part ∷ after) zip place = absurd zip
-  after_none (list ∷ rest) [] zip place = absurd zip
-  after_none (list ∷ []) (part ∷ []) zip (inl none) = cc
-  after_none (list ∷ []) (part ∷ []) zip (inr (last, is, deaf)) =
-      let same : last ≡ list = cc in ap (λ (os : List Object). os ++ []) (none_on settings party (states_frame settings true sides.B) list part (subst (AllByRecursion HearsNothing) same deaf) zip.0)
-  after_none (list ∷ []) (part ∷ other ∷ after) zip place = absurd zip.1
-  after_none (list ∷ other ∷ rest) (part ∷ after) zip (inl none) = cc
-  after_none (list ∷ other ∷ rest) (part ∷ after) zip (inr (last, is, deaf)) = cc
+  -- one part at most stands behind it
+  few_behind : (rest : List (List channels.Occurrence)) (after : List (List Talk)) → AllZip (IsTalkOf (policy settings true)) rest after → (rest ≡ []) ⊎ ((last : List channels.Occurrence) × (rest ≡ last ∷ []) × AllByRecursion HearsNothing last) → length after ≤ 1
+  few_behind [] [] zip place = omega arith
+  few_behind [] (part ∷ after) zip place = absurd zip
+  few_behind (list ∷ rest) [] zip place = absurd zip
+  few_behind (list ∷ []) (part ∷ []) zip place = omega arith
+  few_behind (list ∷ []) (part ∷ other ∷ after) zip place = absurd zip.1
+  few_behind (list ∷ other ∷ rest) (part ∷ after) zip (inl none) = cc
+  few_behind (list ∷ other ∷ rest) (part ∷ after) zip (inr (last, is, deaf)) = cc
 
-  part_links : (before : List (List Talk)) (part : List Talk) (after : List (List Talk)) (list : List Link) (object : Object) → FallTo (before ++ part ∷ after) (map pdus list) → AllByRecursion (λ (p : List Talk). IsServed (moved_in p)) (before ++ part ∷ after)
-      → spells_of part ≡ object ∷ [] → flat_map spells_of after ≡ [] → LastSpellsOne (party_of settings sides.B) (map talk list)
-  part_links before part after list object fall served spelled none =
-      let served' = (all_ahead (λ (p : List Talk). IsServed (moved_in p)) before (part ∷ after) served).1 in
-      let some : flat_map pdus_in part ≡ [] → ⊥ =
-      λ nothing. (let never : object ∷ [] ≡ [] = sym spelled ∙ (ap (λ (l : List Pdu). objects_on party (flat_map said_by l)) nothing ∙ all-out party [] tt) in cc) in
-      let here : FallsHere party part after (map pdus list) = falls_here party before part after (map pdus list) fall some in
-      let so = split_links list here.ahead here.link here.rest here.links_are in
-      let one : objects_on party (flat_map said_by here.link) ≡ object ∷ [] =
-      sym (append-nil (objects_on party (flat_map said_by here.link))) ∙ (sym (all_spell party (part ∷ []) (here.link ∷ []) (inr (here.link, [], here.unsent, refl, here.moved, refl)) (served'.0, tt))
+  part_links : (capture : List Entry) (talked : List Talk) → IsCaptured sides.B capture talked → AreTimely false (flat_map talk_marks talked) → (before : List (List Talk)) (part : List Talk) (after : List (List Talk)) (object : Object) → parts talked ≡ before ++ part ∷ after → length after ≤ 1
+      → IsServed (moved_in part) → spells_of part ≡ object ∷ [] → SpellsLast (party_of settings sides.B) (talks sides.B capture)
+  part_links capture talked on timely before part after object are few served spelled =
+      let some : (outs : List (List ℕ)) → flat_map pdus_in part ≡ map out_of outs → ⊥ =
+      λ outs is. (let never : object ∷ [] ≡ [] = sym spelled ∙ (ap (λ (l : List Pdu). objects_on party (flat_map said_by l)) is ∙ all-out party (flat_map said_by (map out_of outs)) (unsent-out outs)) in cc) in
+      let found = falls_last sides.B capture talked on before part after are few timely some in
+      let (earlier, link, list_is, link_is) = split_links (links sides.B capture) found.ahead found.link found.links_are in
+      let one : objects_on party (flat_map said_by found.link) ≡ object ∷ [] =
+      sym (append-nil (objects_on party (flat_map said_by found.link))) ∙ (sym (all_spell party (part ∷ []) (found.link ∷ []) (inr (found.link, [], found.unsent, refl, found.moved_is, refl)) (served, tt))
       ∙ (append-nil (spells_of part) ∙ spelled)) in
-      let rest : spelled_on party here.rest ≡ [] = sym (all_spell party after here.rest here.fall served'.1) ∙ none in
       record {
-        ahead = map talk so.before;
-        last = talk so.one;
-        quiet = map talk so.after;
-        links_are = ap (map talk) so.list_is ∙ map-append talk so.before (so.one ∷ so.after);
+        ahead = map talk earlier;
+        last = talk link;
+        links_are = ap (map talk) list_is ∙ map-append talk earlier (link ∷ []);
         object = object;
-        spelled = ap (λ (l : List Pdu). objects_on party (flat_map said_by l)) so.one_is ∙ one;
-        none = sym (link_talks party so.after) ∙ (ap (spelled_on party) so.after_are ∙ rest);
+        spelled = ap (λ (l : List Pdu). objects_on party (flat_map said_by l)) link_is ∙ one;
       }
 
 -- ---- a run
 
 module _ (scenario : Scenario) (shelf before : List Object) (answers : List Answer) (capture : List Entry) (enough : NoneShort answers) (direct : scenario.settings.transport ≡ L2cap) (ran : Ran scenario (holding before) capture)
-    (turns : PairsInTurn both_ask scenario (holding before) capture ran) where
+    (turns : PairsInTurn both_ask scenario (holding before) capture ran) (captured_b : IsCaptured sides.B capture turns.pairs.b.came.talk) where
   abbrev IsTold : Push → Type 0
   IsTold push = Offered (Some shelf) longest_octets push × GoesToObject push
 
@@ -192,7 +185,7 @@ module _ (scenario : Scenario) (shelf before : List Object) (answers : List Answ
       all_plain (push ∷ pushes) all = (all.0.0, all_plain pushes all.1)
 
   -- and what the capture has of its link
-  of_link : RunOffered NoneShort scenario before capture ran turns → AllServeDirectly NoneShort (new_over scenario.settings before) served → Reached set IsTold HasDone served lists → LastSpellsOne (party_of scenario.settings sides.B) (talks sides.B capture)
+  of_link : RunOffered NoneShort scenario before capture ran turns → AllServeDirectly NoneShort (new_over scenario.settings before) served → Reached set IsTold HasDone served lists → SpellsLast (party_of scenario.settings sides.B) (talks sides.B capture)
   of_link run serve found =
       let settings = scenario.settings in
       let b = turns.pairs.b in
@@ -215,12 +208,11 @@ module _ (scenario : Scenario) (shelf before : List Object) (answers : List Answ
       let packet : (party_of settings sides.B).packet ≡ most = ap (λ (t : Transport). own_maximum t settings) direct in
       let gained : gain (party_of settings sides.B).packet [] (all_served (told_on Q on.list)) ≡ one.0 ∷ [] =
       ap (λ (n : ℕ). gain n [] (all_served (told_on Q on.list))) packet ∙ (sym (side_gained set found.one lists on) ∙ one.1) in
-      part_links settings before_it part after (links sides.B capture) one.0 (subst (λ (ps : List (List Talk)). FallTo ps (map pdus (links sides.B capture))) parts_are b.came.fall) granted
+      part_links settings capture b.came.talk captured_b b.fed.so.timely before_it part after one.0 parts_are (few_behind settings rest after later place) once
       (one_on settings (party_of settings sides.B) (states_frame settings true sides.B) on.list part one.0 carries is once (all_ahead (λ (l : List channels.Occurrence). (run_of Q l).value.events ≡ []) ahead (on.list ∷ rest) events).1.0 gained)
-      (after_none settings rest after later place)
 
   pub last_spells : AllByRecursion (AnswersOf (Some shelf)) turns.pairs.a.fed.so.lives.feeds → SpendsOnce scenario.settings (holding before) answers turns.pairs.b.fed.so.lives.feeds → length turns.pairs.a.fed.so.lives.spans ≡ length turns.pairs.b.fed.so.lives.spans
-      → HasDone ran.world.a.upper.profile.client → LastSpellsOne (party_of scenario.settings sides.B) (talks sides.B capture)
+      → HasDone ran.world.a.upper.profile.client → SpellsLast (party_of scenario.settings sides.B) (talks sides.B capture)
   last_spells told spends level done =
       let settings = scenario.settings in
       let pairs = turns.pairs in

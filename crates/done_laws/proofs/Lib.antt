@@ -9,5 +9,9 @@ pub mod Lasts
 pub mod Off
 pub mod Linked
 pub mod LastSpells
+pub mod Growing
+pub mod Since
 pub mod Runs
 pub mod Ends
+pub mod Holding
+pub mod Stores

@@ -1,16 +1,14 @@
 -- What the packets spell on the last link on which a host heard anything.
-use Rattle.std.proofs.Common.{◌≡◌, ◌⊎◌, inl, inr, ℕ, Bool, true, false, cond, eqb, List, [], ◌∷◌, ◌++◌, length, map, refl, sym, ap, ap₂, ◌∙◌, append-nil}
+use Rattle.std.proofs.Common.{◌≡◌, ◌⊎◌, inl, inr, ℕ, Bool, true, false, cond, eqb, List, [], ◌∷◌, ◌++◌, length, refl, sym, ap, ap₂, ◌∙◌, append-nil}
 use Rattle.std.specs.Prelude.{get_or}
-use Rattle.std.specs.List.{AllByRecursion, AllZip, flat_map, filter_map}
+use Rattle.std.specs.List.{AllByRecursion, AllZip, flat_map}
 use Rattle.std.proofs.lemmas.List.{append_cancel_left}
 use Rattle.std.proofs.lemmas.List.Sums.{fold-append}
 use Rattle.tape_laws.specs.bt_base.specs.declared.settings.Settings.{Settings}
 use Rattle.tape_laws.specs.bt_base.specs.declared.settings.Transport.TheVariants.{L2cap}
 use Rattle.tape_laws.specs.bt_base.specs.Objects.{Object}
-use Rattle.tape_laws.specs.capture.specs.Pdus.{Pdu}
 use Rattle.tape_laws.specs.link_talk.specs.declared.party.Party.{Party}
 use Rattle.tape_laws.specs.link_talk.specs.ObjectsHeard.{objects as objects_on}
-use Rattle.tape_laws.specs.link_talk.specs.Sayings.{said_by}
 use Rattle.tape_laws.specs.push_model.specs.Client.{own_maximum}
 use Rattle.tape_laws.specs.push_model.specs.Server.{object_psm}
 use Rattle.tape_laws.specs.push_laws.specs.Gains.{objects}
@@ -24,23 +22,17 @@ use Rattle.tape_laws.specs.host_laws.specs.channel_model.specs.Value.{no_channel
 use Rattle.tape_laws.specs.host_laws.specs.channel_laws.specs.Runs as channels
 use Rattle.tape_laws.specs.host_laws.specs.channel_laws.specs.Runs.{run_of}
 use Rattle.tape_laws.specs.host_laws.specs.channel_laws.specs.Sdus.{StatesFrame}
-use Rattle.tape_laws.specs.host_laws.specs.Calls.{outer}
-use Rattle.tape_laws.specs.host_laws.specs.Calm.{pdus_in}
 use Rattle.tape_laws.specs.host_laws.specs.Fed.{woven_feeds}
 use Rattle.tape_laws.specs.host_laws.specs.Feeds.{Tiding, Brings, Tells, Turns, tidings_of, tidings_from}
 use Rattle.tape_laws.specs.host_laws.specs.Gaining.{IsDirect, IsNoSdu}
 use Rattle.tape_laws.specs.host_laws.specs.GainingOver.{CarriesOne}
 use Rattle.tape_laws.specs.host_laws.specs.OverLinks.{moved_in, IsTalkOf}
-use Rattle.tape_laws.specs.host_laws.specs.Seen.{pdu_of}
 use Rattle.tape_laws.specs.host_laws.specs.Spoken.{IsServed}
 use Rattle.tape_laws.specs.host_laws.specs.Told.{told_on}
 use Rattle.tape_laws.specs.host_laws.proofs.Gaining.{all_served, feeds_same, link_gain}
 use Rattle.tape_laws.specs.host_laws.proofs.GainingOver.{none_told}
 use Rattle.tape_laws.specs.host_laws.proofs.Gains.{state, states, gain, gain-both, gain-still, gain-over, objects-are_gained}
-use Rattle.tape_laws.specs.host_laws.proofs.OverLinks.{part_pdus}
-use Rattle.tape_laws.specs.host_laws.proofs.Spoken.{objects-move, all-out}
-use Rattle.tape_laws.specs.scenario_laws.specs.Coming.{out_of, FallTo}
-use Rattle.tape_laws.specs.scenario_laws.proofs.Gaining.{all-out as unsent-out}
+use Rattle.tape_laws.specs.host_laws.proofs.Spoken.{objects-move}
 use Rattle.tape_laws.specs.request_laws.specs.BothFed.{ComesNone}
 use Rattle.tape_laws.specs.request_laws.specs.Streams.{come_on}
 use Rattle.tape_laws.specs.request_laws.specs.Twists.{Set}
@@ -49,7 +41,6 @@ use Rattle.tape_laws.specs.request_laws.proofs.Feeding.{all_ahead, all_both, eve
 use Rattle.tape_laws.specs.request_laws.proofs.LastLinks.{OnLast}
 use Rattle.tape_laws.specs.request_laws.proofs.Piping.{still_quiet}
 use Rattle.tape_laws.specs.request_laws.proofs.Pushes.{served_on}
-use Rattle.tape_laws.specs.request_laws.proofs.Timely.{HearsNothing}
 
 -- ---- where nothing comes nothing is gained
 
@@ -142,24 +133,6 @@ module _ (settings : Settings) (party : Party) (states_frame : StatesFrame (poli
   one_on list part object (inr alone) is served none gained =
       sym (link_gain Q party states_frame list alone none ∙ objects-move party (run_of Q list).said (moved_in part) is.waits is.talk_is is.go_out served) ∙ gained
 
-  -- where nothing was heard all goes out
-  outs : (list : List channels.Occurrence) → AllByRecursion HearsNothing list → (pdus : List (List ℕ)) × (filter_map pdu_of (filter_map outer list) ≡ map out_of pdus)
-  outs [] deaf = ([], refl)
-  outs (channels.Comes pdu ∷ list) deaf = absurd deaf.0
-  outs (channels.Connects psm ∷ list) deaf = outs list deaf.1
-  outs (channels.AsksFeatures ∷ list) deaf = outs list deaf.1
-  outs (channels.Disconnects own ∷ list) deaf = outs list deaf.1
-  outs (channels.Sends own sdu ∷ list) deaf = outs list deaf.1
-  outs (channels.Gives pdu ∷ list) deaf = let rest = outs list deaf.1 in (pdu ∷ rest.0, ap (λ (l : List Pdu). out_of pdu ∷ l) rest.1)
-  outs (channels.Fires ∷ list) deaf = outs list deaf.1
-  outs (channels.Tells ∷ list) deaf = outs list deaf.1
-
-  pub none_on : (list : List channels.Occurrence) (part : List Talk) → AllByRecursion HearsNothing list → IsTalkOf (policy settings true) list part → objects_on party (moved_in part) ≡ []
-  none_on list part deaf is =
-      let all = outs list deaf in
-      let pdus : flat_map pdus_in part ≡ map out_of all.0 = sym (part_pdus part) ∙ (ap (filter_map pdu_of) (sym is.outer_is) ∙ all.1) in
-      ap (λ (l : List Pdu). objects_on party (flat_map said_by l)) pdus ∙ all-out party (flat_map said_by (map out_of all.0)) (unsent-out all.0)
-
 -- ---- parts and links
 
 pub zip_split : {X Y : Type 0} (F : X → Y → Type 0) (ahead : List X) (x : X) (rest : List X) (ys : List Y) → AllZip F (ahead ++ x ∷ rest) ys → (before : List Y) × (y : Y) × (after : List Y) × (ys ≡ before ++ y ∷ after) × F x y × AllZip F rest after
@@ -171,21 +144,3 @@ zip_split F (a ∷ ahead) x rest (y ∷ ys) zip = let later = zip_split F ahead 
 pub at_place : {X : Type 0} (ahead : List X) (x : X) (rest : List X) (none : X) → get_or (ahead ++ x ∷ rest) (length ahead) none ≡ x
 at_place [] x rest none = refl
 at_place (a ∷ ahead) x rest none = at_place ahead x rest none
-
--- the link of a part with PDUs
-pub record FallsHere (party : Party) (part : List Talk) (after : List (List Talk)) (links : List (List Pdu)) : Type 0 where
-  pub ahead : List (List Pdu)
-  pub link : List Pdu
-  pub rest : List (List Pdu)
-  pub links_are : links ≡ ahead ++ link ∷ rest
-  pub unsent : List (List ℕ)
-  pub moved : flat_map pdus_in part ≡ link ++ map out_of unsent
-  pub fall : FallTo after rest
-
-pub falls_here : (party : Party) (before : List (List Talk)) (part : List Talk) (after : List (List Talk)) (links : List (List Pdu)) → FallTo (before ++ part ∷ after) links → (flat_map pdus_in part ≡ [] → ⊥) → FallsHere party part after links
-falls_here party [] part after links (inl (none, more)) some = absurd (some none)
-falls_here party [] part after links (inr (link, rest, unsent, is, moved, more)) some = record { ahead = []; link = link; rest = rest; links_are = is; unsent = unsent; moved = moved; fall = more }
-falls_here party (first ∷ before) part after links (inl (none, more)) some = falls_here party before part after links more some
-falls_here party (first ∷ before) part after links (inr (link, rest, unsent, is, moved, more)) some =
-    let later = falls_here party before part after rest more some in
-    record { ahead = link ∷ later.ahead; link = later.link; rest = later.rest; links_are = is ∙ ap (λ (l : List (List Pdu)). link ∷ l) later.links_are; unsent = later.unsent; moved = later.moved; fall = later.fall }

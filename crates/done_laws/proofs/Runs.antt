@@ -1,6 +1,7 @@
 -- In each run over L2CAP the object of each push of host a that is done is stored.
 use Rattle.std.proofs.Common.{arith, ◌≡◌, ◌<◌, ◌^◌, ◌⊎◌, ℕ, Bool, false, List, [], ◌∷◌, ◌++◌, length, Option, Some, None, inl, inr, refl, sym, ap, subst, ◌∙◌}
 use Rattle.std.specs.List.{AllByRecursion}
+use Rattle.cause_laws.specs.FirstCauses.{since_begun}
 use Rattle.tape_laws.specs.bt_base.specs.declared.settings.Transport.TheVariants.{L2cap}
 use Rattle.std.proofs.lemmas.Str.{IsUtf8-from_is_utf8}
 use Rattle.std.specs.Option.{option_map}
@@ -26,6 +27,7 @@ use Rattle.tape_laws.specs.push_laws.specs.Premises.{NoneShort}
 use Rattle.tape_laws.specs.push_laws.specs.Spelled.{AreAmong, IsOfShelfOrStill, name_by, name_of, names_of}
 use Rattle.tape_laws.specs.push_laws.proofs.Among.{all_among, ahead_among, among_all, among_trans}
 use Rattle.tape_laws.specs.world_model.specs.Pushes.{Pushes}
+use Rattle.tape_laws.specs.world_model.specs.Worlds.{all_entries}
 use Rattle.tape_laws.specs.air_laws.specs.AirLaws.{IsLastEnd}
 use Rattle.tape_laws.specs.alike_laws.specs.Twins.{IsOther}
 use Rattle.tape_laws.specs.host_model.specs.Clients.{ClientProfile, client_profile}
@@ -63,11 +65,11 @@ use Rattle.tape_laws.proofs.Own.{own_servers_are_taped}
 use Rattle.tape_laws.proofs.OwnPairs.{there_so, bare_so}
 use Rattle.tape_laws.proofs.Pairs.{takes_turns}
 use Rattle.done_laws.specs.Kept.{AreKept, KeepsDone}
-use Rattle.done_laws.specs.Lasting.{LastSpellsOne}
 use Rattle.done_laws.specs.Runs.{EndsDone, IsDoneAt, KeepsPushes, OwnServersKeepDone}
-use Rattle.done_laws.proofs.LastSpells.{last_spells}
+use Rattle.done_laws.proofs.LastSpells.{SpellsLast, last_spells}
 use Rattle.done_laws.proofs.Kept.{done-pushes_are_kept}
 use Rattle.done_laws.proofs.Off.{HasDone, between_off, turned_off}
+use Rattle.done_laws.proofs.Since.{NoPieceCame, HadOneLink, one_since}
 
 -- ---- of a shelf
 
@@ -169,16 +171,16 @@ module _ (scenario : Scenario) (shelf before : List Object) (answers : List Answ
         ends = λ done. ended settings (all.pushes ++ all.last ∷ []) (all_both GoesToObject all.pushes (all.last ∷ []) so.go (last.1, tt)) (tied.ties (level done.none_a done.none_b) done.cause);
       }
 
-  -- and the last link of host b on which anything is spelled spells one object where the client is done
+  -- and the last link of host b spells one object where the client is done
   abbrev Spells : Type 0
-  Spells = IsDoneAt ran.world → LastSpellsOne (party_of scenario.settings sides.B) (talks sides.B capture)
+  Spells = IsDoneAt ran.world → SpellsLast (party_of scenario.settings sides.B) (talks sides.B capture)
 
   -- of the tape of its answers
   taped_so : (world : TapedHosts Bool) → HappenedTapedHeld scenario (Some shelf) (holding before) (once answers) ran.happenings world → ran.world ≡ untaped_world world → Keeps × Spells
   taped_so world happened is =
       let so = takes_turns false both_ask scenario (holding before) (once answers) (held_by (Some shelf)) (AnswersOf (Some shelf)) (answers_allowed (Some shelf)) capture ran world happened is (λ on. cc) in
       let spends = subst (SpendsOnce scenario.settings (holding before) answers) (sym so.given.2) (servers_spend_once scenario.settings (holding before) answers so.given.0 so.given.1) in
-      (keeps_so so.turns so.told spends so.level, λ done. last_spells scenario shelf before answers capture enough direct ran so.turns so.told spends (so.level done.none_a done.none_b) done.cause)
+      (keeps_so so.turns so.told spends so.level, λ done. last_spells scenario shelf before answers capture enough direct ran so.turns so.captured_b so.told spends (so.level done.none_a done.none_b) done.cause)
 
 -- what both servers have stored is the same
 stored_so : (scenario : Scenario) (before : List Object) (answers : List Answer) (own plain : Host ServerProfile)
@@ -194,11 +196,12 @@ plainly scenario before answers own plain there done = record {
   cause = ap (λ (h : Host ClientProfile). h.profile.client.cause) there.a ∙ done.cause;
 }
 
--- how such a run keeps its pushes, and what its links spell
+-- how such a run keeps its pushes, and what its links spell; and that host b had one link since a push was begun in which anything came into host a
 OwnSo : (scenario : Scenario) (shelf before : List Object) (answers : List Answer) (capture : List Entry) → RanOwn scenario (Some shelf) (holding before) answers capture → Type 0
 OwnSo scenario shelf before answers capture own =
     KeepsPushes scenario shelf before answers (objects_heard (party_of scenario.settings sides.B) sides.B capture) (stored_in own.world.b.upper.profile.inbox.content) (IsDoneAt own.world)
-    × (IsDoneAt own.world → LastSpellsOne (party_of scenario.settings sides.B) (talks sides.B capture))
+    × (IsDoneAt own.world → SpellsLast (party_of scenario.settings sides.B) (talks sides.B capture))
+    × (IsDoneAt own.world → (NoPieceCame (since_begun (all_entries own.happenings)) → ⊥) → HadOneLink (all_entries own.happenings))
 
 own_so : (scenario : Scenario) (shelf before : List Object) (answers : List Answer) (capture : List Entry) (own : RanOwn scenario (Some shelf) (holding before) answers capture) → scenario.settings.transport ≡ L2cap → NoneShort answers → OwnSo scenario shelf before answers capture own
 unfolding OwnSo
@@ -220,6 +223,7 @@ own_so scenario shelf before answers capture own direct enough =
         ends = λ done. so.ends (plainly scenario before answers own.world (untaped_world there) alike_so done);
       },
       λ done. spells (plainly scenario before answers own.world (untaped_world there) alike_so done),
+      λ done some. (let plain = plainly scenario before answers own.world (untaped_world there) alike_so done in one_since scenario (holding before) own.happenings (untaped_world there) ran.happened plain.none_a plain.none_b some),
     )
 
 pub own_servers_keep_done : OwnServersKeepDone
@@ -227,6 +231,11 @@ unfolding OwnSo
 own_servers_keep_done scenario shelf before answers capture own direct enough = (own_so scenario shelf before answers capture own direct enough).0
 
 pub own_links_spell : (scenario : Scenario) (shelf before : List Object) (answers : List Answer) (capture : List Entry) (own : RanOwn scenario (Some shelf) (holding before) answers capture) → scenario.settings.transport ≡ L2cap → NoneShort answers
-    → IsDoneAt own.world → LastSpellsOne (party_of scenario.settings sides.B) (talks sides.B capture)
+    → IsDoneAt own.world → SpellsLast (party_of scenario.settings sides.B) (talks sides.B capture)
 unfolding OwnSo
 own_links_spell scenario shelf before answers capture own direct enough = (own_so scenario shelf before answers capture own direct enough).1
+
+pub own_pushes_link : (scenario : Scenario) (shelf before : List Object) (answers : List Answer) (capture : List Entry) (own : RanOwn scenario (Some shelf) (holding before) answers capture) → scenario.settings.transport ≡ L2cap → NoneShort answers
+    → IsDoneAt own.world → (NoPieceCame (since_begun (all_entries own.happenings)) → ⊥) → HadOneLink (all_entries own.happenings)
+unfolding OwnSo
+own_pushes_link scenario shelf before answers capture own direct enough = (own_so scenario shelf before answers capture own direct enough).2

@@ -63,7 +63,7 @@ KeptLeaveOut = (pushes : List Push) (gained spelled : List Object) (most : ℕ) 
 
 -- ---- push after push
 
--- With what happened to the server in a push the packets spell its object more, or none; and with the end of its link no more.
+-- With what happened to the server in a push the packets spell its object more, or none.
 pub record SpellsHere (settings : Settings) (past : List Occurrence) (push : Push) : Type 0 where
   pub gained : List Object
   pub here : List Object

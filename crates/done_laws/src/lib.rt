@@ -5,6 +5,7 @@ ghost use Rattle.done_laws.specs.Ends.{OwnServersEndDone};
 ghost use Rattle.done_laws.specs.Kept.{DoneIsLast, DonePushesAreKept, KeptLeaveOut, PushesSpellEach};
 ghost use Rattle.done_laws.specs.Lasting.{OwnServersSpellDone};
 ghost use Rattle.done_laws.specs.Runs.{OwnServersKeepDone};
+ghost use Rattle.done_laws.specs.Storing.{OwnServersStoreDone};
 
 /// Over L2CAP, push after push, whatever becomes of the pushes and whatever the inbox answers but want of memory: each push has one object at most in what
 /// the packets spell, and the inbox gained it or left it out; that of a push that is done is there, and was gained. Of one that was cancelled none is there.
@@ -43,4 +44,10 @@ pub fn own_servers_end_done()
 /// And over the capture alone: by the time that a push ends in such a run that is done, the last link of host b whose packets spell anything spells one object.
 pub fn own_servers_spell_done()
     ensures { OwnServersSpellDone }
+{}
+
+/// And with that push, from its begin on: what the packets spell that host b heard is what they spelled before it was begun, and one object more, wherever the capture shows why the push
+/// ended so. That object is one of those that the inbox gained in all, whatever its calls came to but want of memory: what it has stored by one moment stays in front of what it stores later.
+pub fn own_servers_store_done()
+    ensures { OwnServersStoreDone }
 {}

@@ -5,6 +5,7 @@ pub mod Once
 pub mod Own
 pub mod Fitting
 pub mod Beginning
+pub mod Falling
 pub mod Pairs
 pub mod Order
 pub mod OwnPairs

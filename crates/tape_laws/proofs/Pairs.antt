@@ -59,6 +59,7 @@ use Rattle.tape_laws.specs.Pairs.{TapedHosts, taped_of, taped_beginning, AreOfTa
 use Rattle.tape_laws.specs.Runs.{HearsNewsAlone, untaped_world}
 use Rattle.tape_laws.specs.Taped.{Tape, Taped, taped, taped_asks, untaped_host, untaped, IsUntaped}
 use Rattle.tape_laws.proofs.Beginning.{begins_given}
+use Rattle.tape_laws.proofs.Falling.{IsCaptured, same_captured}
 use Rattle.tape_laws.proofs.Fitting.{Within, Bare, taped_fits, taped_keeps, taped_frames, taped_awaits, bare_rest, taped_rest}
 use Rattle.tape_laws.proofs.Hearing.{next_so, untaped_said, taped_runs_are_runs}
 use Rattle.tape_laws.proofs.Once.{servers_hear_news_alone}
@@ -145,6 +146,7 @@ module _ {T : Type 0} (whole : Bool) (asks : HostsAsk) (scenario : Scenario) (co
     pub kept : (number : ℕ) → AllKept whole (turns.pairs.pairs number).turns
     -- where nothing is owed to either host both have been told as often that their link came up or went down
     pub level : ran.world.radio.a.owed ≡ [] → ran.world.radio.b.owed ≡ [] → length turns.pairs.a.fed.so.lives.spans ≡ length turns.pairs.b.fed.so.lives.spans
+    pub captured_b : IsCaptured sides.B capture turns.pairs.b.came.talk
 
   -- of the run that it comes to
   module _ (capture : List Entry) (happenings : List Happening) (world : TapedHosts T) (happened : Happened scenario content happenings (untaped_world world)) (ends : List Entry) (last : IsLastEnd world.pushes ends) (capture_is : capture ≡ all_entries happenings ++ ends) where
@@ -207,6 +209,15 @@ module _ {T : Type 0} (whole : Bool) (asks : HostsAsk) (scenario : Scenario) (co
           level = λ none_a none_b.
               same_number whole most A asks_a B asks_b to_a E allows_a as_it_is Always any_allowed Always Always c.a c.b sane.pairs (ap (λ (owed : List Answer). events (tidings owed)) none_a) (ap (λ (owed : List Answer). events (tidings owed)) none_b)
               ∙ number_b;
+          captured_b = record {
+            linked = c.b.linked;
+            moved = c.b.talk;
+            waiting = c.b.waiting;
+            talk_is = talk_b;
+            parted = sane.acted.b.acted.parted;
+            links_are = all.links_b ∙ same_captured sides.B past capture (same sides.B);
+            none_waits = sane.acted.b.acted.down;
+          };
         }
 
   pub takes_turns : (capture : List Entry) (ran : Ran scenario content capture) (world : TapedHosts T) → Runs U V ran.happenings (taped_beginning scenario content tape) world → ran.world ≡ untaped_world world → (whole ≡ true → LosesNothing (all_words ran.happenings)) → TurnsSo capture ran

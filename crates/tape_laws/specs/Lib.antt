@@ -1,3 +1,4 @@
+pub use Rattle.inbox_laws
 pub use Rattle.inbox_laws.specs.air_laws
 pub use Rattle.inbox_laws.specs.alike_laws
 pub use Rattle.inbox_laws.specs.bt_base
