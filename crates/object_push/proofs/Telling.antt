@@ -18,14 +18,14 @@ use Rattle.scenario_play.specs.scenario_laws.specs.Gains.{holding}
 use Rattle.scenario_play.specs.scenario_laws.proofs.Broken.{crowds_are_told}
 use Rattle.scenario_play.specs.Breaking as breaking
 use Rattle.scenario_play.specs.Breaking.{IsBroken, IsWanting}
-use Rattle.scenario_play.specs.Doing.{DoneAreSpelled}
+use Rattle.scenario_play.specs.Doing.{DoneAreStored}
 use Rattle.scenario_play.specs.Failing.{shelf_faults}
 use Rattle.scenario_play.specs.Losing.{LeavesOutCounted, GainsLess}
 use Rattle.scenario_play.specs.Playing.{LackedNever, IsPlayed}
 use Rattle.scenario_play.specs.Pushed.{SpellsOfShelf}
 use Rattle.scenario_play.proofs.BufferPeaks.{buffer_peaks_are_told}
-use Rattle.scenario_play.proofs.Causes.{causes_so_far, losses_so_far}
-use Rattle.scenario_play.proofs.Doing.{plays_spell_done}
+use Rattle.scenario_play.proofs.Causes.{causes_so_far, losses_so_far, records_spared_so_far}
+use Rattle.scenario_play.proofs.Doing.{plays_store_done}
 use Rattle.scenario_play.proofs.Gained.{plays_keep}
 use Rattle.scenario_play.proofs.Lost.{none_left_out, plays_gain_less}
 use Rattle.scenario_play.proofs.Pushed.{plays_spell_pushed}
@@ -70,12 +70,12 @@ has_pushed scenario None capture known = tt
 has_pushed scenario (Some shelf) capture known = known shelf refl
 
 -- what was done, where it is known of a shelf and an inbox that tell what they hold
-has_done : (scenario : Scenario) (shelf : Option (List Object)) (before : Option Contents) (counts counts' : Counts) (capture : List Entry) → IfSome before (λ held. held.pending ≡ None)
-    → ((objects stored : List Object) → shelf ≡ Some objects → before ≡ holding stored → scenario.settings.transport ≡ L2cap → LackedNever counts counts' → DoneAreSpelled scenario.settings capture)
-    → IfSome shelf (λ objects. IfSome before (λ held. scenario.settings.transport ≡ L2cap → LackedNever counts counts' → DoneAreSpelled scenario.settings capture))
-has_done scenario None before counts counts' capture none known = tt
-has_done scenario (Some objects) None counts counts' capture none known = tt
-has_done scenario (Some objects) (Some held) counts counts' capture none known = known objects held.stored refl (held_is held none)
+has_done : (scenario : Scenario) (shelf : Option (List Object)) (before after : Option Contents) (counts counts' : Counts) (capture : List Entry) → IfSome before (λ held. held.pending ≡ None)
+    → ((objects stored : List Object) → shelf ≡ Some objects → before ≡ holding stored → scenario.settings.transport ≡ L2cap → LackedNever counts counts' → DoneAreStored scenario.settings stored after capture)
+    → IfSome shelf (λ objects. IfSome before (λ held. scenario.settings.transport ≡ L2cap → LackedNever counts counts' → DoneAreStored scenario.settings held.stored after capture))
+has_done scenario None before after counts counts' capture none known = tt
+has_done scenario (Some objects) None after counts counts' capture none known = tt
+has_done scenario (Some objects) (Some held) after counts counts' capture none known = known objects held.stored refl (held_is held none)
 
 -- ---- to its end
 
@@ -104,13 +104,13 @@ module _ (scenario : Scenario) (old new : Ports) where
 
   done_played : (content : Option (List Object)) (before : Option Contents) (outcomes : List Outcome) (peaks : Peaks) (shelf stored : List Object) → content ≡ Some shelf → before ≡ holding stored
       → (played : IsPlayed scenario content before new.inbox.content old.trace.content new.trace.content outcomes peaks (counts_in old.inbox) (counts_in new.inbox))
-      → scenario.settings.transport ≡ L2cap → LackedNever (counts_in old.inbox) (counts_in new.inbox) → DoneAreSpelled scenario.settings played.capture
+      → scenario.settings.transport ≡ L2cap → LackedNever (counts_in old.inbox) (counts_in new.inbox) → DoneAreStored scenario.settings stored new.inbox.content played.capture
   done_played content before outcomes peaks shelf stored of is =
       subst (λ (c : Option (List Object)). (played : IsPlayed scenario c before new.inbox.content old.trace.content new.trace.content outcomes peaks (counts_in old.inbox) (counts_in new.inbox))
-      → scenario.settings.transport ≡ L2cap → LackedNever (counts_in old.inbox) (counts_in new.inbox) → DoneAreSpelled scenario.settings played.capture) (sym of)
+      → scenario.settings.transport ≡ L2cap → LackedNever (counts_in old.inbox) (counts_in new.inbox) → DoneAreStored scenario.settings stored new.inbox.content played.capture) (sym of)
       (subst (λ (b : Option Contents). (played : IsPlayed scenario (Some shelf) b new.inbox.content old.trace.content new.trace.content outcomes peaks (counts_in old.inbox) (counts_in new.inbox))
-      → scenario.settings.transport ≡ L2cap → LackedNever (counts_in old.inbox) (counts_in new.inbox) → DoneAreSpelled scenario.settings played.capture) (sym is)
-      (λ played direct enough. plays_spell_done.plays scenario shelf stored new.inbox.content old.trace.content new.trace.content outcomes peaks (counts_in old.inbox) (counts_in new.inbox) played direct enough))
+      → scenario.settings.transport ≡ L2cap → LackedNever (counts_in old.inbox) (counts_in new.inbox) → DoneAreStored scenario.settings stored new.inbox.content played.capture) (sym is)
+      (λ played direct enough. plays_store_done.plays scenario shelf stored new.inbox.content old.trace.content new.trace.content outcomes peaks (counts_in old.inbox) (counts_in new.inbox) played direct enough))
 
   ends_so : (outcomes : List Outcome) (kept : ℕ) (peaks : Peaks) (played : Played old.inbox.content outcomes peaks) → IfSome old.inbox.content (λ before. before.pending ≡ None) → Gains old.inbox.content kept new.inbox.content
       → HasRisenBy (shelf_faults outcomes) old.shelf.faults new.shelf.faults → EndsSo scenario old new outcomes kept peaks played.capture
@@ -119,7 +119,7 @@ module _ (scenario : Scenario) (old new : Ports) where
         captured = record { each = played.entries_are; written = played.written };
         keeps = plays_keep.plays scenario old.shelf.content old.inbox.content new.inbox.content old.trace.content new.trace.content outcomes peaks (counts_in old.inbox) (counts_in new.inbox) played;
         pushed = has_pushed scenario old.shelf.content played.capture (λ shelf of. pushed_played old.shelf.content outcomes peaks shelf of played);
-        done = has_done scenario old.shelf.content old.inbox.content (counts_in old.inbox) (counts_in new.inbox) played.capture none (λ shelf stored of is direct enough. done_played old.shelf.content old.inbox.content outcomes peaks shelf stored of is played direct enough);
+        done = has_done scenario old.shelf.content old.inbox.content new.inbox.content (counts_in old.inbox) (counts_in new.inbox) played.capture none (λ shelf stored of is direct enough. done_played old.shelf.content old.inbox.content outcomes peaks shelf stored of is played direct enough);
         gains = has_gained scenario old.inbox.content new.inbox.content kept (counts_in old.inbox) (counts_in new.inbox) played.capture none gains (less_played old.inbox.content outcomes peaks played);
         counted = gains;
         faulted = faults;
@@ -154,13 +154,13 @@ module _ (scenario : Scenario) (old new : Ports) where
 
   done_broken : (content : Option (List Object)) (before : Option Contents) (shelf stored : List Object) → content ≡ Some shelf → before ≡ holding stored
       → (broken : IsBroken scenario content before new.inbox.content old.trace.content new.trace.content (counts_in old.inbox) (counts_in new.inbox))
-      → scenario.settings.transport ≡ L2cap → LackedNever (counts_in old.inbox) (counts_in new.inbox) → DoneAreSpelled scenario.settings (all_entries broken.happenings)
+      → scenario.settings.transport ≡ L2cap → LackedNever (counts_in old.inbox) (counts_in new.inbox) → DoneAreStored scenario.settings stored new.inbox.content (all_entries broken.happenings)
   done_broken content before shelf stored of is =
       subst (λ (c : Option (List Object)). (broken : IsBroken scenario c before new.inbox.content old.trace.content new.trace.content (counts_in old.inbox) (counts_in new.inbox))
-      → scenario.settings.transport ≡ L2cap → LackedNever (counts_in old.inbox) (counts_in new.inbox) → DoneAreSpelled scenario.settings (all_entries broken.happenings)) (sym of)
+      → scenario.settings.transport ≡ L2cap → LackedNever (counts_in old.inbox) (counts_in new.inbox) → DoneAreStored scenario.settings stored new.inbox.content (all_entries broken.happenings)) (sym of)
       (subst (λ (b : Option Contents). (broken : IsBroken scenario (Some shelf) b new.inbox.content old.trace.content new.trace.content (counts_in old.inbox) (counts_in new.inbox))
-      → scenario.settings.transport ≡ L2cap → LackedNever (counts_in old.inbox) (counts_in new.inbox) → DoneAreSpelled scenario.settings (all_entries broken.happenings)) (sym is)
-      (λ broken direct enough. plays_spell_done.breaks scenario shelf stored new.inbox.content old.trace.content new.trace.content (counts_in old.inbox) (counts_in new.inbox) broken direct enough))
+      → scenario.settings.transport ≡ L2cap → LackedNever (counts_in old.inbox) (counts_in new.inbox) → DoneAreStored scenario.settings stored new.inbox.content (all_entries broken.happenings)) (sym is)
+      (λ broken direct enough. plays_store_done.breaks scenario shelf stored new.inbox.content old.trace.content new.trace.content (counts_in old.inbox) (counts_in new.inbox) broken direct enough))
 
   stops_so : (broken : Broke old.inbox.content) → IfSome old.inbox.content (λ before. before.pending ≡ None) → Grows old.inbox.content new.inbox.content → StopsSo scenario old new (all_entries broken.happenings) broken.next
   stops_so broken none (kept, gains) = record {
@@ -170,8 +170,9 @@ module _ (scenario : Scenario) (old new : Ports) where
     keeps = plays_keep.breaks scenario old.shelf.content old.inbox.content new.inbox.content old.trace.content new.trace.content (counts_in old.inbox) (counts_in new.inbox) broken;
     causes = causes_so_far scenario old.shelf.content old.inbox.content new.inbox.content old.trace.content new.trace.content (counts_in old.inbox) (counts_in new.inbox) broken;
     drops = losses_so_far scenario old.shelf.content old.inbox.content new.inbox.content old.trace.content new.trace.content (counts_in old.inbox) (counts_in new.inbox) broken;
+    spares = records_spared_so_far scenario old.shelf.content old.inbox.content new.inbox.content old.trace.content new.trace.content (counts_in old.inbox) (counts_in new.inbox) broken;
     pushed = has_pushed scenario old.shelf.content (all_entries broken.happenings) (λ shelf of. pushed_broken old.shelf.content shelf of broken);
-    done = has_done scenario old.shelf.content old.inbox.content (counts_in old.inbox) (counts_in new.inbox) (all_entries broken.happenings) none (λ shelf stored of is direct enough. done_broken old.shelf.content old.inbox.content shelf stored of is broken direct enough);
+    done = has_done scenario old.shelf.content old.inbox.content new.inbox.content (counts_in old.inbox) (counts_in new.inbox) (all_entries broken.happenings) none (λ shelf stored of is direct enough. done_broken old.shelf.content old.inbox.content shelf stored of is broken direct enough);
     gains = has_gained scenario old.inbox.content new.inbox.content kept (counts_in old.inbox) (counts_in new.inbox) (all_entries broken.happenings) none gains (less_broken old.inbox.content broken);
     credits = plays_stay_solvent.breaks scenario old.shelf.content old.inbox.content new.inbox.content old.trace.content new.trace.content (counts_in old.inbox) (counts_in new.inbox) broken;
     service = plays_keep_service.breaks scenario old.shelf.content old.inbox.content new.inbox.content old.trace.content new.trace.content (counts_in old.inbox) (counts_in new.inbox) broken;

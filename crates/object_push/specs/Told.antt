@@ -23,9 +23,10 @@ use Rattle.scenario_play.specs.scenario_laws.specs.Air.{hosts_of}
 use Rattle.scenario_play.specs.scenario_laws.specs.Parties.{party_of}
 use Rattle.scenario_play.specs.cause_laws.specs.FirstCauses.{CausesAreShown}
 use Rattle.scenario_play.specs.drop_laws.specs.Dropped.{LossesAreDrops}
+use Rattle.scenario_play.specs.blame_laws.specs.Blamed.{SparesRecords}
 use Rattle.scenario_play.specs.credit_laws.specs.Kept.{StaysSolvent}
 use Rattle.scenario_play.specs.BufferPeaks.{AreBufferPeaks}
-use Rattle.scenario_play.specs.Doing.{DoneAreSpelled}
+use Rattle.scenario_play.specs.Doing.{DoneAreStored}
 use Rattle.scenario_play.specs.Failing.{shelf_faults}
 use Rattle.scenario_play.specs.Gaining.{KeepsPlayed, KeepsBroken}
 use Rattle.scenario_play.specs.Losing.{LeavesOutCounted}
@@ -64,11 +65,11 @@ HasPushed scenario old capture = IfSome old.shelf.content (λ shelf. ArePushed s
 
 -- ---- what is done
 
--- Over L2CAP, where the inbox never lacked memory: by the time that a push ends which is done, the last link of host b whose packets spell anything spells one object.
--- So it is where shelf and inbox tell what they hold.
+-- Over L2CAP, where the inbox never lacked memory: where a push ends that is done, what the packets spell that host b heard is what they spelled before that push was
+-- begun, and one object more, which is one of those that the inbox gained. So it is where shelf and inbox tell what they hold, whatever calls of the inbox fail.
 abbrev pub HasDone : (scenario : Scenario) (old new : Ports) (capture : List Entry) → Type 0
 HasDone scenario old new capture =
-    IfSome old.shelf.content (λ shelf. IfSome old.inbox.content (λ before. scenario.settings.transport ≡ L2cap → LackedNever (counts_in old.inbox) (counts_in new.inbox) → DoneAreSpelled scenario.settings capture))
+    IfSome old.shelf.content (λ shelf. IfSome old.inbox.content (λ before. scenario.settings.transport ≡ L2cap → LackedNever (counts_in old.inbox) (counts_in new.inbox) → DoneAreStored scenario.settings before.stored new.inbox.content capture))
 
 -- ---- credits
 
@@ -106,7 +107,8 @@ pub record EndsSo (scenario : Scenario) (old new : Ports) (outcomes : List Outco
 -- ---- short of it
 
 -- The trace gained the capture of what happened, and a front of its next entry, if one was begun. The inbox gained what that capture spells, by the same
--- rule; each push that ended has the cause of its outcome in its part of it; and the credits are so behind that entry as well, and the service too.
+-- rule; each push that ended has the cause of its outcome in its part of it, and none blames service discovery; and the credits are so behind that entry as well, and the
+-- service too.
 pub record StopsSo (scenario : Scenario) (old new : Ports) (past next : List Entry) : Type 0 where
   pub few : length next ≤ 1
   pub each : AllByRecursion IsEntry (past ++ next)
@@ -114,6 +116,7 @@ pub record StopsSo (scenario : Scenario) (old new : Ports) (past next : List Ent
   pub keeps : KeepsBroken scenario (past ++ next)
   pub causes : CausesAreShown scenario.settings past
   pub drops : LossesAreDrops past
+  pub spares : SparesRecords past
   pub pushed : HasPushed scenario old past
   pub done : HasDone scenario old new past
   pub gains : HasGained scenario old new past

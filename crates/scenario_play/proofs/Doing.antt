@@ -1,52 +1,81 @@
--- What the capture of a played scenario spells where a push ends that is done.
-use Rattle.std.proofs.Common.{◌≡◌, List, [], ◌∷◌, ◌++◌, map, Option, Some, option_to_list, refl, sym, ap, subst, ◌∙◌}
+-- What comes of the pushes of a played scenario that are done.
+use Rattle.std.proofs.Common.{◌≡◌, List, [], ◌∷◌, ◌++◌, Option, Some, None, refl, sym, ap, subst, ◌∙◌, append_assoc, append-nil}
+use Rattle.std.specs.Prelude.{IfSome}
 use Rattle.bt_base.specs.Objects.{Object, Contents}
 use Rattle.bt_base.specs.declared.settings.Transport.TheVariants.{L2cap}
 use Rattle.noting_laws.specs.obex_session.specs.Counting.{Counts}
 use Rattle.push_script.specs.declared.scenario.Scenario.{Scenario}
 use Rattle.push_terms.specs.declared.outcome.Outcome.{Outcome}
-use Rattle.push_terms.specs.declared.word.Side.TheVariants.{B}
 use Rattle.capture.specs.Entries.{Entry, Moved, Acted, Begun, Ended}
 use Rattle.capture.specs.Histories.{EachAfter}
-use Rattle.capture.specs.Links.{Linking}
-use Rattle.noting_laws.specs.link_talk.specs.Captures.{talks}
-use Rattle.noting_laws.specs.link_talk.specs.Sayings.{talk}
 use Rattle.noting_laws.specs.air_laws.specs.AirLaws.{IsLastEnd}
 use Rattle.noting_laws.specs.world_model.specs.Worlds.{Happening, all_entries}
+use Rattle.noting_laws.specs.push_laws.specs.Laws.{stored_in}
 use Rattle.noting_laws.specs.scenario_laws.specs.Gains.{holding}
-use Rattle.noting_laws.specs.scenario_laws.specs.Parties.{party_of}
-use Rattle.noting_laws.specs.scenario_laws.proofs.Coming.{ended_all}
 use Rattle.done_laws.specs.tape_laws.specs.capture.proofs.HistoryLaws.{each_after-both}
-use Rattle.done_laws.specs.Lasting.{LastSpellsOne, SpellsDone}
-use Rattle.done_laws.proofs.Ends.{own_servers_spell_done}
-use Rattle.scenario_play.specs.Doing.{DoneAreSpelled, PlaysSpellDone}
+use Rattle.drop_laws.specs.cause_laws.specs.FirstCauses.{since_begun, HasCause, EndsByCause, CausesAreShown}
+use Rattle.done_laws.specs.Storing.{StoresDone}
+use Rattle.done_laws.proofs.Stores.{own_servers_store_done}
+use Rattle.scenario_play.proofs.Causes.{causes_shown, causes_so_far}
+use Rattle.scenario_play.specs.Doing.{DoneAreStored, PlaysStoreDone}
 use Rattle.scenario_play.specs.Playing.{RanAnswered}
 
-spells_done : (scenario : Scenario) (shelf before : List Object) (after : Option Contents) (counts counts' : Counts) (happenings : List Happening) (capture : List Entry) → scenario.settings.transport ≡ L2cap
-    → RanAnswered scenario (Some shelf) (holding before) after counts counts' happenings capture → DoneAreSpelled scenario.settings capture
-spells_done scenario shelf before after counts counts' happenings capture direct ran =
-    subst (DoneAreSpelled scenario.settings) (sym ran.own.capture_is)
-    (each_after-both (SpellsDone scenario.settings) [] (all_entries ran.own.happenings) ran.own.ends (own_servers_spell_done.moments scenario shelf before ran.answers capture ran.own direct ran.enough) (behind ran.own.ends refl ran.own.last))
-  where
-    stay : talks B capture ≡ talks B (all_entries ran.own.happenings)
-    stay = ap (talks B) ran.own.capture_is ∙ ap (λ (l : Linking). map talk (l.past ++ option_to_list l.up)) (ended_all B ran.own.world.pushes (all_entries ran.own.happenings) ran.own.ends ran.own.last)
+-- ---- histories
 
-    behind : (ends : List Entry) → ran.own.ends ≡ ends → IsLastEnd ran.own.world.pushes ends → EachAfter (SpellsDone scenario.settings) (all_entries ran.own.happenings) ends
-    behind [] is last = tt
-    behind (Ended push outcome ∷ []) is last = (
-      λ done. subst (LastSpellsOne (party_of scenario.settings B)) stay
-          (own_servers_spell_done.now scenario shelf before ran.answers capture ran.own direct ran.enough (ran.at_end push (is ∙ ap (λ (o : Outcome). Ended push o ∷ []) done))),
-      tt,
-    )
-    behind (Ended push outcome ∷ other ∷ more) is last = absurd last
-    behind (Moved side flow packet ∷ more) is last = absurd last
-    behind (Acted ordinal word ∷ more) is last = absurd last
-    behind (Begun push ∷ more) is last = absurd last
+-- what holds of each member of a history in two parts
+each_cut : {X : Type 0} (P : List X → X → Type 0) (past xs ys : List X) → EachAfter P past (xs ++ ys) → EachAfter P past xs × EachAfter P (past ++ xs) ys
+each_cut P past [] ys each = (tt, subst (λ before. EachAfter P before ys) (sym (append-nil past)) each)
+each_cut P past (x ∷ xs) ys (now, each) = let rest = each_cut P (past ++ x ∷ []) xs ys each in ((now, rest.0), subst (λ before. EachAfter P before ys) (append_assoc past (x ∷ []) xs) rest.1)
 
-pub plays_spell_done : PlaysSpellDone
-plays_spell_done = record {
+-- what holds of each member where something else does
+each_so : {X : Type 0} (P Q : List X → X → Type 0) (past xs : List X) → EachAfter (λ (before : List X) (x : X). P before x → Q before x) past xs → EachAfter P past xs → EachAfter Q past xs
+each_so P Q past [] all each = tt
+each_so P Q past (x ∷ xs) all each = (all.0 each.0, each_so P Q (past ++ x ∷ []) xs all.1 each.1)
+
+-- ---- a scenario
+
+module _ (scenario : Scenario) (shelf before : List Object) (after : Option Contents) (counts counts' : Counts) (happenings : List Happening) (capture : List Entry) (direct : scenario.settings.transport ≡ L2cap) (shown : CausesAreShown scenario.settings capture)
+    (ran : RanAnswered scenario (Some shelf) (holding before) after counts counts' happenings capture) where
+  abbrev Stores : List Object → List Entry → List Entry → Type 0
+  Stores gain past entries = EachAfter (StoresDone scenario.settings gain) past entries
+
+  abbrev Shows : List Entry → List Entry → Type 0
+  Shows past entries = EachAfter (EndsByCause scenario.settings) past entries
+
+  behind : (gain : List Object) → stored_in ran.own.world.b.upper.profile.inbox.content ≡ Some (before ++ gain) → (ends : List Entry) → ran.own.ends ≡ ends → Shows (all_entries ran.own.happenings) ends → IsLastEnd ran.own.world.pushes ends
+      → Stores gain (all_entries ran.own.happenings) ends
+  behind gain stored [] is shown_last last = tt
+  behind gain stored (Ended push outcome ∷ []) is shown_last last = (
+    λ done.
+        own_servers_store_done.now scenario shelf before gain ran.answers capture ran.own direct ran.enough stored (ran.at_end push (is ∙ ap (λ (o : Outcome). Ended push o ∷ []) done))
+        (subst (λ (o : Outcome). HasCause o (since_begun (all_entries ran.own.happenings))) done shown_last.0.cause),
+    tt,
+  )
+  behind gain stored (Ended push outcome ∷ other ∷ more) is shown_last last = absurd last
+  behind gain stored (Moved side flow packet ∷ more) is shown_last last = absurd last
+  behind gain stored (Acted ordinal word ∷ more) is shown_last last = absurd last
+  behind gain stored (Begun push ∷ more) is shown_last last = absurd last
+
+  all_stored : (gain : List Object) → stored_in ran.own.world.b.upper.profile.inbox.content ≡ Some (before ++ gain) → Stores gain [] capture
+  all_stored gain stored =
+      let past = all_entries ran.own.happenings in
+      let cut = each_cut (EndsByCause scenario.settings) [] past ran.own.ends (subst (CausesAreShown scenario.settings) ran.own.capture_is shown) in
+      subst (Stores gain []) (sym ran.own.capture_is)
+      (each_after-both (StoresDone scenario.settings gain) [] past ran.own.ends
+      (each_so (EndsByCause scenario.settings) (StoresDone scenario.settings gain) [] past (own_servers_store_done.moments scenario shelf before gain ran.answers capture ran.own direct ran.enough stored) cut.0)
+      (behind gain stored ran.own.ends refl cut.1 ran.own.last))
+
+  stored_by : (found : Option Contents) → found ≡ ran.own.world.b.upper.profile.inbox.content → IfSome found (λ held. (gain : List Object) → held.stored ≡ before ++ gain → Stores gain [] capture)
+  stored_by None is = tt
+  stored_by (Some held) is = λ gain gained. all_stored gain (ap stored_in (sym is) ∙ ap (λ (l : List Object). Some l) gained)
+
+  stores_done : DoneAreStored scenario.settings before after capture
+  stores_done = stored_by after ran.stored
+
+pub plays_store_done : PlaysStoreDone
+plays_store_done = record {
   plays = λ scenario shelf before after trace trace' outcomes peaks counts counts' played direct none.
-      spells_done scenario shelf before after counts counts' played.finished.ran.happenings played.capture direct (played.answered none);
+      stores_done scenario shelf before after counts counts' played.finished.ran.happenings played.capture direct (causes_shown scenario (Some shelf) (holding before) after trace trace' outcomes peaks counts counts' played) (played.answered none);
   breaks = λ scenario shelf before after trace trace' counts counts' broken direct none.
-      spells_done scenario shelf before after counts counts' broken.happenings (all_entries broken.happenings) direct (broken.answered none);
+      stores_done scenario shelf before after counts counts' broken.happenings (all_entries broken.happenings) direct (causes_so_far scenario (Some shelf) (holding before) after trace trace' counts counts' broken) (broken.answered none);
 }

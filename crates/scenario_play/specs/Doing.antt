@@ -1,5 +1,5 @@
--- What the capture of a played scenario spells where a push ends that is done (IrOBEX 1.5, 3.2.1 and 3.3.3; Object Push Profile 1.2, 4.3).
-use Rattle.std.specs.Prelude.{ℕ, ◌≡◌, List, [], Option, Some}
+-- What comes of the pushes of a played scenario that are done, by its capture and its inbox (IrOBEX 1.5, 3.2.1 and 3.3.3; Object Push Profile 1.2, 4.3).
+use Rattle.std.specs.Prelude.{ℕ, ◌≡◌, List, [], ◌++◌, Option, Some, IfSome}
 use Rattle.bt_base.specs.Objects.{Object, Contents}
 use Rattle.bt_base.specs.declared.settings.Settings.{Settings}
 use Rattle.bt_base.specs.declared.settings.Transport.TheVariants.{L2cap}
@@ -9,20 +9,21 @@ use Rattle.push_terms.specs.declared.outcome.Outcome.{Outcome}
 use Rattle.push_terms.specs.declared.peaks.Peaks.{Peaks}
 use Rattle.capture.specs.Entries.{Entry}
 use Rattle.capture.specs.Histories.{EachAfter}
-use Rattle.done_laws.specs.Lasting.{SpellsDone}
+use Rattle.done_laws.specs.Storing.{StoresDone}
 use Rattle.noting_laws.specs.world_model.specs.Worlds.{all_entries}
 use Rattle.noting_laws.specs.scenario_laws.specs.Gains.{holding}
 use Rattle.scenario_play.specs.Breaking.{IsBroken}
 use Rattle.scenario_play.specs.Playing.{LackedNever, IsPlayed}
 
--- Wherever a push ends that is done, the last link of host b whose packets spell anything by then spells one object.
-abbrev pub DoneAreSpelled : Settings → List Entry → Type 0
-DoneAreSpelled settings capture = EachAfter (SpellsDone settings) [] capture
+-- Where the inbox tells what it holds, and has these objects behind what it had: wherever a push ends that is done, what the packets spell that host b heard is what
+-- they spelled before that push was begun, and one object more, which is one of these.
+abbrev pub DoneAreStored : Settings → (before : List Object) → (after : Option Contents) → List Entry → Type 0
+DoneAreStored settings before after capture = IfSome after (λ held. (gain : List Object) → held.stored ≡ before ++ gain → EachAfter (StoresDone settings gain) [] capture)
 
 -- So it is of every scenario that was played over L2CAP with a shelf that tells what it holds, to its end or as far as it came, where the inbox never lacked memory,
 -- whatever its script says and its ports answer besides.
-pub record PlaysSpellDone : Type 0 where
+pub record PlaysStoreDone : Type 0 where
   pub plays : (scenario : Scenario) (shelf before : List Object) (after : Option Contents) (trace trace' : Option (List ℕ)) (outcomes : List Outcome) (peaks : Peaks) (counts counts' : Counts)
-      (played : IsPlayed scenario (Some shelf) (holding before) after trace trace' outcomes peaks counts counts') → scenario.settings.transport ≡ L2cap → LackedNever counts counts' → DoneAreSpelled scenario.settings played.capture
+      (played : IsPlayed scenario (Some shelf) (holding before) after trace trace' outcomes peaks counts counts') → scenario.settings.transport ≡ L2cap → LackedNever counts counts' → DoneAreStored scenario.settings before after played.capture
   pub breaks : (scenario : Scenario) (shelf before : List Object) (after : Option Contents) (trace trace' : Option (List ℕ)) (counts counts' : Counts)
-      (broken : IsBroken scenario (Some shelf) (holding before) after trace trace' counts counts') → scenario.settings.transport ≡ L2cap → LackedNever counts counts' → DoneAreSpelled scenario.settings (all_entries broken.happenings)
+      (broken : IsBroken scenario (Some shelf) (holding before) after trace trace' counts counts') → scenario.settings.transport ≡ L2cap → LackedNever counts counts' → DoneAreStored scenario.settings before after (all_entries broken.happenings)

@@ -3,7 +3,7 @@
 ghost use Rattle.scenario_play.specs.BufferPeaks.{BufferPeaksAreTold};
 ghost use Rattle.scenario_play.specs.Ending.{PlaysBreakOff, PlaysEnd, PlaysServe, WantsAreTold};
 ghost use Rattle.scenario_play.specs.Gaining.{PlaysGain, PlaysKeep};
-ghost use Rattle.scenario_play.specs.Doing.{PlaysSpellDone};
+ghost use Rattle.scenario_play.specs.Doing.{PlaysStoreDone};
 ghost use Rattle.scenario_play.specs.Losing.{PlaysGainLess};
 ghost use Rattle.scenario_play.specs.PeakBounds.{PeaksAreBounded};
 ghost use Rattle.scenario_play.specs.Pushed.{PlaysSpellPushed};
@@ -63,10 +63,10 @@ pub fn plays_gain_less()
     ensures { PlaysGainLess }
 {}
 
-/// Where the inbox of a scenario that was played over L2CAP never lacked memory, and its shelf tells what it holds: by the time that a push ends which is done, the last link
-/// of host b whose packets spell anything spells one object; to the end or as far as it came.
-pub fn plays_spell_done()
-    ensures { PlaysSpellDone }
+/// Where the inbox of a scenario that was played over L2CAP never lacked memory, and its shelf tells what it holds: where a push ends that is done, what the packets spell
+/// that host b heard is what they spelled before that push was begun, and one object more, which is one of those that the inbox gained; to the end or as far as it came.
+pub fn plays_store_done()
+    ensures { PlaysStoreDone }
 {}
 
 /// At each moment of the capture of every scenario that was played, over L2CAP or over RFCOMM, to its end or as far as it came, and whatever ports answer:
