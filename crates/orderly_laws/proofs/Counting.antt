@@ -1,44 +1,33 @@
--- A server ignores no request where each comes behind the response to the one before, read off how many came and went.
-use Rattle.std.proofs.Common.{◌≡◌, ◌≤◌, ◌+◌, ℕ, suc, Bool, true, false, cond, ◌&&◌, ◌||◌, eqb, List, [], ◌∷◌, ◌++◌, length, filter_map, map, Option, Some, None, refl, sym, ap, ap₂, subst, ◌∙◌, append_assoc, append-nil, length-append, arith}
-use Rattle.std.specs.Prelude.{not, nat_lt}
-use Rattle.std.specs.List.{AllByRecursion, cons_option}
-use Rattle.std.proofs.lemmas.Bool.{eqb-true}
+-- A server ignores no request where each that has a response comes behind the response to the one before, read off what came and went.
+use Rattle.std.proofs.Common.{◌≡◌, ◌≤◌, ◌+◌, ℕ, Bool, true, false, cond, ◌&&◌, ◌||◌, eqb, List, [], ◌∷◌, ◌++◌, length, filter_map, Option, Some, None, refl, sym, ap, subst, ◌∙◌, append-nil, arith, true≢false, if◌then◌else◌}
+use Rattle.std.specs.Prelude.{not}
+use Rattle.std.specs.List.{cons_option}
+use Rattle.std.proofs.lemmas.Bool.{eqb-true, eq-eqb}
 use Rattle.request_laws.specs.bt_base.specs.declared.settings.Settings.{Settings}
-use Rattle.request_laws.specs.bt_base.specs.declared.settings.Transport.{Transport}
-use Rattle.request_laws.specs.bt_base.specs.declared.settings.Transport.TheVariants.{L2cap, Rfcomm}
+use Rattle.request_laws.specs.bt_base.specs.declared.settings.Transport.TheVariants.{L2cap}
 use Rattle.request_laws.specs.bt_base.specs.Objects.{Object}
-use Rattle.request_laws.specs.obex_headers.specs.declared.packet.Phase.TheVariants.{Request}
-use Rattle.request_laws.specs.obex_headers.specs.Reading.{packet_in}
-use Rattle.request_laws.specs.obex_headers.specs.Runs.{names}
-use Rattle.request_laws.specs.obex_session.specs.Laws.{without_fault}
-use Rattle.request_laws.specs.obex_session.specs.Past.{open_headers}
+use Rattle.request_laws.specs.obex_session.specs.Calls.{session_behind}
 use Rattle.request_laws.specs.obex_session.specs.Views.{is_silent}
-use Rattle.request_laws.specs.rfcomm_frames.specs.FrameReading.{is_empty}
-use Rattle.request_laws.specs.push_model.specs.Client.{own_maximum}
-use Rattle.request_laws.specs.push_model.specs.Listening.{has_bad_length}
-use Rattle.request_laws.specs.push_model.specs.Service.{Service, is_ignored}
-use Rattle.request_laws.specs.push_model.specs.Server.{Reacted, object_psm, rfcomm_psm}
-use Rattle.request_laws.specs.push_laws.specs.Answers.{Replied, said, requests, responses, went_on, AnswersInTurn}
+use Rattle.request_laws.specs.push_model.specs.declared.outlet.Outlet.{Outlet}
+use Rattle.request_laws.specs.push_model.specs.declared.outlet.Outlet.TheVariants.{Records, Direct, Muxed}
+use Rattle.request_laws.specs.push_model.specs.Payloads.{IsSaid}
+use Rattle.request_laws.specs.push_model.specs.Server.{Server, Reacted, Lent, lent_by, frame_lent, object_psm}
+use Rattle.request_laws.specs.push_laws.specs.Answers.{said}
 use Rattle.request_laws.specs.push_laws.specs.Laws.{new_over}
-use Rattle.request_laws.specs.push_laws.specs.Occurrences.{Occurrence, Came, Went, Closed, LinkDown, Asked, Answering, done, all_done}
-use Rattle.request_laws.specs.push_laws.specs.Parties.{sdu_if, NoFrame, ServesDirectly, AllServeDirectly}
-use Rattle.request_laws.specs.push_laws.specs.Premises.{AllGranted, IsHeard, MayCome, AllMayCome, new_packets}
-use Rattle.request_laws.specs.push_laws.specs.Readings.{closes, came_on, packets_over}
-use Rattle.request_laws.specs.push_laws.proofs.Answering.{answers-come_in_turn}
-use Rattle.request_laws.specs.push_laws.proofs.Calm.{IsCalm, calm_more, is_orderly, silent_stream, none_muxed, none_direct, one_direct, first_calm}
-use Rattle.request_laws.specs.push_laws.proofs.Readings.{read, read_more, read_same, read_closed}
+use Rattle.request_laws.specs.push_laws.specs.Occurrences.{Occurrence, Came, Went, Closed, LinkDown, Asked, Answering, done}
+use Rattle.request_laws.specs.push_laws.specs.Parties.{sdu_if, ServesDirectly, AllServeDirectly}
+use Rattle.request_laws.specs.push_laws.specs.Premises.{AllGranted, AllMayCome}
+use Rattle.request_laws.specs.push_laws.specs.Readings.{came_on, packets_over}
+use Rattle.request_laws.specs.push_laws.specs.Turns.{in_silence, due_behind, InTurn, TakesTurn}
+use Rattle.request_laws.specs.push_laws.proofs.Gaining.{Clear, clear_more}
+use Rattle.request_laws.specs.push_laws.proofs.Readings.{read_more, read_same, read_closed}
+use Rattle.request_laws.specs.push_laws.proofs.Turns.{Stands, grants, still_more, may_come, first_clear, first_still}
+use Rattle.request_laws.specs.Streams.{come_on}
+use Rattle.orderly_laws.specs.Answered.{fresh_session, responses_due}
+use Rattle.orderly_laws.proofs.Due.{due_one, due_none}
 
--- ---- how many came and went on the channel of the object since the link came up
+-- ---- what came, and how many responses went, on the channel of the object since the link came up
 
-abbrev pub came : Occurrence → List (List ℕ)
-came (Came psm sdu) = sdu_if (eqb psm object_psm) sdu
-came (Went psm sdu) = []
-came (Closed psm) = []
-came LinkDown = []
-came Asked = []
-came (Answering answers) = []
-
--- those that went with octets
 abbrev pub gone : Occurrence → List (List ℕ)
 gone (Came psm sdu) = []
 gone (Went psm sdu) = filter_map said (sdu_if (eqb psm object_psm) sdu)
@@ -47,236 +36,223 @@ gone LinkDown = []
 gone Asked = []
 gone (Answering answers) = []
 
-abbrev pub more_came : ℕ → Occurrence → ℕ
-more_came n (Came psm sdu) = n + length (came (Came psm sdu))
-more_came n (Went psm sdu) = n
-more_came n (Closed psm) = n
-more_came n LinkDown = 0
-more_came n Asked = n
-more_came n (Answering answers) = n
+abbrev pub more_came : List (List ℕ) → Occurrence → List (List ℕ)
+more_came rs (Came psm sdu) = rs ++ sdu_if (eqb psm object_psm) sdu
+more_came rs (Went psm sdu) = rs
+more_came rs (Closed psm) = rs
+more_came rs LinkDown = []
+more_came rs Asked = rs
+more_came rs (Answering answers) = rs
 
 abbrev pub more_went : ℕ → Occurrence → ℕ
-more_went n (Came psm sdu) = n
-more_went n (Went psm sdu) = n + length (gone (Went psm sdu))
-more_went n (Closed psm) = n
-more_went n LinkDown = 0
-more_went n Asked = n
-more_went n (Answering answers) = n
+more_went m (Came psm sdu) = m
+more_went m (Went psm sdu) = m + length (gone (Went psm sdu))
+more_went m (Closed psm) = m
+more_went m LinkDown = 0
+more_went m Asked = m
+more_went m (Answering answers) = m
 
--- no request comes before the response to the one before went
-abbrev pub MayAsk : (n m : ℕ) → Occurrence → Type 0
-MayAsk n m (Came psm sdu) = psm ≡ object_psm → n ≤ m
-MayAsk n m (Went psm sdu) = Unit {0}
-MayAsk n m (Closed psm) = Unit {0}
-MayAsk n m LinkDown = Unit {0}
-MayAsk n m Asked = Unit {0}
-MayAsk n m (Answering answers) = Unit {0}
+-- no request that has a response comes before those of the ones before it went
+abbrev pub MayAsk : Settings → (rs : List (List ℕ)) (m : ℕ) → Occurrence → Type 0
+MayAsk settings rs m (Came psm sdu) = psm ≡ object_psm → is_silent (session_behind (fresh_session settings) rs) sdu ≡ false → responses_due settings rs ≤ m
+MayAsk settings rs m (Went psm sdu) = Unit {0}
+MayAsk settings rs m (Closed psm) = Unit {0}
+MayAsk settings rs m LinkDown = Unit {0}
+MayAsk settings rs m Asked = Unit {0}
+MayAsk settings rs m (Answering answers) = Unit {0}
 
-abbrev pub AskInTurn : (n m : ℕ) → List Occurrence → Type 0
-AskInTurn n m [] = Unit {0}
-AskInTurn n m (one ∷ rest) = MayAsk n m one × AskInTurn (more_came n one) (more_went m one) rest
+abbrev pub AskInTurn : Settings → (rs : List (List ℕ)) (m : ℕ) → List Occurrence → Type 0
+AskInTurn settings rs m [] = Unit {0}
+AskInTurn settings rs m (one ∷ rest) = MayAsk settings rs m one × AskInTurn settings (more_came rs one) (more_went m one) rest
 
--- at no time more went than came
-abbrev pub NoMoreGo : (n m : ℕ) → List Occurrence → Type 0
-NoMoreGo n m [] = m ≤ n
-NoMoreGo n m (one ∷ rest) = (m ≤ n) × NoMoreGo (more_came n one) (more_went m one) rest
+-- at no time more went than are due
+abbrev pub NoMoreGo : Settings → (rs : List (List ℕ)) (m : ℕ) → List Occurrence → Type 0
+NoMoreGo settings rs m [] = m ≤ responses_due settings rs
+NoMoreGo settings rs m (one ∷ rest) = (m ≤ responses_due settings rs) × NoMoreGo settings (more_came rs one) (more_went m one) rest
 
--- ---- lists
+-- the channel of the object was closed since the link came up, and nothing comes on it then
+abbrev pub more_closed : Bool → Occurrence → Bool
+more_closed closed (Came psm sdu) = closed
+more_closed closed (Went psm sdu) = closed
+more_closed closed (Closed psm) = closed || eqb psm object_psm
+more_closed closed LinkDown = false
+more_closed closed Asked = closed
+more_closed closed (Answering answers) = closed
 
-one_chosen : {Y : Type 0} (found : Option Y) (ys : List Y) (n : ℕ) → length ys ≤ n → length (cons_option found ys) ≤ suc n
-one_chosen None ys n few = omega (arith, few)
-one_chosen (Some y) ys n few = omega (arith, few)
+abbrev pub NoneFollows : Bool → List Occurrence → Type 0
+NoneFollows closed [] = Unit {0}
+NoneFollows closed (one ∷ rest) = (closed ≡ true → come_on object_psm one ≡ []) × NoneFollows (more_closed closed one) rest
 
-few_chosen : {X Y : Type 0} (f : X → Option Y) (xs : List X) → length (filter_map f xs) ≤ length xs
-few_chosen f [] = omega arith
-few_chosen f (x ∷ xs) = one_chosen (f x) (filter_map f xs) (length xs) (few_chosen f xs)
+-- ---- flags
 
-as_many : {X Y : Type 0} (f : X → Y) (xs : List X) → length (map f xs) ≡ length xs
-as_many f [] = refl
-as_many f (x ∷ xs) = let rest = as_many f xs in omega (arith, rest)
+abbrev one_due : Bool → ℕ
+one_due due = if due then 1 else 0
 
-none_said : (response : List ℕ) → length (cons_option (said response) []) ≤ 0 → response ≡ []
-none_said [] few = refl
-none_said (octet ∷ octets) few = let never : 1 ≤ 0 = few in absurd (omega (arith, never))
+or_off : (b : Bool) → (b || false) ≡ b
+or_off true = refl
+or_off false = refl
 
--- ---- what was answered
+turn_by : (due silent : Bool) (d m : ℕ) → (silent ≡ false → d ≤ m) → m + one_due due ≤ d → (due && not silent) ≡ false
+turn_by false silent d m ask count = refl
+turn_by true true d m ask count = refl
+turn_by true false d m ask count = let few = ask refl in absurd (omega (arith, few, count))
 
--- since the channel was closed last
-abbrev heard_since : List Occurrence → List (List ℕ)
-heard_since past = packets_over L2cap past
+none_due : (due silent : Bool) → (due && not silent) ≡ false → silent ≡ false → due ≡ false
+none_due false silent turn loud = refl
+none_due true true turn loud = absurd (true≢false loud)
+none_due true false turn loud = absurd (true≢false turn)
 
-abbrev went_since : List Occurrence → List (List ℕ)
-went_since past = read (went_on object_psm) object_psm past
+-- ---- a response that goes was due
 
-counted : (settings : Settings) (past : List Occurrence) (response : List ℕ) (replied : List Replied) → requests replied ≡ packets_over L2cap past → responses replied ≡ went_since past ++ cons_option (said response) []
-    → length (went_since past) + length (cons_option (said response) []) ≤ length (heard_since past)
-counted settings past response replied all turn =
-    let few = few_chosen (λ (one : Replied). said one.response) replied in
-    let many = sym (as_many (λ (one : Replied). one.request) replied) ∙ ap length all in
-    let parts = sym (length-append (went_since past) (cons_option (said response) [])) ∙ ap length (sym turn) in
-    omega (arith, few, many, parts)
+lent_same : (a b : Lent) → Some a ≡ Some b → a ≡ b
+lent_same a b e = cc
 
--- ---- all of it may come
+went_none : (out : Option Outlet) (server : Server) (lent : Lent) (sdu : List ℕ) → lent_by out server ≡ Some lent → lent.psm ≡ object_psm → IsSaid lent.payload sdu → server.frame ≡ None → server.listener.service.response ≡ [] → sdu ≡ []
+went_none None server lent sdu is at says frame response = let never : None ≡ Some lent = is in cc
+went_none (Some Muxed) server lent sdu is at says frame response = let never : None ≡ Some lent = sym (ap frame_lent frame) ∙ is in cc
+went_none (Some Records) server lent sdu is at says frame response = let never : 0x0001 ≡ 0x1001 = ap (λ (l : Lent). l.psm) (lent_same _ lent is) ∙ at in absurd (omega (arith, never))
+went_none (Some Direct) server lent sdu is at says frame response = let same = lent_same _ lent is in subst (λ (l : Lent). IsSaid l.payload sdu) (sym same) says ∙ response
 
-done_then : (xs : List Occurrence) (one : Occurrence) (at : Reacted) → all_done (xs ++ one ∷ []) at ≡ done one (all_done xs at)
-done_then [] one at = refl
-done_then (x ∷ xs) one at = done_then xs one (done x at)
+-- ---- what stands behind what came and went
 
 module _ (settings : Settings) (before : List Object) where
-  abbrev Heard : List Occurrence → Reacted → Occurrence → Type 0
-  Heard past at one = MayCome AllGranted (IsHeard settings past at.server.listener.service) settings past at one
+  abbrev due_of : List (List ℕ) → ℕ
+  due_of rs = responses_due settings rs
 
-  come_then : (xs past : List Occurrence) (at : Reacted) (one : Occurrence) → AllMayCome settings past at xs → Heard (past ++ xs) (all_done xs at) one → AllMayCome settings past at (xs ++ one ∷ [])
-  come_then [] past at one all now = (subst (λ (l : List Occurrence). Heard l at one) (append-nil past) now, tt)
-  come_then (x ∷ xs) past at one all now = (all.0, come_then xs (past ++ x ∷ []) (done x at) one all.1 (subst (λ (l : List Occurrence). Heard l (all_done xs (done x at)) one) (sym (append_assoc past (x ∷ []) xs)) now))
+  abbrev silent_behind : List (List ℕ) → List ℕ → Bool
+  silent_behind rs sdu = is_silent (session_behind (fresh_session settings) rs) sdu
 
-  -- what is so behind all that came
-  record Reached (past : List Occurrence) (at : Reacted) (n m : ℕ) : Type 0 where
-    all : AllMayCome settings [] (new_over settings before) past
-    at_is : at ≡ all_done past (new_over settings before)
-    calm : IsCalm past at.server
-    even : m + length (heard_since past) ≤ n + length (went_since past)
+  record Reached (past : List Occurrence) (due : Bool) (at : Reacted) (rs : List (List ℕ)) (m : ℕ) (closed : Bool) : Type 0 where
+    clear : Clear settings before past at
+    stands : Stands settings past due at.server
+    count : m + one_due due ≤ responses_due settings rs
+    same : closed ≡ false → packets_over L2cap past ≡ rs
 
-  answered : (past : List Occurrence) (at : Reacted) (n m : ℕ) → Reached past at n m → length (went_since past) + length (cons_option (said at.server.listener.service.response) []) ≤ length (heard_since past)
-  answered past at n m r =
-      let a = subst (λ (x : Reacted). AnswersInTurn settings past x.server) (sym r.at_is) (answers-come_in_turn settings before past r.all) in
-      counted settings past at.server.listener.service.response a.replied a.all a.in_turn
+  fewer : (m d : ℕ) (due : Bool) → m + one_due due ≤ d → m ≤ d
+  fewer m d true count = omega (arith, count)
+  fewer m d false count = omega (arith, count)
 
-  fewer : (past : List Occurrence) (at : Reacted) (n m : ℕ) → Reached past at n m → m ≤ n
-  fewer past at n m r = let a = answered past at n m r in let e = r.even in omega (arith, a, e)
+  -- ---- it comes in turn
 
-  -- no response waits where a request may come
-  none_waits : (past : List Occurrence) (at : Reacted) (n m : ℕ) → Reached past at n m → n ≤ m → at.server.listener.service.response ≡ []
-  none_waits past at n m r few = let a = answered past at n m r in let e = r.even in none_said at.server.listener.service.response (omega (arith, a, e, few))
+  came_turn : (past : List Occurrence) (due : Bool) (at : Reacted) (rs : List (List ℕ)) (m : ℕ) (closed : Bool) (psm : ℕ) (sdu : List ℕ) → Reached past due at rs m closed → MayAsk settings rs m (Came psm sdu) → (closed ≡ true → come_on object_psm (Came psm sdu) ≡ [])
+      → psm ≡ object_psm → (closed ≡ false) × ((due && not (in_silence settings past sdu)) ≡ false)
+  came_turn past due at rs m true psm sdu r ask none object =
+      let never : sdu_if (eqb psm object_psm) sdu ≡ [] = none refl in
+      let some : sdu ∷ [] ≡ [] = sym (ap (λ (here : Bool). sdu_if here sdu) (eq-eqb psm object_psm object)) ∙ never in
+      absurd cc
+  came_turn past due at rs m false psm sdu r ask none object =
+      let silent : in_silence settings past sdu ≡ silent_behind rs sdu = ap (λ (l : List (List ℕ)). silent_behind l sdu) (r.same refl) in
+      (refl, ap (λ (b : Bool). due && not b) silent ∙ turn_by due (silent_behind rs sdu) (due_of rs) m (ask object) r.count)
 
-  not_ignored : (sdu : List ℕ) (service : Service) → service.response ≡ [] → service.answer ≡ [] → is_ignored L2cap sdu service ≡ false
-  not_ignored sdu service response answer = ap₂ (λ (r a : List ℕ). (not (is_empty r) || not (is_empty a)) && not (is_silent service.sessions.direct sdu)) response answer
+  in_turn : (past : List Occurrence) (due : Bool) (at : Reacted) (rs : List (List ℕ)) (m : ℕ) (closed : Bool) (one : Occurrence) → Reached past due at rs m closed → ServesDirectly AllGranted at one → MayAsk settings rs m one → (closed ≡ true → come_on object_psm one ≡ [])
+      → InTurn settings past due one
+  in_turn past due at rs m closed (Came psm sdu) r serves ask none = (serves.direct, λ object. (came_turn past due at rs m closed psm sdu r ask none object).1)
+  in_turn past due at rs m closed (Went psm sdu) r serves ask none = tt
+  in_turn past due at rs m closed (Closed psm) r serves ask none = tt
+  in_turn past due at rs m closed LinkDown r serves ask none = tt
+  in_turn past due at rs m closed Asked r serves ask none = tt
+  in_turn past due at rs m closed (Answering answers) r serves ask none = tt
 
-  -- ---- one occurrence
+  -- ---- the counts
 
-  abbrev AreHeard : List Occurrence → Reacted → Occurrence → Type 0
-  AreHeard past at one = AllByRecursion (IsHeard settings past at.server.listener.service L2cap) (new_packets L2cap past one)
+  abbrev IsCounted : List (List ℕ) → ℕ → Bool → Type 0
+  IsCounted rs m due = m + one_due due ≤ responses_due settings rs
 
-  none_heard : (past : List Occurrence) (at : Reacted) (one : Occurrence) → came_on object_psm one ≡ None → AreHeard past at one
-  none_heard past at one none = subst (AllByRecursion (IsHeard settings past at.server.listener.service L2cap)) (sym (none_direct past one none)) tt
-
-  heard_one : (past : List Occurrence) (at : Reacted) (sdu : List ℕ) → IsCalm past at.server → is_ignored L2cap sdu at.server.listener.service ≡ false → IsHeard settings past at.server.listener.service L2cap sdu
-  heard_one past at sdu calm taken = record {
-    taken = taken;
-    alone = λ named. ap (λ (ps : List (List ℕ)). nat_lt 0 (length (names (open_headers (own_maximum Rfcomm settings) (without_fault ps))))) (silent_stream past calm.quiet);
-  }
-
-  came_heard : (past : List Occurrence) (at : Reacted) (n m psm : ℕ) (sdu : List ℕ) → Reached past at n m → (psm ≡ object_psm → n ≤ m) → AreHeard past at (Came psm sdu)
-  came_heard past at n m psm sdu r ask = by (eqb psm object_psm) refl
+  came_count : (past : List Occurrence) (due : Bool) (at : Reacted) (rs : List (List ℕ)) (m : ℕ) (closed : Bool) (psm : ℕ) (sdu : List ℕ) → Reached past due at rs m closed → MayAsk settings rs m (Came psm sdu) → (closed ≡ true → come_on object_psm (Came psm sdu) ≡ [])
+      → IsCounted (more_came rs (Came psm sdu)) m (due_behind settings past due (Came psm sdu))
+  came_count past due at rs m closed psm sdu r ask none = by (eqb psm object_psm) refl
     where
-      by : (here : Bool) → eqb psm object_psm ≡ here → AreHeard past at (Came psm sdu)
+      loud_by : (silent : Bool) → silent_behind rs sdu ≡ silent → in_silence settings past sdu ≡ silent → (due && not silent) ≡ false → IsCounted (rs ++ sdu ∷ []) m (due || not (in_silence settings past sdu))
+      loud_by true quiet same turn =
+          subst (λ (b : Bool). IsCounted (rs ++ sdu ∷ []) m (due || not b)) (sym same)
+          (subst (IsCounted (rs ++ sdu ∷ []) m) (sym (or_off due)) (subst (λ (n : ℕ). m + one_due due ≤ n) (sym (due_none settings rs sdu quiet)) r.count))
+      loud_by false loud same turn =
+          let off : due ≡ false = none_due due false turn refl in
+          let count : m + 0 ≤ responses_due settings rs = subst (IsCounted rs m) off r.count in
+          let more = due_one settings rs sdu loud in
+          subst (λ (b : Bool). IsCounted (rs ++ sdu ∷ []) m (due || not b)) (sym same)
+          (subst (λ (b : Bool). IsCounted (rs ++ sdu ∷ []) m (b || true)) (sym off) (omega (arith, count, more)))
+
+      by : (here : Bool) → eqb psm object_psm ≡ here → IsCounted (rs ++ sdu_if here sdu) m (due || (here && not (in_silence settings past sdu)))
+      by false is = subst (IsCounted (rs ++ []) m) (sym (or_off due)) (subst (λ (l : List (List ℕ)). IsCounted l m due) (sym (append-nil rs)) r.count)
       by true is =
-          let same = eqb-true psm object_psm is in
-          subst (λ (p : ℕ). AreHeard past at (Came p sdu)) (sym same)
-          (subst (AllByRecursion (IsHeard settings past at.server.listener.service L2cap)) (sym (one_direct past sdu))
-          (heard_one past at sdu r.calm (not_ignored sdu at.server.listener.service (none_waits past at n m r (ask same)) r.calm.answer), tt))
-      by false is = none_heard past at (Came psm sdu) (ap (λ (b : Bool). cond b (Some sdu) None) is)
+          let turn = came_turn past due at rs m closed psm sdu r ask none (eqb-true psm object_psm is) in
+          let same : in_silence settings past sdu ≡ silent_behind rs sdu = ap (λ (l : List (List ℕ)). silent_behind l sdu) (r.same turn.0) in
+          loud_by (silent_behind rs sdu) refl same (ap (λ (b : Bool). due && not b) (sym same) ∙ turn.1)
 
-  are_heard : (past : List Occurrence) (at : Reacted) (n m : ℕ) (one : Occurrence) → Reached past at n m → MayAsk n m one → AreHeard past at one
-  are_heard past at n m (Came psm sdu) r ask = came_heard past at n m psm sdu r ask
-  are_heard past at n m (Went psm sdu) r ask = none_heard past at (Went psm sdu) refl
-  are_heard past at n m (Closed psm) r ask = none_heard past at (Closed psm) refl
-  are_heard past at n m LinkDown r ask = none_heard past at LinkDown refl
-  are_heard past at n m Asked r ask = none_heard past at Asked refl
-  are_heard past at n m (Answering answers) r ask = none_heard past at (Answering answers) refl
-
-  no_frame : (one : Occurrence) (sdu : List ℕ) → NoFrame one → one ≡ Came rfcomm_psm sdu → ⊥
-  no_frame one sdu direct is = (subst NoFrame is direct) refl
-
-  may_come : (past : List Occurrence) (at : Reacted) (n m : ℕ) (one : Occurrence) → Reached past at n m → ServesDirectly AllGranted at one → MayAsk n m one → Heard past at one
-  may_come past at n m one r serves ask =
-      let later = calm_more past one at serves.direct serves.own r.calm in
-      let new : new_packets Rfcomm past one ≡ [] = none_muxed past one later.quiet in
-      record {
-        own = serves.own;
-        answers = serves.answers;
-        requests = record {
-          single = subst (λ (ps : List (List ℕ)). length ps ≤ 1) (sym new) (omega arith);
-          heard = λ transport. over new transport;
-          lengths = subst (AllByRecursion (λ packet. has_bad_length (packet_in Request (own_maximum Rfcomm settings) packet) ≡ false)) (sym new) tt;
-        };
-        frame = λ sdu is. absurd (no_frame one sdu serves.direct is);
-        orderly = is_orderly (done one at).server.mux later.fresh;
-      }
+  went_count : (past : List Occurrence) (due : Bool) (at : Reacted) (rs : List (List ℕ)) (m : ℕ) (closed : Bool) (psm : ℕ) (sdu : List ℕ) → Reached past due at rs m closed → ServesDirectly AllGranted at (Went psm sdu)
+      → IsCounted rs (more_went m (Went psm sdu)) (due_behind settings past due (Went psm sdu))
+  went_count past due at rs m closed psm sdu r serves = by (eqb psm object_psm) refl
     where
-      over : new_packets Rfcomm past one ≡ [] → (transport : Transport) → AllByRecursion (IsHeard settings past at.server.listener.service transport) (new_packets transport past one)
-      over new L2cap = are_heard past at n m one r ask
-      over new Rfcomm = subst (AllByRecursion (IsHeard settings past at.server.listener.service Rfcomm)) (sym new) tt
+      few_by : (goes : Bool) (response : List ℕ) → (goes ≡ false → response ≡ []) → m + one_due goes ≤ responses_due settings rs → (m + length (cons_option (said response) [])) + 0 ≤ responses_due settings rs
+      few_by goes [] none count = let few = fewer m (due_of rs) goes count in omega (arith, few)
+      few_by true (octet ∷ octets) none count = omega (arith, count)
+      few_by false (octet ∷ octets) none count = let never : octet ∷ octets ≡ [] = none refl in absurd cc
 
-  -- ---- the counts stay even
+      by : (here : Bool) → eqb psm object_psm ≡ here → IsCounted rs (m + length (filter_map said (sdu_if here sdu))) (cond here false due)
+      by false is = subst (λ (n : ℕ). n + one_due due ≤ responses_due settings rs) (plus m) r.count
+        where
+          plus : (n : ℕ) → n ≡ n + 0
+          plus n = omega arith
+      by true is =
+          let own = serves.own in
+          few_by due sdu (λ off. went_none at.server.lent at.server own.0 sdu own.1 (own.2 ∙ eqb-true psm object_psm is) own.3 r.stands.calm.no_frame (r.stands.free off)) r.count
 
-  abbrev IsEven : ℕ → ℕ → List Occurrence → Type 0
-  IsEven n m past = m + length (heard_since past) ≤ n + length (went_since past)
-
-  even_same : (past : List Occurrence) (n m : ℕ) (one : Occurrence) → closes object_psm one ≡ false → came_on object_psm one ≡ None → went_on object_psm one ≡ None → IsEven n m past → IsEven n m (past ++ one ∷ [])
-  even_same past n m one stays none none' even =
-      let came_is = ap length (read_same (came_on object_psm) object_psm past one stays none) in
-      let went_is = ap length (read_same (went_on object_psm) object_psm past one stays none') in
-      omega (arith, came_is, went_is, even)
-
-  even_closed : (past : List Occurrence) (n m : ℕ) (one : Occurrence) → closes object_psm one ≡ true → m ≤ n → IsEven n m (past ++ one ∷ [])
-  even_closed past n m one closed few =
-      let came_is = ap length (read_closed (came_on object_psm) object_psm past one closed) in
-      let went_is = ap length (read_closed (went_on object_psm) object_psm past one closed) in
-      omega (arith, came_is, went_is, few)
-
-  even_came : (past : List Occurrence) (n m psm : ℕ) (sdu : List ℕ) → IsEven n m past → IsEven (more_came n (Came psm sdu)) m (past ++ Came psm sdu ∷ [])
-  even_came past n m psm sdu even =
-      let one : Occurrence = Came psm sdu in
-      let came_is = ap length (read_more (came_on object_psm) object_psm past one refl) ∙ length-append (heard_since past) (cons_option (came_on object_psm one) []) in
-      let went_is = ap length (read_same (went_on object_psm) object_psm past one refl refl) in
-      let same = by (eqb psm object_psm) in
-      omega (arith, came_is, went_is, even, same)
+  count_more : (past : List Occurrence) (due : Bool) (at : Reacted) (rs : List (List ℕ)) (m : ℕ) (closed : Bool) (one : Occurrence) → Reached past due at rs m closed → ServesDirectly AllGranted at one → MayAsk settings rs m one → (closed ≡ true → come_on object_psm one ≡ [])
+      → IsCounted (more_came rs one) (more_went m one) (due_behind settings past due one)
+  count_more past due at rs m closed (Came psm sdu) r serves ask none = came_count past due at rs m closed psm sdu r ask none
+  count_more past due at rs m closed (Went psm sdu) r serves ask none = went_count past due at rs m closed psm sdu r serves
+  count_more past due at rs m closed (Closed psm) r serves ask none = by (eqb psm object_psm)
     where
-      by : (here : Bool) → length (cons_option (cond here (Some sdu) None) []) ≡ length (sdu_if here sdu)
+      by : (here : Bool) → IsCounted rs m (cond here false due)
+      by true = let few = fewer m (due_of rs) due r.count in omega (arith, few)
+      by false = r.count
+  count_more past due at rs m closed LinkDown r serves ask none = let nothing : 0 + 0 ≤ 0 = omega arith in nothing
+  count_more past due at rs m closed Asked r serves ask none = r.count
+  count_more past due at rs m closed (Answering answers) r serves ask none = r.count
+
+  -- ---- what came on the channel that is there is all that came on the link
+
+  abbrev IsSame : List Occurrence → List (List ℕ) → Bool → Type 0
+  IsSame past rs closed = closed ≡ false → packets_over L2cap past ≡ rs
+
+  same_more : (past : List Occurrence) (rs : List (List ℕ)) (closed : Bool) (one : Occurrence) → IsSame past rs closed → IsSame (past ++ one ∷ []) (more_came rs one) (more_closed closed one)
+  same_more past rs closed (Came psm sdu) same = λ off. read_more (came_on object_psm) object_psm past (Came psm sdu) refl ∙ (ap (λ (l : List (List ℕ)). l ++ cons_option (came_on object_psm (Came psm sdu)) []) (same off) ∙ by (eqb psm object_psm))
+    where
+      by : (here : Bool) → rs ++ cons_option (cond here (Some sdu) None) [] ≡ rs ++ sdu_if here sdu
       by true = refl
       by false = refl
-
-  even_went : (past : List Occurrence) (n m psm : ℕ) (sdu : List ℕ) → IsEven n m past → IsEven n (more_went m (Went psm sdu)) (past ++ Went psm sdu ∷ [])
-  even_went past n m psm sdu even =
-      let one : Occurrence = Went psm sdu in
-      let came_is = ap length (read_same (came_on object_psm) object_psm past one refl refl) in
-      let went_is = ap length (read_more (went_on object_psm) object_psm past one refl) ∙ length-append (went_since past) (cons_option (went_on object_psm one) []) in
-      let same = by (eqb psm object_psm) in
-      omega (arith, came_is, went_is, even, same)
+  same_more past rs closed (Went psm sdu) same = λ off. read_same (came_on object_psm) object_psm past (Went psm sdu) refl refl ∙ same off
+  same_more past rs closed (Closed psm) same = by closed (eqb psm object_psm) refl same
     where
-      by : (here : Bool) → length (cons_option (cond here (said sdu) None) []) ≡ length (filter_map said (sdu_if here sdu))
-      by true = refl
-      by false = refl
-
-  even_more : (past : List Occurrence) (at : Reacted) (n m : ℕ) (one : Occurrence) → Reached past at n m → IsEven (more_came n one) (more_went m one) (past ++ one ∷ [])
-  even_more past at n m (Came psm sdu) r = even_came past n m psm sdu r.even
-  even_more past at n m (Went psm sdu) r = even_went past n m psm sdu r.even
-  even_more past at n m (Closed psm) r = by (eqb psm object_psm) refl
-    where
-      by : (here : Bool) → eqb psm object_psm ≡ here → IsEven n m (past ++ Closed psm ∷ [])
-      by true is = even_closed past n m (Closed psm) is (fewer past at n m r)
-      by false is = even_same past n m (Closed psm) is refl refl r.even
-  even_more past at n m LinkDown r = even_closed past 0 0 LinkDown refl (omega arith)
-  even_more past at n m Asked r = even_same past n m Asked refl refl refl r.even
-  even_more past at n m (Answering answers) r = even_same past n m (Answering answers) refl refl refl r.even
+      by : (shut here : Bool) → eqb psm object_psm ≡ here → IsSame past rs shut → (shut || here) ≡ false → packets_over L2cap (past ++ Closed psm ∷ []) ≡ rs
+      by true here is same' off = absurd (true≢false off)
+      by false true is same' off = absurd (true≢false off)
+      by false false is same' off = read_same (came_on object_psm) object_psm past (Closed psm) is refl ∙ same' refl
+  same_more past rs closed LinkDown same = λ off. read_closed (came_on object_psm) object_psm past LinkDown refl
+  same_more past rs closed Asked same = λ off. read_same (came_on object_psm) object_psm past Asked refl refl ∙ same off
+  same_more past rs closed (Answering answers) same = λ off. read_same (came_on object_psm) object_psm past (Answering answers) refl refl ∙ same off
 
   -- ---- all of them
 
-  further : (past : List Occurrence) (at : Reacted) (n m : ℕ) (one : Occurrence) → Reached past at n m → ServesDirectly AllGranted at one → MayAsk n m one → Reached (past ++ one ∷ []) (done one at) (more_came n one) (more_went m one)
-  further past at n m one r serves ask = record {
-    all = come_then past [] (new_over settings before) one r.all (subst (λ (x : Reacted). Heard past x one) r.at_is (may_come past at n m one r serves ask));
-    at_is = ap (done one) r.at_is ∙ sym (done_then past one (new_over settings before));
-    calm = calm_more past one at serves.direct serves.own r.calm;
-    even = even_more past at n m one r;
-  }
+  reaches : (rest past : List Occurrence) (due : Bool) (at : Reacted) (rs : List (List ℕ)) (m : ℕ) (closed : Bool) → Reached past due at rs m closed → AllServeDirectly AllGranted at rest → AskInTurn settings rs m rest → NoneFollows closed rest
+      → AllMayCome settings past at rest × NoMoreGo settings rs m rest
+  reaches [] past due at rs m closed r serve ask follow = (tt, fewer m (due_of rs) due r.count)
+  reaches (one ∷ rest) past due at rs m closed r serve ask follow =
+      let turn : TakesTurn settings past due at one = record { own = serve.0.own; granted = serve.0.answers; turn = in_turn past due at rs m closed one r serve.0 ask.0 follow.0 } in
+      let later = still_more settings before past one due at r.clear.holds.upholds.listens.serves.enough (grants one at r.clear.spared) turn.own turn.turn r.stands in
+      let may = may_come settings before past one due at r.clear turn r.stands later in
+      let next : Reached (past ++ one ∷ []) (due_behind settings past due one) (done one at) (more_came rs one) (more_went m one) (more_closed closed one) = record {
+        clear = clear_more settings before past one at r.clear may;
+        stands = later;
+        count = count_more past due at rs m closed one r serve.0 ask.0 follow.0;
+        same = same_more past rs closed one r.same;
+      } in
+      let more = reaches rest (past ++ one ∷ []) (due_behind settings past due one) (done one at) (more_came rs one) (more_went m one) (more_closed closed one) next serve.1 ask.1 follow.1 in
+      ((may, more.0), (fewer m (due_of rs) due r.count, more.1))
 
-  reaches : (rest past : List Occurrence) (at : Reacted) (n m : ℕ) → Reached past at n m → AllServeDirectly AllGranted at rest → AskInTurn n m rest → AllMayCome settings past at rest × NoMoreGo n m rest
-  reaches [] past at n m r serve ask = (tt, fewer past at n m r)
-  reaches (one ∷ rest) past at n m r serve ask =
-      let later = reaches rest (past ++ one ∷ []) (done one at) (more_came n one) (more_went m one) (further past at n m one r serve.0 ask.0) serve.1 ask.1 in
-      ((may_come past at n m one r serve.0 ask.0, later.0), (fewer past at n m r, later.1))
-
-  -- Where requests come so, none is ignored, and at no time more responses went than requests came.
-  pub none-ignored : (occurrences : List Occurrence) → AllServeDirectly AllGranted (new_over settings before) occurrences → AskInTurn 0 0 occurrences → AllMayCome settings [] (new_over settings before) occurrences × NoMoreGo 0 0 occurrences
-  none-ignored occurrences serve ask = reaches occurrences [] (new_over settings before) 0 0 (record { all = tt; at_is = refl; calm = first_calm settings; even = omega arith }) serve ask
+  -- Where requests come so, none is ignored, and at no time more responses went than are due.
+  pub none-ignored : (occurrences : List Occurrence) → AllServeDirectly AllGranted (new_over settings before) occurrences → AskInTurn settings [] 0 occurrences → NoneFollows false occurrences → AllMayCome settings [] (new_over settings before) occurrences × NoMoreGo settings [] 0 occurrences
+  none-ignored occurrences serve ask follow =
+      let nothing : 0 + 0 ≤ 0 = omega arith in
+      reaches occurrences [] false (new_over settings before) [] 0 false (record { clear = first_clear settings before; stands = first_still settings before; count = nothing; same = λ off. refl }) serve ask follow

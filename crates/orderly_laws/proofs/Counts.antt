@@ -1,5 +1,5 @@
--- On the one channel of the object of a link no more requests were handed up than responses were taken, wherever one more comes.
-use Rattle.std.proofs.Common.{◌≡◌, ◌≤◌, ◌+◌, ℕ, Bool, true, false, cond, eqb, List, [], ◌∷◌, ◌++◌, length, drop, filter_map, find, Option, Some, None, refl, sym, ap, ap₂, subst, ◌∙◌, append_assoc, append-nil, length-append, arith, inl, inr}
+-- On the one channel of the object of a link no more responses are due than were taken, wherever a request comes that has one.
+use Rattle.std.proofs.Common.{◌≡◌, ◌≤◌, ℕ, Bool, true, false, cond, eqb, List, [], ◌∷◌, ◌++◌, length, drop, filter_map, find, Option, Some, None, refl, sym, ap, ap₂, subst, ◌∙◌, append_assoc, append-nil, arith, inl, inr}
 use Rattle.std.specs.List.{AllByRecursion, cons_option}
 use Rattle.std.proofs.lemmas.Bool.{eq-eqb}
 use Rattle.std.proofs.lemmas.List.Elements.{filter_map-append}
@@ -33,6 +33,8 @@ use Rattle.request_laws.specs.channel_laws.proofs.Incoming.{sdus-are_read}
 use Rattle.request_laws.specs.channel_laws.proofs.Signalling.{bare-asked, bare-comes}
 use Rattle.request_laws.specs.channel_laws.proofs.Stretching.{NoneComes, stays-heard}
 use Rattle.request_laws.specs.channel_laws.proofs.Taken.{taken-goes_out}
+use Rattle.request_laws.specs.obex_session.specs.Calls.{session_behind}
+use Rattle.request_laws.specs.obex_session.specs.Views.{is_silent}
 use Rattle.request_laws.specs.push_laws.specs.Answers.{said}
 use Rattle.request_laws.specs.push_model.specs.Server.{object_psm}
 use Rattle.request_laws.specs.host_laws.specs.Gaining.{HandsAllUp}
@@ -48,7 +50,8 @@ use Rattle.request_laws.specs.HandedUp.{up_for, handed_for}
 use Rattle.request_laws.proofs.Accepted.{Accepted, accepted-stays, Opened, OpenedUp, opened-up, up-stays, all-opened}
 use Rattle.request_laws.proofs.Sole.{is_of, for_of, IsSole, sole}
 use Rattle.request_laws.proofs.Takes.{run_more, grown}
-use Rattle.orderly_laws.specs.Answered.{requests_on, responses_on, ComesBehind, IsAnswered, AreAnswered}
+use Rattle.orderly_laws.specs.Answered.{responses_on, fresh_session, responses_due, LastIsDue, ComesBehind, IsAnswered, AreAnswered}
+use Rattle.orderly_laws.proofs.Due.{due_front, due_one, no_last}
 use Rattle.orderly_laws.proofs.Moments.{of-stays, stands, unopened_out, unopened_in, fewer_said, more_responses, answered-at}
 
 -- ---- what comes in is not of what goes out behind
@@ -77,19 +80,19 @@ out_comes (Carried Out pdu ∷ outs) out = out_comes outs out.1
 out_comes (Carried Into pdu ∷ outs) out = absurd out.0
 out_comes (GaveUp forgone ∷ outs) out = absurd out.0
 
--- ---- what is read of a channel is no less than what was handed up
+-- ---- to what is read of a channel no fewer responses are due than to what was handed up
 
-read_more : (broken : Bool) (ups read : List (List ℕ)) → IsHandedUp broken ups read → length ups ≤ length read
-read_more broken ups read (inl same) = let e = ap length same in omega (arith, e)
-read_more broken ups read (inr (is, sdu, same)) = let e = ap length same ∙ length-append ups (sdu ∷ []) in omega (arith, e)
+read_more : (settings : Settings) (broken : Bool) (ups read : List (List ℕ)) → IsHandedUp broken ups read → responses_due settings ups ≤ responses_due settings read
+read_more settings broken ups read (inl same) = let e = ap (responses_due settings) same in omega (arith, e)
+read_more settings broken ups read (inr (is, sdu, same)) = let e = ap (responses_due settings) same in let front = due_front settings ups (sdu ∷ []) in omega (arith, e, front)
 
 -- and no more where it is no longer
-read_all : (broken : Bool) (ups read : List (List ℕ)) → IsHandedUp broken ups read → length read ≤ length ups → read ≡ ups
-read_all broken ups read (inl same) few = same
-read_all broken ups read (inr (is, sdu, same)) few = let e = ap length same ∙ length-append ups (sdu ∷ []) in absurd (omega (arith, e, few))
+read_all : (settings : Settings) (broken : Bool) (ups read : List (List ℕ)) → LastIsDue settings read → IsHandedUp broken ups read → responses_due settings read ≤ responses_due settings ups → read ≡ ups
+read_all settings broken ups read last (inl same) few = same
+read_all settings broken ups read last (inr (is, sdu, same)) few = let e = ap (responses_due settings) same ∙ due_one settings ups sdu (last ups sdu same) in absurd (omega (arith, e, few))
 
 module _ (settings : Settings) (list : List Occurrence) (talk outs : List Saying) (said_is : (run_of (policy settings true) list).said ≡ talk ++ outs) (go_out : AllByRecursion GoesOut outs) (uttered : AreUttered (policy settings true) list)
-    (one : Channel) (psm_is : one.psm ≡ object_psm) (alone : CarriesAlone one (run_of (policy settings true) list).said) (answered : AreAnswered (party_of settings sides.B) talk) where
+    (one : Channel) (psm_is : one.psm ≡ object_psm) (alone : CarriesAlone one (run_of (policy settings true) list).said) (answered : AreAnswered settings (party_of settings sides.B) talk) where
   abbrev own : Policy
   own = policy settings true
 
@@ -126,8 +129,8 @@ module _ (settings : Settings) (list : List Occurrence) (talk outs : List Saying
 
   -- ---- it is answered
 
-  talk_has : IsOf one (read_at one.own entries) → IsAnswered party talk one
-  talk_has is = answered-at party talk outs one psm_is answered (subst (λ (l : List Saying). IsOf one (read_at one.own (reading l).entries)) said_is is)
+  talk_has : IsOf one (read_at one.own entries) → IsAnswered settings party talk one
+  talk_has is = answered-at settings party talk outs one psm_is answered (subst (λ (l : List Saying). IsOf one (read_at one.own (reading l).entries)) said_is is)
 
   -- where its own end brings an SDU it is read
   brings_has : (front rest : List Occurrence) (pdu : List ℕ) (at : ℕ) (sdu : List ℕ) → list ≡ front ++ Comes pdu ∷ rest → up (channel_of pdu) pdu (run_of own front).value ≡ Received at object_psm sdu → IsOf one (read_at one.own entries)
@@ -140,7 +143,7 @@ module _ (settings : Settings) (list : List Occurrence) (talk outs : List Saying
           subst (λ (c : Channel). IsOf c (read_at c.own entries)) ((sole-at object_psm at peer later).same (eq-eqb object_psm object_psm refl)) (is_of (channel_by object_psm at peer) (read_at at entries) later)
 
   -- what its talk says that went is no more than what its channel took
-  responses_few : (front later : List Occurrence) (more : List Saying) → list ≡ front ++ later → talk ≡ (run_of own front).said ++ more → IsAnswered party talk one → length (responses_on party one (run_of own front).said) ≤ length (filter_map said (taken_of own one.own front))
+  responses_few : (front later : List Occurrence) (more : List Saying) → list ≡ front ++ later → talk ≡ (run_of own front).said ++ more → IsAnswered settings party talk one → length (responses_on party one (run_of own front).said) ≤ length (filter_map said (taken_of own one.own front))
   responses_few front later more is talk_is a = by (has_opened (find (has_own one) (reading (run_of own front).said).entries)) refl
     where
       past : List Saying
@@ -176,16 +179,16 @@ module _ (settings : Settings) (list : List Occurrence) (talk outs : List Saying
       ∙ (ap (λ (b : Bool). (run_of own front).said ++ cond b (said_with_all own (answers (drop 4 pdu)) v) (Carried Into pdu ∷ asked front pdu)) plain ∙ sym (append_assoc (run_of own front).said (Carried Into pdu ∷ []) (asked front pdu)))
 
   handed_next : (front : List Occurrence) (pdu : List ℕ) (at : ℕ) (sdu : List ℕ) → up (channel_of pdu) pdu (run_of own front).value ≡ Received at object_psm sdu
-      → length (handed_for object_psm (run_of own (front ++ Comes pdu ∷ [])).up) ≡ length (handed_for object_psm (run_of own front).up) + 1
+      → handed_for object_psm (run_of own (front ++ Comes pdu ∷ [])).up ≡ handed_for object_psm (run_of own front).up ++ sdu ∷ []
   handed_next front pdu at sdu brought =
-      ap (λ (r : Run). length (handed_for object_psm r.up)) (run_more own front (Comes pdu))
-      ∙ (ap length (filter_map-append (up_for object_psm) (run_of own front).up (up (channel_of pdu) pdu (run_of own front).value ∷ []))
-      ∙ (length-append (handed_for object_psm (run_of own front).up) (handed_for object_psm (up (channel_of pdu) pdu (run_of own front).value ∷ []))
-      ∙ ap (λ (u : Handed). length (handed_for object_psm (run_of own front).up) + length (handed_for object_psm (u ∷ []))) brought))
+      ap (λ (r : Run). handed_for object_psm r.up) (run_more own front (Comes pdu))
+      ∙ (filter_map-append (up_for object_psm) (run_of own front).up (up (channel_of pdu) pdu (run_of own front).value ∷ [])
+      ∙ ap (λ (u : Handed). handed_for object_psm (run_of own front).up ++ handed_for object_psm (u ∷ [])) brought)
 
   pub behind-responses : (front rest : List Occurrence) (pdu : List ℕ) (at : ℕ) (sdu : List ℕ) → list ≡ front ++ Comes pdu ∷ rest → up (channel_of pdu) pdu (run_of (policy settings true) front).value ≡ Received at object_psm sdu
-      → length (handed_for object_psm (run_of (policy settings true) front).up) ≤ length (filter_map said (taken_of (policy settings true) one.own front))
-  behind-responses front rest pdu at sdu is brought =
+      → is_silent (session_behind (fresh_session settings) (handed_for object_psm (run_of (policy settings true) front).up)) sdu ≡ false
+      → responses_due settings (handed_for object_psm (run_of (policy settings true) front).up) ≤ length (filter_map said (taken_of (policy settings true) one.own front))
+  behind-responses front rest pdu at sdu is brought loud =
       let past = (run_of own front).said in
       let next = front ++ Comes pdu ∷ [] in
       let plain = no_signal front pdu at sdu brought in
@@ -199,12 +202,12 @@ module _ (settings : Settings) (list : List Occurrence) (talk outs : List Saying
       ∙ (append_assoc (past ++ Carried Into pdu ∷ []) (asked front pdu) g.more ∙ append_assoc past (Carried Into pdu ∷ []) (asked front pdu ++ g.more))))) in
       let split = split_in talk outs past (asked front pdu ++ g.more) (Carried Into pdu) go_out (λ never. never) all in
       let a = talk_has (brings_has front rest pdu at sdu is brought) in
-      let turn : ComesBehind party one past (Carried Into pdu) = (each_split (ComesBehind party one) [] past (Carried Into pdu ∷ split.more) (subst (EachAfter (ComesBehind party one) []) split.is a.in_turn)).1.0 in
-      let read = read_more _ (sdus_up one.own (run_of own next).up) (sdus party one Into (run_of own next).said) (sdus-are_read own party next one states) in
-      let same = ap (λ (l : List Saying). length (sdus party one Into l)) (said_next front pdu plain)
-      ∙ ap length (stays-heard party one (asked front pdu) (past ++ Carried Into pdu ∷ []) (bare-comes (asked front pdu) (bare-asked (run_of own front).value (takes (channel_of pdu) pdu (run_of own front).value)))).sdus_are in
-      let ups = ap length (handed-up next rest further) in
-      let more = handed_next front pdu at sdu brought in
+      let turn : ComesBehind settings party one past (Carried Into pdu) = (each_split (ComesBehind settings party one) [] past (Carried Into pdu ∷ split.more) (subst (EachAfter (ComesBehind settings party one) []) split.is a.in_turn)).1.0 in
+      let read = read_more settings _ (sdus_up one.own (run_of own next).up) (sdus party one Into (run_of own next).said) (sdus-are_read own party next one states) in
+      let same = ap (λ (l : List Saying). responses_due settings (sdus party one Into l)) (said_next front pdu plain)
+      ∙ ap (responses_due settings) (stays-heard party one (asked front pdu) (past ++ Carried Into pdu ∷ []) (bare-comes (asked front pdu) (bare-asked (run_of own front).value (takes (channel_of pdu) pdu (run_of own front).value)))).sdus_are in
+      let ups = ap (responses_due settings) (handed-up next rest further) in
+      let more = ap (responses_due settings) (handed_next front pdu at sdu brought) ∙ due_one settings (handed_for object_psm (run_of own front).up) sdu loud in
       let few = responses_few front (Comes pdu ∷ rest) (Carried Into pdu ∷ split.more) is split.is a in
       omega (arith, turn, read, same, ups, more, few)
 
@@ -213,13 +216,13 @@ module _ (settings : Settings) (list : List Occurrence) (talk outs : List Saying
   same_frame : (other : Party) → StatesFrame own other → sdus other one Into (run_of own list).said ≡ sdus party one Into (run_of own list).said
   same_frame other has = ap (λ (n : ℕ). sdus_by n (mode_of one (run_of own list).said) (pdus_of Into (stretch one (run_of own list).said))) (sym (has 0) ∙ states 0)
 
-  -- where no more was taken than was handed up
-  read_few : length (filter_map said (taken_of own one.own list)) ≤ length (handed_for object_psm (run_of own list).up) → length (sdus party one Into (run_of own list).said) ≤ length (sdus_up one.own (run_of own list).up)
-  read_few few = by (has_opened (find (has_own one) (reading talk).entries)) refl
-    where
-      at_end : length (sdus party one Into (run_of own list).said) ≡ length (requests_on party one talk)
-      at_end = ap (λ (l : List Saying). length (sdus party one Into l)) said_is ∙ ap length (stays-heard party one outs talk (out_comes outs go_out)).sdus_are
+  -- what is read of it at the end is what its talk says that came
+  at_end : sdus party one Into (run_of own list).said ≡ sdus party one Into talk
+  at_end = ap (λ (l : List Saying). sdus party one Into l) said_is ∙ (stays-heard party one outs talk (out_comes outs go_out)).sdus_are
 
+  talk_answered : has_opened (find (has_own one) (reading talk).entries) ≡ true → IsAnswered settings party talk one
+  talk_answered open' = talk_has (has (read_at one.own (reading talk).entries) refl open')
+    where
       has : (found : Option Entry) → read_at one.own (reading talk).entries ≡ found → has_opened found ≡ true → IsOf one (read_at one.own entries)
       has None at opened = cc
       has (Some entry) at opened =
@@ -228,21 +231,39 @@ module _ (settings : Settings) (list : List Occurrence) (talk outs : List Saying
           let same : entry.channel ≡ one = (for_of one entry.channel (run_of own list).said one.own alone there).same (eq-eqb entry.channel.own one.own (read-own one.own (reading talk).entries entry at)) in
           subst (λ (c : Channel). IsOf c (read_at one.own entries)) same there
 
-      by : (opened : Bool) → has_opened (find (has_own one) (reading talk).entries) ≡ opened → length (sdus party one Into (run_of own list).said) ≤ length (sdus_up one.own (run_of own list).up)
-      by false shut = let none = ap length (unopened_in party one talk shut) in omega (arith, none, at_end)
+  last_due : LastIsDue settings (sdus party one Into (run_of own list).said)
+  last_due = subst (LastIsDue settings) (sym at_end) (by (has_opened (find (has_own one) (reading talk).entries)) refl)
+    where
+      by : (opened : Bool) → has_opened (find (has_own one) (reading talk).entries) ≡ opened → LastIsDue settings (sdus party one Into talk)
+      by false shut = no_last settings (sdus party one Into talk) (unopened_in party one talk shut)
+      by true open' = (talk_answered open').last
+
+  -- where no more was taken than is due to what was handed up
+  read_few : length (filter_map said (taken_of own one.own list)) ≤ responses_due settings (handed_for object_psm (run_of own list).up) → responses_due settings (sdus party one Into (run_of own list).said) ≤ responses_due settings (sdus_up one.own (run_of own list).up)
+  read_few few = by (has_opened (find (has_own one) (reading talk).entries)) refl
+    where
+      ends : responses_due settings (sdus party one Into (run_of own list).said) ≡ responses_due settings (sdus party one Into talk)
+      ends = ap (responses_due settings) at_end
+
+      by : (opened : Bool) → has_opened (find (has_own one) (reading talk).entries) ≡ opened → responses_due settings (sdus party one Into (run_of own list).said) ≤ responses_due settings (sdus_up one.own (run_of own list).up)
+      by false shut =
+          let none : responses_due settings (sdus party one Into talk) ≡ 0 = ap (responses_due settings) (unopened_in party one talk shut) in
+          let e = ends in
+          omega (arith, none, e)
       by true open' =
-          let a = talk_has (has (read_at one.own (reading talk).entries) refl open') in
+          let a = talk_answered open' in
           let later = stands one talk outs open' in
           let mode : mode_of one (run_of own list).said ≡ Enhanced = ap (mode_of one) said_is ∙ (later.mode_is ∙ a.enhanced open') in
           let each = a.each in
           let more = more_responses party one talk outs in
           let same = ap (λ (l : List Saying). length (responses_on party one l)) said_is in
           let took = fewer_said (sdus party one Out (run_of own list).said) (taken_of own one.own list) (taken-goes_out own party list one states uttered mode) in
-          let ups = ap length (handed-up list [] (sym (append-nil list))) in
-          omega (arith, at_end, each, more, same, took, few, ups)
+          let ups = ap (responses_due settings) (handed-up list [] (sym (append-nil list))) in
+          let e = ends in
+          omega (arith, e, each, more, same, took, few, ups)
 
-  pub hands-all_up : length (filter_map said (taken_of (policy settings true) one.own list)) ≤ length (handed_for object_psm (run_of (policy settings true) list).up) → (run_of (policy settings true) list).value.events ≡ [] → HandsAllUp (policy settings true) list one
+  pub hands-all_up : length (filter_map said (taken_of (policy settings true) one.own list)) ≤ responses_due settings (handed_for object_psm (run_of (policy settings true) list).up) → (run_of (policy settings true) list).value.events ≡ [] → HandsAllUp (policy settings true) list one
   hands-all_up few none broken other has =
       let short = read_few few in
-      let ups = ap length (sdus_run own one.own list) in
-      same_frame other has ∙ read_all _ (sdus_told one.own (told_on own list)) (sdus party one Into (run_of own list).said) (sdus-so own party list states none one) (omega (arith, short, ups))
+      let ups = ap (responses_due settings) (sdus_run own one.own list) in
+      same_frame other has ∙ read_all settings _ (sdus_told one.own (told_on own list)) (sdus party one Into (run_of own list).said) last_due (sdus-so own party list states none one) (omega (arith, short, ups))

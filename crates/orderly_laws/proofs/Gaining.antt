@@ -58,14 +58,14 @@ use Rattle.orderly_laws.proofs.Counting.{none-ignored}
 use Rattle.orderly_laws.proofs.Falling.{SaidOn, on_links, said_of, parted}
 use Rattle.orderly_laws.proofs.Given.{lives-given, nothing-given_up}
 use Rattle.orderly_laws.proofs.Granting.{act_so, runs-same, frames-same, over-so, over-acts}
-use Rattle.orderly_laws.proofs.Linking.{ReadLink, all-carry, all-direct, all-turns}
+use Rattle.orderly_laws.proofs.Linking.{ReadLink, all-carry, all-direct, all-turns, all-follow}
 
 -- ---- its links, as they are read
 
 -- what is so of a list
 record Of (settings : Settings) (list : List Occurrence) : Type 0 where
   uttered : AreUttered (policy settings true) list
-  said : SaidOn (AreAnswered (party_of settings sides.B)) settings list
+  said : SaidOn (AreAnswered settings (party_of settings sides.B)) settings list
   only : CarriesOneOn object_psm (policy settings true) list
   none : AllByRecursion AsksForNoChannel list
   told : (run_of (policy settings true) list).value.events ≡ []
@@ -83,7 +83,7 @@ reads_of settings (list ∷ lists) all =
 lists_of : List Span → List Occurrence → List (List Occurrence)
 lists_of spans now = map (λ (span : Span). span.list) spans ++ now ∷ []
 
-all_of : (settings : Settings) (lists : List (List Occurrence)) → AllByRecursion (AreUttered (policy settings true)) lists → AllByRecursion (SaidOn (AreAnswered (party_of settings sides.B)) settings) lists → AllByRecursion (CarriesOneOn object_psm (policy settings true)) lists → AllByRecursion (AllByRecursion AsksForNoChannel) lists
+all_of : (settings : Settings) (lists : List (List Occurrence)) → AllByRecursion (AreUttered (policy settings true)) lists → AllByRecursion (SaidOn (AreAnswered settings (party_of settings sides.B)) settings) lists → AllByRecursion (CarriesOneOn object_psm (policy settings true)) lists → AllByRecursion (AllByRecursion AsksForNoChannel) lists
     → AllByRecursion (λ (list : List Occurrence). (run_of (policy settings true) list).value.events ≡ []) lists → AllByRecursion (Of settings) lists
 all_of settings [] utter said only none told = tt
 all_of settings (list ∷ lists) utter said only none told =
@@ -153,13 +153,14 @@ servers_gain_asked settings before occasions now transport did granted' orderly 
     let last_told : (run_of (policy settings true) list).value.events ≡ [] = ap (λ (v : Channels). v.events) (sym so.lives.channels_run) ∙ so.lives.all_told in
     let events = on_each (λ (l : List Occurrence). (run_of (policy settings true) l).value.events ≡ []) spans list so.lives.spans_told last_told in
     let here = links sides.B capture in
-    let said = said_of (AreAnswered party) tt settings lists (parts told.talk) (map pdus here) so.talks_are told.fall (on_links (AreAnswered party) here orderly.answered) plain in
+    let said = said_of (AreAnswered settings party) tt settings lists (parts told.talk) (map pdus here) so.talks_are told.fall (on_links (AreAnswered settings party) here orderly.answered) plain in
     let reads = parted (ReadLink settings) spans list (reads_of settings lists (all_of settings lists lives.uttered said only none_all events)) in
     let timely = subst (AreTimely false) (sym so.lives.marks_are) so.timely in
     let feeds = so.lives.feeds in
     let direct = all-direct settings content spans list feeds A.first now.upper.profile lives.fed.fed refl reads.before reads.last in
     let turns = all-turns settings content spans list feeds A.first now.upper.profile lives.fed.fed refl timely reads.before reads.last 0 in
-    let heard = none-ignored settings before (served_from settings content A.first feeds) (serve_all AllGranted settings content feeds A.first (all_granted feeds lives.given) direct) turns.0 in
+    let follow = all-follow settings content spans list feeds A.first now.upper.profile lives.fed.fed timely reads.before reads.last in
+    let heard = none-ignored settings before (served_from settings content A.first feeds) (serve_all AllGranted settings content feeds A.first (all_granted feeds lives.given) direct) turns.0 follow in
     let carry = all-carry settings spans list reads.before reads.last timely (turns.1 heard.1) in
     let served = all_served L2cap settings lists (parts told.talk) so.talks_are none_all sought in
     let read = hosts_read_over_links settings content party asks told.talk now.upper so (states_frame settings true sides.B) (ap (λ (t : Transport). own_maximum t settings) transport) direct carry.carried carry.carries served in

@@ -1,4 +1,6 @@
+pub mod Due
 pub mod Counting
+pub mod Following
 pub mod Moments
 pub mod Counts
 pub mod Weaving
@@ -11,3 +13,4 @@ pub mod Served
 pub mod Passing
 pub mod Framing
 pub mod Carried
+pub mod Channels

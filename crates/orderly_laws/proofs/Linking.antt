@@ -1,5 +1,5 @@
 -- Over all links of a server each request comes behind the response to the one before, and nothing comes or goes over RFCOMM.
-use Rattle.std.proofs.Common.{◌≡◌, ◌≤◌, ℕ, Bool, true, false, cond, eqb, List, [], ◌∷◌, ◌++◌, length, filter_map, Option, Some, None, refl, sym, ap, ap₂, subst, ◌∙◌, append_assoc, append-nil, arith, inl, inr}
+use Rattle.std.proofs.Common.{◌≡◌, ◌≤◌, ℕ, Bool, true, false, cond, eqb, List, [], ◌∷◌, ◌++◌, length, filter_map, Option, Some, None, refl, sym, ap, ap₂, subst, ◌∙◌, append_assoc, append-nil, arith, true≢false, inl, inr}
 use Rattle.std.specs.List.{AllByRecursion}
 use Rattle.std.proofs.lemmas.Bool.{eqb-true}
 use Rattle.request_laws.specs.bt_base.specs.declared.settings.Settings.{Settings}
@@ -43,12 +43,15 @@ use Rattle.request_laws.specs.host_laws.specs.Serving.{event_served, served_from
 use Rattle.request_laws.specs.host_laws.specs.Woven.{turned}
 use Rattle.request_laws.specs.host_laws.proofs.Asking.{hosts_ask}
 use Rattle.request_laws.specs.host_laws.proofs.Gaining.{found_in}
+use Rattle.request_laws.specs.host_laws.proofs.InOrder.{asks-nothing}
 use Rattle.request_laws.specs.host_laws.proofs.StrandsFed.{here_so, span_so}
 use Rattle.request_laws.specs.host_laws.proofs.Telling.{events_run}
 use Rattle.unit_laws.specs.scenario_laws.specs.Parties.{party_of}
 use Rattle.request_laws.specs.BothFed.{IsDown}
 use Rattle.request_laws.specs.HandedUp.{handed_for}
 use Rattle.request_laws.proofs.Accepted.{Opened}
+use Rattle.request_laws.specs.Carried.{NoneComesBehind}
+use Rattle.request_laws.proofs.Behind.{muxes_end_last}
 use Rattle.request_laws.proofs.Between.{between_still}
 use Rattle.request_laws.proofs.Feeding.{all_both, served-both, up_served, down_served}
 use Rattle.request_laws.proofs.ServerTakes.{WasOpened, Open}
@@ -56,8 +59,10 @@ use Rattle.request_laws.proofs.Silent.{IsStill}
 use Rattle.request_laws.proofs.Sole.{is_of, for_of}
 use Rattle.request_laws.proofs.Takes.{AllEndpoints}
 use Rattle.request_laws.proofs.Timely.{HearsNothing, is_up, goes_down, is_deaf, is_deaf_now, is_down}
-use Rattle.orderly_laws.specs.Answered.{AreAnswered}
+use Rattle.orderly_laws.specs.Answered.{responses_due, AreAnswered}
 use Rattle.orderly_laws.proofs.Counts.{sure-at, behind-responses, hands-all_up}
+use Rattle.orderly_laws.proofs.Counting.{NoneFollows}
+use Rattle.orderly_laws.proofs.Following.{still-follow, down-follow, link-follow}
 use Rattle.orderly_laws.proofs.Weaving.{TakesTurns, few-at, down-turns, still-turns, weave-later, weave-direct}
 
 -- ---- a list of what happened, as it is read off what moved
@@ -68,14 +73,14 @@ pub record ReadLink (settings : Settings) (list : List channels.Occurrence) : Ty
   pub said_is : (run_of (policy settings true) list).said ≡ talk ++ outs
   pub go_out : AllByRecursion GoesOut outs
   pub uttered : AreUttered (policy settings true) list
-  pub answered : AreAnswered (party_of settings sides.B) talk
+  pub answered : AreAnswered settings (party_of settings sides.B) talk
   pub only : CarriesOneOn object_psm (policy settings true) list
   pub none : AllByRecursion AsksForNoChannel list
   pub told : (run_of (policy settings true) list).value.events ≡ []
 
--- no more responses were taken there than requests handed up
+-- no more responses were taken there than are due to the requests that were handed up
 abbrev pub Few : (settings : Settings) (list : List channels.Occurrence) → ReadLink settings list → Type 0
-Few settings list read = length (filter_map said (taken_of (policy settings true) read.only.channel.own list)) ≤ length (handed_for object_psm (run_of (policy settings true) list).up)
+Few settings list read = length (filter_map said (taken_of (policy settings true) read.only.channel.own list)) ≤ responses_due settings (handed_for object_psm (run_of (policy settings true) list).up)
 
 abbrev pub AllRead : Settings → List Span → Type 0
 AllRead settings spans = AllByRecursion (λ (span : Span). ReadLink settings span.list) spans
@@ -256,45 +261,89 @@ module _ (settings : Settings) (content : Option Contents) where
       (all_both IsDirect (served here.mid turn) (served after later) (turned_direct here.circumstances span.event (value_at span) here.mid)
       (all-direct spans now later after last so (new_server here.circumstances span.event (value_at span) here.mid) reads.1 read)))
 
+  -- ---- nothing follows the closing of a channel
+
+  ends_last : (list : List channels.Occurrence) (feeds : List Feed) (first last : ServerProfile) → WovenFed B asks list feeds first last → ReadLink settings list → NoneComesBehind object_psm (served first feeds)
+  ends_last list feeds first last so read =
+      subst (λ (l : List Feed). NoneComesBehind object_psm (served first l)) (sym so.feeds_are)
+      (muxes_end_last object_psm settings content asks list first last so.woven (λ other aside same. aside.0 same) (asks-nothing settings content) read.only)
+
+  up_follow : (circumstances : List Circumstance) (event : LinkEvent) (v : Channels) (p : ServerProfile) (rest : List Occurrence) → event ≡ Up → NoneFollows false rest → NoneFollows false (served p (turned_feeds circumstances event v) ++ rest)
+  up_follow circumstances event v p rest rises follow = subst (λ (l : List Occurrence). NoneFollows false (l ++ rest)) (sym (up_served settings content circumstances event v p rises)) follow
+
+  fall_follow : (closed : Bool) (circumstances : List Circumstance) (event : LinkEvent) (v : Channels) (p : ServerProfile) (rest : List Occurrence) → IsDown event → NoneFollows false rest → NoneFollows closed (served p (turned_feeds circumstances event v) ++ rest)
+  fall_follow closed circumstances Up v p rest drops follow = absurd drops
+  fall_follow closed circumstances (Down reason) v p rest drops follow =
+      let down = down_served settings content circumstances reason v p in
+      subst (NoneFollows closed) (sym (ap (λ (l : List Occurrence). l ++ rest) down.is ∙ append_assoc down.ahead (LinkDown ∷ []) rest)) (down-follow closed down.ahead rest down.quiet follow)
+
+  never_shut : (rest : Type 0) → false ≡ true → rest
+  never_shut rest is = absurd (true≢false (sym is))
+
+  pub all-follow : (spans : List Span) (now : List channels.Occurrence) (feeds : List Feed) (first last : ServerProfile) → AreFed B asks spans now feeds first last → AreTimely false (all_marks spans now) → AllRead settings spans → ReadLink settings now → NoneFollows false (served first feeds)
+  all-follow [] now feeds first last so timely reads read =
+      subst (NoneFollows false) (append-nil (served first feeds)) (still-follow false (served first feeds) [] (between_still settings content asks now feeds first last so (is_deaf_now now timely)) tt)
+  all-follow (up ∷ []) now feeds first last (here, later, is, so) timely reads read =
+      let rises = is_up up [] now timely in
+      let deaf = is_deaf up [] now rises timely in
+      let mid = behind_span B asks up first here in
+      let link : NoneFollows false (served mid later) = subst (NoneFollows false) (append-nil (served mid later)) (link-follow false (served mid later) [] (ends_last now later mid last so read) (never_shut _) (λ k. tt)) in
+      subst (NoneFollows false) (sym (span_served up first here feeds later is))
+      (still-follow false (served first here.here) (served here.mid (turned_feeds here.circumstances up.event (value_at up)) ++ served mid later) (between_still settings content asks up.list here.here first here.mid here.so deaf.deaf)
+      (up_follow here.circumstances up.event (value_at up) here.mid (served mid later) rises link))
+  all-follow (up ∷ down ∷ spans) now feeds first last (here, later, is, (there, rest, rest_is, so)) timely reads read =
+      let rises = is_up up (down ∷ spans) now timely in
+      let deaf = is_deaf up (down ∷ spans) now rises timely in
+      let drops = goes_down down spans now deaf.rest in
+      let mid = behind_span B asks up first here in
+      let after = behind_span B asks down mid there in
+      let behind = all-follow spans now rest after last so (is_down down spans now drops deaf.rest) reads.1.1 read in
+      let turn = served there.mid (turned_feeds there.circumstances down.event (value_at down)) ++ served after rest in
+      let link : NoneFollows false (served mid later) = subst (NoneFollows false) (sym (span_served down mid there later rest rest_is))
+      (link-follow false (served mid there.here) turn (ends_last down.list there.here mid there.mid there.so reads.1.0) (never_shut _) (λ k. fall_follow k there.circumstances down.event (value_at down) there.mid (served after rest) drops behind)) in
+      subst (NoneFollows false) (sym (span_served up first here feeds later is))
+      (still-follow false (served first here.here) (served here.mid (turned_feeds here.circumstances up.event (value_at up)) ++ served mid later) (between_still settings content asks up.list here.here first here.mid here.so deaf.deaf)
+      (up_follow here.circumstances up.event (value_at up) here.mid (served mid later) rises link))
+
   -- ---- in turn
 
   -- from a link's beginning
   link_turns : (G : Type 0) (list : List channels.Occurrence) (feeds : List Feed) (first last : ServerProfile) (rest : List Occurrence) (m : ℕ) (so : WovenFed B asks list feeds first last) (read : ReadLink settings list) → first.endpoints ≡ []
-      → ((n k : ℕ) → n ≤ length (handed_for object_psm (run_of (policy settings true) list).up) → length (filter_map said (taken_of (policy settings true) read.only.channel.own list)) ≤ k → TakesTurns G n k rest) → TakesTurns G 0 m (served first feeds ++ rest)
+      → ((rs : List (List ℕ)) (k : ℕ) → rs ≡ handed_for object_psm (run_of (policy settings true) list).up → length (filter_map said (taken_of (policy settings true) read.only.channel.own list)) ≤ k → TakesTurns settings G rs k rest) → TakesTurns settings G [] m (served first feeds ++ rest)
   link_turns G list feeds first last rest m so read none next =
       let one = read.only.channel in
       let sure = sure-at settings list read.talk read.outs read.said_is read.go_out read.uttered one read.only.psm_is read.only.alone read.answered in
       let behind = behind-responses settings list read.talk read.outs read.said_is read.go_out read.uttered one read.only.psm_is read.only.alone read.answered in
-      subst (λ (l : List Feed). TakesTurns G 0 m (served first l ++ rest)) (sym so.feeds_are)
-      (weave-later settings content list one.own sure G behind so.woven.weave [] no_channels first rest so.woven.list_is refl (none_open first none) so.woven.on_link next 0 m (omega arith) (omega arith))
+      subst (λ (l : List Feed). TakesTurns settings G [] m (served first l ++ rest)) (sym so.feeds_are)
+      (weave-later settings content list one.own sure G behind so.woven.weave [] no_channels first rest so.woven.list_is refl (none_open first none) so.woven.on_link next [] m refl (omega arith))
 
-  few_here : (G : Type 0) (list : List channels.Occurrence) (read : ReadLink settings list) (rest : List Occurrence) (n k : ℕ) → n ≤ length (handed_for object_psm (run_of (policy settings true) list).up)
-      → length (filter_map said (taken_of (policy settings true) read.only.channel.own list)) ≤ k → TakesTurns G n k rest → TakesTurns (Few settings list read × G) n k rest
-  few_here G list read rest n k few many turns = (turns.0, λ less. (let e = few-at n k rest less in omega (arith, few, many, e), turns.1 less))
+  few_here : (G : Type 0) (list : List channels.Occurrence) (read : ReadLink settings list) (rest : List Occurrence) (rs : List (List ℕ)) (k : ℕ) → rs ≡ handed_for object_psm (run_of (policy settings true) list).up
+      → length (filter_map said (taken_of (policy settings true) read.only.channel.own list)) ≤ k → TakesTurns settings G rs k rest → TakesTurns settings (Few settings list read × G) rs k rest
+  few_here G list read rest rs k same many turns = (turns.0, λ less. (let e = few-at settings rs k rest less in let few = ap (responses_due settings) same in omega (arith, few, many, e), turns.1 less))
 
-  turned_up : (G : Type 0) (m : ℕ) (circumstances : List Circumstance) (event : LinkEvent) (v : Channels) (p : ServerProfile) (rest : List Occurrence) → event ≡ Up → TakesTurns G 0 m rest → TakesTurns G 0 m (served p (turned_feeds circumstances event v) ++ rest)
-  turned_up G m circumstances event v p rest rises turns = subst (λ (l : List Occurrence). TakesTurns G 0 m (l ++ rest)) (sym (up_served settings content circumstances event v p rises)) turns
+  turned_up : (G : Type 0) (m : ℕ) (circumstances : List Circumstance) (event : LinkEvent) (v : Channels) (p : ServerProfile) (rest : List Occurrence) → event ≡ Up → TakesTurns settings G [] m rest → TakesTurns settings G [] m (served p (turned_feeds circumstances event v) ++ rest)
+  turned_up G m circumstances event v p rest rises turns = subst (λ (l : List Occurrence). TakesTurns settings G [] m (l ++ rest)) (sym (up_served settings content circumstances event v p rises)) turns
 
-  turned_down : (G : Type 0) (n m : ℕ) (circumstances : List Circumstance) (event : LinkEvent) (v : Channels) (p : ServerProfile) (rest : List Occurrence) → IsDown event → TakesTurns G 0 0 rest → TakesTurns G n m (served p (turned_feeds circumstances event v) ++ rest)
-  turned_down G n m circumstances Up v p rest drops turns = absurd drops
-  turned_down G n m circumstances (Down reason) v p rest drops turns =
+  turned_down : (G : Type 0) (rs : List (List ℕ)) (m : ℕ) (circumstances : List Circumstance) (event : LinkEvent) (v : Channels) (p : ServerProfile) (rest : List Occurrence) → IsDown event → TakesTurns settings G [] 0 rest → TakesTurns settings G rs m (served p (turned_feeds circumstances event v) ++ rest)
+  turned_down G rs m circumstances Up v p rest drops turns = absurd drops
+  turned_down G rs m circumstances (Down reason) v p rest drops turns =
       let down = down_served settings content circumstances reason v p in
-      subst (TakesTurns G n m) (sym (ap (λ (l : List Occurrence). l ++ rest) down.is ∙ append_assoc down.ahead (LinkDown ∷ []) rest)) (down-turns G n m down.ahead rest down.quiet turns)
+      subst (TakesTurns settings G rs m) (sym (ap (λ (l : List Occurrence). l ++ rest) down.is ∙ append_assoc down.ahead (LinkDown ∷ []) rest)) (down-turns settings G rs m down.ahead rest down.quiet turns)
 
   pub all-turns : (spans : List Span) (now : List channels.Occurrence) (feeds : List Feed) (first last : ServerProfile) → AreFed B asks spans now feeds first last → first.endpoints ≡ [] → AreTimely false (all_marks spans now) → (reads : AllRead settings spans) (read : ReadLink settings now) (m : ℕ)
-      → TakesTurns (AllFew settings spans now reads read) 0 m (served first feeds)
+      → TakesTurns settings (AllFew settings spans now reads read) [] m (served first feeds)
   all-turns [] now feeds first last so none timely reads read m =
-      subst (TakesTurns (Unit {0}) 0 m) (append-nil (served first feeds)) (still-turns (Unit {0}) 0 m (served first feeds) [] (between_still settings content asks now feeds first last so (is_deaf_now now timely)) (λ k. (tt, λ few. tt)))
+      subst (TakesTurns settings (Unit {0}) [] m) (append-nil (served first feeds)) (still-turns settings (Unit {0}) [] m (served first feeds) [] (between_still settings content asks now feeds first last so (is_deaf_now now timely)) (λ k. (tt, λ few. tt)))
   all-turns (up ∷ []) now feeds first last (here, later, is, so) none timely reads read m =
       let rises = is_up up [] now timely in
       let deaf = is_deaf up [] now rises timely in
       let G = Few settings now read in
       let mid = behind_span B asks up first here in
-      let link : (k : ℕ) → TakesTurns G 0 k (served mid later) = λ k.
-      subst (TakesTurns G 0 k) (append-nil (served mid later))
-      (link_turns G now later mid last [] k so read (new_server here.circumstances up.event (value_at up) here.mid) (λ n j few many. (tt, λ less. omega (arith, few, many, less)))) in
-      subst (TakesTurns G 0 m) (sym (span_served up first here feeds later is))
-      (still-turns G 0 m (served first here.here) (served here.mid (turned_feeds here.circumstances up.event (value_at up)) ++ served mid later) (between_still settings content asks up.list here.here first here.mid here.so deaf.deaf)
+      let link : (k : ℕ) → TakesTurns settings G [] k (served mid later) = λ k.
+      subst (TakesTurns settings G [] k) (append-nil (served mid later))
+      (link_turns G now later mid last [] k so read (new_server here.circumstances up.event (value_at up) here.mid) (λ rs j same many. (tt, λ less. let few = ap (responses_due settings) same in omega (arith, few, many, less)))) in
+      subst (TakesTurns settings G [] m) (sym (span_served up first here feeds later is))
+      (still-turns settings G [] m (served first here.here) (served here.mid (turned_feeds here.circumstances up.event (value_at up)) ++ served mid later) (between_still settings content asks up.list here.here first here.mid here.so deaf.deaf)
       (λ k. turned_up G k here.circumstances up.event (value_at up) here.mid (served mid later) rises (link k)))
   all-turns (up ∷ down ∷ spans) now feeds first last (here, later, is, (there, rest, rest_is, so)) none timely reads read m =
       let rises = is_up up (down ∷ spans) now timely in
@@ -306,10 +355,10 @@ module _ (settings : Settings) (content : Option Contents) where
       let after = behind_span B asks down mid there in
       let behind = all-turns spans now rest after last so (new_server there.circumstances down.event (value_at down) there.mid) (is_down down spans now drops deaf.rest) reads.1.1 read 0 in
       let turn = served there.mid (turned_feeds there.circumstances down.event (value_at down)) ++ served after rest in
-      let link : (k : ℕ) → TakesTurns G 0 k (served mid later) = λ k.
-      subst (TakesTurns G 0 k) (sym (span_served down mid there later rest rest_is))
+      let link : (k : ℕ) → TakesTurns settings G [] k (served mid later) = λ k.
+      subst (TakesTurns settings G [] k) (sym (span_served down mid there later rest rest_is))
       (link_turns G down.list there.here mid there.mid turn k there.so reads.1.0 (new_server here.circumstances up.event (value_at up) here.mid)
-      (λ n j few many. few_here H down.list reads.1.0 turn n j few many (turned_down H n j there.circumstances down.event (value_at down) there.mid (served after rest) drops behind))) in
-      subst (TakesTurns G 0 m) (sym (span_served up first here feeds later is))
-      (still-turns G 0 m (served first here.here) (served here.mid (turned_feeds here.circumstances up.event (value_at up)) ++ served mid later) (between_still settings content asks up.list here.here first here.mid here.so deaf.deaf)
+      (λ rs j same many. few_here H down.list reads.1.0 turn rs j same many (turned_down H rs j there.circumstances down.event (value_at down) there.mid (served after rest) drops behind))) in
+      subst (TakesTurns settings G [] m) (sym (span_served up first here feeds later is))
+      (still-turns settings G [] m (served first here.here) (served here.mid (turned_feeds here.circumstances up.event (value_at up)) ++ served mid later) (between_still settings content asks up.list here.here first here.mid here.so deaf.deaf)
       (λ k. turned_up G k here.circumstances up.event (value_at up) here.mid (served mid later) rises (link k)))

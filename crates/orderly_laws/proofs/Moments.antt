@@ -5,6 +5,7 @@ use Rattle.std.specs.Option.{option_or}
 use Rattle.std.specs.List.{list_any}
 use Rattle.std.proofs.lemmas.List.Elements.{filter_map-append}
 use Rattle.std.proofs.lemmas.List.Sums.{fold-append}
+use Rattle.request_laws.specs.bt_base.specs.declared.settings.Settings.{Settings}
 use Rattle.request_laws.specs.capture.specs.declared.flow.Flow.TheVariants.{Out, Into}
 use Rattle.request_laws.specs.capture.specs.Histories.{EachAfter}
 use Rattle.request_laws.specs.l2cap_config.specs.declared.wish.Mode.{Mode}
@@ -28,7 +29,8 @@ use Rattle.request_laws.specs.channel_laws.proofs.Flowing.{front-of_front}
 use Rattle.request_laws.specs.channel_laws.proofs.Stretching.{unopened-stretch, one-more-sdu}
 use Rattle.request_laws.specs.host_laws.proofs.Gaining.{found_in}
 use Rattle.request_laws.specs.push_laws.specs.Answers.{said}
-use Rattle.orderly_laws.specs.Answered.{responses_on, ComesBehind, IsAnswered, AreAnswered}
+use Rattle.orderly_laws.specs.Answered.{responses_on, responses_due, ComesBehind, IsAnswered, AreAnswered}
+use Rattle.orderly_laws.proofs.Due.{no_last}
 
 -- ---- a channel that is read stays so
 
@@ -145,30 +147,32 @@ shut_before channel talk more after = by (has_opened (find (has_own channel) (re
     by false is = refl
 
 -- nothing comes on a channel that never opened
-shut_in_turn : (party : Party) (channel : Channel) (past talk : List Saying) → has_opened (find (has_own channel) (reading (past ++ talk)).entries) ≡ false → EachAfter (ComesBehind party channel) past talk
-shut_in_turn party channel past [] shut = tt
-shut_in_turn party channel past (one ∷ talk) shut =
+shut_in_turn : (settings : Settings) (party : Party) (channel : Channel) (past talk : List Saying) → has_opened (find (has_own channel) (reading (past ++ talk)).entries) ≡ false → EachAfter (ComesBehind settings party channel) past talk
+shut_in_turn settings party channel past [] shut = tt
+shut_in_turn settings party channel past (one ∷ talk) shut =
     let split = sym (append_assoc past (one ∷ []) talk) in
     let later = subst (λ (l : List Saying). has_opened (find (has_own channel) (reading l).entries) ≡ false) split shut in
-    let none = ap length (unopened_in party channel (past ++ one ∷ []) (shut_before channel (past ++ one ∷ []) talk later)) in
-    (omega (arith, none), shut_in_turn party channel (past ++ one ∷ []) talk later)
+    let none : responses_due settings (sdus party channel Into (past ++ one ∷ [])) ≡ 0 = ap (responses_due settings) (unopened_in party channel (past ++ one ∷ []) (shut_before channel (past ++ one ∷ []) talk later)) in
+    (omega (arith, none), shut_in_turn settings party channel (past ++ one ∷ []) talk later)
 
-shut_answered : (party : Party) (talk : List Saying) (channel : Channel) → has_opened (find (has_own channel) (reading talk).entries) ≡ false → IsAnswered party talk channel
-shut_answered party talk channel shut =
-    let none = ap length (unopened_in party channel talk shut) in
+shut_answered : (settings : Settings) (party : Party) (talk : List Saying) (channel : Channel) → has_opened (find (has_own channel) (reading talk).entries) ≡ false → IsAnswered settings party talk channel
+shut_answered settings party talk channel shut =
+    let nothing = unopened_in party channel talk shut in
+    let none : responses_due settings (sdus party channel Into talk) ≡ 0 = ap (responses_due settings) nothing in
     record {
       enhanced = λ open'. let never : true ≡ false = sym open' ∙ shut in absurd cc;
-      in_turn = shut_in_turn party channel [] talk shut;
+      in_turn = shut_in_turn settings party channel [] talk shut;
       each = omega (arith, none);
+      last = no_last settings (sdus party channel Into talk) nothing;
     }
 
-pub answered-at : (party : Party) (talk more : List Saying) (channel : Channel) → channel.psm ≡ 0x1001 → AreAnswered party talk → IsOf channel (read_at channel.own (reading (talk ++ more)).entries) → IsAnswered party talk channel
-answered-at party talk more channel psm_is all is = by (read_at channel.own (reading talk).entries) refl
+pub answered-at : (settings : Settings) (party : Party) (talk more : List Saying) (channel : Channel) → channel.psm ≡ 0x1001 → AreAnswered settings party talk → IsOf channel (read_at channel.own (reading (talk ++ more)).entries) → IsAnswered settings party talk channel
+answered-at settings party talk more channel psm_is all is = by (read_at channel.own (reading talk).entries) refl
   where
-    by : (found : Option Entry) → read_at channel.own (reading talk).entries ≡ found → IsAnswered party talk channel
-    by None at = shut_answered party talk channel (ap has_opened at)
+    by : (found : Option Entry) → read_at channel.own (reading talk).entries ≡ found → IsAnswered settings party talk channel
+    by None at = shut_answered settings party talk channel (ap has_opened at)
     by (Some entry) at =
         let here : IsOf entry.channel (read_at channel.own (reading talk).entries) = subst (IsOf entry.channel) (sym at) refl in
         let same = one_of entry.channel channel (read_at channel.own (reading (talk ++ more)).entries) (of-stays entry.channel channel.own talk more here) is in
-        subst (IsAnswered party talk) same
-        (found_in channel.own (λ (e : Entry). e.channel.psm ≡ 0x1001 → IsAnswered party talk e.channel) (reading talk).entries entry all at (ap (λ (c : Channel). c.psm) same ∙ psm_is))
+        subst (IsAnswered settings party talk) same
+        (found_in channel.own (λ (e : Entry). e.channel.psm ≡ 0x1001 → IsAnswered settings party talk e.channel) (reading talk).entries entry all at (ap (λ (c : Channel). c.psm) same ∙ psm_is))

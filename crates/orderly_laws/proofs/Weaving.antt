@@ -1,4 +1,4 @@
--- Along all that a server goes through on a link each request comes behind the response to the one before.
+-- Along all that a server goes through on a link each request that has a response comes behind the response to the one before.
 use Rattle.std.proofs.Common.{◌≡◌, ◌≤◌, ◌+◌, ℕ, Bool, true, false, cond, eqb, List, [], ◌∷◌, ◌++◌, length, filter_map, Option, Some, None, refl, sym, ap, ap₂, subst, ◌∙◌, append_assoc, append-nil, length-append, arith}
 use Rattle.std.specs.List.{AllByRecursion, flat_map, cons_option}
 use Rattle.std.proofs.lemmas.List.Elements.{filter_map-append}
@@ -14,6 +14,8 @@ use Rattle.request_laws.specs.channel_model.specs.Value.{Channels, no_channels}
 use Rattle.request_laws.specs.channel_laws.specs.Runs.{Comes, run_of, up_with}
 use Rattle.request_laws.specs.channel_laws.specs.Runs as channels
 use Rattle.request_laws.specs.channel_laws.specs.Taken.{taken_of}
+use Rattle.request_laws.specs.obex_session.specs.Calls.{session_behind}
+use Rattle.request_laws.specs.obex_session.specs.Views.{is_silent}
 use Rattle.request_laws.specs.push_model.specs.Server.{Lent, lends, lent_sdu, object_psm}
 use Rattle.request_laws.specs.push_laws.specs.Answers.{said}
 use Rattle.request_laws.specs.push_laws.specs.Occurrences.{Occurrence, Came, Went, Closed, LinkDown, Asked, Answering}
@@ -23,7 +25,7 @@ use Rattle.request_laws.specs.host_model.specs.Endpoints.{endpoint_of, takes_sdu
 use Rattle.request_laws.specs.host_model.specs.Pdus.{sdu_of}
 use Rattle.request_laws.specs.host_model.specs.Profiles.{Profile}
 use Rattle.request_laws.specs.host_model.specs.Servers.{ServerProfile, is_told, server_profile}
-use Rattle.request_laws.specs.host_laws.specs.Calls.{Asks, values_after}
+use Rattle.request_laws.specs.host_laws.specs.Calls.{Call, Connect, AskFeatures, Disconnect, Send, Asks, from_call, values_after}
 use Rattle.request_laws.specs.host_laws.specs.Fed.{feeds_up, next_happening, strand_feeds, woven_feeds}
 use Rattle.request_laws.specs.host_laws.specs.Feeds.{tidings_by}
 use Rattle.request_laws.specs.host_laws.specs.Gaining.{IsDirect}
@@ -32,55 +34,56 @@ use Rattle.request_laws.specs.host_laws.specs.Woven.{Strand, Hearing, Giving, Fi
 use Rattle.request_laws.specs.host_laws.proofs.Asking.{hosts_ask}
 use Rattle.request_laws.specs.host_laws.proofs.StrandsFed.{strand_so}
 use Rattle.request_laws.specs.BothFed.{ComesNone}
-use Rattle.request_laws.specs.HandedUp.{up_for, handed_for}
+use Rattle.request_laws.specs.HandedUp.{handed_for}
 use Rattle.request_laws.specs.Streams.{gone_on}
 use Rattle.request_laws.proofs.Accepted.{Opened, opened-stays, OpenedUp, opened-up}
 use Rattle.request_laws.proofs.Feeding.{all_both, served-both}
 use Rattle.request_laws.proofs.HandedUp.{ups_of, handed_from, handed_both}
 use Rattle.request_laws.proofs.ServerTakes.{WasOpened, Open, strand_open, Sure, strand_goes}
 use Rattle.request_laws.proofs.Silent.{IsStill}
-use Rattle.request_laws.proofs.Takes.{takes_from, takes_both, takes_of, value_behind, run_more, endpoint_so}
-use Rattle.orderly_laws.proofs.Counting.{came, gone, more_came, more_went, MayAsk, AskInTurn, NoMoreGo}
+use Rattle.request_laws.proofs.Takes.{takes_from, takes_both, takes_of, value_behind, endpoint_so}
+use Rattle.orderly_laws.proofs.Counting.{gone, more_came, more_went, MayAsk, AskInTurn, NoMoreGo}
+use Rattle.orderly_laws.specs.Answered.{fresh_session, responses_due}
 
--- ---- requests in turn, and what follows where no more went than came
+-- ---- requests in turn, and what follows where no more responses went than are due
 
-abbrev pub TakesTurns : Type 0 → (n m : ℕ) → List Occurrence → Type 0
-TakesTurns G n m occurrences = AskInTurn n m occurrences × (NoMoreGo n m occurrences → G)
+abbrev pub TakesTurns : Settings → Type 0 → (rs : List (List ℕ)) (m : ℕ) → List Occurrence → Type 0
+TakesTurns settings G rs m occurrences = AskInTurn settings rs m occurrences × (NoMoreGo settings rs m occurrences → G)
 
-one_turn : (G : Type 0) (n m : ℕ) (one : Occurrence) (rest : List Occurrence) → MayAsk n m one → TakesTurns G (more_came n one) (more_went m one) rest → TakesTurns G n m (one ∷ rest)
-one_turn G n m one rest may later = ((may, later.0), λ few. later.1 few.1)
+one_turn : (settings : Settings) (G : Type 0) (rs : List (List ℕ)) (m : ℕ) (one : Occurrence) (rest : List Occurrence) → MayAsk settings rs m one → TakesTurns settings G (more_came rs one) (more_went m one) rest → TakesTurns settings G rs m (one ∷ rest)
+one_turn settings G rs m one rest may later = ((may, later.0), λ few. later.1 few.1)
 
-pub few-at : (n m : ℕ) (occurrences : List Occurrence) → NoMoreGo n m occurrences → m ≤ n
-few-at n m [] few = few
-few-at n m (one ∷ rest) few = few.0
+pub few-at : (settings : Settings) (rs : List (List ℕ)) (m : ℕ) (occurrences : List Occurrence) → NoMoreGo settings rs m occurrences → m ≤ responses_due settings rs
+few-at settings rs m [] few = few
+few-at settings rs m (one ∷ rest) few = few.0
 
 -- ---- the link goes down
 
-none_asks : (n m : ℕ) (one : Occurrence) → ComesNone one → MayAsk n m one
-none_asks n m (Came psm sdu) none = λ is. let never : sdu ∷ [] ≡ [] = subst (λ (p : ℕ). sdu_if (eqb p object_psm) sdu ≡ []) is (none object_psm) in absurd cc
-none_asks n m (Went psm sdu) none = tt
-none_asks n m (Closed psm) none = tt
-none_asks n m LinkDown none = tt
-none_asks n m Asked none = tt
-none_asks n m (Answering answers) none = tt
+none_asks : (settings : Settings) (rs : List (List ℕ)) (m : ℕ) (one : Occurrence) → ComesNone one → MayAsk settings rs m one
+none_asks settings rs m (Came psm sdu) none = λ is loud. let never : sdu ∷ [] ≡ [] = subst (λ (p : ℕ). sdu_if (eqb p object_psm) sdu ≡ []) is (none object_psm) in absurd cc
+none_asks settings rs m (Went psm sdu) none = tt
+none_asks settings rs m (Closed psm) none = tt
+none_asks settings rs m LinkDown none = tt
+none_asks settings rs m Asked none = tt
+none_asks settings rs m (Answering answers) none = tt
 
-pub down-turns : (G : Type 0) (n m : ℕ) (ahead rest : List Occurrence) → AllByRecursion ComesNone ahead → TakesTurns G 0 0 rest → TakesTurns G n m (ahead ++ LinkDown ∷ rest)
-down-turns G n m [] rest none later = one_turn G n m LinkDown rest tt later
-down-turns G n m (one ∷ ahead) rest none later = one_turn G n m one (ahead ++ LinkDown ∷ rest) (none_asks n m one none.0) (down-turns G (more_came n one) (more_went m one) ahead rest none.1 later)
+pub down-turns : (settings : Settings) (G : Type 0) (rs : List (List ℕ)) (m : ℕ) (ahead rest : List Occurrence) → AllByRecursion ComesNone ahead → TakesTurns settings G [] 0 rest → TakesTurns settings G rs m (ahead ++ LinkDown ∷ rest)
+down-turns settings G rs m [] rest none later = one_turn settings G rs m LinkDown rest tt later
+down-turns settings G rs m (one ∷ ahead) rest none later = one_turn settings G rs m one (ahead ++ LinkDown ∷ rest) (none_asks settings rs m one none.0) (down-turns settings G (more_came rs one) (more_went m one) ahead rest none.1 later)
 
 -- ---- nothing comes and nothing goes
 
-pub still-turns : (G : Type 0) (n m : ℕ) (still rest : List Occurrence) → AllByRecursion IsStill still → ((k : ℕ) → TakesTurns G n k rest) → TakesTurns G n m (still ++ rest)
-still-turns G n m [] rest all later = later m
-still-turns G n m (Came psm sdu ∷ still) rest all later =
-    let none = all.0.come object_psm in
-    let same : n + length (sdu_if (eqb psm object_psm) sdu) ≡ n = let e = ap length none in omega (arith, e) in
-    one_turn G n m (Came psm sdu) (still ++ rest) (none_asks n m (Came psm sdu) all.0.come) (subst (λ (k : ℕ). TakesTurns G k m (still ++ rest)) (sym same) (still-turns G n m still rest all.1 later))
-still-turns G n m (Went psm sdu ∷ still) rest all later = one_turn G n m (Went psm sdu) (still ++ rest) tt (still-turns G n (more_went m (Went psm sdu)) still rest all.1 later)
-still-turns G n m (Closed psm ∷ still) rest all later = one_turn G n m (Closed psm) (still ++ rest) tt (still-turns G n m still rest all.1 later)
-still-turns G n m (LinkDown ∷ still) rest all later = let never : true ≡ false = all.0.open_yet object_psm in absurd cc
-still-turns G n m (Asked ∷ still) rest all later = one_turn G n m Asked (still ++ rest) tt (still-turns G n m still rest all.1 later)
-still-turns G n m (Answering answers ∷ still) rest all later = one_turn G n m (Answering answers) (still ++ rest) tt (still-turns G n m still rest all.1 later)
+pub still-turns : (settings : Settings) (G : Type 0) (rs : List (List ℕ)) (m : ℕ) (still rest : List Occurrence) → AllByRecursion IsStill still → ((k : ℕ) → TakesTurns settings G rs k rest) → TakesTurns settings G rs m (still ++ rest)
+still-turns settings G rs m [] rest all later = later m
+still-turns settings G rs m (Came psm sdu ∷ still) rest all later =
+    let same : rs ++ sdu_if (eqb psm object_psm) sdu ≡ rs = ap (λ (l : List (List ℕ)). rs ++ l) (all.0.come object_psm) ∙ append-nil rs in
+    one_turn settings G rs m (Came psm sdu) (still ++ rest) (none_asks settings rs m (Came psm sdu) all.0.come)
+    (subst (λ (l : List (List ℕ)). TakesTurns settings G l m (still ++ rest)) (sym same) (still-turns settings G rs m still rest all.1 later))
+still-turns settings G rs m (Went psm sdu ∷ still) rest all later = one_turn settings G rs m (Went psm sdu) (still ++ rest) tt (still-turns settings G rs (more_went m (Went psm sdu)) still rest all.1 later)
+still-turns settings G rs m (Closed psm ∷ still) rest all later = one_turn settings G rs m (Closed psm) (still ++ rest) tt (still-turns settings G rs m still rest all.1 later)
+still-turns settings G rs m (LinkDown ∷ still) rest all later = let never : true ≡ false = all.0.open_yet object_psm in absurd cc
+still-turns settings G rs m (Asked ∷ still) rest all later = one_turn settings G rs m Asked (still ++ rest) tt (still-turns settings G rs m still rest all.1 later)
+still-turns settings G rs m (Answering answers ∷ still) rest all later = one_turn settings G rs m (Answering answers) (still ++ rest) tt (still-turns settings G rs m still rest all.1 later)
 
 -- ---- nothing comes, and the link stays
 
@@ -100,16 +103,16 @@ more_in psm sdu rest =
     ap length (filter_map-append said (sdu_if (eqb psm object_psm) sdu) (flat_map (gone_on object_psm) rest))
     ∙ length-append (filter_map said (sdu_if (eqb psm object_psm) sdu)) (filter_map said (flat_map (gone_on object_psm) rest))
 
-stay_turns : (G : Type 0) (n m : ℕ) (stay rest : List Occurrence) → AllByRecursion Stays stay → ((k : ℕ) → m + went_in stay ≤ k → TakesTurns G n k rest) → TakesTurns G n m (stay ++ rest)
-stay_turns G n m [] rest all later = later m (omega arith)
-stay_turns G n m (Came psm sdu ∷ stay) rest all later = absurd all.0
-stay_turns G n m (Went psm sdu ∷ stay) rest all later =
+stay_turns : (settings : Settings) (G : Type 0) (rs : List (List ℕ)) (m : ℕ) (stay rest : List Occurrence) → AllByRecursion Stays stay → ((k : ℕ) → m + went_in stay ≤ k → TakesTurns settings G rs k rest) → TakesTurns settings G rs m (stay ++ rest)
+stay_turns settings G rs m [] rest all later = later m (omega arith)
+stay_turns settings G rs m (Came psm sdu ∷ stay) rest all later = absurd all.0
+stay_turns settings G rs m (Went psm sdu ∷ stay) rest all later =
     let parts = more_in psm sdu stay in
-    one_turn G n m (Went psm sdu) (stay ++ rest) tt (stay_turns G n (more_went m (Went psm sdu)) stay rest all.1 (λ k few. later k (omega (arith, parts, few))))
-stay_turns G n m (Closed psm ∷ stay) rest all later = one_turn G n m (Closed psm) (stay ++ rest) tt (stay_turns G n m stay rest all.1 later)
-stay_turns G n m (LinkDown ∷ stay) rest all later = absurd all.0
-stay_turns G n m (Asked ∷ stay) rest all later = one_turn G n m Asked (stay ++ rest) tt (stay_turns G n m stay rest all.1 later)
-stay_turns G n m (Answering answers ∷ stay) rest all later = one_turn G n m (Answering answers) (stay ++ rest) tt (stay_turns G n m stay rest all.1 later)
+    one_turn settings G rs m (Went psm sdu) (stay ++ rest) tt (stay_turns settings G rs (more_went m (Went psm sdu)) stay rest all.1 (λ k few. later k (omega (arith, parts, few))))
+stay_turns settings G rs m (Closed psm ∷ stay) rest all later = one_turn settings G rs m (Closed psm) (stay ++ rest) tt (stay_turns settings G rs m stay rest all.1 later)
+stay_turns settings G rs m (LinkDown ∷ stay) rest all later = absurd all.0
+stay_turns settings G rs m (Asked ∷ stay) rest all later = one_turn settings G rs m Asked (stay ++ rest) tt (stay_turns settings G rs m stay rest all.1 later)
+stay_turns settings G rs m (Answering answers ∷ stay) rest all later = one_turn settings G rs m (Answering answers) (stay ++ rest) tt (stay_turns settings G rs m stay rest all.1 later)
 
 event_stays : (event : ChannelEvent) → AllByRecursion Stays (event_served event)
 event_stays (events.Opened own psm) = tt
@@ -175,21 +178,23 @@ module _ (settings : Settings) (content : Option Contents) (all : List channels.
   abbrev asks : Asks (server_profile settings content)
   asks = hosts_ask.servers settings content
 
-  abbrev pub handed_at : List channels.Occurrence → ℕ
-  handed_at front = length (handed_for object_psm (run_of (policy settings true) front).up)
+  abbrev pub handed_at : List channels.Occurrence → List (List ℕ)
+  handed_at front = handed_for object_psm (run_of (policy settings true) front).up
 
   abbrev pub taken_at : List channels.Occurrence → ℕ
   taken_at front = length (filter_map said (taken_of (policy settings true) here front))
 
   -- ---- what one thing more does to the counts
 
-  handed_grows : (front list : List channels.Occurrence) → handed_at front ≤ handed_at (front ++ list)
-  handed_grows front list =
-      let one = ap (λ (ups : List Handed). length (handed_for object_psm ups)) (ups_of own front) in
-      let both = ap (λ (ups : List Handed). length (handed_for object_psm ups)) (ups_of own (front ++ list))
-      ∙ (ap length (handed_both object_psm own front list no_channels)
-      ∙ length-append (handed_from object_psm own no_channels front) (handed_from object_psm own (values_after own no_channels front) list)) in
-      omega (arith, one, both)
+  handed_more : (front list : List channels.Occurrence) (v : Channels) → v ≡ (run_of own front).value → handed_at (front ++ list) ≡ handed_at front ++ handed_from object_psm own v list
+  handed_more front list v at =
+      ap (λ (ups : List Handed). handed_for object_psm ups) (ups_of own (front ++ list))
+      ∙ (handed_both object_psm own front list no_channels
+      ∙ ap₂ (λ (a b : List (List ℕ)). a ++ b) (sym (ap (λ (ups : List Handed). handed_for object_psm ups) (ups_of own front))) (ap (λ (w : Channels). handed_from object_psm own w list) (value_behind own [] front no_channels refl ∙ sym at)))
+
+  -- with what brings no SDU
+  handed_same : (front list : List channels.Occurrence) (v : Channels) → v ≡ (run_of own front).value → handed_from object_psm own v list ≡ [] → handed_at (front ++ list) ≡ handed_at front
+  handed_same front list v at none = handed_more front list v at ∙ (ap (λ (l : List (List ℕ)). handed_at front ++ l) none ∙ append-nil (handed_at front))
 
   taken_more : (front list : List channels.Occurrence) (v : Channels) → v ≡ (run_of own front).value → taken_at (front ++ list) ≡ taken_at front + length (filter_map said (takes_from own here v list))
   taken_more front list v at =
@@ -199,61 +204,70 @@ module _ (settings : Settings) (content : Option Contents) (all : List channels.
       ∙ ap₂ (λ (a b : List (List ℕ)). a ++ b) (sym (takes_of own here front)) (ap (λ (w : Channels). takes_from own here w list) (value_behind own [] front no_channels refl ∙ sym at))))
       ∙ (ap length (filter_map-append said (taken_of own here front) (takes_from own here v list)) ∙ length-append (filter_map said (taken_of own here front)) (filter_map said (takes_from own here v list)))
 
-  handed_one : (front : List channels.Occurrence) (pdu : List ℕ) (v : Channels) (at psm : ℕ) (sdu : List ℕ) → v ≡ (run_of own front).value → up (channel_of pdu) pdu v ≡ Received at psm sdu → handed_at (front ++ Comes pdu ∷ []) ≡ handed_at front + length (came (Came psm sdu))
+  handed_one : (front : List channels.Occurrence) (pdu : List ℕ) (v : Channels) (at psm : ℕ) (sdu : List ℕ) → v ≡ (run_of own front).value → up (channel_of pdu) pdu v ≡ Received at psm sdu → handed_at (front ++ Comes pdu ∷ []) ≡ handed_at front ++ sdu_if (eqb psm object_psm) sdu
   handed_one front pdu v at psm sdu is brought =
-      ap (λ r. length (handed_for object_psm r.up)) (run_more own front (Comes pdu))
-      ∙ (ap length (filter_map-append (up_for object_psm) (run_of own front).up (up (channel_of pdu) pdu (run_of own front).value ∷ []))
-      ∙ (length-append (handed_for object_psm (run_of own front).up) (handed_for object_psm (up (channel_of pdu) pdu (run_of own front).value ∷ []))
-      ∙ ap₂ (λ (a b : ℕ). a + b) refl (ap (λ (u : Handed). length (handed_for object_psm (u ∷ []))) (ap (λ (w : Channels). up (channel_of pdu) pdu w) (sym is) ∙ brought) ∙ by (eqb psm object_psm))))
+      handed_more front (Comes pdu ∷ []) v is ∙ ap (λ (l : List (List ℕ)). handed_at front ++ l) (ap (λ (u : Handed). handed_for object_psm (u ∷ [])) brought ∙ by (eqb psm object_psm))
     where
-      by : (same : Bool) → length (cons_option (cond same (Some sdu) None) []) ≡ length (sdu_if same sdu)
+      by : (same : Bool) → cons_option (cond same (Some sdu) None) [] ≡ sdu_if same sdu
       by true = refl
       by false = refl
+
+  call_brings : (call : Option Call) (v : Channels) → handed_from object_psm own v (from_call call) ≡ []
+  call_brings None v = refl
+  call_brings (Some (Connect psm)) v = refl
+  call_brings (Some AskFeatures) v = refl
+  call_brings (Some (Disconnect at)) v = refl
+  call_brings (Some (Send at sdu)) v = refl
 
   -- ---- in turn
 
   module _ (G : Type 0) (behind : (front rest : List channels.Occurrence) (pdu : List ℕ) (at : ℕ) (sdu : List ℕ) → all ≡ front ++ Comes pdu ∷ rest → up (channel_of pdu) pdu (run_of (policy settings true) front).value ≡ Received at object_psm sdu
-      → length (handed_for object_psm (run_of (policy settings true) front).up) ≤ length (filter_map said (taken_of (policy settings true) here front))) where
+      → is_silent (session_behind (fresh_session settings) (handed_for object_psm (run_of (policy settings true) front).up)) sdu ≡ false
+      → responses_due settings (handed_for object_psm (run_of (policy settings true) front).up) ≤ length (filter_map said (taken_of (policy settings true) here front))) where
     -- so it goes on behind a front of what happened
     abbrev pub Later : List channels.Occurrence → List Occurrence → Type 0
-    Later front rest = (n m : ℕ) → n ≤ length (handed_for object_psm (run_of (policy settings true) front).up) → length (filter_map said (taken_of (policy settings true) here front)) ≤ m → TakesTurns G n m rest
+    Later front rest = (rs : List (List ℕ)) (m : ℕ) → rs ≡ handed_for object_psm (run_of (policy settings true) front).up → length (filter_map said (taken_of (policy settings true) here front)) ≤ m → TakesTurns settings G rs m rest
 
     stay_later : (front later : List channels.Occurrence) (strand : Strand) (v : Channels) (p : ServerProfile) (rest : List Occurrence) → all ≡ front ++ (strand_list B asks strand v p ++ later) → v ≡ (run_of own front).value → Open object_psm settings content front p
-        → AllByRecursion Stays (served_from settings content p (strand_feeds strand v)) → Later (front ++ strand_list B asks strand v p) rest → Later front (served_from settings content p (strand_feeds strand v) ++ rest)
-    stay_later front later strand v p rest is at open' stay next n m few many =
+        → handed_from object_psm own v (strand_list B asks strand v p) ≡ [] → AllByRecursion Stays (served_from settings content p (strand_feeds strand v)) → Later (front ++ strand_list B asks strand v p) rest → Later front (served_from settings content p (strand_feeds strand v) ++ rest)
+    stay_later front later strand v p rest is at open' none stay next rs m same many =
         let list = strand_list B asks strand v p in
         let goes = ap (λ (l : List (List ℕ)). length (filter_map said l)) (strand_goes object_psm settings content front (list ++ later) here strand v p open' (subst (λ (l : List channels.Occurrence). Sure object_psm settings content l here) is sure)) in
-        let grows = handed_grows front list in
         let more = taken_more front list v at in
-        stay_turns G n m (served_from settings content p (strand_feeds strand v)) rest stay (λ k much. next n k (omega (arith, few, grows)) (omega (arith, much, many, goes, more)))
+        stay_turns settings G rs m (served_from settings content p (strand_feeds strand v)) rest stay (λ k much. next rs k (same ∙ sym (handed_same front list v at none)) (omega (arith, much, many, goes, more)))
 
     hear_later : (front later : List channels.Occurrence) (pdu : List ℕ) (v : Channels) (p : ServerProfile) (rest : List Occurrence) (brought : Handed) → all ≡ front ++ Comes pdu ∷ later → v ≡ (run_of own front).value → up (channel_of pdu) pdu v ≡ brought
         → Later (front ++ Comes pdu ∷ []) rest → Later front (served_from settings content p (feeds_up brought) ++ rest)
-    hear_later front later pdu v p rest Nothing is at brings next n m few many =
-        let grows = handed_grows front (Comes pdu ∷ []) in
+    hear_later front later pdu v p rest Nothing is at brings next rs m same many =
+        let none : handed_from object_psm own v (Comes pdu ∷ []) ≡ [] = ap (λ (u : Handed). handed_for object_psm (u ∷ [])) brings in
         let more = taken_more front (Comes pdu ∷ []) v at in
-        next n m (omega (arith, few, grows)) (omega (arith, many, more))
-    hear_later front later pdu v p rest (Received from psm sdu) is at brings next n m few many =
+        next rs m (same ∙ sym (handed_same front (Comes pdu ∷ []) v at none)) (omega (arith, many, more))
+    hear_later front later pdu v p rest (Received from psm sdu) is at brings next rs m same many =
         let grows = handed_one front pdu v from psm sdu at brings in
         let more = taken_more front (Comes pdu ∷ []) v at in
-        one_turn G n m (Came psm sdu) rest (λ object. let turn = behind front later pdu from sdu is (ap (λ (w : Channels). up (channel_of pdu) pdu w) (sym at) ∙ (brings ∙ ap (λ (k : ℕ). Received from k sdu) object)) in omega (arith, few, turn, many))
-        (next (more_came n (Came psm sdu)) m (omega (arith, few, grows)) (omega (arith, many, more)))
+        let few = ap (responses_due settings) same in
+        one_turn settings G rs m (Came psm sdu) rest
+        (λ object loud.
+        let turn = behind front later pdu from sdu is (ap (λ (w : Channels). up (channel_of pdu) pdu w) (sym at) ∙ (brings ∙ ap (λ (k : ℕ). Received from k sdu) object))
+        (subst (λ (l : List (List ℕ)). is_silent (session_behind (fresh_session settings) l) sdu ≡ false) same loud) in
+        omega (arith, few, turn, many))
+        (next (more_came rs (Came psm sdu)) m (ap (λ (l : List (List ℕ)). l ++ sdu_if (eqb psm object_psm) sdu) same ∙ sym grows) (omega (arith, many, more)))
 
     strand_later : (front later : List channels.Occurrence) (strand : Strand) (v : Channels) (p : ServerProfile) (rest : List Occurrence) → all ≡ front ++ (strand_list B asks strand v p ++ later) → v ≡ (run_of own front).value → Open object_psm settings content front p → IsOnLink strand
         → Later (front ++ strand_list B asks strand v p) rest → Later front (served_from settings content p (strand_feeds strand v) ++ rest)
     strand_later front later (Hearing pdu) v p rest is at open' on next = hear_later front later pdu v p rest (up (channel_of pdu) pdu v) is at refl next
-    strand_later front later (Giving pdu) v p rest is at open' on next = stay_later front later (Giving pdu) v p rest is at open' tt next
-    strand_later front later Firing v p rest is at open' on next = stay_later front later Firing v p rest is at open' tt next
-    strand_later front later Telling v p rest is at open' on next = stay_later front later Telling v p rest is at open' (told v.events) next
+    strand_later front later (Giving pdu) v p rest is at open' on next = stay_later front later (Giving pdu) v p rest is at open' refl tt next
+    strand_later front later Firing v p rest is at open' on next = stay_later front later Firing v p rest is at open' refl tt next
+    strand_later front later Telling v p rest is at open' on next = stay_later front later Telling v p rest is at open' refl (told v.events) next
       where
         told : (list : List ChannelEvent) → AllByRecursion Stays (served_from settings content p (next_happening list v))
         told [] = tt
         told (event ∷ list) = all_both Stays (event_served event) [] (event_stays event) tt
-    strand_later front later (Gifting circumstances) v p rest is at open' on next = stay_later front later (Gifting circumstances) v p rest is at open' (tt, tt) next
-    strand_later front later (Learning circumstances news) v p rest is at open' on next = stay_later front later (Learning circumstances news) v p rest is at open' (news_stay news on) next
-    strand_later front later Checking v p rest is at open' on next = stay_later front later Checking v p rest is at open' tt next
+    strand_later front later (Gifting circumstances) v p rest is at open' on next = stay_later front later (Gifting circumstances) v p rest is at open' refl (tt, tt) next
+    strand_later front later (Learning circumstances news) v p rest is at open' on next = stay_later front later (Learning circumstances news) v p rest is at open' refl (news_stay news on) next
+    strand_later front later Checking v p rest is at open' on next = stay_later front later Checking v p rest is at open' refl tt next
     strand_later front later Stepping v p rest is at open' on next =
-        stay_later front later Stepping v p rest is at open' (tt, all_both Stays (lent_by (lent_sdu (lends p.server)) v p) [] (lent_stay (lent_sdu (lends p.server)) v p) tt) next
+        stay_later front later Stepping v p rest is at open' (call_brings (asks.call v p) v) (tt, all_both Stays (lent_by (lent_sdu (lends p.server)) v p) [] (lent_stay (lent_sdu (lends p.server)) v p) tt) next
 
     pub weave-later : (weave : List Strand) (front : List channels.Occurrence) (v : Channels) (p : ServerProfile) (rest : List Occurrence) → all ≡ front ++ woven_list (server_profile settings content) (hosts_ask.servers settings content) weave v p → v ≡ (run_of (policy settings true) front).value
         → Open object_psm settings content front p → AllByRecursion IsOnLink weave → Later all rest → Later front (served_from settings content p (woven_feeds (server_profile settings content) (hosts_ask.servers settings content) weave v p) ++ rest)

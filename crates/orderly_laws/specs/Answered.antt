@@ -1,7 +1,10 @@
--- Requests that come one at a time and are answered, read off what moved on a link alone (IrOBEX 1.5, 3.2: a client sends its next request behind the
--- response to the one before; Core 5.1, Volume 3 Part A, 5.4 and 7.3).
-use Rattle.std.specs.Prelude.{ℕ, suc, ◌≡◌, ◌≤◌, List, [], ◌∷◌, ◌++◌, length, filter_map}
-use Rattle.std.specs.List.{AllByRecursion}
+-- Requests that come one at a time and are answered, or are passed over in silence, read off what moved on a link alone (IrOBEX 1.5, 3.2: a client sends its
+-- next request behind the response to the one before; Generic Object Exchange Profile 2.1, 4.6, for single response mode; Core 5.1, Volume 3 Part A, 5.4 and
+-- 7.3).
+use Rattle.std.specs.Prelude.{ℕ, suc, ◌≡◌, ◌≤◌, ◌+◌, true, false, List, [], ◌∷◌, ◌++◌, length, if◌then◌else◌}
+use Rattle.std.specs.List.{AllByRecursion, filter_map}
+use Rattle.request_laws.specs.bt_base.specs.declared.settings.Settings.{Settings}
+use Rattle.request_laws.specs.bt_base.specs.declared.settings.Transport.TheVariants.{L2cap}
 use Rattle.request_laws.specs.capture.specs.declared.flow.Flow.TheVariants.{Out, Into}
 use Rattle.request_laws.specs.capture.specs.Histories.{EachAfter}
 use Rattle.request_laws.specs.l2cap_config.specs.declared.wish.Mode.TheVariants.{Enhanced}
@@ -12,7 +15,13 @@ use Rattle.request_laws.specs.link_talk.specs.Channels.{Entry, reading}
 use Rattle.request_laws.specs.link_talk.specs.GrowingLaws.{HasOpened}
 use Rattle.request_laws.specs.link_talk.specs.Sayings.{Saying}
 use Rattle.request_laws.specs.link_talk.specs.Sdus.{sdus}
+use Rattle.request_laws.specs.obex_session.specs.Calls.{session_behind}
+use Rattle.request_laws.specs.obex_session.specs.Past.{Serving}
+use Rattle.request_laws.specs.obex_session.specs.Serving.{heard_with}
+use Rattle.request_laws.specs.obex_session.specs.Views.{is_silent}
+use Rattle.request_laws.specs.push_model.specs.Client.{own_maximum}
 use Rattle.request_laws.specs.push_laws.specs.Answers.{said}
+use Rattle.request_laws.specs.push_laws.specs.Calls.{new_session}
 
 -- each SDU on a channel that comes is a request, and each one with octets that goes is a response
 abbrev pub requests_on : Party → Channel → List Saying → List (List ℕ)
@@ -21,16 +30,42 @@ requests_on party channel talk = sdus party channel Into talk
 abbrev pub responses_on : Party → Channel → List Saying → List (List ℕ)
 responses_on party channel talk = filter_map said (sdus party channel Out talk)
 
--- with one saying more there is at most one request more than responses went before it
-abbrev pub ComesBehind : Party → Channel → List Saying → Saying → Type 0
-ComesBehind party channel past more = length (requests_on party channel (past ++ more ∷ [])) ≤ suc (length (responses_on party channel past))
+-- ---- which requests have a response
 
--- A channel in enhanced retransmission mode, on which each request comes behind the response to the one before; and the last one has its response too.
-pub record IsAnswered (party : Party) (talk : List Saying) (channel : Channel) : Type 0 where
+-- the session of a server on its channel over L2CAP, before it heard anything
+abbrev pub fresh_session : Settings → Serving
+fresh_session settings = new_session (own_maximum L2cap settings) true
+
+-- a request that a session passes over in silence has none
+abbrev pub due_for : Serving → List ℕ → ℕ
+due_for session request = if is_silent session request then 0 else 1
+
+abbrev pub due_from : Serving → List (List ℕ) → ℕ
+due_from session [] = 0
+due_from session (request ∷ requests) = due_for session request + due_from (heard_with session request []).session requests
+
+-- how many responses these requests have, each behind those before it
+abbrev pub responses_due : Settings → List (List ℕ) → ℕ
+responses_due settings requests = due_from (fresh_session settings) requests
+
+-- the last of these requests has one
+abbrev pub LastIsDue : Settings → List (List ℕ) → Type 0
+LastIsDue settings requests = (past : List (List ℕ)) (request : List ℕ) → requests ≡ past ++ request ∷ [] → is_silent (session_behind (fresh_session settings) past) request ≡ false
+
+-- ---- in turn
+
+-- with one saying more at most one response more is due than went before it
+abbrev pub ComesBehind : Settings → Party → Channel → List Saying → Saying → Type 0
+ComesBehind settings party channel past more = responses_due settings (requests_on party channel (past ++ more ∷ [])) ≤ suc (length (responses_on party channel past))
+
+-- A channel in enhanced retransmission mode, on which each request that has a response comes behind the response to the one before; those that came have
+-- their responses, and the last of them has one.
+pub record IsAnswered (settings : Settings) (party : Party) (talk : List Saying) (channel : Channel) : Type 0 where
   pub enhanced : HasOpened channel talk → mode_of channel talk ≡ Enhanced
-  pub in_turn : EachAfter (ComesBehind party channel) [] talk
-  pub each : length (requests_on party channel talk) ≤ length (responses_on party channel talk)
+  pub in_turn : EachAfter (ComesBehind settings party channel) [] talk
+  pub each : responses_due settings (requests_on party channel talk) ≤ length (responses_on party channel talk)
+  pub last : LastIsDue settings (requests_on party channel talk)
 
 -- so it is of the channels of object push over L2CAP
-abbrev pub AreAnswered : Party → List Saying → Type 0
-AreAnswered party talk = AllByRecursion (λ (entry : Entry). entry.channel.psm ≡ 0x1001 → IsAnswered party talk entry.channel) (reading talk).entries
+abbrev pub AreAnswered : Settings → Party → List Saying → Type 0
+AreAnswered settings party talk = AllByRecursion (λ (entry : Entry). entry.channel.psm ≡ 0x1001 → IsAnswered settings party talk entry.channel) (reading talk).entries

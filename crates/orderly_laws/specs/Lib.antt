@@ -3,3 +3,4 @@ pub mod Answered
 pub mod Orderly
 pub mod Served
 pub mod Carried
+pub mod Channels

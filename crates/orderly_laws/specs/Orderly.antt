@@ -24,11 +24,11 @@ use Rattle.unit_laws.specs.Units.{Lined, Occasion, units, lone_capture}
 use Rattle.orderly_laws.specs.Answered.{AreAnswered}
 
 -- A PDU on the signalling channel has one command; on each link the client asks for one channel that may carry packets, besides that of service
--- discovery; and on that each request comes behind the response to the one before, and has a response.
+-- discovery; and on that each request that is not passed over in silence comes behind the response to the one before, and has a response, the last one too.
 pub record IsOrderlyInput (settings : Settings) (capture : List Entry) : Type 0 where
   pub commands : HaveCommands sides.B capture
   pub one_channel : AllByRecursion (AsksForOneObject L2cap) (talks sides.B capture)
-  pub answered : AllByRecursion (AreAnswered (party_of settings sides.B)) (talks sides.B capture)
+  pub answered : AllByRecursion (AreAnswered settings (party_of settings sides.B)) (talks sides.B capture)
 
 -- of what the ports are to answer, the inbox grants all
 abbrev pub IsGrant : List Circumstance → Type 0

@@ -2,6 +2,7 @@
 #![tactic(auto)]
 
 ghost use Rattle.orderly_laws.specs.Carried.{ServersGainCarried};
+ghost use Rattle.orderly_laws.specs.Channels.{ServersHoldWhatMoved};
 ghost use Rattle.orderly_laws.specs.Orderly.{ServersGainAsked};
 ghost use Rattle.orderly_laws.specs.Served.{ServersGainServed};
 
@@ -19,4 +20,9 @@ pub fn servers_gain_served()
 /// On input that is orderly by its own units the inbox of a server gains exactly the objects that these spell, over RFCOMM.
 pub fn servers_gain_carried()
     ensures { ServersGainCarried }
+{}
+
+/// The channels of a server whose timer never fired are those of what moved on its link, and behind it of what it let wait.
+pub fn servers_hold_what_moved()
+    ensures { ServersHoldWhatMoved }
 {}
