@@ -16,8 +16,10 @@ use Rattle.btpush_forms.specs.h4_view.specs.View.{IsAnswered}
 use Rattle.object_push.specs.Ports.{Ports}
 use Rattle.object_push.specs.Pushing.{Pushes, NotRead}
 use Rattle.making.specs.Making.{IsKnown, Makes, NotMade}
-use Rattle.receiving.specs.Receiving.{Receives}
+use Rattle.receiving.specs.bt_host.specs.obex_session.specs.Counting.{Counts}
 use Rattle.receiving.proofs.Beginning.{nothing_received}
+use Rattle.receive_laws.specs.Streams.{StoresSpelled}
+use Rattle.receive_laws.proofs.Spelled.{stores_spelled}
 
 -- words for a push ask for no other form
 pub not_push : (words : List Text) (form : Form) → AsksFor words Push → (form ≡ Push → ⊥) → AsksFor words form → ⊥
@@ -42,9 +44,10 @@ pub nothing_pushed : (content left : Option (List ℕ)) (old new : Ports) (Untou
 nothing_pushed None left old new Untouched result is same_source same_sink same = tt
 nothing_pushed (Some input) left old new Untouched result is same_source same_sink same = rw (is, same_source) (NotRead 0 refl same_sink same tt)
 
-pub receives_nothing : (source sink trace : Option (List ℕ)) (inbox : Option Contents) (source' sink' trace' : Option (List ℕ)) (result : Status) → result ≡ NoMemory → source' ≡ source → sink' ≡ sink → trace' ≡ trace
-    → Receives source source' sink sink' trace trace' inbox inbox result
-receives_nothing source sink trace inbox source' sink' trace' result is same_source same_sink same_trace = rw (is, same_source, same_sink, same_trace) (nothing_received source sink trace inbox)
+pub receives_nothing : (source sink trace : Option (List ℕ)) (inbox : Option Contents) (counts : Counts) (source' sink' trace' : Option (List ℕ)) (result : Status) → result ≡ NoMemory → source' ≡ source → sink' ≡ sink → trace' ≡ trace
+    → StoresSpelled source source' sink sink' trace trace' inbox inbox counts counts result
+receives_nothing source sink trace inbox counts source' sink' trace' result is same_source same_sink same_trace =
+    rw (is, same_source, same_sink, same_trace) (stores_spelled source source sink sink trace trace inbox inbox counts counts NoMemory (nothing_received source sink trace inbox counts counts))
 
 -- ---- the scenario of a number
 

@@ -23,9 +23,9 @@ use Rattle.orderly_laws.specs.unit_laws.specs.Calls.{gifts_of, gifts_in, IsWrita
 use Rattle.orderly_laws.specs.unit_laws.specs.Laws.{FiresNone}
 use Rattle.orderly_laws.specs.unit_laws.specs.Units.{Occasion, Waits, units_of, units, Runs, ComesInTurn}
 use Rattle.orderly_laws.specs.unit_laws.proofs.Doing.{runs_then}
-use Rattle.receiving.specs.Turns.{Stand, Posture, Turn, HearsIn, HasTurn, HasTurns, emptied, packets_in}
+use Rattle.receiving.specs.Turns.{Stand, Posture, Turn, HearsIn, HasTurn, HasTurns, emptied, packets_in, answers_heard}
 use Rattle.receiving.proofs.Turning.{all_append}
-use Rattle.receive_laws.specs.Answers.{used_by, used_in}
+use Rattle.receive_laws.specs.Answers.{used_in}
 use Rattle.receive_laws.specs.InTurn.{TakesInTurn, AreInTurn}
 use Rattle.receive_laws.specs.Moving.{MovesWith, MoveInTurns}
 use Rattle.receive_laws.proofs.Alike.{IsAlike, IsGranting, left, left_granted}
@@ -97,7 +97,7 @@ module _ (settings : Settings) (content : Option Contents) where
   -- ---- a turn
 
   heard_by : (turn : Turn) (packet : Option Packet) (full : Bool) (before after : Stand (Noted ServerProfile)) → turn.packet ≡ packet → full ≡ false → (hears : HearsIn (noted_server settings) packet full before after) → TakesInTurn packet before
-      → AllByRecursion (IsPacket acl_limit) (option_to_list packet) → (rest : List Circumstance) → (after rest).line.out ≡ turn.said → From (MovesWith turn) before (used_by (noted_server settings) packet full before after hears ++ rest) (emptied (after rest))
+      → AllByRecursion (IsPacket acl_limit) (option_to_list packet) → (rest : List Circumstance) → (after rest).line.out ≡ turn.said → From (MovesWith turn) before (answers_heard (noted_server settings) packet full before after hears ++ rest) (emptied (after rest))
   heard_by turn None full before after is off hears takes each rest said there alike writable none = absurd (true≢false (sym hears.0 ∙ off))
   heard_by turn (Some packet) full before after is off hears takes each rest said there alike writable none =
       let all = hears.0.moves.used ++ rest in
@@ -107,10 +107,10 @@ module _ (settings : Settings) (content : Option Contents) where
       (λ granting. ((left_granted settings content (before all).host granting, tt), packet_granting settings content packet before after hears.0 rest granting)) none said
 
   pub turn_runs : (turn : Turn) (old new : Posture (Noted ServerProfile)) (one : HasTurn (noted_server settings) turn old new) → old.full ≡ false → TakesInTurn turn.packet old.stands → AllByRecursion (IsPacket acl_limit) (option_to_list turn.packet) → (rest : List Circumstance)
-      → From (MovesWith turn) old.stands (used_by (noted_server settings) turn.packet old.full one.between one.after one.hears ++ rest) (new.stands rest)
+      → From (MovesWith turn) old.stands (answers_heard (noted_server settings) turn.packet old.full one.between one.after one.hears ++ rest) (new.stands rest)
   turn_runs turn old new one off takes each rest =
       let still = one.none_back off in
-      let all = used_by (noted_server settings) turn.packet old.full one.between one.after one.hears ++ rest in
+      let all = answers_heard (noted_server settings) turn.packet old.full one.between one.after one.hears ++ rest in
       let from = heard_by turn turn.packet old.full one.between one.after refl off one.hears (subst (TakesInTurn turn.packet) (sym still) takes) each rest (one.says rest) in
       subst (λ (s : Stand (Noted ServerProfile)). From (MovesWith turn) s all (new.stands rest)) still
       (subst (λ (s : Stand (Noted ServerProfile)). From (MovesWith turn) one.between all (s rest)) (sym one.stands) from)
@@ -149,7 +149,7 @@ module _ (settings : Settings) (content : Option Contents) where
   turns_run (turn ∷ turns) old new (mid, one, more) each (off, takes, behind) rest =
       let parts = split_all (IsPacket acl_limit) turn.packet (packets_in turns) each in
       let later = used_in (noted_server settings) turns mid new more in
-      let here = used_by (noted_server settings) turn.packet old.full one.between one.after one.hears in
+      let here = answers_heard (noted_server settings) turn.packet old.full one.between one.after one.hears in
       let from_mid = turns_run turns mid new more parts.1 behind rest in
       let from_old = turn_runs turn old mid one off takes parts.0 (later ++ rest) in
       subst (λ (all : List Circumstance). From (MoveInTurns (turn ∷ turns)) old.stands all (new.stands rest)) (sym (append_assoc here later rest))

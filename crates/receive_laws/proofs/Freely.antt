@@ -41,10 +41,9 @@ use Rattle.orderly_laws.specs.unit_laws.specs.Units.{units, ComesInTurn}
 use Rattle.orderly_laws.specs.unit_laws.proofs.Running.{TalksAt, all_talks}
 use Rattle.orderly_laws.specs.unit_laws.proofs.Taking.{ReadAt, takes_so, first_read, runs_read}
 use Rattle.receiving.specs.Receiving.{new_server_host}
-use Rattle.receiving.specs.Turns.{Stand, Posture, Turn, HasTurn, HasRest, HasTurns, emptied, is_full, packets_in}
+use Rattle.receiving.specs.Turns.{Stand, Posture, Turn, HasTurn, HasRest, HasTurns, emptied, is_full, packets_in, answers_heard}
 use Rattle.receiving.proofs.Beginning.{new_rests}
 use Rattle.receiving.proofs.Still.{rests_emptied}
-use Rattle.receive_laws.specs.Answers.{used_by}
 use Rattle.receive_laws.specs.Freely.{TellsOn, IsFreeOn, ComesFree, LeavesRoom}
 use Rattle.receive_laws.specs.InTurn.{SaidAll, IsToldAtRest, TakesInTurn, AreInTurn}
 use Rattle.receive_laws.specs.Moving.{opening, MovesWith, MoveInTurns, MoveFromStart}
@@ -218,7 +217,7 @@ module _ (settings : Settings) (before : List Object) where
 
   then_reached : (ahead : List Turn) (turn : Turn) (old new : Posture (Noted ServerProfile)) (one : HasTurn N turn old new) → Reached ahead old.stands → old.full ≡ false → TakesInTurn turn.packet old.stands → AllByRecursion (IsPacket acl_limit) (option_to_list turn.packet) → Reached (ahead ++ turn ∷ []) new.stands
   then_reached ahead turn old new one reached off takes each =
-      let here = used_by N turn.packet old.full one.between one.after one.hears in
+      let here = answers_heard N turn.packet old.full one.between one.after one.hears in
       record {
         used = reached.used ++ here;
         runs = λ rest.

@@ -1,12 +1,21 @@
 -- The inbox of a server gains what the packets of its stream spell.
-use Rattle.std.proofs.Common.{◌≡◌, ◌≢◌, ℕ, List, Option, sym, ap, ◌∙◌}
+use Rattle.std.proofs.Common.{◌≡◌, ◌≢◌, ℕ, List, [], ◌∷◌, ◌++◌, Option, sym, ap, subst, ◌∙◌}
 use Rattle.std.specs.Prelude.{Result, Ok, Err}
+use Rattle.std.specs.List.{AllByRecursion}
+use Rattle.std.proofs.lemmas.List.Concat.{flat_map-append}
 use Rattle.receiving.specs.bt_base.specs.declared.settings.Settings.{Settings}
 use Rattle.receiving.specs.bt_base.specs.Objects.{Object, Contents}
 use Rattle.receiving.specs.bt_base.specs.declared.settings.Transport.TheVariants.{Rfcomm}
 use Rattle.receiving.specs.btpush_forms.specs.declared.status.Status.{Status}
 use Rattle.receiving.specs.btpush_forms.specs.declared.status.Status.TheVariants as status
+use Rattle.receiving.specs.push_terms.specs.declared.word.Side.TheVariants as sides
+use Rattle.noting_laws.specs.obex_session.specs.Counting.{Counts}
+use Rattle.noting_laws.specs.obex_session.specs.InboxCalls.{Answer}
 use Rattle.noting_laws.specs.push_laws.specs.Laws.{stored_in}
+use Rattle.noting_laws.specs.push_laws.specs.Premises.{AllGranted}
+use Rattle.noting_laws.specs.host_laws.specs.Carriers.{reader}
+use Rattle.orderly_laws.specs.Orderly.{IsGrant}
+use Rattle.orderly_laws.specs.unit_laws.specs.Calls.{gifts_in}
 use Rattle.orderly_laws.specs.unit_laws.specs.Units.{units}
 use Rattle.orderly_laws.proofs.Carried.{servers_gain_carried}
 use Rattle.orderly_laws.proofs.Served.{servers_gain_served}
@@ -15,13 +24,18 @@ use Rattle.receiving.specs.declared.fault.ListenFault.{ListenFault}
 use Rattle.receiving.specs.declared.fault.ListenFault.TheVariants.{Refused, ReadFault, WriteFault, NoMemory}
 use Rattle.receiving.specs.Coming.{Unless}
 use Rattle.receiving.specs.Receiving.{Tells, stored_by, Receives}
-use Rattle.receiving.specs.Turns.{Posture, Turn, HasTurns}
+use Rattle.receiving.proofs.Turning.{all_append}
+use Rattle.receiving.specs.Turns.{Posture, Turn, HasTurns, answers_heard, answers_of, answers_along}
+use Rattle.receiving.specs.host_model.specs.Circumstances.{Circumstance, answer_of, answers_in}
+use Rattle.receiving.specs.host_model.specs.Profiles.{Profile}
 use Rattle.receiving.specs.host_model.specs.Servers.{ServerProfile}
 use Rattle.receiving.specs.bt_host.specs.Noting.{Noted}
 use Rattle.receiving.specs.bt_host.specs.NotedHosts.{noted_server}
 use Rattle.noting_laws.specs.scenario_laws.specs.Gains.{holding}
+use Rattle.noting_laws.specs.scenario_laws.specs.Parties.{party_of}
+use Rattle.receive_laws.specs.Answers.{used_in, GrantsAllAsked, IsUnrisen}
 use Rattle.receive_laws.specs.Freely.{IsFreeStream}
-use Rattle.receive_laws.specs.Streams.{new_server, IsRunOverUnits, ReceivesSpelled, ReceivesFramed, ReceivesCarried}
+use Rattle.receive_laws.specs.Streams.{new_server, IsRunOverUnits, IsOrderlyStream, GainsSpelled, ReceivesSpelled, IsFramedStream, ReceivesFramed, ReceivesCarried, StoresSpelled}
 use Rattle.receive_laws.proofs.Freely.{free_streams_come_in_turn}
 use Rattle.receive_laws.proofs.Streams.{streams_are_runs}
 
@@ -37,44 +51,70 @@ stored_there (Err NoMemory) trace trace' result told tells not is = absurd (not 
 record Stored (settings : Settings) (before : List Object) (inbox' : Option Contents) (turns : List Turn) (last : Posture (Noted ServerProfile)) (runs : HasTurns (noted_server settings) turns (new_server settings before).posture last) : Type 0 where
   run : IsRunOverUnits settings before turns last runs
   inbox_is : run.now.upper.profile.inbox.content ≡ inbox'
+  grants : AllByRecursion IsGrant (gifts_in run.occasions)
 
-stored_by_run : (source source' sink sink' trace trace' : Option (List ℕ)) (before : List Object) (inbox' : Option Contents) (result : Status) (received : Receives source source' sink sink' trace trace' (holding before) inbox' result) → result ≢ status.NoMemory
+-- of what was used up with each packet the inbox granted all, where it granted all that it was asked
+parts_granted : (xs ys : List Circumstance) → AllGranted (answers_in (xs ++ ys)) → AllGranted (answers_in xs) × AllGranted (answers_in ys)
+parts_granted xs ys all = all_parts (λ (answer : Answer). answer ≡ Ok tt) (answers_in xs) (answers_in ys) (subst AllGranted (flat_map-append answer_of xs ys) all)
+  where
+    all_parts : {A : Type 0} (Q : A → Type 0) (us vs : List A) → AllByRecursion Q (us ++ vs) → AllByRecursion Q us × AllByRecursion Q vs
+    all_parts Q [] vs both = (tt, both)
+    all_parts Q (u ∷ us) vs both = let rest = all_parts Q us vs both.1 in ((both.0, rest.0), rest.1)
+
+parts_both : (xs ys : List Circumstance) → AllGranted (answers_in xs) → AllGranted (answers_in ys) → AllGranted (answers_in (xs ++ ys))
+parts_both xs ys one two = subst AllGranted (sym (flat_map-append answer_of xs ys)) (all_append (λ (answer : Answer). answer ≡ Ok tt) (answers_in xs) (answers_in ys) one two)
+
+grants_all : {S : Type 0} (A : Profile S) (turns : List Turn) (old new : Posture S) (runs : HasTurns A turns old new) → AllGranted (answers_in (answers_along A turns old new runs)) → GrantsAllAsked A turns old new runs
+grants_all A [] old new runs all = tt
+grants_all A (turn ∷ turns) old new (mid, one, more) all =
+    let here = answers_heard A turn.packet old.full one.between one.after one.hears in
+    let parts = parts_granted (answers_of A turn old mid one) (answers_along A turns mid new more) all in
+    let heard = (parts_granted one.back.used (answers_heard A turn.packet old.full one.between one.after one.hears) parts.0).1 in
+    parts_both here (used_in A turns mid new more) heard (grants_all A turns mid new more parts.1)
+
+stored_by_run : (source source' sink sink' trace trace' : Option (List ℕ)) (before : List Object) (inbox' : Option Contents) (counts counts' : Counts) (result : Status)
+    (received : Receives source source' sink sink' trace trace' (holding before) inbox' counts counts' result) → result ≢ status.NoMemory → IsUnrisen counts counts'
     → IsFreeStream (new_server received.settings before).said received.comes.halts.turns → Stored received.settings before inbox' received.comes.halts.turns received.comes.halts.last received.comes.halts.runs
-stored_by_run source source' sink sink' trace trace' before inbox' result received not free =
+stored_by_run source source' sink sink' trace trace' before inbox' counts counts' result received not unrisen free =
     let settings = received.settings in
     let halts = received.comes.halts in
     let run = streams_are_runs settings before halts.turns halts.last halts.runs halts.each (free_streams_come_in_turn settings before halts.turns halts.last halts.runs halts.each free) in
     let stands_are = stored_there received.end trace trace' result _ received.tells not halts.there in
     let stored = stored_there received.end trace trace' result _ received.tells not received.stored in
-    record { run = run; inbox_is = sym (stored ∙ (ap stored_by stands_are ∙ sym run.inbox_is)) }
+    let answered = stored_there received.end trace trace' result _ received.tells not halts.answered in
+    record {
+      run = run;
+      inbox_is = sym (stored ∙ (ap stored_by stands_are ∙ sym run.inbox_is));
+      grants = run.granted (grants_all (noted_server settings) halts.turns (new_server settings before).posture halts.last halts.runs (answered.granted unrisen.faults unrisen.shortages));
+    }
 
 pub receives_spelled : ReceivesSpelled
-receives_spelled source source' sink sink' trace trace' before inbox' result received not orderly =
-    let so = stored_by_run source source' sink sink' trace trace' before inbox' result received not orderly.free in
+receives_spelled source source' sink sink' trace trace' before inbox' counts counts' result received not unrisen orderly =
+    let so = stored_by_run source source' sink sink' trace trace' before inbox' counts counts' result received not unrisen orderly.free in
     let run = so.run in
     record {
       moves = units run.occasions;
       move = run.moves;
       gains = ap stored_in (sym so.inbox_is)
-          ∙ servers_gain_asked received.settings before run.occasions run.now received.plain.transport run.did (record { untimed = run.untimed; granted = run.granted orderly.granted }) (orderly.orderly (units run.occasions) run.moves);
+          ∙ servers_gain_asked received.settings before run.occasions run.now received.plain.transport run.did (record { untimed = run.untimed; granted = so.grants }) (orderly.orderly (units run.occasions) run.moves);
     }
 
 pub receives_framed : ReceivesFramed
-receives_framed source source' sink sink' trace trace' before inbox' result received not framed =
-    let so = stored_by_run source source' sink sink' trace trace' before inbox' result received not framed.free in
+receives_framed source source' sink sink' trace trace' before inbox' counts counts' result received not unrisen framed =
+    let so = stored_by_run source source' sink sink' trace trace' before inbox' counts counts' result received not unrisen framed.free in
     let run = so.run in
     record {
       moves = units run.occasions;
       move = run.moves;
       gains = ap stored_in (sym so.inbox_is)
-          ∙ servers_gain_carried received.settings before run.occasions run.now run.did (record { untimed = run.untimed; granted = run.granted framed.granted }) (framed.orderly (units run.occasions) run.moves);
+          ∙ servers_gain_carried received.settings before run.occasions run.now run.did (record { untimed = run.untimed; granted = so.grants }) (framed.orderly (units run.occasions) run.moves);
     }
 
 pub receives_carried : ReceivesCarried
 receives_carried = record {
   asks = servers_gain_served.asks;
-  stores = λ source source' sink sink' trace trace' before inbox' result received not carried.
-      let so = stored_by_run source source' sink sink' trace trace' before inbox' result received not carried.free in
+  stores = λ source source' sink sink' trace trace' before inbox' counts counts' result received not unrisen carried.
+      let so = stored_by_run source source' sink sink' trace trace' before inbox' counts counts' result received not unrisen carried.free in
       let run = so.run in
       record {
         occasions = run.occasions;
@@ -82,6 +122,25 @@ receives_carried = record {
         did = run.did;
         move = run.moves;
         inbox_is = so.inbox_is;
-        lives = servers_gain_served.gains Rfcomm received.settings before run.occasions run.now run.did (run.granted carried.granted) (carried.asked (units run.occasions) run.moves);
+        lives = servers_gain_served.gains Rfcomm received.settings before run.occasions run.now run.did so.grants (carried.asked (units run.occasions) run.moves);
       };
+}
+
+-- ---- as a clause says it
+
+module _ (source source' sink sink' trace trace' : Option (List ℕ)) (before : List Object) (inbox' : Option Contents) (counts counts' : Counts) (result : Status) where
+  abbrev SpelledFrom : Option Contents → Type 0
+  SpelledFrom inbox = (received : Receives source source' sink sink' trace trace' inbox inbox' counts counts' result) → result ≢ status.NoMemory → IsUnrisen counts counts'
+      → IsOrderlyStream received.settings before received.comes.halts.turns → GainsSpelled (party_of received.settings sides.B) received.settings before received.comes.halts.turns inbox'
+
+  abbrev FramedFrom : Option Contents → Type 0
+  FramedFrom inbox = (received : Receives source source' sink sink' trace trace' inbox inbox' counts counts' result) → result ≢ status.NoMemory → IsUnrisen counts counts'
+      → IsFramedStream received.settings before received.comes.halts.turns → GainsSpelled (reader received.settings received.settings.mps Rfcomm) received.settings before received.comes.halts.turns inbox'
+
+pub stores_spelled : (source source' sink sink' trace trace' : Option (List ℕ)) (inbox inbox' : Option Contents) (counts counts' : Counts) (result : Status) → Receives source source' sink sink' trace trace' inbox inbox' counts counts' result
+    → StoresSpelled source source' sink sink' trace trace' inbox inbox' counts counts' result
+stores_spelled source source' sink sink' trace trace' inbox inbox' counts counts' result received = record {
+  received = received;
+  spelled = λ before is. subst (SpelledFrom source source' sink sink' trace trace' before inbox' counts counts' result) (sym is) (receives_spelled source source' sink sink' trace trace' before inbox' counts counts' result) received;
+  framed = λ before is. subst (FramedFrom source source' sink sink' trace trace' before inbox' counts counts' result) (sym is) (receives_framed source source' sink sink' trace trace' before inbox' counts counts' result) received;
 }

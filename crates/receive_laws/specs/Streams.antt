@@ -12,6 +12,7 @@ use Rattle.receiving.specs.push_terms.specs.declared.word.Side.TheVariants as si
 use Rattle.noting_laws.specs.link_talk.specs.Captures.{objects_heard}
 use Rattle.noting_laws.specs.link_talk.specs.declared.party.Party.{Party}
 use Rattle.receiving.specs.host_link.specs.declared.role.Role.TheVariants.{Server}
+use Rattle.noting_laws.specs.obex_session.specs.Counting.{Counts}
 use Rattle.noting_laws.specs.push_laws.specs.Laws.{stored_in}
 use Rattle.noting_laws.specs.push_laws.specs.Premises.{AllGranted}
 use Rattle.receiving.specs.host_model.specs.Circumstances.{Circumstance, answers_in}
@@ -33,7 +34,7 @@ use Rattle.orderly_laws.specs.Carried.{IsCarriedInput}
 use Rattle.orderly_laws.specs.Orderly.{IsOrderlyInput}
 use Rattle.receiving.specs.Turns.{Begun, begun, Posture, Turn, HasTurns, packets_in}
 use Rattle.receiving.specs.Receiving.{new_server_host, stored_by, Receives}
-use Rattle.receive_laws.specs.Answers.{GrantsAllAsked}
+use Rattle.receive_laws.specs.Answers.{GrantsAllAsked, IsUnrisen}
 use Rattle.receive_laws.specs.Freely.{IsFreeStream}
 use Rattle.receive_laws.specs.InTurn.{AreInTurn}
 use Rattle.receive_laws.specs.Moving.{MoveFromStart}
@@ -63,12 +64,10 @@ abbrev pub FreeStreamsComeInTurn : Type 0
 FreeStreamsComeInTurn = (settings : Settings) (before : List Object) (turns : List Turn) (last : Posture (Noted ServerProfile)) (runs : HasTurns (noted_server settings) turns (new_server settings before).posture last)
     → AllByRecursion (IsPacket acl_limit) (packets_in turns) → IsFreeStream (new_server settings before).said turns → AreInTurn (noted_server settings) turns (new_server settings before).posture last runs
 
--- The packets that `receive` heard, and behind each those that it put out: at each PDU that comes a buffer is free by them, they are orderly input, and no
--- call of the inbox fails.
-pub record IsOrderlyStream (settings : Settings) (before : List Object) (turns : List Turn) (last : Posture (Noted ServerProfile)) (runs : HasTurns (noted_server settings) turns (new_server settings before).posture last) : Type 0 where
+-- The packets that `receive` heard, and behind each those that it put out: at each PDU that comes a buffer is free by them, and they are orderly input.
+pub record IsOrderlyStream (settings : Settings) (before : List Object) (turns : List Turn) : Type 0 where
   pub free : IsFreeStream (new_server settings before).said turns
   pub orderly : (moves : List Move) → MoveFromStart (new_server settings before).said turns moves → IsOrderlyInput settings (lone_capture sides.B moves)
-  pub granted : GrantsAllAsked (noted_server settings) turns (new_server settings before).posture last runs
 
 -- The inbox gains exactly the objects that the packets spell which moved, in the order of their last packets, as this party reads them.
 pub record GainsSpelled (party : Party) (settings : Settings) (before : List Object) (turns : List Turn) (inbox' : Option Contents) : Type 0 where
@@ -76,32 +75,32 @@ pub record GainsSpelled (party : Party) (settings : Settings) (before : List Obj
   pub move : MoveFromStart (new_server settings before).said turns moves
   pub gains : stored_in inbox' ≡ Some (before ++ objects_heard party sides.B (lone_capture sides.B moves))
 
--- So it is of such a stream, over L2CAP.
+-- So it is of such a stream, over L2CAP, where neither count of the inbox rose.
 abbrev pub ReceivesSpelled : Type 0
-ReceivesSpelled = (source source' sink sink' trace trace' : Option (List ℕ)) (before : List Object) (inbox' : Option Contents) (result : Status) (received : Receives source source' sink sink' trace trace' (holding before) inbox' result) → result ≢ status.NoMemory
-    → IsOrderlyStream received.settings before received.comes.halts.turns received.comes.halts.last received.comes.halts.runs → GainsSpelled (party_of received.settings sides.B) received.settings before received.comes.halts.turns inbox'
+ReceivesSpelled = (source source' sink sink' trace trace' : Option (List ℕ)) (before : List Object) (inbox' : Option Contents) (counts counts' : Counts) (result : Status)
+    (received : Receives source source' sink sink' trace trace' (holding before) inbox' counts counts' result) → result ≢ status.NoMemory → IsUnrisen counts counts'
+    → IsOrderlyStream received.settings before received.comes.halts.turns → GainsSpelled (party_of received.settings sides.B) received.settings before received.comes.halts.turns inbox'
 
 -- ---- over RFCOMM
 
--- At each PDU that comes a buffer is free by the packets that move, they are orderly input over RFCOMM, and no call of the inbox fails.
-pub record IsFramedStream (settings : Settings) (before : List Object) (turns : List Turn) (last : Posture (Noted ServerProfile)) (runs : HasTurns (noted_server settings) turns (new_server settings before).posture last) : Type 0 where
+-- At each PDU that comes a buffer is free by the packets that move, and they are orderly input over RFCOMM.
+pub record IsFramedStream (settings : Settings) (before : List Object) (turns : List Turn) : Type 0 where
   pub free : IsFreeStream (new_server settings before).said turns
   pub orderly : (moves : List Move) → MoveFromStart (new_server settings before).said turns moves → IsCarriedInput settings (lone_capture sides.B moves)
-  pub granted : GrantsAllAsked (noted_server settings) turns (new_server settings before).posture last runs
 
 -- Of such a stream the inbox gains exactly the objects that the packets spell which moved, as a server over RFCOMM reads them.
 abbrev pub ReceivesFramed : Type 0
-ReceivesFramed = (source source' sink sink' trace trace' : Option (List ℕ)) (before : List Object) (inbox' : Option Contents) (result : Status) (received : Receives source source' sink sink' trace trace' (holding before) inbox' result) → result ≢ status.NoMemory
-    → IsFramedStream received.settings before received.comes.halts.turns received.comes.halts.last received.comes.halts.runs → GainsSpelled (reader received.settings received.settings.mps Rfcomm) received.settings before received.comes.halts.turns inbox'
+ReceivesFramed = (source source' sink sink' trace trace' : Option (List ℕ)) (before : List Object) (inbox' : Option Contents) (counts counts' : Counts) (result : Status)
+    (received : Receives source source' sink sink' trace trace' (holding before) inbox' counts counts' result) → result ≢ status.NoMemory → IsUnrisen counts counts'
+    → IsFramedStream received.settings before received.comes.halts.turns → GainsSpelled (reader received.settings received.settings.mps Rfcomm) received.settings before received.comes.halts.turns inbox'
 
 -- ---- over RFCOMM, where input is not orderly
 
--- At each PDU that comes a buffer is free by the packets that move, on each link one channel is asked for, that of the multiplexer, besides that of service
--- discovery, and no call of the inbox fails.
-pub record IsCarriedStream (settings : Settings) (before : List Object) (turns : List Turn) (last : Posture (Noted ServerProfile)) (runs : HasTurns (noted_server settings) turns (new_server settings before).posture last) : Type 0 where
+-- At each PDU that comes a buffer is free by the packets that move, and on each link one channel is asked for, that of the multiplexer, besides that of service
+-- discovery.
+pub record IsCarriedStream (settings : Settings) (before : List Object) (turns : List Turn) : Type 0 where
   pub free : IsFreeStream (new_server settings before).said turns
   pub asked : (moves : List Move) → MoveFromStart (new_server settings before).said turns moves → IsAskedOver Rfcomm (lone_capture sides.B moves)
-  pub granted : GrantsAllAsked (noted_server settings) turns (new_server settings before).posture last runs
 
 -- These packets are a run of the server over units, by which its inbox came to this; and if nothing that came over RFCOMM was lost as it lived through them, it
 -- gained what they spell.
@@ -115,5 +114,17 @@ pub record StoresCarried (asks : HostsAsk) (settings : Settings) (before : List 
 
 pub record ReceivesCarried : Type 0 where
   pub asks : HostsAsk
-  pub stores : (source source' sink sink' trace trace' : Option (List ℕ)) (before : List Object) (inbox' : Option Contents) (result : Status) (received : Receives source source' sink sink' trace trace' (holding before) inbox' result) → result ≢ status.NoMemory
-      → IsCarriedStream received.settings before received.comes.halts.turns received.comes.halts.last received.comes.halts.runs → StoresCarried asks received.settings before received.comes.halts.turns inbox'
+  pub stores : (source source' sink sink' trace trace' : Option (List ℕ)) (before : List Object) (inbox' : Option Contents) (counts counts' : Counts) (result : Status)
+      (received : Receives source source' sink sink' trace trace' (holding before) inbox' counts counts' result) → result ≢ status.NoMemory → IsUnrisen counts counts'
+      → IsCarriedStream received.settings before received.comes.halts.turns → StoresCarried asks received.settings before received.comes.halts.turns inbox'
+
+-- ---- both, as a clause says it
+
+-- A new server was fed a source. Of packets that are orderly, where neither count of its inbox rose, that gains exactly the objects that they spell: over
+-- L2CAP, and over RFCOMM.
+pub record StoresSpelled (source source' sink sink' trace trace' : Option (List ℕ)) (inbox inbox' : Option Contents) (counts counts' : Counts) (result : Status) : Type 0 where
+  pub received : Receives source source' sink sink' trace trace' inbox inbox' counts counts' result
+  pub spelled : (before : List Object) → inbox ≡ holding before → result ≢ status.NoMemory → IsUnrisen counts counts' → IsOrderlyStream received.settings before received.comes.halts.turns
+      → GainsSpelled (party_of received.settings sides.B) received.settings before received.comes.halts.turns inbox'
+  pub framed : (before : List Object) → inbox ≡ holding before → result ≢ status.NoMemory → IsUnrisen counts counts' → IsFramedStream received.settings before received.comes.halts.turns
+      → GainsSpelled (reader received.settings received.settings.mps Rfcomm) received.settings before received.comes.halts.turns inbox'

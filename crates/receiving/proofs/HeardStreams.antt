@@ -88,6 +88,6 @@ module _ (all : List ℕ) (packets heard : List Packet) (octets rest behind more
   is_heard line (Err NoMemory) ends = tt
 
 pub streams_are_heard : {S : Type 0} → StreamsAreHeard S
-streams_are_heard A first all packets left sink sink' stands result reads short comes =
+streams_are_heard A first all packets left before after stands result reads short comes =
     let (more, parts, is) = comes.took in
     is_heard all packets (packets_in comes.halts.turns) comes.octets comes.halts.rest comes.behind more left reads comes.halts.each short parts comes.halts.whole is (comes.halts.last.stands []).line result comes.halts.ends

@@ -1,5 +1,6 @@
 pub mod Lists
 pub mod Still
+pub mod Answering
 pub mod Turning
 pub mod Following
 pub mod Octets

@@ -16,7 +16,8 @@ use Rattle.bt_host.specs.host_link.specs.declared.news.ControllerFault.TheVarian
 use Rattle.bt_host.specs.host_link.specs.EventReading.{event_in}
 use Rattle.bt_host.specs.host_link.specs.Hearing.{fault_of, event_fault}
 use Rattle.bt_host.specs.host_link.specs.Lines.{Line}
-use Rattle.bt_host.specs.host_model.specs.Circumstances.{Circumstance}
+use Rattle.bt_host.specs.obex_session.specs.Counting as counting
+use Rattle.bt_host.specs.host_model.specs.Circumstances.{Circumstance, answers_in}
 use Rattle.bt_host.specs.host_model.specs.Profiles.{Profile}
 use Rattle.bt_host.specs.declared.feed_refusal.FeedRefusal.{FeedRefusal}
 use Rattle.bt_host.specs.declared.feed_refusal.FeedRefusal.TheVariants as fed
@@ -27,13 +28,14 @@ use Rattle.receiving.specs.declared.fault.StreamRefusal.{StreamRefusal}
 use Rattle.receiving.specs.declared.fault.StreamRefusal.TheVariants as refusals
 use Rattle.receiving.specs.declared.fault.ListenFault.{ListenFault}
 use Rattle.receiving.specs.declared.fault.ListenFault.TheVariants.{Refused, ReadFault, WriteFault, NoMemory}
-use Rattle.receiving.specs.Turns.{Stand, HearsOne, HasRest, Begun, Turn, HasTurn, HasTurns, packets_in, said_in, is_full, emptied}
+use Rattle.receiving.specs.Turns.{Stand, Posture, HasRest, Begun, Turn, HasTurn, HasTurns, answers_of, answers_along, packets_in, said_in, is_full, emptied}
 use Rattle.receiving.specs.Feeding.{Listens, IsFed}
-use Rattle.receiving.specs.Coming.{input_limit, BeginsFaulty, Ends, Halts}
+use Rattle.receiving.specs.Coming.{input_limit, BeginsFaulty, Ends, Beside, Halts}
 use Rattle.receiving.specs.Faring.{Fares, told_by, IsOfSink}
+use Rattle.receiving.proofs.Answering.{Gave, gave_then, gave_none, answers_to, answers_snoc, hears_to}
 use Rattle.receiving.proofs.Lists.{none_before, one_at_most, some_spelled}
 use Rattle.receiving.proofs.Still.{rests_emptied, emptied_same, moves_still}
-use Rattle.receiving.proofs.Turning.{turns_snoc, packets_snoc, said_snoc, Framed, whole_more, framed_more}
+use Rattle.receiving.proofs.Turning.{packets_snoc, said_snoc, Framed, whole_more, framed_more}
 
 not_not : (b : Bool) → not b ≡ false → b ≡ true
 not_not true is = refl
@@ -42,12 +44,13 @@ not_not false is = absurd (true≢false is)
 -- ---- the turns that an octet more makes
 
 -- the turns of before, and perhaps one more; the octets are their packets and a rest
-pub record Turned {S : Type 0} (A : Profile S) (first : Begun S) (before : List ℕ) (packets : List Packet) (heard now : Stand S) (said : List ℕ) : Type 0 where
+pub record Turned {S : Type 0} (A : Profile S) (first : Begun S) (before : List ℕ) (packets : List Packet) (heard now : Stand S) (said : List ℕ) (counts counts' : counting.Counts) : Type 0 where
   pub turns : List Turn
   pub full : Bool
   pub runs : HasTurns A turns first.posture (record { stands = now; full = full })
   pub packets_are : packets_in turns ≡ packets
   pub said_is : said_in turns ≡ before ++ said
+  pub answered : Gave (answers_along A turns first.posture (record { stands = now; full = full }) runs) counts counts'
   pub rests : HasRest A heard → full ≡ false → HasRest A now
 
 -- what was said of a host, and that it was taken
@@ -102,14 +105,15 @@ is_some_refused : (line : Line) (from : ℕ) (rest : List ℕ) (why : FeedRefusa
 is_some_refused line from rest why refused none = nothing_refused line from why (subst (λ (xs : List ℕ). IsRefused line from xs why) none refused)
 
 -- what a stop tells, where it is no want of memory
-abbrev pub StopsFor : {S : Type 0} → Profile S → (framing framing' : Framing) → ℕ → (old new : Stand S) → FeedRefusal → Type 0
-StopsFor A framing framing' o old new why = (packets : List Packet) × IsStopped framing framing' (o ∷ []) packets (new []).line why × Listens A packets old new
+abbrev pub StopsFor : {S : Type 0} → Profile S → (framing framing' : Framing) → ℕ → (old new : Stand S) → (counts counts' : counting.Counts) → FeedRefusal → Type 0
+StopsFor A framing framing' o old new counts counts' why = (packets : List Packet) × IsStopped framing framing' (o ∷ []) packets (new []).line why × Listens A packets old new counts counts'
 
-stops_for : {S : Type 0} (A : Profile S) (framing framing' : Framing) (o : ℕ) (old new : Stand S) (why : FeedRefusal) → (why ≡ fed.NoMemory → ⊥) → IsFed A (o ∷ []) framing framing' old new (Err why) → StopsFor A framing framing' o old new why
-stops_for A framing framing' o old new (fed.Transport refusal at) some is = is
-stops_for A framing framing' o old new (fed.CommandFailed opcode status at) some is = is
-stops_for A framing framing' o old new (fed.BadBuffers size count at) some is = is
-stops_for A framing framing' o old new fed.NoMemory some is = absurd (some refl)
+stops_for : {S : Type 0} (A : Profile S) (framing framing' : Framing) (o : ℕ) (old new : Stand S) (counts counts' : counting.Counts) (why : FeedRefusal) → (why ≡ fed.NoMemory → ⊥) → IsFed A (o ∷ []) framing framing' old new counts counts' (Err why)
+    → StopsFor A framing framing' o old new counts counts' why
+stops_for A framing framing' o old new counts counts' (fed.Transport refusal at) some is = is
+stops_for A framing framing' o old new counts counts' (fed.CommandFailed opcode status at) some is = is
+stops_for A framing framing' o old new counts counts' (fed.BadBuffers size count at) some is = is
+stops_for A framing framing' o old new counts counts' fed.NoMemory some is = absurd (some refl)
 
 no_read : (why : FeedRefusal) → (why ≡ fed.NoMemory → ⊥) → (refusal : StreamRefusal) × (place : ℕ) × (told_by why ≡ Refused refusal place)
 no_read (fed.Transport h4.BadIndicator at) some = (refusals.BadIndicator, at, refl)
@@ -119,8 +123,8 @@ no_read (fed.CommandFailed opcode status at) some = (refusals.CommandFailed, at,
 no_read (fed.BadBuffers size count at) some = (refusals.BadBuffers, at, refl)
 no_read fed.NoMemory some = absurd (some refl)
 
-module _ {S : Type 0} (A : Profile S) (first : Begun S) (octets : List ℕ) (o : ℕ) (framing : Framing) (old heard now : Stand S) (before sink : Option (List ℕ)) (said : List ℕ)
-    (F : Fares A first octets framing old before sink) (told : Said heard now said) where
+module _ {S : Type 0} (A : Profile S) (first : Begun S) (octets : List ℕ) (o : ℕ) (framing : Framing) (old heard now : Stand S) (before mid : Beside) (counts : counting.Counts) (said : List ℕ)
+    (F : Fares A first octets framing old before mid) (told : Said heard now said) where
   framed : Framed octets (packets_in F.turns) framing
   framed = record { each = F.each; whole = F.whole; place = F.place; limit = F.limit; sound = F.sound; unfinished = F.unfinished }
 
@@ -136,8 +140,11 @@ module _ {S : Type 0} (A : Profile S) (first : Begun S) (octets : List ℕ) (o :
       subst (λ (s : Standing S). Rests A s) (sym (now_at rest))
       (rests_emptied A (heard rest) (rests rest) (ap (λ (xs : List ℕ). nat_lt (length xs) 65536) (told.says rest) ∙ not_not (nat_lt (length said) 65536) room))
 
-  between_is : (packets : List Packet) (listens : Listens A packets old heard) → F.full ≡ false → listens.between ≡ old
-  between_is packets listens off = listens.still (moves_still A old listens.between (F.rests off) listens.back)
+  was_still : (packets : List Packet) (listens : Listens A packets old heard mid.counts counts) → F.full ≡ false → (listens.between ≡ old) × (answers_in listens.back.used ≡ [])
+  was_still packets listens off = listens.still (moves_still A old listens.between (F.rests off) listens.back)
+
+  between_is : (packets : List Packet) (listens : Listens A packets old heard mid.counts counts) → F.full ≡ false → listens.between ≡ old
+  between_is packets listens off = (was_still packets listens off).0
 
   -- it did nothing
   same_now : heard ≡ old → now ≡ old
@@ -148,30 +155,46 @@ module _ {S : Type 0} (A : Profile S) (first : Begun S) (octets : List ℕ) (o :
   none_said : heard ≡ old → said ≡ []
   none_said is = sym (told.says []) ∙ ap (λ (f : Stand S). (f []).line.out) is ∙ F.empty []
 
-  no_turn : heard ≡ old → Turned A first (said_in F.turns) (packets_in F.turns) heard now said
-  no_turn is = record {
-    turns = F.turns;
-    full = F.full;
-    runs = subst (λ (s : Stand S). HasTurns A F.turns first.posture (record { stands = s; full = F.full })) (sym (same_now is)) F.runs;
-    packets_are = refl;
-    said_is = sym (append-nil (said_in F.turns)) ∙ ap (λ (xs : List ℕ). said_in F.turns ++ xs) (sym (none_said is));
-    rests = λ rests off. rests_now rests (ap is_full (none_said is));
-  }
+  abbrev at : Stand S → Bool → Posture S
+  at stands full = record { stands = stands; full = full }
 
-  one_turn : (packet : Option Packet) → HasTurn A (record { packet = packet; said = said }) (record { stands = old; full = F.full }) (record { stands = now; full = is_full said })
-      → Turned A first (said_in F.turns) (packets_in F.turns ++ option_to_list packet) heard now said
-  one_turn packet one = record {
-    turns = F.turns ++ record { packet = packet; said = said } ∷ [];
-    full = is_full said;
-    runs = turns_snoc A F.turns (record { packet = packet; said = said }) first.posture (record { stands = old; full = F.full }) (record { stands = now; full = is_full said }) F.runs one;
-    packets_are = packets_snoc F.turns (record { packet = packet; said = said });
-    said_is = said_snoc F.turns (record { packet = packet; said = said });
-    rests = rests_now;
-  }
+  abbrev so_far : List Circumstance
+  so_far = answers_along A F.turns first.posture (at old F.full) F.runs
+
+  no_turn : heard ≡ old → (more : List Circumstance) → answers_in more ≡ [] → Gave more mid.counts counts → Turned A first (said_in F.turns) (packets_in F.turns) heard now said before.counts counts
+  no_turn is more none gave =
+      let ran = answers_to A F.turns first.posture (at old F.full) (at now F.full) so_far (ap (λ (s : Stand S). at s F.full) (sym (same_now is))) (F.runs, refl) in
+      record {
+        turns = F.turns;
+        full = F.full;
+        runs = ran.0;
+        packets_are = refl;
+        said_is = sym (append-nil (said_in F.turns)) ∙ ap (λ (xs : List ℕ). said_in F.turns ++ xs) (sym (none_said is));
+        answered = subst (λ (used : List Circumstance). Gave used before.counts counts) (sym ran.1) (gave_none so_far more before.counts mid.counts counts none F.answered gave);
+        rests = λ rests off. rests_now rests (ap is_full (none_said is));
+      }
+
+  abbrev turn_with : Option Packet → Turn
+  turn_with packet = record { packet = packet; said = said }
+
+  one_turn : (packet : Option Packet) (one : HasTurn A (turn_with packet) (at old F.full) (at now (is_full said))) → Gave (answers_of A (turn_with packet) (at old F.full) (at now (is_full said)) one) mid.counts counts
+      → Turned A first (said_in F.turns) (packets_in F.turns ++ option_to_list packet) heard now said before.counts counts
+  one_turn packet one gave =
+      let used = answers_of A (turn_with packet) (at old F.full) (at now (is_full said)) one in
+      let ran = answers_snoc A F.turns (turn_with packet) first.posture (at old F.full) (at now (is_full said)) F.runs one in
+      record {
+        turns = F.turns ++ turn_with packet ∷ [];
+        full = is_full said;
+        runs = ran.0;
+        packets_are = packets_snoc F.turns (turn_with packet);
+        said_is = said_snoc F.turns (turn_with packet);
+        answered = subst (λ (list : List Circumstance). Gave list before.counts counts) (sym ran.1) (gave_then so_far used before.counts mid.counts counts F.answered gave);
+        rests = rests_now;
+      }
 
   -- no packet was heard
-  quiet_by : (full : Bool) → F.full ≡ full → (listens : Listens A [] old heard) → Turned A first (said_in F.turns) (packets_in F.turns) heard now said
-  quiet_by false is listens = no_turn (listens.hears ∙ between_is [] listens is)
+  quiet_by : (full : Bool) → F.full ≡ full → (listens : Listens A [] old heard mid.counts counts) → Turned A first (said_in F.turns) (packets_in F.turns) heard now said before.counts counts
+  quiet_by false is listens = no_turn (listens.hears ∙ between_is [] listens is) (listens.back.used ++ []) (ap answers_in (append-nil listens.back.used) ∙ (was_still [] listens is).1) listens.answered
   quiet_by true is listens =
       let one = one_turn None (record {
         between = listens.between;
@@ -182,34 +205,38 @@ module _ {S : Type 0} (A : Profile S) (first : Begun S) (octets : List ℕ) (o :
         says = told.says;
         stands = told.now_is;
         full = refl;
-      }) in
-      subst (λ (ps : List Packet). Turned A first (said_in F.turns) ps heard now said) (append-nil (packets_in F.turns)) one
+      }) listens.answered in
+      subst (λ (ps : List Packet). Turned A first (said_in F.turns) ps heard now said before.counts counts) (append-nil (packets_in F.turns)) one
 
-  quiet : Listens A [] old heard → Turned A first (said_in F.turns) (packets_in F.turns) heard now said
+  quiet : Listens A [] old heard mid.counts counts → Turned A first (said_in F.turns) (packets_in F.turns) heard now said before.counts counts
   quiet listens = quiet_by F.full refl listens
 
   -- the octet was taken
-  taken_turn : (packets : List Packet) → (packets ≡ []) ⊎ ((p : Packet) × (packets ≡ p ∷ [])) → Listens A packets old heard → HasRest A heard → Turned A first (said_in F.turns) (packets_in F.turns ++ packets) heard now said
+  taken_turn : (packets : List Packet) → (packets ≡ []) ⊎ ((p : Packet) × (packets ≡ p ∷ [])) → Listens A packets old heard mid.counts counts → HasRest A heard → Turned A first (said_in F.turns) (packets_in F.turns ++ packets) heard now said before.counts counts
   taken_turn packets (inl none) listens rests =
-      subst (λ (ps : List Packet). Turned A first (said_in F.turns) ps heard now said) (sym (append-nil (packets_in F.turns)) ∙ ap (λ (ps : List Packet). packets_in F.turns ++ ps) (sym none))
-      (quiet (subst (λ (ps : List Packet). Listens A ps old heard) none listens))
+      subst (λ (ps : List Packet). Turned A first (said_in F.turns) ps heard now said before.counts counts) (sym (append-nil (packets_in F.turns)) ∙ ap (λ (ps : List Packet). packets_in F.turns ++ ps) (sym none))
+      (quiet (subst (λ (ps : List Packet). Listens A ps old heard mid.counts counts) none listens))
   taken_turn packets (inr (p, one)) listens rests =
-      let one_heard = subst (λ (ps : List Packet). Listens A ps old heard) one listens in
-      let hearing = subst (λ (s : Stand S). HearsOne A p one_heard.between s) (sym one_heard.hears.2) one_heard.hears.1 in
-      subst (λ (ps : List Packet). Turned A first (said_in F.turns) ps heard now said) (ap (λ (ps : List Packet). packets_in F.turns ++ ps) (sym one))
+      let one_heard = subst (λ (ps : List Packet). Listens A ps old heard mid.counts counts) one listens in
+      let hearing = hears_to A p one_heard.between one_heard.hears.0 heard (sym one_heard.hears.2) one_heard.hears.1 in
+      subst (λ (ps : List Packet). Turned A first (said_in F.turns) ps heard now said before.counts counts) (ap (λ (ps : List Packet). packets_in F.turns ++ ps) (sym one))
       (one_turn (Some p) (record {
         between = one_heard.between;
         back = one_heard.back;
         none_back = between_is (p ∷ []) one_heard;
         after = heard;
-        hears = (hearing, rests);
+        hears = (hearing.0, rests);
         says = told.says;
         stands = told.now_is;
         full = refl;
-      }))
+      })
+      (subst (λ (used : List Circumstance). Gave (one_heard.back.used ++ used) mid.counts counts) (append-nil one_heard.hears.1.moves.used ∙ sym hearing.1) one_heard.answered))
+
+  abbrev beside_then : Option (List ℕ) → Beside
+  beside_then sink' = record { sink = sink'; counts = counts }
 
   -- and it goes on
-  pub fares_on : (framing' : Framing) (sink' : Option (List ℕ)) → IsFed A (o ∷ []) framing framing' old heard (Ok tt) → HasRest A heard → length octets < input_limit → sink' ≡ gained sink said → Fares A first (octets ++ o ∷ []) framing' now before sink'
+  pub fares_on : (framing' : Framing) (sink' : Option (List ℕ)) → IsFed A (o ∷ []) framing framing' old heard mid.counts counts (Ok tt) → HasRest A heard → length octets < input_limit → sink' ≡ gained mid.sink said → Fares A first (octets ++ o ∷ []) framing' now before (beside_then sink')
   fares_on framing' sink' (packets, taken, listens) rests small wrote =
       let turn = taken_turn packets (one_at_most acl_limit framing.held o packets taken.rest F.unfinished taken.read.each taken.read.octets) listens rests in
       let behind = framed_more octets o (packets_in F.turns) packets framing framing' framed taken small in
@@ -224,25 +251,26 @@ module _ {S : Type 0} (A : Profile S) (first : Begun S) (octets : List ℕ) (o :
         sound = behind.sound;
         unfinished = behind.unfinished;
         wrote = all_said turn sink' wrote;
+        answered = turn.answered;
         empty = empty_now;
         rests = turn.rests rests;
       }
     where
-      all_said : (turn : Turned A first (said_in F.turns) (packets_in F.turns ++ packets) heard now said) (sink' : Option (List ℕ)) → sink' ≡ gained sink said → sink' ≡ gained before (first.said ++ said_in turn.turns)
+      all_said : (turn : Turned A first (said_in F.turns) (packets_in F.turns ++ packets) heard now said before.counts counts) (sink' : Option (List ℕ)) → sink' ≡ gained mid.sink said → sink' ≡ gained before.sink (first.said ++ said_in turn.turns)
       all_said turn sink' wrote =
-          wrote ∙ ap (λ (k : Option (List ℕ)). gained k said) F.wrote ∙ gained-gained before (first.said ++ said_in F.turns) said
-          ∙ ap (gained before) (append_assoc first.said (said_in F.turns) said ∙ ap (λ (xs : List ℕ). first.said ++ xs) (sym turn.said_is))
+          wrote ∙ ap (λ (k : Option (List ℕ)). gained k said) F.wrote ∙ gained-gained before.sink (first.said ++ said_in F.turns) said
+          ∙ ap (gained before.sink) (append_assoc first.said (said_in F.turns) said ∙ ap (λ (xs : List ℕ). first.said ++ xs) (sym turn.said_is))
 
   -- ---- it stops
 
-  said_front : (packets : List Packet) (turn : Turned A first (said_in F.turns) packets heard now said) (sink' : Option (List ℕ)) → GainedFront sink sink' said → GainedFront before sink' (first.said ++ said_in turn.turns)
+  said_front : (packets : List Packet) (turn : Turned A first (said_in F.turns) packets heard now said before.counts counts) (sink' : Option (List ℕ)) → GainedFront mid.sink sink' said → GainedFront before.sink sink' (first.said ++ said_in turn.turns)
   said_front packets turn sink' front =
-      subst (λ (xs : List ℕ). GainedFront before sink' xs) (append_assoc first.said (said_in F.turns) said ∙ ap (λ (xs : List ℕ). first.said ++ xs) (sym turn.said_is))
-      (front_then before sink sink' (first.said ++ said_in F.turns) said F.wrote front)
+      subst (λ (xs : List ℕ). GainedFront before.sink sink' xs) (append_assoc first.said (said_in F.turns) said ∙ ap (λ (xs : List ℕ). first.said ++ xs) (sym turn.said_is))
+      (front_then before.sink mid.sink sink' (first.said ++ said_in F.turns) said F.wrote front)
 
   -- since the sink failed, or wanted memory
-  sink_halts : (packets : List Packet) (rest : List ℕ) (turn : Turned A first (said_in F.turns) packets heard now said) (sink' : Option (List ℕ)) → AllByRecursion (IsPacket acl_limit) packets → octets ++ o ∷ [] ≡ spellings packets ++ rest
-      → GainedFront sink sink' said → (why : ListenFault) → IsOfSink why → (behind : List ℕ) (left : Option (List ℕ)) → Halts A first (octets ++ o ∷ []) behind left now before sink' (Err why)
+  sink_halts : (packets : List Packet) (rest : List ℕ) (turn : Turned A first (said_in F.turns) packets heard now said before.counts counts) (sink' : Option (List ℕ)) → AllByRecursion (IsPacket acl_limit) packets → octets ++ o ∷ [] ≡ spellings packets ++ rest
+      → GainedFront mid.sink sink' said → (why : ListenFault) → IsOfSink why → (behind : List ℕ) (left : Option (List ℕ)) → Halts A first (octets ++ o ∷ []) behind left now before (beside_then sink') (Err why)
   sink_halts packets rest turn sink' each whole front (Refused refusal place) of behind left = absurd of
   sink_halts packets rest turn sink' each whole front ReadFault of behind left = absurd of
   sink_halts packets rest turn sink' each whole front WriteFault of behind left = record {
@@ -255,6 +283,7 @@ module _ {S : Type 0} (A : Profile S) (first : Begun S) (octets : List ℕ) (o :
     ends = tt;
     wrote = said_front packets turn sink' front;
     there = refl;
+    answered = turn.answered;
   }
   sink_halts packets rest turn sink' each whole front NoMemory of behind left = record {
     turns = turn.turns;
@@ -266,39 +295,40 @@ module _ {S : Type 0} (A : Profile S) (first : Begun S) (octets : List ℕ) (o :
     ends = tt;
     wrote = said_front packets turn sink' front;
     there = tt;
+    answered = tt;
   }
 
-  pub taken_halts : (framing' : Framing) (sink' : Option (List ℕ)) → IsFed A (o ∷ []) framing framing' old heard (Ok tt) → HasRest A heard → length octets < input_limit → GainedFront sink sink' said → (why : ListenFault) → IsOfSink why
-      → (behind : List ℕ) (left : Option (List ℕ)) → Halts A first (octets ++ o ∷ []) behind left now before sink' (Err why)
+  pub taken_halts : (framing' : Framing) (sink' : Option (List ℕ)) → IsFed A (o ∷ []) framing framing' old heard mid.counts counts (Ok tt) → HasRest A heard → length octets < input_limit → GainedFront mid.sink sink' said → (why : ListenFault) → IsOfSink why
+      → (behind : List ℕ) (left : Option (List ℕ)) → Halts A first (octets ++ o ∷ []) behind left now before (beside_then sink') (Err why)
   taken_halts framing' sink' (packets, taken, listens) rests small front why of =
       let turn = taken_turn packets (one_at_most acl_limit framing.held o packets taken.rest F.unfinished taken.read.each taken.read.octets) listens rests in
       let behind = framed_more octets o (packets_in F.turns) packets framing framing' framed taken small in
       sink_halts (packets_in F.turns ++ packets) framing'.held turn sink' behind.each behind.whole front why of
 
   -- no packet was heard with the octet at which it stops
-  none_heard : (framing' : Framing) (why : FeedRefusal) (stops : StopsFor A framing framing' o old heard why) → stops.0 ≡ []
+  none_heard : (framing' : Framing) (why : FeedRefusal) (stops : StopsFor A framing framing' o old heard mid.counts counts why) → stops.0 ≡ []
   none_heard framing' why (packets, stopped, listens) =
       none_before acl_limit framing.held o packets stopped.rest F.unfinished stopped.read.each stopped.read.octets (is_some_refused (heard []).line (place_behind framing packets) stopped.rest why stopped.refused)
 
-  stopped_turn : (framing' : Framing) (why : FeedRefusal) (stops : StopsFor A framing framing' o old heard why) → Turned A first (said_in F.turns) (packets_in F.turns) heard now said
-  stopped_turn framing' why stops = quiet (subst (λ (ps : List Packet). Listens A ps old heard) (none_heard framing' why stops) stops.2)
+  stopped_turn : (framing' : Framing) (why : FeedRefusal) (stops : StopsFor A framing framing' o old heard mid.counts counts why) → Turned A first (said_in F.turns) (packets_in F.turns) heard now said before.counts counts
+  stopped_turn framing' why stops = quiet (subst (λ (ps : List Packet). Listens A ps old heard mid.counts counts) (none_heard framing' why stops) stops.2)
 
-  stopped_whole : (framing' : Framing) (why : FeedRefusal) (stops : StopsFor A framing framing' o old heard why) → octets ++ o ∷ [] ≡ spellings (packets_in F.turns) ++ stops.1.rest
+  stopped_whole : (framing' : Framing) (why : FeedRefusal) (stops : StopsFor A framing framing' o old heard mid.counts counts why) → octets ++ o ∷ [] ≡ spellings (packets_in F.turns) ++ stops.1.rest
   stopped_whole framing' why stops =
       whole_more octets o (packets_in F.turns) [] framing.held stops.1.rest F.whole (stops.1.read.octets ∙ ap (λ (ps : List Packet). spellings ps ++ stops.1.rest) (none_heard framing' why stops))
       ∙ ap (λ (ps : List Packet). spellings ps ++ stops.1.rest) (append-nil (packets_in F.turns))
 
-  pub stopped_halts : (framing' : Framing) (sink' : Option (List ℕ)) (refused : FeedRefusal) → (refused ≡ fed.NoMemory → ⊥) → IsFed A (o ∷ []) framing framing' old heard (Err refused) → GainedFront sink sink' said → (why : ListenFault) → IsOfSink why
-      → (behind : List ℕ) (left : Option (List ℕ)) → Halts A first (octets ++ o ∷ []) behind left now before sink' (Err why)
+  pub stopped_halts : (framing' : Framing) (sink' : Option (List ℕ)) (refused : FeedRefusal) → (refused ≡ fed.NoMemory → ⊥) → IsFed A (o ∷ []) framing framing' old heard mid.counts counts (Err refused) → GainedFront mid.sink sink' said → (why : ListenFault) → IsOfSink why
+      → (behind : List ℕ) (left : Option (List ℕ)) → Halts A first (octets ++ o ∷ []) behind left now before (beside_then sink') (Err why)
   stopped_halts framing' sink' refused some is front why of =
-      let stops = stops_for A framing framing' o old heard refused some is in
+      let stops = stops_for A framing framing' o old heard mid.counts counts refused some is in
       sink_halts (packets_in F.turns) stops.1.rest (stopped_turn framing' refused stops) sink' F.each (stopped_whole framing' refused stops) front why of
 
   -- since it refuses what it is heard
-  pub refused_halts : (framing' : Framing) (sink' : Option (List ℕ)) (refused : FeedRefusal) → (refused ≡ fed.NoMemory → ⊥) → IsFed A (o ∷ []) framing framing' old heard (Err refused) → length octets < input_limit → sink' ≡ gained sink said
-      → (behind : List ℕ) (left : Option (List ℕ)) → Halts A first (octets ++ o ∷ []) behind left now before sink' (Err (told_by refused))
+  pub refused_halts : (framing' : Framing) (sink' : Option (List ℕ)) (refused : FeedRefusal) → (refused ≡ fed.NoMemory → ⊥) → IsFed A (o ∷ []) framing framing' old heard mid.counts counts (Err refused) → length octets < input_limit → sink' ≡ gained mid.sink said
+      → (behind : List ℕ) (left : Option (List ℕ)) → Halts A first (octets ++ o ∷ []) behind left now before (beside_then sink') (Err (told_by refused))
   refused_halts framing' sink' refused some is small wrote behind left =
-      let stops = stops_for A framing framing' o old heard refused some is in
+      let stops = stops_for A framing framing' o old heard mid.counts counts refused some is in
       let turn = stopped_turn framing' refused stops in
       let rest = stops.1.rest in
       let from = length (spellings (packets_in F.turns)) in
@@ -306,7 +336,7 @@ module _ {S : Type 0} (A : Profile S) (first : Begun S) (octets : List ℕ) (o :
       let place : place_behind framing stops.0 ≡ from = ap (place_behind framing) (none_heard framing' refused stops) ∙ F.place in
       let ends = refused_at (heard []).line from rest behind left refused (omega (arith, long, small)) (subst (λ (n : ℕ). IsRefused (heard []).line n rest refused) place stops.1.refused) in
       let named = no_read refused some in
-      subst (λ (w : ListenFault). Halts A first (octets ++ o ∷ []) behind left now before sink' (Err w)) (sym named.2)
+      subst (λ (w : ListenFault). Halts A first (octets ++ o ∷ []) behind left now before (beside_then sink') (Err w)) (sym named.2)
       (record {
         turns = turn.turns;
         last = record { stands = now; full = turn.full };
@@ -319,15 +349,16 @@ module _ {S : Type 0} (A : Profile S) (first : Begun S) (octets : List ℕ) (o :
             (subst (λ (ps : List Packet). Ends (free (heard []).line) (length (spellings ps)) rest behind left (Err (Refused named.0 named.1))) (sym turn.packets_are)
             (subst (λ (w : ListenFault). Ends (free (heard []).line) from rest behind left (Err w)) named.2 ends));
         wrote =
-            wrote ∙ ap (λ (k : Option (List ℕ)). gained k said) F.wrote ∙ gained-gained before (first.said ++ said_in F.turns) said
-            ∙ ap (gained before) (append_assoc first.said (said_in F.turns) said ∙ ap (λ (xs : List ℕ). first.said ++ xs) (sym turn.said_is));
+            wrote ∙ ap (λ (k : Option (List ℕ)). gained k said) F.wrote ∙ gained-gained before.sink (first.said ++ said_in F.turns) said
+            ∙ ap (gained before.sink) (append_assoc first.said (said_in F.turns) said ∙ ap (λ (xs : List ℕ). first.said ++ xs) (sym turn.said_is));
         there = refl;
+        answered = turn.answered;
       })
 
 -- its port found no memory, and it said no more
-pub short_halts : {S : Type 0} (A : Profile S) (first : Begun S) (octets : List ℕ) (o : ℕ) (framing : Framing) (old now : Stand S) (before sink : Option (List ℕ)) → Fares A first octets framing old before sink
-    → (behind : List ℕ) (left : Option (List ℕ)) → Halts A first (octets ++ o ∷ []) behind left now before sink (Err NoMemory)
-short_halts A first octets o framing old now before sink F behind left = record {
+pub short_halts : {S : Type 0} (A : Profile S) (first : Begun S) (octets : List ℕ) (o : ℕ) (framing : Framing) (old now : Stand S) (before mid : Beside) (counts : counting.Counts) → Fares A first octets framing old before mid
+    → (behind : List ℕ) (left : Option (List ℕ)) → Halts A first (octets ++ o ∷ []) behind left now before (record { sink = mid.sink; counts = counts }) (Err NoMemory)
+short_halts A first octets o framing old now before mid counts F behind left = record {
   turns = F.turns;
   last = record { stands = old; full = F.full };
   runs = F.runs;
@@ -335,6 +366,7 @@ short_halts A first octets o framing old now before sink F behind left = record 
   rest = framing.held ++ o ∷ [];
   whole = ap (λ (t : List ℕ). t ++ o ∷ []) F.whole ∙ append_assoc (spellings (packets_in F.turns)) framing.held (o ∷ []);
   ends = tt;
-  wrote = front_whole before sink (first.said ++ said_in F.turns) F.wrote;
+  wrote = front_whole before.sink mid.sink (first.said ++ said_in F.turns) F.wrote;
   there = tt;
+  answered = tt;
 }

@@ -8,7 +8,9 @@ use Rattle.bt_base.specs.Counts.{HasRisen}
 use Rattle.bt_base.specs.Objects.{Contents}
 use Rattle.h4_framing.specs.Packets.{Packet}
 use Rattle.h4_framing.specs.Framing.{Framing}
+use Rattle.bt_host.specs.obex_session.specs.Counting as counting
 use Rattle.bt_host.specs.obex_session.specs.InboxCalls.{Answer}
+use Rattle.bt_host.specs.obex_session.proofs.CountingLaws.{counted_none}
 use Rattle.bt_host.specs.host_model.specs.Circumstances.{Circumstance, answer_of, answers_in}
 use Rattle.bt_host.specs.host_model.specs.Profiles.{Profile}
 use Rattle.bt_host.specs.host_model.specs.Servers.{ServerProfile}
@@ -21,7 +23,8 @@ use Rattle.bt_host.specs.Serving.{Served, Asks, Lacks}
 use Rattle.bt_host.specs.Stacks.{Standing, standing, Reacts, Moment, GoesOn, HearsAll}
 use Rattle.bt_host.specs.Shells.{Shelled, FeedsOn, Feeds}
 use Rattle.receiving.specs.Turns.{Stand, Moves, emptied}
-use Rattle.receiving.specs.Feeding.{HearsEach, Listens, IsFed}
+use Rattle.receiving.specs.Feeding.{HearsEach, answers_each, Listens, IsFed}
+use Rattle.receiving.proofs.Answering.{Gave, gave_then}
 
 abbrev at : {E S P : Type 0} → (E → P → List Circumstance → S) → Moment E P → Stand S
 at pushing now = standing pushing now.port now.stack
@@ -37,19 +40,36 @@ module _ {E S P : Type 0} (A : Profile S) (Answers : P → List Circumstance →
 
   -- a host that is the same used no answers up
   abbrev pub StaysSame : Type 0
-  StaysSame = (old new : Moment E P) (used : List Circumstance) → ((rest : List Circumstance) → at pushing new rest ≡ at pushing old (used ++ rest)) → at pushing new ≡ at pushing old
+  StaysSame = (old new : Moment E P) (used : List Circumstance) → ((rest : List Circumstance) → at pushing new rest ≡ at pushing old (used ++ rest)) → (at pushing new ≡ at pushing old) × (answers_in used ≡ [])
 
-  listens_of : StaysSame → (packets : List Packet) (old mid new : Moment E P) → GoesOn A Answers pushing old mid → HearsAll A Answers pushing packets mid new → Listens A packets (at pushing old) (at pushing new)
+module _ {E S P : Type 0} (A : Profile S) (faults shortages : P → ℕ) (pushing : E → P → List Circumstance → S) where
+  abbrev counts : P → counting.Counts
+  counts port = counting.counts_of faults shortages port
+
+  abbrev Gives : P → List Circumstance → P → Type 0
+  Gives = Asks faults shortages
+
+  gave_each : (packets : List Packet) (old new : Moment E P) (hears : HearsAll A Gives pushing packets old new)
+      → Gave (answers_each A packets (at pushing old) (at pushing new) (hears_each A Gives pushing packets old new hears)) (counts old.port) (counts new.port)
+  unfolding hears_each moves_of
+  gave_each [] old new is = subst (λ (m : Moment E P). Gave [] (counts old.port) (counts m.port)) (sym is) (counted_none (counts old.port))
+  gave_each (p ∷ packets) old new (mid, one, more) =
+      gave_then one.reacts.used (answers_each A packets (at pushing mid) (at pushing new) (hears_each A Gives pushing packets mid new more)) (counts old.port) (counts mid.port) (counts new.port) one.reacts.answered.counted (gave_each packets mid new more)
+
+  listens_of : StaysSame A Gives pushing → (packets : List Packet) (old mid new : Moment E P) → GoesOn A Gives pushing old mid → HearsAll A Gives pushing packets mid new → Listens A packets (at pushing old) (at pushing new) (counts old.port) (counts new.port)
   unfolding moves_of
-  listens_of stays packets old mid new goes hears = record {
-    between = at pushing mid;
-    back = moves_of (at pushing old) (at pushing mid) old.port mid.port goes;
-    still = stays old mid goes.used;
-    hears = hears_each packets mid new hears;
-  }
+  listens_of stays packets old mid new goes hears =
+      let each = hears_each A Gives pushing packets mid new hears in
+      record {
+        between = at pushing mid;
+        back = moves_of A Gives pushing (at pushing old) (at pushing mid) old.port mid.port goes;
+        still = stays old mid goes.used;
+        hears = each;
+        answered = gave_then goes.used (answers_each A packets (at pushing mid) (at pushing new) each) (counts old.port) (counts mid.port) (counts new.port) goes.answered.counted (gave_each packets mid new hears);
+      }
 
-  pub fed_of : StaysSame → (Lacked : P → P → Type 0) (piece : List ℕ) (framing framing' : Framing) (old new : Moment E P) (result : Result (Unit {0}) FeedRefusal) → FeedsOn A Answers Lacked pushing piece framing framing' old new result
-      → IsFed A piece framing framing' (at pushing old) (at pushing new) result
+  pub fed_of : StaysSame A Gives pushing → (Lacked : P → P → Type 0) (piece : List ℕ) (framing framing' : Framing) (old new : Moment E P) (result : Result (Unit {0}) FeedRefusal) → FeedsOn A Gives Lacked pushing piece framing framing' old new result
+      → IsFed A piece framing framing' (at pushing old) (at pushing new) (counts old.port) (counts new.port) result
   fed_of stays Lacked piece framing framing' old new (Ok done) (mid, goes, takes) = (takes.packets, takes.taken, listens_of stays takes.packets old mid new goes takes.hears)
   fed_of stays Lacked piece framing framing' old new (Err NoMemory) lacked = tt
   fed_of stays Lacked piece framing framing' old new (Err (Transport why place)) (mid, goes, stops) = (stops.packets, stops.stopped, listens_of stays stops.packets old mid new goes stops.hears)
@@ -77,11 +97,11 @@ nothing_first [] is = refl
 nothing_first (x ∷ xs) is = absurd cc
 
 pub server_stays : {P : Type 0} (content : P → Option Contents) (old new : Moment (Noted Served) P) (used : List Circumstance)
-    → ((rest : List Circumstance) → at (server_noting content) new rest ≡ at (server_noting content) old (used ++ rest)) → at (server_noting content) new ≡ at (server_noting content) old
+    → ((rest : List Circumstance) → at (server_noting content) new rest ≡ at (server_noting content) old (used ++ rest)) → (at (server_noting content) new ≡ at (server_noting content) old) × (answers_in used ≡ [])
 server_stays content old new used same =
     let split : (rest : List Circumstance) → answers_in (used ++ rest) ≡ answers_in used ++ answers_in rest = λ rest. flat_map-append answer_of used rest in
     let none : answers_in used ≡ [] = nothing_first (answers_in used) (ap (λ (s : Standing (Noted ServerProfile)). s.host.profile.end.inbox.answers) (same []) ∙ split []) in
-    fun_ext (λ rest. same rest ∙ ap (with_answers content old) (split rest ∙ ap (λ (xs : List Answer). xs ++ answers_in rest) none))
+    (fun_ext (λ rest. same rest ∙ ap (with_answers content old) (split rest ∙ ap (λ (xs : List Answer). xs ++ answers_in rest) none)), none)
 
 -- ---- what its inbox says of memory
 

@@ -1,5 +1,5 @@
 -- One turn more, and one octet more.
-use Rattle.std.proofs.Common.{◌≡◌, ◌∙◌, ℕ, ◌+◌, ◌<◌, ◌≤◌, List, [], ◌∷◌, ◌++◌, length, refl, sym, ap, subst, append_assoc, length-append, arith}
+use Rattle.std.proofs.Common.{◌≡◌, ◌∙◌, ℕ, ◌+◌, ◌<◌, ◌≤◌, List, [], ◌∷◌, ◌++◌, length, sym, ap, subst, append_assoc, length-append, arith}
 use Rattle.std.specs.Prelude.{None, fold, option_to_list}
 use Rattle.std.specs.List.{AllByRecursion}
 use Rattle.std.proofs.lemmas.List.{append-nil}
@@ -8,10 +8,9 @@ use Rattle.h4_framing.specs.Packets.{Packet, spelling, spellings, IsPacket}
 use Rattle.h4_framing.specs.Stream.{IsUnfinished}
 use Rattle.h4_framing.specs.Framing.{Framing, counted}
 use Rattle.btpush_forms.specs.h4_view.proofs.Showing.{spellings-append}
-use Rattle.bt_host.specs.host_model.specs.Profiles.{Profile}
 use Rattle.bt_host.specs.Refusals.{acl_limit}
 use Rattle.bt_host.specs.Pieces.{IsTaken}
-use Rattle.receiving.specs.Turns.{Posture, Turn, HasTurn, HasTurns, packets_in, said_in}
+use Rattle.receiving.specs.Turns.{Turn, packets_in, said_in}
 use Rattle.receiving.specs.Coming.{input_limit}
 
 -- ---- lists
@@ -19,10 +18,6 @@ use Rattle.receiving.specs.Coming.{input_limit}
 pub all_append : {A : Type 0} (P : A → Type 0) (xs ys : List A) → AllByRecursion P xs → AllByRecursion P ys → AllByRecursion P (xs ++ ys)
 all_append P [] ys first second = second
 all_append P (x ∷ xs) ys first second = (first.0, all_append P xs ys first.1 second)
-
-pub turns_snoc : {S : Type 0} (A : Profile S) (turns : List Turn) (turn : Turn) (first mid last : Posture S) → HasTurns A turns first mid → HasTurn A turn mid last → HasTurns A (turns ++ turn ∷ []) first last
-turns_snoc A [] turn first mid last runs one = (last, subst (λ (p : Posture _). HasTurn A turn p last) runs one, refl)
-turns_snoc A (t ∷ turns) turn first mid last (between, takes, more) one = (between, takes, turns_snoc A turns turn between mid last more one)
 
 pub packets_snoc : (turns : List Turn) (turn : Turn) → packets_in (turns ++ turn ∷ []) ≡ packets_in turns ++ option_to_list turn.packet
 packets_snoc turns turn = flat_map-append (λ (t : Turn). option_to_list t.packet) turns (turn ∷ []) ∙ ap (λ (ps : List Packet). packets_in turns ++ ps) (append-nil (option_to_list turn.packet))

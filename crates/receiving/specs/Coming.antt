@@ -10,13 +10,15 @@ use Rattle.bt_host.specs.host_link.specs.Lines.{Line}
 use Rattle.bt_host.specs.host_link.specs.Hearing.{fault_of}
 use Rattle.bt_host.specs.host_link.specs.declared.news.ControllerFault.{ControllerFault}
 use Rattle.bt_host.specs.host_link.specs.declared.news.ControllerFault.TheVariants as controller
+use Rattle.bt_host.specs.obex_session.specs.Counting as counting
+use Rattle.bt_host.specs.host_model.specs.Circumstances.{answers_in}
 use Rattle.bt_host.specs.host_model.specs.Profiles.{Profile}
 use Rattle.bt_host.specs.Refusals.{acl_limit}
 use Rattle.receiving.specs.declared.fault.StreamRefusal.{StreamRefusal}
 use Rattle.receiving.specs.declared.fault.StreamRefusal.TheVariants.{BadIndicator, AclTooLong, Truncated, CommandFailed, BadBuffers, TooLong}
 use Rattle.receiving.specs.declared.fault.ListenFault.{ListenFault}
 use Rattle.receiving.specs.declared.fault.ListenFault.TheVariants.{Refused, ReadFault, WriteFault, NoMemory}
-use Rattle.receiving.specs.Turns.{Stand, Posture, Begun, Turn, HasTurns, packets_in, said_in}
+use Rattle.receiving.specs.Turns.{Stand, Posture, Begun, Turn, HasTurns, answers_along, packets_in, said_in}
 
 -- a stream has at most that many octets: 64 MiB
 abbrev pub input_limit : ℕ
@@ -68,8 +70,17 @@ abbrev pub Unless : Result (Unit {0}) ListenFault → Type 0 → Type 0
 Unless (Err NoMemory) told = Unit {0}
 Unless result told = told
 
--- A host that was fed these octets took these turns: it heard the packets that they begin with. It is where the turns lead.
-pub record Halts {S : Type 0} (A : Profile S) (first : Begun S) (octets behind : List ℕ) (left : Option (List ℕ)) (stands : Stand S) (sink sink' : Option (List ℕ)) (result : Result (Unit {0}) ListenFault) : Type 0 where
+-- what stands beside a host that is fed: what its sink holds, and both counts of its port
+pub record Beside : Type 0 where
+  pub sink : Option (List ℕ)
+  pub counts : counting.Counts
+
+abbrev pub beside : {P : Type 0} → Option (List ℕ) → (faults shortages : P → ℕ) → P → Beside
+beside sink faults shortages port = record { sink = sink; counts = counting.counts_of faults shortages port }
+
+-- A host that was fed these octets took these turns: it heard the packets that they begin with. It is where the turns lead, and the counts of its port
+-- say what that answered.
+pub record Halts {S : Type 0} (A : Profile S) (first : Begun S) (octets behind : List ℕ) (left : Option (List ℕ)) (stands : Stand S) (before after : Beside) (result : Result (Unit {0}) ListenFault) : Type 0 where
   pub turns : List Turn
   pub last : Posture S
   pub runs : HasTurns A turns first.posture last
@@ -77,13 +88,14 @@ pub record Halts {S : Type 0} (A : Profile S) (first : Begun S) (octets behind :
   pub rest : List ℕ
   pub whole : octets ≡ spellings (packets_in turns) ++ rest
   pub ends : Ends (last.stands []).line (length (spellings (packets_in turns))) rest behind left result
-  pub wrote : Writes sink sink' (first.said ++ said_in turns) result
+  pub wrote : Writes before.sink after.sink (first.said ++ said_in turns) result
   pub there : Unless result (stands ≡ last.stands)
+  pub answered : Unless result (counting.AreCounted (answers_in (answers_along A turns first.posture last runs)) before.counts after.counts)
 
 -- What comes of a source: its octets are fed to the host, and what this says goes to the sink. `behind` was read and is not looked at.
-pub record Comes {S : Type 0} (A : Profile S) (first : Begun S) (source source' : Option (List ℕ)) (stands : Stand S) (sink sink' : Option (List ℕ)) (result : Result (Unit {0}) ListenFault) : Type 0 where
+pub record Comes {S : Type 0} (A : Profile S) (first : Begun S) (source source' : Option (List ℕ)) (stands : Stand S) (before after : Beside) (result : Result (Unit {0}) ListenFault) : Type 0 where
   pub octets : List ℕ
   pub behind : List ℕ
   pub took : Took source source' (octets ++ behind)
   pub within : length octets ≤ input_limit
-  pub halts : Halts A first octets behind source' stands sink sink' result
+  pub halts : Halts A first octets behind source' stands before after result

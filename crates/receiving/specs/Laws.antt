@@ -9,7 +9,7 @@ use Rattle.receiving.specs.declared.fault.StreamRefusal.TheVariants as refusals
 use Rattle.receiving.specs.declared.fault.ListenFault.{ListenFault}
 use Rattle.receiving.specs.declared.fault.ListenFault.TheVariants.{Refused, ReadFault, WriteFault, NoMemory}
 use Rattle.receiving.specs.Turns.{Stand, Begun, Moves, HasRest, emptied, is_full, packets_in}
-use Rattle.receiving.specs.Coming.{input_limit, Comes}
+use Rattle.receiving.specs.Coming.{input_limit, Beside, Comes}
 
 -- A host that has done all that it can, and had room for all that it said, does nothing by itself once that was taken.
 abbrev pub NothingIsHeldBack : Type 0 → Type 0
@@ -30,5 +30,5 @@ IsHeard packets heard (Err NoMemory) = Unit {0}
 -- A stream of whole packets within the greatest length is refused for what a packet of it says alone.
 abbrev pub StreamsAreHeard : Type 0 → Type 0
 StreamsAreHeard S =
-    (A : Profile S) (first : Begun S) (all : List ℕ) (packets : List Packet) (left sink sink' : Option (List ℕ)) (stands : Stand S) (result : Result (Unit {0}) ListenFault) → Reads acl_limit all packets Whole → length all ≤ input_limit
-    → (comes : Comes A first (Some all) left stands sink sink' result) → IsHeard packets (packets_in comes.halts.turns) result
+    (A : Profile S) (first : Begun S) (all : List ℕ) (packets : List Packet) (left : Option (List ℕ)) (before after : Beside) (stands : Stand S) (result : Result (Unit {0}) ListenFault) → Reads acl_limit all packets Whole → length all ≤ input_limit
+    → (comes : Comes A first (Some all) left stands before after result) → IsHeard packets (packets_in comes.halts.turns) result

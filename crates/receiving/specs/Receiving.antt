@@ -8,6 +8,7 @@ use Rattle.btpush_forms.specs.declared.status.Status.{Status}
 use Rattle.btpush_forms.specs.declared.status.Status.TheVariants as status
 use Rattle.btpush_forms.specs.Carrying.{place_line}
 use Rattle.btpush_forms.specs.Refusing.{Refuses}
+use Rattle.bt_host.specs.obex_session.specs.Counting as counting
 use Rattle.bt_host.specs.host_model.specs.Servers.{ServerProfile}
 use Rattle.bt_host.specs.Newness.{new_stack}
 use Rattle.bt_host.specs.Noting.{Noted}
@@ -18,7 +19,7 @@ use Rattle.receiving.specs.declared.fault.StreamRefusal.TheVariants.{BadIndicato
 use Rattle.receiving.specs.declared.fault.ListenFault.{ListenFault}
 use Rattle.receiving.specs.declared.fault.ListenFault.TheVariants.{Refused, ReadFault, WriteFault, NoMemory}
 use Rattle.receiving.specs.Turns.{Stand, begun}
-use Rattle.receiving.specs.Coming.{Unless, Comes}
+use Rattle.receiving.specs.Coming.{Unless, Comes, Beside}
 
 -- the name of a refusal
 abbrev pub refusal_name : StreamRefusal → List ℕ
@@ -46,23 +47,26 @@ new_server_host settings inbox = standing (server_noting (λ content. content)) 
 abbrev pub stored_by : Stand (Noted ServerProfile) → Option Contents
 stored_by stands = (stands []).host.profile.end.inbox.content
 
+abbrev pub beside_counts : Option (List ℕ) → counting.Counts → Beside
+beside_counts sink counts = record { sink = sink; counts = counts }
+
 -- A new server of plain settings began, and was fed the source to its end, or to where the stream is refused or a port failed: the sink
--- gained what it said, and the inbox what it stored. And it is told what came of that.
-pub record Receives (source source' sink sink' trace trace' : Option (List ℕ)) (inbox inbox' : Option Contents) (result : Status) : Type 0 where
+-- gained what it said, and the inbox what it stored, whose counts say what it answered. And it is told what came of that.
+pub record Receives (source source' sink sink' trace trace' : Option (List ℕ)) (inbox inbox' : Option Contents) (counts counts' : counting.Counts) (result : Status) : Type 0 where
   pub settings : Settings
   pub plain : IsPlain settings
   pub stands : Stand (Noted ServerProfile)
   pub end : Result (Unit {0}) ListenFault
-  pub comes : Comes (noted_server settings) (begun (new_server_host settings inbox)) source source' stands sink sink' end
+  pub comes : Comes (noted_server settings) (begun (new_server_host settings inbox)) source source' stands (beside_counts sink counts) (beside_counts sink' counts') end
   pub stored : Unless end (inbox' ≡ stored_by stands)
   pub tells : Tells end trace trace' result
 
 -- what a host is fed of a source, before that is told
-pub record Listened (source source' sink sink' : Option (List ℕ)) (inbox inbox' : Option Contents) (end : Result (Unit {0}) ListenFault) : Type 0 where
+pub record Listened (source source' sink sink' : Option (List ℕ)) (inbox inbox' : Option Contents) (counts counts' : counting.Counts) (end : Result (Unit {0}) ListenFault) : Type 0 where
   pub settings : Settings
   pub plain : IsPlain settings
   pub stands : Stand (Noted ServerProfile)
-  pub comes : Comes (noted_server settings) (begun (new_server_host settings inbox)) source source' stands sink sink' end
+  pub comes : Comes (noted_server settings) (begun (new_server_host settings inbox)) source source' stands (beside_counts sink counts) (beside_counts sink' counts') end
   pub stored : Unless end (inbox' ≡ stored_by stands)
 
 -- nothing was read or written, and the inbox holds what it held

@@ -76,6 +76,22 @@ abbrev pub HasTurns : {S : Type 0} → Profile S → List Turn → Posture S →
 HasTurns A [] old new = new ≡ old
 HasTurns {S} A (turn ∷ turns) old new = (mid : Posture S) × HasTurn A turn old mid × HasTurns A turns mid new
 
+-- ---- what its port answered in turns
+
+abbrev pub answers_heard : {S : Type 0} → (A : Profile S) (packet : Option Packet) (full : Bool) (before after : Stand S) → HearsIn A packet full before after → List Circumstance
+answers_heard A None full before after hears = []
+answers_heard A (Some packet) full before after hears = hears.0.moves.used
+
+-- also as what was held back went out
+abbrev pub answers_of : {S : Type 0} → (A : Profile S) (turn : Turn) (old new : Posture S) → HasTurn A turn old new → List Circumstance
+answers_of A turn old new one = one.back.used ++ answers_heard A turn.packet old.full one.between one.after one.hears
+
+abbrev pub answers_along : {S : Type 0} → (A : Profile S) (turns : List Turn) (old new : Posture S) → HasTurns A turns old new → List Circumstance
+answers_along A [] old new runs = []
+answers_along A (turn ∷ turns) old new (mid, one, more) = answers_of A turn old mid one ++ answers_along A turns mid new more
+
+-- ---- what moved
+
 -- the packets that were heard, and the octets that were put out
 abbrev pub packets_in : List Turn → List Packet
 packets_in turns = flat_map (λ turn. option_to_list turn.packet) turns

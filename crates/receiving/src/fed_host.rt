@@ -3,6 +3,7 @@
 ghost use Rattle.std.specs.Prelude.{◌≡◌, ◌≤◌, ℕ, List, length, IsErrOf, OnOk};
 ghost use Rattle.bt_base.specs.Counts.{HasRisen};
 ghost use Rattle.h4_framing.specs.Framing.{Framing};
+ghost use Rattle.bt_host.specs.obex_session.specs.Counting.{counts_of};
 ghost use Rattle.bt_host.specs.host_model.specs.Circumstances.{Circumstance};
 ghost use Rattle.bt_host.specs.host_model.specs.Profiles.{Profile};
 ghost use Rattle.bt_host.specs.Stacks.{Standing};
@@ -31,7 +32,9 @@ pub trait FedHost<P>: Drop {
     /// What holds of it and its port as long as it refused nothing.
     ghost is_sound: { Self → P → Type 0 };
 
-    /// How often its port found no memory.
+    /// How often its port failed, and how often it found no memory.
+    ghost faults: { P → ℕ };
+
     ghost shortages: { P → ℕ };
 
     /// The octets for its controller.
@@ -50,7 +53,7 @@ pub trait FedHost<P>: Drop {
     /// Behind a refusal it is fed no more.
     fn feed(&mut self, piece: &[u8], port: &mut P) -> Result<(), FeedRefusal>
         requires sound { is_sound self.old port.old }
-        ensures fed { IsFed (profile self.old) piece.now (framing self.old) (framing self.new) (stands self.old port.old) (stands self.new port.new) result }
+        ensures fed { IsFed (profile self.old) piece.now (framing self.old) (framing self.new) (stands self.old port.old) (stands self.new port.new) (counts_of faults shortages port.old) (counts_of faults shortages port.new) result }
         ensures rests { OnOk result (HasRest (profile self.old) (stands self.new port.new)) }
         ensures profile { OnOk result (profile self.new ≡ profile self.old) }
         ensures sound { OnOk result (is_sound self.new port.new) }

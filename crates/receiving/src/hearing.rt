@@ -1,14 +1,14 @@
 //! A host is fed octets, one after the other, and all that it says is written behind each.
 
-ghost use Rattle.std.specs.Prelude.{◌≡◌, ◌≤◌, ◌<◌, ◌+◌, ◌∷◌, ◌++◌, ℕ, List, [], Option, length, true, false, IfErr, IsErrOf, OnOk};
+ghost use Rattle.std.specs.Prelude.{◌≡◌, ◌≤◌, ◌<◌, ◌+◌, ◌∷◌, ℕ, List, [], length, true, false, IfErr, IsErrOf, OnOk};
 ghost use Rattle.bt_base.specs.Streams.{gained, GainedFront};
 ghost use Rattle.bt_host.specs.host_model.specs.Circumstances.{Circumstance};
 ghost use Rattle.bt_host.specs.declared.feed_refusal.FeedRefusal.TheVariants as fed;
 ghost use Rattle.receiving.specs.Turns.{Begun, emptied};
-ghost use Rattle.receiving.specs.Coming.{input_limit};
+ghost use Rattle.receiving.specs.Coming.{input_limit, Beside, beside};
 ghost use Rattle.h4_framing.specs.declared.framer.Taken.{Taken as Answer};
 ghost use Rattle.h4_framing.specs.Taking.{Takes};
-ghost use Rattle.receiving.specs.Faring.{Fares, HearsOctet, HearsOn, spot, told_by, IsOfSink};
+ghost use Rattle.receiving.specs.Faring.{Fares, HearsOneOn, HearsOn, spot, told_by, IsOfSink};
 ghost use Rattle.receiving.specs.Counts.{Counts, Lacked};
 
 use crate::fault::{ListenFault, StreamRefusal};
@@ -94,8 +94,8 @@ fn hear_octet<P, L: FedHost<P>, K: Sink>(
     port: &mut P,
 ) -> Result<(), ListenFault>
     requires sound { L.is_sound host.old port.old }
-    ensures hears { (first : Begun L.State) (octets : List ℕ) (before : Option (List ℕ)) → length octets < input_limit → Fares (L.profile host.old) first octets (L.framing host.old) (L.stands host.old port.old) before (K.content sink.old) → HearsOctet (L.profile host.old) first (octets ++ octet ∷ []) (L.framing host.new) (L.stands host.new port.new) before (K.content sink.new) result }
-    ensures alike { (first : Begun L.State) (octets : List ℕ) (before : Option (List ℕ)) → Fares (L.profile host.old) first octets (L.framing host.old) (L.stands host.old port.old) before (K.content sink.old) → framer.old ≡ L.framing host.old → OnOk result (framer.new ≡ L.framing host.new) }
+    ensures hears { HearsOneOn (L.profile host.old) (spot (L.framing host.old) (L.stands host.old port.old) (beside (K.content sink.old) L.faults L.shortages port.old)) (spot (L.framing host.new) (L.stands host.new port.new) (beside (K.content sink.new) L.faults L.shortages port.new)) octet result }
+    ensures alike { (first : Begun L.State) (octets : List ℕ) (before : Beside) → Fares (L.profile host.old) first octets (L.framing host.old) (L.stands host.old port.old) before (beside (K.content sink.old) L.faults L.shortages port.old) → framer.old ≡ L.framing host.old → OnOk result (framer.new ≡ L.framing host.new) }
     ensures sound { OnOk result (L.is_sound host.new port.new) }
     ensures profile { OnOk result (L.profile host.new ≡ L.profile host.old) }
     ensures counts { Counts (K.faults sink.old) (K.faults sink.new) (K.shortages sink.old) (K.shortages sink.new) ListenFault.WriteFault result }
@@ -131,8 +131,8 @@ pub(crate) fn hear_piece<P, L: FedHost<P>, K: Sink>(
     port: &mut P,
 ) -> Result<(), ListenFault>
     requires sound { L.is_sound host.old port.old }
-    ensures hears { HearsOn (L.profile host.old) (spot (L.framing host.old) (L.stands host.old port.old) (K.content sink.old)) (spot (L.framing host.new) (L.stands host.new port.new) (K.content sink.new)) piece.now result }
-    ensures alike { (first : Begun L.State) (octets : List ℕ) (before : Option (List ℕ)) → length octets + length piece.now ≤ input_limit → Fares (L.profile host.old) first octets (L.framing host.old) (L.stands host.old port.old) before (K.content sink.old) → framer.old ≡ L.framing host.old → OnOk result (framer.new ≡ L.framing host.new) }
+    ensures hears { HearsOn (L.profile host.old) (spot (L.framing host.old) (L.stands host.old port.old) (beside (K.content sink.old) L.faults L.shortages port.old)) (spot (L.framing host.new) (L.stands host.new port.new) (beside (K.content sink.new) L.faults L.shortages port.new)) piece.now result }
+    ensures alike { (first : Begun L.State) (octets : List ℕ) (before : Beside) → length octets + length piece.now ≤ input_limit → Fares (L.profile host.old) first octets (L.framing host.old) (L.stands host.old port.old) before (beside (K.content sink.old) L.faults L.shortages port.old) → framer.old ≡ L.framing host.old → OnOk result (framer.new ≡ L.framing host.new) }
     ensures sound { OnOk result (L.is_sound host.new port.new) }
     ensures profile { OnOk result (L.profile host.new ≡ L.profile host.old) }
     ensures counts { Counts (K.faults sink.old) (K.faults sink.new) (K.shortages sink.old) (K.shortages sink.new) ListenFault.WriteFault result }

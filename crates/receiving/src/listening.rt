@@ -4,8 +4,8 @@ ghost use Rattle.std.specs.Prelude.{◌≡◌, ◌≤◌, ◌<◌, [], Ok, None,
 ghost use Rattle.bt_host.specs.host_model.specs.Circumstances.{Circumstance};
 ghost use Rattle.bt_host.specs.Refusals.{acl_limit, fresh_framing};
 ghost use Rattle.receiving.specs.Turns.{Begun, begun, HasRest};
-ghost use Rattle.receiving.specs.Coming.{input_limit, Comes};
-ghost use Rattle.receiving.specs.Faring.{Fares, Follows, ReadsOn, spot, EndsHeld, EndsAtLimit};
+ghost use Rattle.receiving.specs.Coming.{input_limit, Beside, beside, Comes};
+ghost use Rattle.receiving.specs.Faring.{Follows, ReadsOn, ListensOn, spot, EndsHeld, EndsAtLimit};
 ghost use Rattle.receiving.specs.Counts.{Counts, Lacked};
 
 use crate::fault::{ListenFault, StreamRefusal};
@@ -71,8 +71,8 @@ fn hear_next<P, L: FedHost<P>, S: Source, K: Sink>(
     requires sound { L.is_sound host.old port.old }
     requires room { 0 < length piece.old }
     requires below { count.old < input_limit }
-    ensures follows { ReadsOn (L.profile host.old) (spot (L.framing host.old) (L.stands host.old port.old) (K.content sink.old)) (spot (L.framing host.new) (L.stands host.new port.new) (K.content sink.new)) (S.content source.old) (S.content source.new) count.old count.new (framer.old ≡ L.framing host.old) result }
-    ensures alike { (first : Begun L.State) (origin before : Option (List ℕ)) → Follows (L.profile host.old) first origin (S.content source.old) (L.framing host.old) (L.stands host.old port.old) before (K.content sink.old) count.old → framer.old ≡ L.framing host.old → result ≡ Ok true → framer.new ≡ L.framing host.new }
+    ensures follows { ReadsOn (L.profile host.old) (spot (L.framing host.old) (L.stands host.old port.old) (beside (K.content sink.old) L.faults L.shortages port.old)) (spot (L.framing host.new) (L.stands host.new port.new) (beside (K.content sink.new) L.faults L.shortages port.new)) (S.content source.old) (S.content source.new) count.old count.new (framer.old ≡ L.framing host.old) result }
+    ensures alike { (first : Begun L.State) (origin : Option (List ℕ)) (before : Beside) → Follows (L.profile host.old) first origin (S.content source.old) (L.framing host.old) (L.stands host.old port.old) before (beside (K.content sink.old) L.faults L.shortages port.old) count.old → framer.old ≡ L.framing host.old → result ≡ Ok true → framer.new ≡ L.framing host.new }
     ensures grows { result ≡ Ok true → (count.old < count.new) × (count.new ≤ input_limit) }
     ensures finish { result ≡ Ok false → IfSome (S.content source.new) (λ left. left ≡ []) }
     ensures sound { result ≡ Ok true → L.is_sound host.new port.new }
@@ -114,7 +114,7 @@ fn listen<P, L: FedHost<P>, S: Source, K: Sink>(
 ) -> Result<(), ListenFault>
     requires sound { L.is_sound host.old port.old }
     requires room { 0 < length piece.old }
-    ensures comes { (first : Begun L.State) (before : Option (List ℕ)) → Fares (L.profile host.old) first [] (L.framing host.old) (L.stands host.old port.old) before (K.content sink.old) → framer.old ≡ L.framing host.old → Comes (L.profile host.old) first (S.content source.old) (S.content source.new) (L.stands host.new port.new) before (K.content sink.new) result }
+    ensures comes { ListensOn (L.profile host.old) (spot (L.framing host.old) (L.stands host.old port.old) (beside (K.content sink.old) L.faults L.shortages port.old)) (spot (L.framing host.new) (L.stands host.new port.new) (beside (K.content sink.new) L.faults L.shortages port.new)) (S.content source.old) (S.content source.new) (framer.old ≡ L.framing host.old) result }
     ensures finish { OnOk result (IfSome (S.content source.new) (λ left. left ≡ [])) }
     ensures source_counts { Counts (S.faults source.old) (S.faults source.new) (S.shortages source.old) (S.shortages source.new) ListenFault.ReadFault result }
     ensures sink_counts { Counts (K.faults sink.old) (K.faults sink.new) (K.shortages sink.old) (K.shortages sink.new) ListenFault.WriteFault result }
@@ -150,7 +150,7 @@ pub(crate) fn serve<P, L: FedHost<P>, S: Source, K: Sink>(
     requires framer { framer ≡ fresh_framing }
     requires rests { HasRest (L.profile host) (L.stands host port.old) }
     requires room { (rest : List Circumstance) → nat_lt (length ((L.stands host port.old rest).line.out)) 65536 ≡ true }
-    ensures comes { (last : L) × Comes (L.profile host) (begun (L.stands host port.old)) (S.content source.old) (S.content source.new) (L.stands last port.new) (K.content sink.old) (K.content sink.new) result }
+    ensures comes { (last : L) × Comes (L.profile host) (begun (L.stands host port.old)) (S.content source.old) (S.content source.new) (L.stands last port.new) (beside (K.content sink.old) L.faults L.shortages port.old) (beside (K.content sink.new) L.faults L.shortages port.new) result }
     ensures finish { OnOk result (IfSome (S.content source.new) (λ left. left ≡ [])) }
     ensures source_counts { Counts (S.faults source.old) (S.faults source.new) (S.shortages source.old) (S.shortages source.new) ListenFault.ReadFault result }
     ensures sink_counts { Counts (K.faults sink.old) (K.faults sink.new) (K.shortages sink.old) (K.shortages sink.new) ListenFault.WriteFault result }

@@ -2,6 +2,7 @@
 
 ghost use Rattle.std.specs.Prelude.{◌≡◌, ◌≢◌, ◌≤◌, ◌⊎◌, false, [], IfSome, OnOk, IsErrOf};
 ghost use Rattle.bt_base.specs.Counts.{HasRisen};
+ghost use Rattle.bt_host.specs.obex_session.specs.Counting.{counts_of};
 ghost use Rattle.btpush_forms.specs.h4_view.specs.View.{IsAnswered};
 ghost use Rattle.btpush_forms.specs.Run.{HasCauses};
 ghost use Rattle.receiving.specs.Counts.{Counts, Lacked};
@@ -28,7 +29,7 @@ fn listen<S: Source, K: Sink, B: Inbox>(
     inbox: &mut B,
 ) -> Result<(), ListenFault>
     requires { B.is_pending inbox.old ≡ false }
-    ensures listened { Listened (S.content source.old) (S.content source.new) (K.content sink.old) (K.content sink.new) (B.content inbox.old) (B.content inbox.new) result }
+    ensures listened { Listened (S.content source.old) (S.content source.new) (K.content sink.old) (K.content sink.new) (B.content inbox.old) (B.content inbox.new) (counts_of B.faults B.shortages inbox.old) (counts_of B.faults B.shortages inbox.new) result }
     ensures finish { OnOk result (IfSome (S.content source.new) (λ left. left ≡ [])) }
     ensures source_counts { Counts (S.faults source.old) (S.faults source.new) (S.shortages source.old) (S.shortages source.new) ListenFault.ReadFault result }
     ensures sink_counts { Counts (K.faults sink.old) (K.faults sink.new) (K.shortages sink.old) (K.shortages sink.new) ListenFault.WriteFault result }
@@ -63,8 +64,9 @@ pub fn receive<S: Source, K: Sink, T: Sink, B: Inbox>(
     inbox: &mut B,
 ) -> Status
     requires { B.is_pending inbox.old ≡ false }
-    // A new host was fed the octets that were read; the sink gained what it said, and the inbox what it stored.
-    ensures receives { Receives (S.content source.old) (S.content source.new) (K.content sink.old) (K.content sink.new) (T.content trace.old) (T.content trace.new) (B.content inbox.old) (B.content inbox.new) result }
+    // A new host was fed the octets that were read; the sink gained what it said, and the inbox what it stored, whose
+    // counts say what it answered.
+    ensures receives { Receives (S.content source.old) (S.content source.new) (K.content sink.old) (K.content sink.new) (T.content trace.old) (T.content trace.new) (B.content inbox.old) (B.content inbox.new) (counts_of B.faults B.shortages inbox.old) (counts_of B.faults B.shortages inbox.new) result }
     ensures known { (result ≢ Status.BadWords) × (result ≢ Status.SomeFailed) }
     ensures finish { result ≡ Status.Ok → IfSome (S.content source.new) (λ left. left ≡ []) }
     // Each fault has its cause, and a shortage of memory of source, sink and trace is answered.

@@ -23,6 +23,8 @@ impl<B: Inbox> FedHost<B> for ServerHost {
 
     ghost is_sound = { λ host inbox. (host.refusal ≡ None) × Works host.stack.upper.end.end (B.is_pending inbox) };
 
+    ghost faults = { B.faults };
+
     ghost shortages = { B.shortages };
 
     fn out(&self) -> &[u8] {

@@ -102,6 +102,23 @@ const OBJECT: [Row; 1] = [(
     b"\x02\x01\x00\x08\x00\x04\x00\x40\x00\x01\x01\xD4\x14\x02\x01\x00\x0B\x00\x07\x00\x40\x00\x00\x01\xA0\x00\x03\x26\x2B",
 )];
 
+/// The same object in three packets of single response mode: the first has its response, the second is heard in silence, and the
+/// last has its response.
+const IN_SILENCE: [Row; 3] = [
+    (
+        b"\x02\x01\x20\x19\x00\x15\x00\x40\x00\x00\x00\x02\x00\x11\x01\x00\x07\x00\x61\x00\x00\xC3\x00\x00\x00\x02\x97\x01\x56\x86",
+        b"\x02\x01\x00\x08\x00\x04\x00\x40\x00\x01\x01\xD4\x14\x02\x01\x00\x0D\x00\x09\x00\x40\x00\x00\x01\x90\x00\x05\x97\x01\x61\x62",
+    ),
+    (
+        b"\x02\x01\x20\x0F\x00\x0B\x00\x40\x00\x02\x01\x02\x00\x07\x48\x00\x04\x68\x15\x68",
+        b"\x02\x01\x00\x08\x00\x04\x00\x40\x00\x01\x02\x94\x15",
+    ),
+    (
+        b"\x02\x01\x20\x0F\x00\x0B\x00\x40\x00\x04\x01\x82\x00\x07\x49\x00\x04\x69\x7F\x3C",
+        b"\x02\x01\x00\x08\x00\x04\x00\x40\x00\x01\x03\x55\xD5\x02\x01\x00\x0B\x00\x07\x00\x40\x00\x02\x03\xA0\x00\x03\x5E\x53",
+    ),
+];
+
 /// A stream: rows, and octets behind them to which the host says nothing; and what comes of it.
 struct Stream {
     rows: [&'static [Row]; 3],
@@ -114,7 +131,7 @@ struct Stream {
 }
 
 /// Whole streams, and streams that are refused.
-const STREAMS: [Stream; 10] = [
+const STREAMS: [Stream; 11] = [
     Stream {
         rows: [&START, &CHANNEL, &[]],
         tail: b"",
@@ -131,6 +148,13 @@ const STREAMS: [Stream; 10] = [
     },
     Stream {
         rows: [&START, &OPENING, &OBJECT],
+        tail: b"",
+        status: Status::Ok,
+        told: "",
+        stored: INBOX,
+    },
+    Stream {
+        rows: [&START, &OPENING, &IN_SILENCE],
         tail: b"",
         status: Status::Ok,
         told: "",

@@ -3,6 +3,8 @@ use Rattle.command_words.specs.declared.form.Form.TheVariants.{Decode, DecodeTag
 use Rattle.btpush_forms.specs.Ports.{written}
 use Rattle.btpush_forms.specs.declared.hosted.Hosted.TheVariants as hosted
 use Rattle.btpush.proofs.Asked.{not_push, not_receive, not_make, push_traces, nothing_pushed, nothing_made, made_so, makes_no_bad_words, left_alone, unanswered, receives_nothing, asks_hosted, no_end}
+use Rattle.receiving.specs.bt_host.specs.obex_session.specs.Counting.{counts_of}
+use Rattle.receive_laws.proofs.Spelled.{stores_spelled}
 use Rattle.btpush.proofs.run.run.Goals as goal
 
 -- ---- the form is done
@@ -24,7 +26,7 @@ returns-in-Ok-clause-push g c = λ asks.
 pub returns-in-Ok-clause-receive : goal.returns-in-Ok-clause-receive
 returns-in-Ok-clause-receive g c = λ asks.
     let same = c.in-Ok.ensures.untouched hosted.Receive asks in
-    receives_nothing (g.S.Source.content c.args.source.now) (g.K.Sink.content c.args.sink.now) (g.T.Sink.content c.args.trace.now) (g.B.Inbox.content c.args.inbox.now) _ _ _ c.in-Ok.status (c.in-Ok.ensures.hosted hosted.Receive asks) (ap (λ s. g.S.Source.content s) same.0) (ap (λ k. g.K.Sink.content k) same.1) (ap (λ t. g.T.Sink.content t) same.2)
+    receives_nothing (g.S.Source.content c.args.source.now) (g.K.Sink.content c.args.sink.now) (g.T.Sink.content c.args.trace.now) (g.B.Inbox.content c.args.inbox.now) (counts_of g.B.Inbox.faults g.B.Inbox.shortages c.args.inbox.now) _ _ _ c.in-Ok.status (c.in-Ok.ensures.hosted hosted.Receive asks) (ap (λ s. g.S.Source.content s) same.0) (ap (λ k. g.K.Sink.content k) same.1) (ap (λ t. g.T.Sink.content t) same.2)
 
 pub returns-in-Ok-clause-receive_memory : goal.returns-in-Ok-clause-receive_memory
 returns-in-Ok-clause-receive_memory g c = λ asks is.
@@ -176,7 +178,7 @@ pub returns-in-Err-Receive-clause-finish_push : goal.returns-in-Err-Receive-clau
 returns-in-Err-Receive-clause-finish_push g c = λ asks ended. absurd (not_receive _ Push (asks_hosted c.run_alone.result hosted.Receive _ c.run_alone.ensures.asked (c.in-Err-Receive.is ∙ ap Err c.in-Err-Receive.field-0-is)) (λ is. absurd cc) asks)
 
 pub returns-in-Err-Receive-clause-receive : goal.returns-in-Err-Receive-clause-receive
-returns-in-Err-Receive-clause-receive g c = λ asks. let same = c.run_alone.ensures.untouched hosted.Receive (asks_hosted c.run_alone.result hosted.Receive _ c.run_alone.ensures.asked (c.in-Err-Receive.is ∙ ap Err c.in-Err-Receive.field-0-is)) in rw (same.0, same.1, same.2) at c.receive.ensures.receives
+returns-in-Err-Receive-clause-receive g c = λ asks. let same = c.run_alone.ensures.untouched hosted.Receive (asks_hosted c.run_alone.result hosted.Receive _ c.run_alone.ensures.asked (c.in-Err-Receive.is ∙ ap Err c.in-Err-Receive.field-0-is)) in let so = stores_spelled _ _ _ _ _ _ _ _ _ _ _ c.receive.ensures.receives in rw (same.0, same.1, same.2) at so
 
 pub returns-in-Err-Receive-clause-receive_memory : goal.returns-in-Err-Receive-clause-receive_memory
 returns-in-Err-Receive-clause-receive_memory g c = λ asks. let same = c.run_alone.ensures.untouched hosted.Receive (asks_hosted c.run_alone.result hosted.Receive _ c.run_alone.ensures.asked (c.in-Err-Receive.is ∙ ap Err c.in-Err-Receive.field-0-is)) in rw (same.0, same.1, same.2) at c.receive.ensures.no_memory

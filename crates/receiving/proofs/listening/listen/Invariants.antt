@@ -1,6 +1,6 @@
-use Rattle.std.proofs.Common.{◌-◌, ◌≡◌, ◌≤◌, [], ℕ, List, Option}
+use Rattle.std.proofs.Common.{◌-◌, ◌≡◌, ◌≤◌, []}
 use Rattle.receiving.specs.Turns.{Begun}
-use Rattle.receiving.specs.Coming.{input_limit}
+use Rattle.receiving.specs.Coming.{input_limit, Beside, beside}
 use Rattle.receiving.specs.Faring.{Fares, Follows}
 use Rattle.receiving.proofs.listening.listen.Given as goal
 
@@ -9,9 +9,9 @@ invariant-loop-count g l =
     let host = g.L.FedHost in
     let content = g.K.Sink.content in
     record {
-      follows : (first : Begun host.State) (before : Option (List ℕ)) → Fares (host.profile l.initial.host) first [] (host.framing l.initial.host) (host.stands l.initial.host l.initial.port) before (content l.initial.sink) → l.initial.framer ≡ host.framing l.initial.host
-          → Follows (host.profile l.initial.host) first (g.S.Source.content l.initial.source) (g.S.Source.content l.source) (host.framing l.host) (host.stands l.host l.port) before (content l.sink) l.count;
-      alike : (first : Begun host.State) (before : Option (List ℕ)) → Fares (host.profile l.initial.host) first [] (host.framing l.initial.host) (host.stands l.initial.host l.initial.port) before (content l.initial.sink) → l.initial.framer ≡ host.framing l.initial.host
+      follows : (first : Begun host.State) (before : Beside) → Fares (host.profile l.initial.host) first [] (host.framing l.initial.host) (host.stands l.initial.host l.initial.port) before (beside (content l.initial.sink) host.faults host.shortages l.initial.port) → l.initial.framer ≡ host.framing l.initial.host
+          → Follows (host.profile l.initial.host) first (g.S.Source.content l.initial.source) (g.S.Source.content l.source) (host.framing l.host) (host.stands l.host l.port) before (beside (content l.sink) host.faults host.shortages l.port) l.count;
+      alike : (first : Begun host.State) (before : Beside) → Fares (host.profile l.initial.host) first [] (host.framing l.initial.host) (host.stands l.initial.host l.initial.port) before (beside (content l.initial.sink) host.faults host.shortages l.initial.port) → l.initial.framer ≡ host.framing l.initial.host
           → l.framer ≡ host.framing l.host;
       sound : host.is_sound l.host l.port;
       profile : host.profile l.host ≡ host.profile l.initial.host;

@@ -10,7 +10,7 @@ returns-clause-fed g c =
     let faults = g.B.Inbox.faults in
     let shortages = g.B.Inbox.shortages in
     let pushing = server_noting g.B.Inbox.content in
-    fed_of A (Asks faults shortages) pushing (server_stays g.B.Inbox.content) (Lacks shortages) c.args.piece.now c.args.self.now.framing c.feed.new.self.framing (record { stack = c.args.self.now.stack; port = c.args.port.now }) (record { stack = c.feed.new.self.stack; port = c.feed.new.inbox }) c.feed.result
+    fed_of A faults shortages pushing (server_stays g.B.Inbox.content) (Lacks shortages) c.args.piece.now c.args.self.now.framing c.feed.new.self.framing (record { stack = c.args.self.now.stack; port = c.args.port.now }) (record { stack = c.feed.new.self.stack; port = c.feed.new.inbox }) c.feed.result
     (feeds_on A (Asks faults shortages) (Lacks shortages) pushing c.args.piece.now c.args.self.now c.feed.new.self c.args.port.now c.feed.new.inbox c.feed.result c.requires.sound.0 c.feed.ensures.feeds).0
 
 pub returns-clause-stays : goal.returns-clause-stays
