@@ -21,14 +21,14 @@ use Rattle.unit_laws.specs.Living.{Did, HaveCommands}
 use Rattle.unit_laws.specs.Units.{Lined, Occasion, units, lone_capture}
 
 -- at each own endpoint there is the channel that these sayings have there, as far as they say
-abbrev pub AreRead : Policy → List Saying → Channels → Type 0
-AreRead rules said channels = (own : ℕ) → IsRead rules (held_at own channels) (read_at own (reading said).entries)
+abbrev pub AreAsSaid : Policy → List Saying → Channels → Type 0
+AreAsSaid rules said channels = (own : ℕ) → IsRead rules (held_at own channels) (read_at own (reading said).entries)
 
--- they are those of what moved on a link, and behind it of what the host let wait
+-- they are those of what moved on a link, and behind it of some sayings that go out, as what the host let wait
 pub record AreOfLink (rules : Policy) (link : Link) (channels : Channels) : Type 0 where
   pub waits : List Saying
   pub go_out : AllByRecursion GoesOut waits
-  pub read : AreRead rules (talk link ++ waits) channels
+  pub read : AreAsSaid rules (talk link ++ waits) channels
 
 -- on the link that is up, if there is one
 abbrev pub AreOfLinkUp : Policy → Option Link → Channels → Type 0

@@ -22,7 +22,7 @@ pub fn servers_gain_carried()
     ensures { ServersGainCarried }
 {}
 
-/// The channels of a server whose timer never fired are those of what moved on its link, and behind it of what it let wait.
+/// The channels of a server whose timer never fired are those of what moved on its link, and behind it of some sayings that go out, as what it let wait.
 pub fn servers_hold_what_moved()
     ensures { ServersHoldWhatMoved }
 {}

@@ -33,7 +33,7 @@ use Rattle.receiving.specs.bt_host.specs.Noting.{Noted}
 use Rattle.receiving.specs.bt_host.specs.NotedHosts.{noted_server}
 use Rattle.noting_laws.specs.scenario_laws.specs.Gains.{holding}
 use Rattle.noting_laws.specs.scenario_laws.specs.Parties.{party_of}
-use Rattle.receive_laws.specs.Answers.{used_in, GrantsAllAsked, IsUnrisen}
+use Rattle.receive_laws.specs.Answers.{used_in, GrantsAllAsked, RoseNever}
 use Rattle.receive_laws.specs.Freely.{IsFreeStream}
 use Rattle.receive_laws.specs.Streams.{new_server, IsRunOverUnits, IsOrderlyStream, GainsSpelled, ReceivesSpelled, IsFramedStream, ReceivesFramed, ReceivesCarried, StoresSpelled}
 use Rattle.receive_laws.proofs.Freely.{free_streams_come_in_turn}
@@ -73,7 +73,7 @@ grants_all A (turn ∷ turns) old new (mid, one, more) all =
     parts_both here (used_in A turns mid new more) heard (grants_all A turns mid new more parts.1)
 
 stored_by_run : (source source' sink sink' trace trace' : Option (List ℕ)) (before : List Object) (inbox' : Option Contents) (counts counts' : Counts) (result : Status)
-    (received : Receives source source' sink sink' trace trace' (holding before) inbox' counts counts' result) → result ≢ status.NoMemory → IsUnrisen counts counts'
+    (received : Receives source source' sink sink' trace trace' (holding before) inbox' counts counts' result) → result ≢ status.NoMemory → RoseNever counts counts'
     → IsFreeStream (new_server received.settings before).said received.comes.halts.turns → Stored received.settings before inbox' received.comes.halts.turns received.comes.halts.last received.comes.halts.runs
 stored_by_run source source' sink sink' trace trace' before inbox' counts counts' result received not unrisen free =
     let settings = received.settings in
@@ -130,11 +130,11 @@ receives_carried = record {
 
 module _ (source source' sink sink' trace trace' : Option (List ℕ)) (before : List Object) (inbox' : Option Contents) (counts counts' : Counts) (result : Status) where
   abbrev SpelledFrom : Option Contents → Type 0
-  SpelledFrom inbox = (received : Receives source source' sink sink' trace trace' inbox inbox' counts counts' result) → result ≢ status.NoMemory → IsUnrisen counts counts'
+  SpelledFrom inbox = (received : Receives source source' sink sink' trace trace' inbox inbox' counts counts' result) → result ≢ status.NoMemory → RoseNever counts counts'
       → IsOrderlyStream received.settings before received.comes.halts.turns → GainsSpelled (party_of received.settings sides.B) received.settings before received.comes.halts.turns inbox'
 
   abbrev FramedFrom : Option Contents → Type 0
-  FramedFrom inbox = (received : Receives source source' sink sink' trace trace' inbox inbox' counts counts' result) → result ≢ status.NoMemory → IsUnrisen counts counts'
+  FramedFrom inbox = (received : Receives source source' sink sink' trace trace' inbox inbox' counts counts' result) → result ≢ status.NoMemory → RoseNever counts counts'
       → IsFramedStream received.settings before received.comes.halts.turns → GainsSpelled (reader received.settings received.settings.mps Rfcomm) received.settings before received.comes.halts.turns inbox'
 
 pub stores_spelled : (source source' sink sink' trace trace' : Option (List ℕ)) (inbox inbox' : Option Contents) (counts counts' : Counts) (result : Status) → Receives source source' sink sink' trace trace' inbox inbox' counts counts' result

@@ -17,6 +17,6 @@ abbrev pub GrantsAllAsked : {S : Type 0} → (A : Profile S) (turns : List Turn)
 GrantsAllAsked A turns old new runs = AllGranted (answers_in (used_in A turns old new runs))
 
 -- Neither count of an inbox rose: not that of its faults, nor that of its shortages of memory.
-pub record IsUnrisen (old new : Counts) : Type 0 where
+pub record RoseNever (old new : Counts) : Type 0 where
   pub faults : HasRisen old.faults new.faults → ⊥
   pub shortages : HasRisen old.shortages new.shortages → ⊥

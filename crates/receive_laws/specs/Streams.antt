@@ -34,7 +34,7 @@ use Rattle.orderly_laws.specs.Carried.{IsCarriedInput}
 use Rattle.orderly_laws.specs.Orderly.{IsOrderlyInput}
 use Rattle.receiving.specs.Turns.{Begun, begun, Posture, Turn, HasTurns, packets_in}
 use Rattle.receiving.specs.Receiving.{new_server_host, stored_by, Receives}
-use Rattle.receive_laws.specs.Answers.{GrantsAllAsked, IsUnrisen}
+use Rattle.receive_laws.specs.Answers.{GrantsAllAsked, RoseNever}
 use Rattle.receive_laws.specs.Freely.{IsFreeStream}
 use Rattle.receive_laws.specs.InTurn.{AreInTurn}
 use Rattle.receive_laws.specs.Moving.{MoveFromStart}
@@ -78,7 +78,7 @@ pub record GainsSpelled (party : Party) (settings : Settings) (before : List Obj
 -- So it is of such a stream, over L2CAP, where neither count of the inbox rose.
 abbrev pub ReceivesSpelled : Type 0
 ReceivesSpelled = (source source' sink sink' trace trace' : Option (List ℕ)) (before : List Object) (inbox' : Option Contents) (counts counts' : Counts) (result : Status)
-    (received : Receives source source' sink sink' trace trace' (holding before) inbox' counts counts' result) → result ≢ status.NoMemory → IsUnrisen counts counts'
+    (received : Receives source source' sink sink' trace trace' (holding before) inbox' counts counts' result) → result ≢ status.NoMemory → RoseNever counts counts'
     → IsOrderlyStream received.settings before received.comes.halts.turns → GainsSpelled (party_of received.settings sides.B) received.settings before received.comes.halts.turns inbox'
 
 -- ---- over RFCOMM
@@ -91,7 +91,7 @@ pub record IsFramedStream (settings : Settings) (before : List Object) (turns : 
 -- Of such a stream the inbox gains exactly the objects that the packets spell which moved, as a server over RFCOMM reads them.
 abbrev pub ReceivesFramed : Type 0
 ReceivesFramed = (source source' sink sink' trace trace' : Option (List ℕ)) (before : List Object) (inbox' : Option Contents) (counts counts' : Counts) (result : Status)
-    (received : Receives source source' sink sink' trace trace' (holding before) inbox' counts counts' result) → result ≢ status.NoMemory → IsUnrisen counts counts'
+    (received : Receives source source' sink sink' trace trace' (holding before) inbox' counts counts' result) → result ≢ status.NoMemory → RoseNever counts counts'
     → IsFramedStream received.settings before received.comes.halts.turns → GainsSpelled (reader received.settings received.settings.mps Rfcomm) received.settings before received.comes.halts.turns inbox'
 
 -- ---- over RFCOMM, where input is not orderly
@@ -115,16 +115,17 @@ pub record StoresCarried (asks : HostsAsk) (settings : Settings) (before : List 
 pub record ReceivesCarried : Type 0 where
   pub asks : HostsAsk
   pub stores : (source source' sink sink' trace trace' : Option (List ℕ)) (before : List Object) (inbox' : Option Contents) (counts counts' : Counts) (result : Status)
-      (received : Receives source source' sink sink' trace trace' (holding before) inbox' counts counts' result) → result ≢ status.NoMemory → IsUnrisen counts counts'
+      (received : Receives source source' sink sink' trace trace' (holding before) inbox' counts counts' result) → result ≢ status.NoMemory → RoseNever counts counts'
       → IsCarriedStream received.settings before received.comes.halts.turns → StoresCarried asks received.settings before received.comes.halts.turns inbox'
 
 -- ---- both, as a clause says it
 
--- A new server was fed a source. Of packets that are orderly, where neither count of its inbox rose, that gains exactly the objects that they spell: over
+-- A new server was fed a source. Of packets that are orderly, where its inbox tells what it holds, neither count of it rose, and memory was not wanting, that gains exactly
+-- the objects that they spell: over
 -- L2CAP, and over RFCOMM.
 pub record StoresSpelled (source source' sink sink' trace trace' : Option (List ℕ)) (inbox inbox' : Option Contents) (counts counts' : Counts) (result : Status) : Type 0 where
   pub received : Receives source source' sink sink' trace trace' inbox inbox' counts counts' result
-  pub spelled : (before : List Object) → inbox ≡ holding before → result ≢ status.NoMemory → IsUnrisen counts counts' → IsOrderlyStream received.settings before received.comes.halts.turns
+  pub spelled : (before : List Object) → inbox ≡ holding before → result ≢ status.NoMemory → RoseNever counts counts' → IsOrderlyStream received.settings before received.comes.halts.turns
       → GainsSpelled (party_of received.settings sides.B) received.settings before received.comes.halts.turns inbox'
-  pub framed : (before : List Object) → inbox ≡ holding before → result ≢ status.NoMemory → IsUnrisen counts counts' → IsFramedStream received.settings before received.comes.halts.turns
+  pub framed : (before : List Object) → inbox ≡ holding before → result ≢ status.NoMemory → RoseNever counts counts' → IsFramedStream received.settings before received.comes.halts.turns
       → GainsSpelled (reader received.settings received.settings.mps Rfcomm) received.settings before received.comes.halts.turns inbox'
