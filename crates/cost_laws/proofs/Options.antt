@@ -1,10 +1,16 @@
 -- The requests for options of both hosts are paid by adverse words.
-use Rattle.std.proofs.Common.{◌≡◌, ℕ, ◌+◌, ◌≤◌, ◌<◌, List, [], Bool, true, false, leb, Some, refl, sym, subst, arith}
-use Rattle.std.proofs.lemmas.Bool.{leb-true, leb-false}
-use Rattle.pair_laws.specs.channel_model.specs.Value.{Request}
+use Rattle.std.proofs.Common.{◌≡◌, ℕ, ◌+◌, ◌≤◌, ◌<◌, List, [], Option, Some, sym, subst, arith}
 use Rattle.pair_laws.specs.channel_laws.specs.Adverse.{disturbances}
-use Rattle.pair_laws.specs.channel_laws.specs.Runs.{Occurrence, Run, run_of}
+use Rattle.pair_laws.specs.channel_laws.specs.Runs.{Occurrence, Run}
 use Rattle.pair_laws.specs.channel_laws.specs.Tries.{request_of, copies, TriesAreKept}
+use Rattle.pair_laws.specs.bt_base.specs.Objects.{Contents}
+use Rattle.pair_laws.specs.push_script.specs.declared.scenario.Scenario.{Scenario}
+use Rattle.pair_laws.specs.capture.specs.Entries.{Entry}
+use Rattle.pair_laws.specs.host_laws.specs.Calls.{HostsAsk}
+use Rattle.pair_laws.specs.host_laws.specs.Keeping.{SendsAsItLends}
+use Rattle.pair_laws.specs.host_laws.specs.Searching.{AsksAsItSteps}
+use Rattle.pair_laws.specs.scenario_laws.specs.Captures.{Ran}
+use Rattle.pair_laws.specs.Within.{BothSendWithin}
 use Rattle.leaving_laws.specs.Left.{OptionsOfLeftAreCounted}
 use Rattle.pair_laws.specs.host_model.specs.Clients.{client_profile}
 use Rattle.pair_laws.specs.host_model.specs.Servers.{server_profile}
@@ -14,29 +20,26 @@ use Rattle.pair_laws.specs.channel_laws.specs.Pairs.{new_pair}
 use Rattle.pair_laws.specs.Costs.{adverse_in, IsPaidBy, RequestsPaid, RequestsCostWords}
 use Rattle.pair_laws.specs.OnLinks.{happened_on}
 use Rattle.pair_laws.specs.Pairs.{PairOnLink}
+use Rattle.pair_laws.specs.push_terms.specs.declared.word.Side.{Side}
 use Rattle.pair_laws.specs.push_terms.specs.declared.word.Side.TheVariants as sides
 use Rattle.pair_laws.specs.world_model.specs.Worlds.{all_words}
 use Rattle.limit_laws.specs.staying_laws.specs.forgoing_laws.specs.Lasts.{GoOn}
 use Rattle.limit_laws.specs.GoesOn.{FewWordsGoOn}
 use Rattle.limit_laws.proofs.GoingOn.{none_in_quiet}
-use Rattle.option_costs.specs.Options.{OptionsCostWords}
+use Rattle.cost_laws.specs.Options.{OptionsCostWords}
+use Rattle.cost_laws.specs.Runs.{IsPaidOn}
+use Rattle.cost_laws.proofs.Limits.{paid_or}
 
 -- host a's requests are paid beside those for the ends of channels
-pub options-cost_words : TriesAreKept → OptionsOfLeftAreCounted → FewWordsGoOn → RequestsCostWords → OptionsCostWords
-options-cost_words kept counted goes costs asks scenario content capture ran within as_steps as_lends = record {
-  requests = paid;
-  near = λ number own request waits. near_paid number own request waits (leb scenario.settings.tries (adverse_in (all_words ran.happenings))) refl;
-  far = λ number own. paid.far number (errands.Configuration own) (λ few. (go number few).options own);
-}
+pub options-paid : TriesAreKept → OptionsOfLeftAreCounted → FewWordsGoOn → (asks : HostsAsk) (scenario : Scenario) (content : Option Contents) (capture : List Entry) (ran : Ran scenario content capture) → BothSendWithin asks → AsksAsItSteps scenario.settings (asks.clients scenario.settings)
+    → SendsAsItLends scenario.settings content (asks.servers scenario.settings content) → (paid : RequestsPaid asks scenario content capture ran) (side : Side) (number own : ℕ) → IsPaidOn asks scenario content capture ran paid side number (errands.Configuration own)
+options-paid kept counted goes asks scenario content capture ran within as_steps as_lends paid = by
   where
     near : Policy
     near = (client_profile scenario.settings).policy
 
     far : Policy
     far = (server_profile scenario.settings content).policy
-
-    paid : RequestsPaid asks scenario content capture ran
-    paid = costs asks scenario content capture ran as_steps as_lends
 
     link : (number : ℕ) → PairOnLink near far (happened_on (client_profile scenario.settings) (asks.clients scenario.settings) sides.A capture ran.world.a.upper paid.pairs.turns.pairs.a number)
         (happened_on (server_profile scenario.settings content) (asks.servers scenario.settings content) sides.B capture ran.world.b.upper paid.pairs.turns.pairs.b number)
@@ -57,8 +60,12 @@ options-cost_words kept counted goes costs asks scenario content capture ran wit
         (counted near far (link number).turns (link number).fair (link number).read own (on.ends own) (on.until_left own) quiet request (subst (λ (r : Run). request_of (errands.Configuration own) r.value ≡ Some request) (sym (link number).near_is) waits)) in
         omega (arith, less, most)
 
-    near_paid : (number own : ℕ) (request : Request) → request_of (errands.Configuration own) (run_of near (list number)).value ≡ Some request → (most : Bool) → leb scenario.settings.tries (adverse_in (all_words ran.happenings)) ≡ most
-        → copies (errands.Configuration own) (run_of near (list number)).value.queue + request.given ≤ 1 + adverse_in (all_words ran.happenings)
-    near_paid number own request waits true is =
-        let many = leb-true scenario.settings.tries (adverse_in (all_words ran.happenings)) is in kept near (list number) (1 + adverse_in (all_words ran.happenings)) (omega arith) (omega (arith, many)) (errands.Configuration own) request waits
-    near_paid number own request waits false is = let few = leb-false scenario.settings.tries (adverse_in (all_words ran.happenings)) is in few_paid number own few request waits
+    by : (side : Side) (number own : ℕ) → IsPaidOn asks scenario content capture ran paid side number (errands.Configuration own)
+    by sides.A number own = paid_or kept near (list number) (adverse_in (all_words ran.happenings)) (errands.Configuration own) (few_paid number own)
+    by sides.B number own = paid.far number (errands.Configuration own) (λ few. (go number few).options own)
+
+pub options-cost_words : TriesAreKept → OptionsOfLeftAreCounted → FewWordsGoOn → RequestsCostWords → OptionsCostWords
+options-cost_words kept counted goes costs asks scenario content capture ran within as_steps as_lends =
+    let paid = costs asks scenario content capture ran as_steps as_lends in
+    let so = options-paid kept counted goes asks scenario content capture ran within as_steps as_lends paid in
+    record { requests = paid; near = so sides.A; far = so sides.B }

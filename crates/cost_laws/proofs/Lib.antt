@@ -1,0 +1,4 @@
+pub mod Limits
+pub mod Options
+pub mod Ends
+pub mod Runs
