@@ -1,0 +1,5 @@
+pub mod Opening
+pub mod Grounding
+pub mod Stepping
+pub mod Occurring
+pub mod Giving

@@ -1,0 +1,3 @@
+pub use Rattle.channel_laws
+pub mod Opening
+pub mod Giving
