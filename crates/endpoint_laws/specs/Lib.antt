@@ -1,0 +1,4 @@
+pub use Rattle.channel_laws
+pub mod Given
+pub mod Again
+pub mod Shared
