@@ -38,7 +38,7 @@ pub struct Settings {
     pub credits: u8,
     /// The largest OBEX packet, in octets.
     pub obex: u16,
-    /// Whether single response mode is asked for and granted.
+    /// Whether a client asks for single response mode; a server grants it over L2CAP.
     pub srm: bool,
     pub ghost mtu_low: { 255 ≤ mtu },
     pub ghost mtu_high: { mtu ≤ 32767 },
