@@ -14,8 +14,8 @@ use Rattle.turn_laws.specs.capture.specs.declared.flow.Flow.TheVariants.{Out}
 use Rattle.turn_laws.specs.capture.specs.Entries.{Entry}
 use Rattle.turn_laws.specs.capture.specs.Links.{Link, LinkNews, NoNews, link_news, link_up}
 use Rattle.turn_laws.specs.capture.specs.Buffers.{events, outstanding_on_link, outstanding_of, all_outstanding}
-use Rattle.turn_laws.specs.radio_air.specs.Controllers.{Controller, after_giving_back}
-use Rattle.turn_laws.specs.radio_air.specs.Honest.{sent_on, completed_on, all_sent, all_completed}
+use Rattle.turn_laws.specs.radio_model.specs.Controllers.{Controller, after_giving_back}
+use Rattle.turn_laws.specs.radio_model.specs.Honest.{sent_on, completed_on, all_sent, all_completed}
 use Rattle.turn_laws.specs.world_model.specs.Stations.{Order, Data}
 use Rattle.turn_laws.proofs.Wiring.{sent}
 use Rattle.air_laws.proofs.Knowing.{OnLink, Known}

@@ -13,12 +13,12 @@ use Rattle.turn_laws.specs.capture.specs.Entries.{Entry, Moved}
 use Rattle.turn_laws.specs.capture.specs.Histories.{AtEach, EachAfter}
 use Rattle.turn_laws.specs.capture.specs.Links.{Link, links, link_up}
 use Rattle.turn_laws.specs.capture.proofs.HistoryLaws.{each_after-more, at_each-more, at_each-none}
-use Rattle.turn_laws.specs.radio_air.specs.declared.fate.Fate.{Fate}
-use Rattle.turn_laws.specs.radio_air.specs.declared.deed.Deed.{Deed}
-use Rattle.turn_laws.specs.radio_air.specs.declared.deed.Deed.TheVariants.{Nothing, Meets, Fires, FiresBoth, Breaks, Cancels}
-use Rattle.turn_laws.specs.radio_air.specs.Controllers.{Answer, Returned, Stated, Called, LinkMade, LinkGone, GivenBack, Controller, after_telling}
-use Rattle.turn_laws.specs.radio_air.specs.Honest.{IsNumbered, IsOnItsLink}
-use Rattle.turn_laws.specs.radio_air.specs.Radio.{Radio, is_together, controller, after_meeting, found}
+use Rattle.turn_laws.specs.radio_model.specs.declared.fate.Fate.{Fate}
+use Rattle.turn_laws.specs.radio_model.specs.declared.deed.Deed.{Deed}
+use Rattle.turn_laws.specs.radio_model.specs.declared.deed.Deed.TheVariants.{Nothing, Meets, Fires, FiresBoth, Breaks, Cancels}
+use Rattle.turn_laws.specs.radio_model.specs.Controllers.{Answer, Returned, Stated, Called, LinkMade, LinkGone, GivenBack, Controller, after_telling}
+use Rattle.turn_laws.specs.radio_model.specs.Honest.{IsNumbered, IsOnItsLink}
+use Rattle.turn_laws.specs.radio_model.specs.Radio.{Radio, is_together, controller, after_meeting, found}
 use Rattle.turn_laws.specs.world_model.specs.Machines.{TimerFired, Upper}
 use Rattle.turn_laws.specs.world_model.specs.Stations.{Order, Reset, ReadBuffers, ReadAddress, Scan, Page, Accept, End, Data, order_packet, Station, Effort, Taking, Putting, Asking, Leaving, Commanding, MakesEffort, is_handle, longest_pdu, gives, holds, hears_each, hears_piece, hears_answer, may_accept, told}
 use Rattle.turn_laws.specs.world_model.specs.Worlds.{World, Happening, Tries, Departure, GivingBack, Piecemeal, Answering, Turns, Misses, Opens, Closes, entries_of, words_in, checks, Acts, first_world, after_order}

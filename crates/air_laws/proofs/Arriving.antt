@@ -11,8 +11,8 @@ use Rattle.turn_laws.specs.capture.specs.Entries.{Entry, Moved}
 use Rattle.turn_laws.specs.capture.specs.Links.{Link, LinkNews, Asked, Answered, LinkEnded, NoNews, links, link_up}
 use Rattle.turn_laws.specs.capture.specs.Frames.{Direction}
 use Rattle.turn_laws.specs.capture.specs.Air.{Air, renewed, due, without_first_due, after_event, IsFirst, ComesBehind}
-use Rattle.turn_laws.specs.radio_air.specs.Controllers.{Answer, Returned, Stated, Called, LinkMade, LinkGone, GivenBack, Controller, after_telling}
-use Rattle.turn_laws.specs.radio_air.specs.Radio.{Radio, is_together, controller, with_controller}
+use Rattle.turn_laws.specs.radio_model.specs.Controllers.{Answer, Returned, Stated, Called, LinkMade, LinkGone, GivenBack, Controller, after_telling}
+use Rattle.turn_laws.specs.radio_model.specs.Radio.{Radio, is_together, controller, with_controller}
 use Rattle.turn_laws.proofs.Hearing.{with_coming, with_owed}
 use Rattle.air_laws.proofs.Waiting.{waits_as}
 use Rattle.air_laws.proofs.Knowing.{IsNextLink, Known}

@@ -15,13 +15,13 @@ use Rattle.turn_laws.specs.capture.specs.Moves.{move_of, moves}
 use Rattle.turn_laws.specs.capture.specs.Links.{Link, Asked, NoNews, linking, link_up}
 use Rattle.turn_laws.specs.capture.specs.Buffers.{all_outstanding, KeepsWithin}
 use Rattle.turn_laws.specs.capture.proofs.HistoryLaws.{at_each-more, at_each-none}
-use Rattle.turn_laws.specs.radio_air.specs.declared.fate.Fate.{Fate}
-use Rattle.turn_laws.specs.radio_air.specs.declared.deed.Deed.{Deed}
-use Rattle.turn_laws.specs.radio_air.specs.declared.deed.Deed.TheVariants.{Nothing, Meets, Fires, FiresBoth, Breaks, Cancels}
-use Rattle.turn_laws.specs.radio_air.specs.Controllers.{Answer, Controller, new_controller, answer_packet, piece_packet, after_telling}
-use Rattle.turn_laws.specs.radio_air.specs.Owed.{back}
-use Rattle.turn_laws.specs.radio_air.specs.Honest.{all_sent, all_completed, IsHonest}
-use Rattle.turn_laws.specs.radio_air.specs.Radio.{Radio, is_together, controller, knows_link, with_piece, after_taking, after_meeting, found}
+use Rattle.turn_laws.specs.radio_model.specs.declared.fate.Fate.{Fate}
+use Rattle.turn_laws.specs.radio_model.specs.declared.deed.Deed.{Deed}
+use Rattle.turn_laws.specs.radio_model.specs.declared.deed.Deed.TheVariants.{Nothing, Meets, Fires, FiresBoth, Breaks, Cancels}
+use Rattle.turn_laws.specs.radio_model.specs.Controllers.{Answer, Controller, new_controller, answer_packet, piece_packet, after_telling}
+use Rattle.turn_laws.specs.radio_model.specs.Owed.{back}
+use Rattle.turn_laws.specs.radio_model.specs.Honest.{all_sent, all_completed, IsHonest}
+use Rattle.turn_laws.specs.radio_model.specs.Radio.{Radio, is_together, controller, knows_link, with_piece, after_taking, after_meeting, found}
 use Rattle.turn_laws.specs.world_model.specs.Machines.{TimerFired, Upper}
 use Rattle.turn_laws.specs.world_model.specs.Stations.{Order, Reset, ReadBuffers, ReadAddress, Scan, Page, Accept, End, Data, order_packet, Station, Effort, Taking, Putting, Asking, Leaving, Commanding, MakesEffort, longest_pdu, gives, holds, is_handle, hears_each, hears_piece, hears_answer, first_station, told}
 use Rattle.turn_laws.specs.world_model.specs.Worlds.{World, Happening, Tries, Departure, GivingBack, Piecemeal, Answering, Turns, Misses, Opens, Closes, piece_on, all_entries, checks, Acts, Runs, first_world, after_order}

@@ -11,9 +11,9 @@ use Rattle.turn_laws.specs.capture.specs.declared.flow.Flow.TheVariants.{Into}
 use Rattle.turn_laws.specs.capture.specs.Entries.{Entry}
 use Rattle.turn_laws.specs.capture.specs.Links.{Link, NoNews, link_up}
 use Rattle.turn_laws.specs.capture.specs.Buffers.{events, outstanding_on_link, outstanding_of, all_outstanding}
-use Rattle.turn_laws.specs.radio_air.specs.Controllers.{Answer, Returned, Stated, Called, LinkMade, LinkGone, GivenBack, Controller, event_of, answer_packet, after_telling}
-use Rattle.turn_laws.specs.radio_air.specs.Owed.{back_by, back}
-use Rattle.turn_laws.specs.radio_air.specs.Honest.{sent_on, completed_on, all_sent, all_completed}
+use Rattle.turn_laws.specs.radio_model.specs.Controllers.{Answer, Returned, Stated, Called, LinkMade, LinkGone, GivenBack, Controller, event_of, answer_packet, after_telling}
+use Rattle.turn_laws.specs.radio_model.specs.Owed.{back_by, back}
+use Rattle.turn_laws.specs.radio_model.specs.Honest.{sent_on, completed_on, all_sent, all_completed}
 use Rattle.turn_laws.specs.world_model.specs.Machines.{Upper}
 use Rattle.turn_laws.specs.world_model.specs.Stations.{Accept, Station, learns, is_handle, may_accept, hears_answer}
 use Rattle.turn_laws.proofs.Showing.{no-news, made-news}

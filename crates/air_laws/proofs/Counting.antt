@@ -21,8 +21,8 @@ use Rattle.turn_laws.specs.capture.specs.Moves.{Move, move_of, moves}
 use Rattle.turn_laws.specs.capture.specs.Links.{Link, Linking, LinkNews, Asked, Answered, LinkEnded, NoNews, link_news, longer, made, after_move, linking, link_up}
 use Rattle.turn_laws.specs.capture.specs.Buffers.{events, buffer_events, outstanding_on_link, outstanding_of, all_outstanding}
 use Rattle.turn_laws.specs.capture.proofs.MoreLaws.{moves-more, outstanding-more}
-use Rattle.turn_laws.specs.radio_air.specs.Controllers.{GivenBack, answer_packet}
-use Rattle.turn_laws.specs.radio_air.specs.Honest.{sent_on, completed_on, all_sent, all_completed}
+use Rattle.turn_laws.specs.radio_model.specs.Controllers.{GivenBack, answer_packet}
+use Rattle.turn_laws.specs.radio_model.specs.Honest.{sent_on, completed_on, all_sent, all_completed}
 use Rattle.turn_laws.proofs.Capturing.{beside, moved}
 
 -- ---- the events of one packet

@@ -2,9 +2,9 @@
 use Rattle.std.proofs.Common.{◌≡◌, ℕ, ◌||◌, Bool, true, false, List, refl, ap, ◌∙◌}
 use Rattle.turn_laws.specs.push_terms.specs.declared.word.Way.{Way}
 use Rattle.turn_laws.specs.push_terms.specs.declared.word.Way.TheVariants.{Ab, Ba}
-use Rattle.turn_laws.specs.radio_air.specs.Air.{Hosts, air_after}
-use Rattle.turn_laws.specs.radio_air.specs.Queues.{is_crowded}
-use Rattle.turn_laws.specs.radio_air.specs.Radio.{Radio}
+use Rattle.turn_laws.specs.radio_model.specs.Air.{Hosts, air_after}
+use Rattle.turn_laws.specs.radio_model.specs.Queues.{is_crowded}
+use Rattle.turn_laws.specs.radio_model.specs.Radio.{Radio}
 use Rattle.turn_laws.specs.capture.specs.Entries.{Entry}
 use Rattle.turn_laws.specs.world_model.specs.Machines.{Upper}
 use Rattle.turn_laws.specs.world_model.specs.Worlds.{all_entries}

@@ -15,11 +15,11 @@ use Rattle.turn_laws.specs.capture.specs.Frames.{waiting}
 use Rattle.turn_laws.specs.capture.specs.Air.{direction}
 use Rattle.turn_laws.specs.capture.proofs.HistoryLaws.{each_after-more}
 use Rattle.turn_laws.specs.capture.proofs.FurtherLaws.{words-more}
-use Rattle.turn_laws.specs.radio_air.specs.declared.deed.Deed.{Deed}
-use Rattle.turn_laws.specs.radio_air.specs.declared.deed.Deed.TheVariants.{Nothing, Meets, Fires, FiresBoth, Breaks, Cancels}
-use Rattle.turn_laws.specs.radio_air.specs.Words.{receiver}
-use Rattle.turn_laws.specs.radio_air.specs.Air.{Hosts, checks_channel, after_meeting, after_deed, air_after, found, FindsNothing, KeepsTo, LeftFindNothing}
-use Rattle.turn_laws.specs.radio_air.specs.Radio.{first_channel}
+use Rattle.turn_laws.specs.radio_model.specs.declared.deed.Deed.{Deed}
+use Rattle.turn_laws.specs.radio_model.specs.declared.deed.Deed.TheVariants.{Nothing, Meets, Fires, FiresBoth, Breaks, Cancels}
+use Rattle.turn_laws.specs.radio_model.specs.Words.{receiver}
+use Rattle.turn_laws.specs.radio_model.specs.Air.{Hosts, checks_channel, after_meeting, after_deed, air_after, found, FindsNothing, KeepsTo, LeftFindNothing}
+use Rattle.turn_laws.specs.radio_model.specs.Radio.{first_channel}
 use Rattle.turn_laws.specs.world_model.specs.Machines.{Upper}
 use Rattle.turn_laws.specs.world_model.specs.Pushes.{Pushes}
 use Rattle.turn_laws.specs.world_model.specs.Worlds.{all_entries, all_words, first_world}

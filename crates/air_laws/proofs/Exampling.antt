@@ -3,8 +3,8 @@ use Rattle.std.proofs.Common.{◌≡◌, ◌<◌, ℕ, true, Bool, false, List, 
 use Rattle.turn_laws.specs.push_terms.specs.declared.word.Way.{Way}
 use Rattle.turn_laws.specs.push_terms.specs.declared.word.Way.TheVariants.{Ab, Ba}
 use Rattle.turn_laws.specs.push_terms.specs.declared.outcome.Outcome.TheVariants.{Done}
-use Rattle.turn_laws.specs.radio_air.specs.Controllers.{Controller}
-use Rattle.turn_laws.specs.radio_air.specs.Radio.{Apart, Together}
+use Rattle.turn_laws.specs.radio_model.specs.Controllers.{Controller}
+use Rattle.turn_laws.specs.radio_model.specs.Radio.{Apart, Together}
 use Rattle.turn_laws.specs.world_model.specs.Machines.{Up, Down, News, Linked, Failed, Heard, TimerFired, Cancelled, Opening}
 use Rattle.turn_laws.specs.world_model.specs.Stations.{Station}
 use Rattle.turn_laws.specs.world_model.specs.Worlds.{World, Happening, Runs, IsAtRest, first_world}

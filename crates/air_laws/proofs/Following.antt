@@ -8,11 +8,11 @@ use Rattle.turn_laws.specs.push_terms.specs.declared.word.Way.TheVariants.{Ab, B
 use Rattle.turn_laws.specs.push_terms.specs.declared.word.Word.{Word}
 use Rattle.turn_laws.specs.capture.specs.declared.flow.Flow.TheVariants.{Into}
 use Rattle.turn_laws.specs.capture.specs.Entries.{Entry}
-use Rattle.turn_laws.specs.radio_air.specs.declared.fate.Fate.{Fate}
-use Rattle.turn_laws.specs.radio_air.specs.declared.deed.Deed.{Deed}
-use Rattle.turn_laws.specs.radio_air.specs.declared.deed.Deed.TheVariants.{Nothing, Meets, Fires, FiresBoth, Breaks, Cancels}
-use Rattle.turn_laws.specs.radio_air.specs.Controllers.{Answer, Returned, Stated, Called, LinkMade, LinkGone, GivenBack, Controller}
-use Rattle.turn_laws.specs.radio_air.specs.Radio.{Radio, is_together, controller, found, after_meeting}
+use Rattle.turn_laws.specs.radio_model.specs.declared.fate.Fate.{Fate}
+use Rattle.turn_laws.specs.radio_model.specs.declared.deed.Deed.{Deed}
+use Rattle.turn_laws.specs.radio_model.specs.declared.deed.Deed.TheVariants.{Nothing, Meets, Fires, FiresBoth, Breaks, Cancels}
+use Rattle.turn_laws.specs.radio_model.specs.Controllers.{Answer, Returned, Stated, Called, LinkMade, LinkGone, GivenBack, Controller}
+use Rattle.turn_laws.specs.radio_model.specs.Radio.{Radio, is_together, controller, found, after_meeting}
 use Rattle.turn_laws.specs.world_model.specs.Machines.{Upper}
 use Rattle.turn_laws.specs.world_model.specs.Talks.{Talk}
 use Rattle.turn_laws.specs.world_model.specs.PerLink.{Linkage, no_linkage}

@@ -8,11 +8,11 @@ use Rattle.turn_laws.specs.capture.specs.declared.flow.Flow.{Flow}
 use Rattle.turn_laws.specs.capture.specs.declared.flow.Flow.TheVariants.{Out, Into}
 use Rattle.turn_laws.specs.capture.specs.Pdus.{Pdu}
 use Rattle.turn_laws.specs.capture.proofs.HistoryLaws.{each_after-more}
-use Rattle.turn_laws.specs.radio_air.specs.declared.fate.Fate.{Fate}
-use Rattle.turn_laws.specs.radio_air.specs.declared.fate.Fate.TheVariants.{Delivered, Lost, Repeated, CutOff, Changed}
-use Rattle.turn_laws.specs.radio_air.specs.Fates.{meets, comes_of}
-use Rattle.turn_laws.specs.radio_air.specs.Flights.{Met, step, position, of_frame, heard, FindsFrames}
-use Rattle.turn_laws.specs.radio_air.proofs.Flying.{one_fate_more, one_frame_more}
+use Rattle.turn_laws.specs.radio_model.specs.declared.fate.Fate.{Fate}
+use Rattle.turn_laws.specs.radio_model.specs.declared.fate.Fate.TheVariants.{Delivered, Lost, Repeated, CutOff, Changed}
+use Rattle.turn_laws.specs.radio_model.specs.Fates.{meets, comes_of}
+use Rattle.turn_laws.specs.radio_model.specs.Flights.{Met, step, position, of_frame, heard, FindsFrames}
+use Rattle.turn_laws.specs.radio_model.proofs.Flying.{one_fate_more, one_frame_more}
 use Rattle.turn_laws.specs.world_model.specs.Machines.{Up, Down, Linked, Failed, Heard, TimerFired, Cancelled, Opening}
 use Rattle.turn_laws.specs.world_model.specs.Talks.{Talk, Told, Said, Unsent, Done}
 use Rattle.turn_laws.specs.world_model.specs.Talks as told

@@ -11,8 +11,8 @@ use Rattle.turn_laws.specs.capture.specs.Moves.{moves}
 use Rattle.turn_laws.specs.capture.specs.Links.{Link, linking, links, link_up}
 use Rattle.turn_laws.specs.capture.specs.Pdus.{Pdu, pdus, pieces}
 use Rattle.turn_laws.specs.acl_fragments.specs.Answers.{open_after}
-use Rattle.turn_laws.specs.radio_air.specs.Controllers.{Answer, Returned, Stated, Called, LinkMade, LinkGone, GivenBack, Controller, after_telling}
-use Rattle.turn_laws.specs.radio_air.specs.Radio.{frame_limit}
+use Rattle.turn_laws.specs.radio_model.specs.Controllers.{Answer, Returned, Stated, Called, LinkMade, LinkGone, GivenBack, Controller, after_telling}
+use Rattle.turn_laws.specs.radio_model.specs.Radio.{frame_limit}
 use Rattle.turn_laws.specs.world_model.specs.Stations.{Order, Reset, ReadBuffers, ReadAddress, Scan, Page, Accept, End, Data, Station, gives}
 use Rattle.turn_laws.specs.world_model.specs.PerLink.{Linkage, with_moved}
 use Rattle.turn_laws.proofs.Linkages.{said_by, order_by, answer_by}

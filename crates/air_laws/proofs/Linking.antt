@@ -11,10 +11,10 @@ use Rattle.turn_laws.specs.capture.specs.Entries.{Entry}
 use Rattle.turn_laws.specs.capture.specs.Links.{Link, linking}
 use Rattle.turn_laws.specs.capture.specs.Moves.{moves}
 use Rattle.turn_laws.specs.capture.specs.Pdus.{Pdu, pdus}
-use Rattle.turn_laws.specs.radio_air.specs.declared.fate.Fate.{Fate}
-use Rattle.turn_laws.specs.radio_air.specs.declared.deed.Deed.{Deed}
-use Rattle.turn_laws.specs.radio_air.specs.declared.deed.Deed.TheVariants.{Nothing, Meets, Fires, FiresBoth, Breaks, Cancels}
-use Rattle.turn_laws.specs.radio_air.specs.Fates.{comes_of}
+use Rattle.turn_laws.specs.radio_model.specs.declared.fate.Fate.{Fate}
+use Rattle.turn_laws.specs.radio_model.specs.declared.deed.Deed.{Deed}
+use Rattle.turn_laws.specs.radio_model.specs.declared.deed.Deed.TheVariants.{Nothing, Meets, Fires, FiresBoth, Breaks, Cancels}
+use Rattle.turn_laws.specs.radio_model.specs.Fates.{comes_of}
 use Rattle.turn_laws.specs.world_model.specs.Machines.{Up, Down, News, Linked, Failed, Heard, TimerFired, Cancelled, Opening, Upper, drain, all_said, Breath, Whole, Short, Reaction}
 use Rattle.turn_laws.specs.world_model.specs.Talks.{Talk, Told, Said, Unsent, Met, Done}
 use Rattle.turn_laws.specs.world_model.specs.Turns.{Party, Pair, speaks_on, hears, notes, receives, event_heard, with_talk, Step, Turn, Idle, Rise, Fall, Began, Ended, Hands, Acts, Moves, found, Passes, first_pair}

@@ -13,9 +13,9 @@ use Rattle.turn_laws.specs.capture.specs.Histories.{EachAfter, last_of}
 use Rattle.turn_laws.specs.capture.specs.Pushes.{under_way, NoLinkOutside, LinksWithin, NoLinkAtEnd}
 use Rattle.turn_laws.specs.capture.proofs.HistoryLaws.{each_after-more, last_of-append}
 use Rattle.turn_laws.specs.capture.proofs.FurtherLaws.{under_way-more}
-use Rattle.turn_laws.specs.radio_air.specs.Controllers.{Controller, answer_packet, piece_packet}
-use Rattle.turn_laws.specs.radio_air.specs.Radio.{is_together, found}
-use Rattle.turn_laws.specs.radio_air.specs.Course.{push_begun, pushes_begun, KeepsTurn, PushesInTurn}
+use Rattle.turn_laws.specs.radio_model.specs.Controllers.{Controller, answer_packet, piece_packet}
+use Rattle.turn_laws.specs.radio_model.specs.Radio.{is_together, found}
+use Rattle.turn_laws.specs.radio_model.specs.Course.{push_begun, pushes_begun, KeepsTurn, PushesInTurn}
 use Rattle.turn_laws.specs.world_model.specs.Machines.{Upper}
 use Rattle.turn_laws.specs.world_model.specs.Pushes.{Pushes, one_begun, one_ended}
 use Rattle.turn_laws.specs.world_model.specs.Stations.{order_packet}

@@ -13,12 +13,12 @@ use Rattle.turn_laws.specs.capture.specs.Links.{Link, link_up}
 use Rattle.turn_laws.specs.capture.specs.Air.{Air, no_air, after_out, after_event, without_first_due, ordinal_of, last_or, words_done, IsSettled}
 use Rattle.turn_laws.specs.capture.proofs.HistoryLaws.{led_by-append, each_after-more}
 use Rattle.turn_laws.specs.capture.proofs.FurtherLaws.{words-more}
-use Rattle.turn_laws.specs.radio_air.specs.declared.deed.Deed.{Deed}
-use Rattle.turn_laws.specs.radio_air.specs.declared.deed.Deed.TheVariants.{Cancels}
-use Rattle.turn_laws.specs.radio_air.specs.Air.{Hosts, after_entry, air_after, after_deed, acted, FindsNothing, KeepsTo}
-use Rattle.turn_laws.specs.radio_air.specs.Controllers.{Answer, Controller, answer_packet, piece_packet, after_telling}
-use Rattle.turn_laws.specs.radio_air.specs.Radio.{Radio, Phase, Apart, Paging, Requested, Together, is_together, is_requested, controller, with_controller}
-use Rattle.turn_laws.specs.radio_air.specs.Radio as radio_rules
+use Rattle.turn_laws.specs.radio_model.specs.declared.deed.Deed.{Deed}
+use Rattle.turn_laws.specs.radio_model.specs.declared.deed.Deed.TheVariants.{Cancels}
+use Rattle.turn_laws.specs.radio_model.specs.Air.{Hosts, after_entry, air_after, after_deed, acted, FindsNothing, KeepsTo}
+use Rattle.turn_laws.specs.radio_model.specs.Controllers.{Answer, Controller, answer_packet, piece_packet, after_telling}
+use Rattle.turn_laws.specs.radio_model.specs.Radio.{Radio, Phase, Apart, Paging, Requested, Together, is_together, is_requested, controller, with_controller}
+use Rattle.turn_laws.specs.radio_model.specs.Radio as radio_rules
 use Rattle.turn_laws.specs.world_model.specs.Machines.{Upper}
 use Rattle.turn_laws.specs.world_model.specs.Stations.{Order, order_packet}
 use Rattle.turn_laws.specs.world_model.specs.Worlds.{World, Happening, Tries, Departure, GivingBack, Piecemeal, Answering, Turns, Misses, Opens, Closes, IsAtRest, Does, Runs, first_world}

@@ -6,10 +6,10 @@ use Rattle.turn_laws.specs.bt_base.specs.Octets.{le16}
 use Rattle.byteorder.specs.Endian.{little_number}
 use Rattle.turn_laws.specs.push_terms.specs.declared.word.Side.{Side}
 use Rattle.turn_laws.specs.push_terms.specs.declared.word.Side.TheVariants.{A, B}
-use Rattle.turn_laws.specs.radio_air.specs.Controllers.{Answer, Returned, Stated, Called, LinkMade, LinkGone, GivenBack, Controller, owing, gives_back, after_giving_back}
-use Rattle.turn_laws.specs.radio_air.specs.Owed.{back_by, back}
-use Rattle.turn_laws.specs.radio_air.proofs.Outstanding.{back-append}
-use Rattle.turn_laws.specs.radio_air.specs.Radio.{Radio, Paging, Requested, controller, owes, scanning, is_reached, after_reaching, may_page, is_requested, joined, knows_link, parted, after_taking}
+use Rattle.turn_laws.specs.radio_model.specs.Controllers.{Answer, Returned, Stated, Called, LinkMade, LinkGone, GivenBack, Controller, owing, gives_back, after_giving_back}
+use Rattle.turn_laws.specs.radio_model.specs.Owed.{back_by, back}
+use Rattle.turn_laws.specs.radio_model.proofs.Outstanding.{back-append}
+use Rattle.turn_laws.specs.radio_model.specs.Radio.{Radio, Paging, Requested, controller, owes, scanning, is_reached, after_reaching, may_page, is_requested, joined, knows_link, parted, after_taking}
 use Rattle.turn_laws.specs.world_model.specs.Stations.{Order, Reset, ReadBuffers, ReadAddress, Scan, Page, Accept, End, Data}
 use Rattle.turn_laws.specs.world_model.specs.Worlds.{after_order}
 use Rattle.turn_laws.proofs.Recording.{NoData}

@@ -9,9 +9,9 @@ use Rattle.turn_laws.specs.push_terms.specs.declared.word.Side.{Side}
 use Rattle.turn_laws.specs.push_terms.specs.declared.word.Side.TheVariants.{A, B}
 use Rattle.turn_laws.specs.push_terms.specs.declared.word.Way.{Way}
 use Rattle.turn_laws.specs.push_terms.specs.declared.word.Way.TheVariants.{Ab, Ba}
-use Rattle.turn_laws.specs.radio_air.specs.declared.fate.Fate.{Fate}
-use Rattle.turn_laws.specs.radio_air.specs.Controllers.{Answer, Returned, Stated, Called, LinkMade, LinkGone, address, Controller}
-use Rattle.turn_laws.specs.radio_air.specs.Radio.{Radio, Phase, Apart, Paging, Requested, Together, is_paging, is_requested, owes, scanning, is_reached, after_reaching, may_page, joined, knows_link, parted, with_piece, after_taking, after_meeting}
+use Rattle.turn_laws.specs.radio_model.specs.declared.fate.Fate.{Fate}
+use Rattle.turn_laws.specs.radio_model.specs.Controllers.{Answer, Returned, Stated, Called, LinkMade, LinkGone, address, Controller}
+use Rattle.turn_laws.specs.radio_model.specs.Radio.{Radio, Phase, Apart, Paging, Requested, Together, is_paging, is_requested, owes, scanning, is_reached, after_reaching, may_page, joined, knows_link, parted, with_piece, after_taking, after_meeting}
 use Rattle.turn_laws.specs.world_model.specs.Stations.{Order, Reset, ReadBuffers, ReadAddress, Scan, Page, Accept, End, Data, asks}
 use Rattle.turn_laws.specs.world_model.specs.Worlds.{piece_on, after_order}
 use Rattle.turn_laws.proofs.Leading.{Tiding, Came, Went, tiding_in, tidings, made}

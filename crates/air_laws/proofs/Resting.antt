@@ -3,8 +3,8 @@ use Rattle.std.proofs.Common.{◌≡◌, ℕ, Bool, true, false, List, [], ◌++
 use Rattle.std.specs.Prelude.{slice_get}
 use Rattle.turn_laws.specs.push_terms.specs.declared.word.Side.{Side}
 use Rattle.turn_laws.specs.push_terms.specs.declared.word.Side.TheVariants.{A, B}
-use Rattle.turn_laws.specs.radio_air.specs.Controllers.{Answer, Controller, gives_back, after_giving_back}
-use Rattle.turn_laws.specs.radio_air.specs.Radio.{Phase, Apart, Paging, Requested, Together, is_apart, is_together}
+use Rattle.turn_laws.specs.radio_model.specs.Controllers.{Answer, Controller, gives_back, after_giving_back}
+use Rattle.turn_laws.specs.radio_model.specs.Radio.{Phase, Apart, Paging, Requested, Together, is_apart, is_together}
 use Rattle.turn_laws.specs.world_model.specs.Machines.{Upper}
 use Rattle.turn_laws.specs.world_model.specs.Stations.{Station, Effort, Taking, Putting, Asking, Leaving, Commanding, MakesEffort}
 use Rattle.turn_laws.specs.world_model.specs.Worlds.{World, Happening, Tries, Departure, GivingBack, Piecemeal, Answering, Turns, Misses, Opens, Closes, IsStill, IsAtRest, Does}

@@ -17,8 +17,8 @@ use Rattle.turn_laws.specs.capture.specs.Links.{Link, links, link_up}
 use Rattle.turn_laws.specs.capture.specs.Frames.{with_frames}
 use Rattle.turn_laws.specs.capture.specs.Pdus.{Pdu, piece_of, pieces, whole_of, completed_by}
 use Rattle.turn_laws.specs.capture.specs.Air.{Air, broken_off, frames_of, frames_put, put_from, is_disconnect, breaks_off, after_out}
-use Rattle.turn_laws.specs.radio_air.specs.Controllers.{Answer, Returned, Stated, Controller}
-use Rattle.turn_laws.specs.radio_air.specs.Radio.{Radio, Phase, Apart, Paging, Requested, Together, is_apart, is_paging, is_requested, is_together, controller, with_controller, owes, scanning, may_page, is_reached, after_reaching, joined, parted, frame_limit, frames_by, with_piece, after_taking, after_offer}
+use Rattle.turn_laws.specs.radio_model.specs.Controllers.{Answer, Returned, Stated, Controller}
+use Rattle.turn_laws.specs.radio_model.specs.Radio.{Radio, Phase, Apart, Paging, Requested, Together, is_apart, is_paging, is_requested, is_together, controller, with_controller, owes, scanning, may_page, is_reached, after_reaching, joined, parted, frame_limit, frames_by, with_piece, after_taking, after_offer}
 use Rattle.turn_laws.specs.world_model.specs.Stations.{Order, Reset, ReadBuffers, ReadAddress, Scan, Page, Accept, End, Data, order_packet}
 use Rattle.turn_laws.specs.world_model.specs.Worlds.{piece_on, after_order}
 use Rattle.turn_laws.specs.WorldLaws.{handle_of}

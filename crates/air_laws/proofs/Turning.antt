@@ -11,15 +11,15 @@ use Rattle.turn_laws.specs.push_terms.specs.declared.word.Word.TheVariants.{Pass
 use Rattle.turn_laws.specs.capture.specs.Entries.{Entry}
 use Rattle.turn_laws.specs.capture.specs.Frames.{waiting, way_served}
 use Rattle.turn_laws.specs.capture.specs.Air.{Air}
-use Rattle.turn_laws.specs.radio_air.specs.declared.fate.Fate.{Fate}
-use Rattle.turn_laws.specs.radio_air.specs.declared.fate.Fate.TheVariants.{Delivered, Lost, Repeated, CutOff, Changed}
-use Rattle.turn_laws.specs.radio_air.specs.declared.deed.Deed.{Deed}
-use Rattle.turn_laws.specs.radio_air.specs.declared.deed.Deed.TheVariants.{Nothing, Meets, Fires, FiresBoth, Breaks, Cancels}
-use Rattle.turn_laws.specs.radio_air.specs.Words.{deed_of, passing, meets_on}
-use Rattle.turn_laws.specs.radio_air.specs.Fates.{first_can_meet}
-use Rattle.turn_laws.specs.radio_air.specs.Air.{Hosts, checks_channel, is_checked, after_meeting, after_deed, acted, found, FindsNothing}
-use Rattle.turn_laws.specs.radio_air.specs.Radio.{Radio, is_together, controller, first_channel}
-use Rattle.turn_laws.specs.radio_air.specs.Radio as radio_rules
+use Rattle.turn_laws.specs.radio_model.specs.declared.fate.Fate.{Fate}
+use Rattle.turn_laws.specs.radio_model.specs.declared.fate.Fate.TheVariants.{Delivered, Lost, Repeated, CutOff, Changed}
+use Rattle.turn_laws.specs.radio_model.specs.declared.deed.Deed.{Deed}
+use Rattle.turn_laws.specs.radio_model.specs.declared.deed.Deed.TheVariants.{Nothing, Meets, Fires, FiresBoth, Breaks, Cancels}
+use Rattle.turn_laws.specs.radio_model.specs.Words.{deed_of, passing, meets_on}
+use Rattle.turn_laws.specs.radio_model.specs.Fates.{first_can_meet}
+use Rattle.turn_laws.specs.radio_model.specs.Air.{Hosts, checks_channel, is_checked, after_meeting, after_deed, acted, found, FindsNothing}
+use Rattle.turn_laws.specs.radio_model.specs.Radio.{Radio, is_together, controller, first_channel}
+use Rattle.turn_laws.specs.radio_model.specs.Radio as radio_rules
 use Rattle.turn_laws.specs.world_model.specs.Machines.{Upper}
 use Rattle.turn_laws.specs.world_model.specs.Turns as turns
 use Rattle.turn_laws.specs.world_model.specs.Stations.{Station}

@@ -8,12 +8,12 @@ use Rattle.turn_laws.specs.push_terms.specs.declared.word.Way.{Way}
 use Rattle.turn_laws.specs.push_terms.specs.declared.word.Way.TheVariants.{Ab, Ba}
 use Rattle.turn_laws.specs.capture.specs.Frames.{Direction, empty, waiting, with_frames, emptied}
 use Rattle.turn_laws.specs.capture.specs.Air.{Air, no_air, renewed, broken_off, due, put_from}
-use Rattle.turn_laws.specs.radio_air.specs.declared.fate.Fate.{Fate}
-use Rattle.turn_laws.specs.radio_air.specs.Fates.{meets}
-use Rattle.turn_laws.specs.radio_air.specs.Words.{served_by}
-use Rattle.turn_laws.specs.radio_air.specs.Air.{with_meeting}
-use Rattle.turn_laws.specs.radio_air.specs.Controllers.{Controller}
-use Rattle.turn_laws.specs.radio_air.specs.Radio.{Radio, new_radio, is_together, controller, with_controller, parted, hands, frames}
+use Rattle.turn_laws.specs.radio_model.specs.declared.fate.Fate.{Fate}
+use Rattle.turn_laws.specs.radio_model.specs.Fates.{meets}
+use Rattle.turn_laws.specs.radio_model.specs.Words.{served_by}
+use Rattle.turn_laws.specs.radio_model.specs.Air.{with_meeting}
+use Rattle.turn_laws.specs.radio_model.specs.Controllers.{Controller}
+use Rattle.turn_laws.specs.radio_model.specs.Radio.{Radio, new_radio, is_together, controller, with_controller, parted, hands, frames}
 use Rattle.air_laws.proofs.Waiting.{Waits, waits_as, waits_none, waits_more, waits_emptied, waits_met}
 
 -- one host, and the direction that it speaks in; `link` is the number of the link that the air carries

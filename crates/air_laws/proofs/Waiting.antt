@@ -2,10 +2,10 @@
 use Rattle.std.proofs.Common.{◌≡◌, ℕ, zero, suc, ◌+◌, ◌≤◌, Bool, true, false, List, [], ◌∷◌, ◌++◌, length, drop, refl, ap, ◌∙◌, arith, length-append}
 use Rattle.std.proofs.lemmas.List.{drop-append-le}
 use Rattle.turn_laws.specs.capture.specs.Frames.{Direction, empty, waiting, with_frames, left, emptied}
-use Rattle.turn_laws.specs.radio_air.specs.declared.fate.Fate.{Fate}
-use Rattle.turn_laws.specs.radio_air.specs.declared.fate.Fate.TheVariants.{Delivered, Lost, Repeated, CutOff, Changed}
-use Rattle.turn_laws.specs.radio_air.specs.Fates.{meets}
-use Rattle.turn_laws.specs.radio_air.specs.Air.{moved_on}
+use Rattle.turn_laws.specs.radio_model.specs.declared.fate.Fate.{Fate}
+use Rattle.turn_laws.specs.radio_model.specs.declared.fate.Fate.TheVariants.{Delivered, Lost, Repeated, CutOff, Changed}
+use Rattle.turn_laws.specs.radio_model.specs.Fates.{meets}
+use Rattle.turn_laws.specs.radio_model.specs.Air.{moved_on}
 
 pub record Waits (way : Direction) (queue : List (List ℕ)) : Type 0 where
   pub within : way.position ≤ length way.frames

@@ -2,7 +2,7 @@
 use Rattle.std.specs.Prelude.{ℕ, List}
 use Rattle.turn_laws.specs.push_terms.specs.declared.word.Side.TheVariants.{A, B}
 use Rattle.turn_laws.specs.capture.specs.Buffers.{KeepsWithin}
-use Rattle.turn_laws.specs.radio_air.specs.Honest.{AreHonest}
+use Rattle.turn_laws.specs.radio_model.specs.Honest.{AreHonest}
 use Rattle.turn_laws.specs.world_model.specs.Machines.{Upper}
 use Rattle.turn_laws.specs.world_model.specs.Worlds.{World, Happening, Runs, all_entries, first_world}
 use Rattle.turn_laws.specs.WorldLaws.{Fits}

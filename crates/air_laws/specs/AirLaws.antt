@@ -6,8 +6,8 @@ use Rattle.turn_laws.specs.push_terms.specs.declared.word.Word.{Word}
 use Rattle.turn_laws.specs.push_terms.specs.declared.outcome.Outcome.{Outcome}
 use Rattle.turn_laws.specs.capture.specs.Histories.{EachAfter}
 use Rattle.turn_laws.specs.capture.specs.Entries.{Entry, Ended}
-use Rattle.turn_laws.specs.radio_air.specs.Air.{Hosts, KeepsTo, Obeys}
-use Rattle.turn_laws.specs.radio_air.specs.Course.{PushesInTurn}
+use Rattle.turn_laws.specs.radio_model.specs.Air.{Hosts, KeepsTo, Obeys}
+use Rattle.turn_laws.specs.radio_model.specs.Course.{PushesInTurn}
 use Rattle.turn_laws.specs.world_model.specs.Machines.{Upper}
 use Rattle.turn_laws.specs.world_model.specs.Pushes.{Pushes}
 use Rattle.turn_laws.specs.world_model.specs.Worlds.{World, Happening, Runs, IsAtRest, all_entries, all_words, first_world}

@@ -4,9 +4,9 @@ use Rattle.turn_laws.specs.push_terms.specs.declared.word.Way.{Way}
 use Rattle.turn_laws.specs.capture.specs.Entries.{Entry}
 use Rattle.turn_laws.specs.capture.specs.Frames.{waiting}
 use Rattle.turn_laws.specs.capture.specs.Air.{direction}
-use Rattle.turn_laws.specs.radio_air.specs.Air.{Hosts, air_after}
-use Rattle.turn_laws.specs.radio_air.specs.Queues.{is_crowded}
-use Rattle.turn_laws.specs.radio_air.specs.Radio.{Radio, frames}
+use Rattle.turn_laws.specs.radio_model.specs.Air.{Hosts, air_after}
+use Rattle.turn_laws.specs.radio_model.specs.Queues.{is_crowded}
+use Rattle.turn_laws.specs.radio_model.specs.Radio.{Radio, frames}
 use Rattle.turn_laws.specs.world_model.specs.Machines.{Upper}
 use Rattle.turn_laws.specs.world_model.specs.Worlds.{World, Happening, Runs, all_entries, first_world}
 use Rattle.turn_laws.specs.Laws.{IsFront}

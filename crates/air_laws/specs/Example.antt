@@ -9,8 +9,8 @@ use Rattle.turn_laws.specs.push_terms.specs.declared.word.Side.TheVariants.{A, B
 use Rattle.turn_laws.specs.push_terms.specs.declared.word.Word.TheVariants.{Pass, Drop}
 use Rattle.turn_laws.specs.push_terms.specs.declared.outcome.Outcome.{Outcome}
 use Rattle.turn_laws.specs.push_terms.specs.declared.outcome.Outcome.TheVariants.{Done}
-use Rattle.turn_laws.specs.radio_air.specs.Controllers.{Returned, Stated, Called, LinkMade, LinkGone, GivenBack, address}
-use Rattle.turn_laws.specs.radio_air.specs.Air.{Hosts}
+use Rattle.turn_laws.specs.radio_model.specs.Controllers.{Returned, Stated, Called, LinkMade, LinkGone, GivenBack, address}
+use Rattle.turn_laws.specs.radio_model.specs.Air.{Hosts}
 use Rattle.turn_laws.specs.world_model.specs.Machines.{Up, Down, News, Linked, Heard, Opening, Upper}
 use Rattle.turn_laws.specs.world_model.specs.Stations.{Reset, ReadBuffers, ReadAddress, Scan, Page, Accept, End, Data, Taking, Putting, Asking, Leaving, Commanding}
 use Rattle.turn_laws.specs.world_model.specs.Worlds.{World, Happening, Tries, Departure, GivingBack, Piecemeal, Answering, Turns, Misses, Opens, Closes, Runs, IsAtRest, first_world}

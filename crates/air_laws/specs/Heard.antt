@@ -8,7 +8,7 @@ use Rattle.turn_laws.specs.capture.specs.declared.flow.Flow.TheVariants.{Out, In
 use Rattle.turn_laws.specs.capture.specs.Entries.{Entry}
 use Rattle.turn_laws.specs.capture.specs.Links.{links}
 use Rattle.turn_laws.specs.capture.specs.Pdus.{Pdu, pdus, same_flow}
-use Rattle.turn_laws.specs.radio_air.specs.Flights.{Met, heard, FindsFrames}
+use Rattle.turn_laws.specs.radio_model.specs.Flights.{Met, heard, FindsFrames}
 use Rattle.turn_laws.specs.world_model.specs.Machines.{Upper}
 use Rattle.turn_laws.specs.world_model.specs.Worlds.{World, Happening, Runs, IsAtRest, all_entries, first_world}
 use Rattle.turn_laws.specs.WorldLaws.{Fits}

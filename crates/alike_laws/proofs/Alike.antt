@@ -6,10 +6,10 @@ use Rattle.run_laws.specs.push_terms.specs.declared.word.Way.TheVariants.{Ab, Ba
 use Rattle.run_laws.specs.acl_fragments.specs.Answers.{Answer as Joined, Pdu, answer as joined_by}
 use Rattle.run_laws.specs.acl_fragments.specs.Pieces.{Piece, starts, channel_of}
 use Rattle.byteorder.specs.Endian.{little_number}
-use Rattle.run_laws.specs.radio_air.specs.declared.deed.Deed.{Deed}
-use Rattle.run_laws.specs.radio_air.specs.declared.deed.Deed.TheVariants.{Nothing, Meets, Fires, FiresBoth, Breaks, Cancels}
-use Rattle.run_laws.specs.radio_air.specs.Controllers.{Controller, Answer, Returned, Stated, Called, LinkMade, LinkGone, GivenBack, after_handing}
-use Rattle.run_laws.specs.radio_air.specs.Radio.{with_controller, after_meeting, found, is_together}
+use Rattle.run_laws.specs.radio_model.specs.declared.deed.Deed.{Deed}
+use Rattle.run_laws.specs.radio_model.specs.declared.deed.Deed.TheVariants.{Nothing, Meets, Fires, FiresBoth, Breaks, Cancels}
+use Rattle.run_laws.specs.radio_model.specs.Controllers.{Controller, Answer, Returned, Stated, Called, LinkMade, LinkGone, GivenBack, after_handing}
+use Rattle.run_laws.specs.radio_model.specs.Radio.{with_controller, after_meeting, found, is_together}
 use Rattle.run_laws.specs.world_model.specs.Machines.{LinkEvent, News, Linked, Heard, TimerFired, Cancelled, Opening, Upper}
 use Rattle.run_laws.specs.world_model.specs.Pushes.{Pushes}
 use Rattle.run_laws.specs.world_model.specs.Turns.{IsCalm, FindsNothing}

@@ -1,3 +1,2 @@
 pub mod OctetLemmas
-pub mod Causes
 pub mod PortLaws

@@ -1,6 +1,5 @@
 pub mod Counts
 pub mod Objects
-pub mod Memory
 pub mod Octets
 pub mod PlainSettings
 pub mod Streams

@@ -1,5 +1,5 @@
 -- Objects, and what the calls of a shelf and of an inbox do, where their contents are told (this project's own).
-use Rattle.std.specs.Prelude.{ℕ, ◌≡◌, ◌<◌, ◌≤◌, ◌+◌, ◌++◌, ⊤, List, [], length, take, drop, find, Option, Some, None, Result, Ok, Err, IfSome, IsErrOf, option_to_list}
+use Rattle.std.specs.Prelude.{ℕ, Bool, false, nat_le, ◌≡◌, ◌<◌, ◌≤◌, ◌+◌, ◌++◌, ⊤, List, [], length, take, drop, find, Option, Some, None, Result, Ok, Err, IfSome, IsErrOf, option_to_list}
 use Rattle.std.specs.Option.{option_map}
 use Rattle.std.specs.Str.{bytes_eq}
 use Rattle.bt_base.specs.Counts.{HasRisen}
@@ -14,6 +14,11 @@ pub record Object : Type 0 where
 -- the octets of the object of that name on a shelf
 abbrev pub octets_of : List ℕ → List Object → Option (List ℕ)
 octets_of name objects = option_map (λ object. object.octets) (find (λ object. bytes_eq object.name name) objects)
+
+-- there is an object, and it does not end before that place
+abbrev pub reaches : ℕ → Option (List ℕ) → Bool
+reaches end None = false
+reaches end (Some octets) = nat_le end (length octets)
 
 -- there is no object, or it ends before that place
 abbrev pub EndsBefore : ℕ → Option (List ℕ) → Type 0

@@ -13,7 +13,7 @@ use Rattle.shelf_model.specs.acl_fragments.specs.Pieces.{Piece, starts}
 use Rattle.shelf_model.specs.acl_fragments.specs.Answers as joined
 use Rattle.bt_base.specs.declared.settings.Settings.{Settings}
 use Rattle.push_terms.specs.declared.word.Side.{Side}
-use Rattle.radio_world.specs.radio_air.specs.Controllers.{answer_packet, piece_packet}
+use Rattle.radio_world.specs.radio_model.specs.Controllers.{answer_packet, piece_packet}
 use Rattle.host_link.specs.Lines.{Line}
 use Rattle.host_link.specs.Hearing.{PlainNews, fault_of, news_of, heard}
 use Rattle.shelf_model.specs.world_model.specs.Machines.{LinkEvent, Up, Down, News, Linked, Heard, Upper}

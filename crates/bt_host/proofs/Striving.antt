@@ -6,7 +6,7 @@ use Rattle.shelf_model.specs.hci_packets.specs.declared.acl.Boundary.TheVariants
 use Rattle.bt_base.specs.declared.settings.Settings.{Settings}
 use Rattle.push_terms.specs.declared.word.Side.{Side}
 use Rattle.push_terms.specs.declared.word.Side.TheVariants.{A, B}
-use Rattle.radio_world.specs.radio_air.specs.Controllers.{address}
+use Rattle.radio_world.specs.radio_model.specs.Controllers.{address}
 use Rattle.host_link.specs.Lines.{Line}
 use Rattle.host_link.specs.PuttingOut.{put_pieces, put_command, take_pdu, connecting, leaving}
 use Rattle.shelf_model.specs.world_model.specs.Machines.{Upper}

@@ -3,7 +3,7 @@ use Rattle.std.specs.Prelude.{◌≡◌, Bool, List, Option, None}
 use Rattle.bt_base.specs.Objects.{Object, Contents}
 use Rattle.push_terms.specs.declared.word.Side.{Side}
 use Rattle.push_terms.specs.declared.word.Side.TheVariants.{A, B}
-use Rattle.radio_world.specs.radio_air.specs.Controllers.{address}
+use Rattle.radio_world.specs.radio_model.specs.Controllers.{address}
 use Rattle.bt_base.specs.declared.settings.Settings.{Settings}
 use Rattle.shelf_model.specs.host_model.specs.Circumstances.{Circumstance}
 use Rattle.shelf_model.specs.host_model.specs.Profiles.{Profile}

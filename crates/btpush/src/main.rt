@@ -16,8 +16,8 @@ mod run;
 #[cfg(test)]
 mod tests;
 
-use bt_base::{FileInbox, FileShelf, StdSink, StdSource};
 use btpush_forms::Status;
+use ready_ports::{FileInbox, FileShelf, StdSink, StdSource};
 use run::run;
 use std::env;
 use std::process::ExitCode;

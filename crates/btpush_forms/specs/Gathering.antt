@@ -2,7 +2,7 @@
 use Rattle.std.specs.Prelude.{ℕ, ◌≡◌, ◌+◌, ◌-◌, ◌^◌, ◌<◌, ◌≤◌, List, [], take, drop, Option, Some, Result, Ok, Err, IsErrOf}
 use Rattle.std.specs.Global.{Vec}
 use Rattle.bt_base.specs.Counts.{HasRisen}
-use Rattle.object_lines.specs.push_script.specs.Reading.{text_limit}
+use Rattle.push_script.specs.Reading.{text_limit}
 use Rattle.btpush_forms.specs.declared.gathering.GatherFault.{GatherFault}
 use Rattle.btpush_forms.specs.declared.gathering.GatherFault.TheVariants.{ReadFault}
 

@@ -15,9 +15,9 @@ use Rattle.push_terms.specs.declared.word.Word.{Word}
 use Rattle.push_terms.specs.declared.outcome.Outcome.{Outcome}
 use Rattle.push_terms.specs.Words.{word_text}
 use Rattle.push_terms.specs.Outcomes.{outcome_text}
-use Rattle.push_script.proofs.Lengths.{word_short, outcome_short}
-use Rattle.push_script.proofs.WordsWritten.{one_word}
-use Rattle.push_script.proofs.OutcomesWritten.{one_outcome}
+use Rattle.script_words.proofs.Lengths.{word_short, outcome_short}
+use Rattle.script_words.proofs.WordsWritten.{one_word}
+use Rattle.script_words.proofs.OutcomesWritten.{one_outcome}
 use Rattle.capture.specs.declared.flow.Flow.{Flow}
 use Rattle.capture.specs.declared.flow.Flow.TheVariants.{Out, Into}
 use Rattle.capture.specs.Entries.{Entry, Moved, Acted, Begun, Ended, IsEntry, moved_tag, tag_of, payload_of, entry_octets, capture_octets}

@@ -11,7 +11,7 @@ use Rattle.push_terms.specs.declared.word.Word.{Word}
 use Rattle.push_terms.specs.declared.outcome.Outcome.{Outcome}
 use Rattle.push_terms.specs.Words.{word_text}
 use Rattle.push_terms.specs.Outcomes.{outcome_text, IsOutcome}
-use Rattle.push_script.specs.Runs.{IsWord}
+use Rattle.push_terms.specs.Words.{IsWord}
 use Rattle.capture.specs.declared.flow.Flow.{Flow}
 use Rattle.capture.specs.declared.flow.Flow.TheVariants.{Out, Into}
 

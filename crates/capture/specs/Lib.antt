@@ -1,5 +1,4 @@
 pub use Rattle.h4_framing
-pub use Rattle.push_script
 pub mod Histories
 pub mod Entries
 pub mod EntryLaws

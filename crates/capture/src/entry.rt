@@ -1,6 +1,6 @@
 use crate::flow::Flow;
 use h4_framing::Unit;
-use push_script::{Outcome, Side, Word};
+use push_terms::{Outcome, Side, Word};
 
 /// What happened: an entry of a capture, whose packet is lent.
 #[derive(Clone, Copy, Debug)]

@@ -12,7 +12,8 @@ use crate::flow::Flow;
 use bt_base::{Cursor, read_be16};
 use byteorder::{BigEndian, ByteOrder};
 use h4_framing::{Leading, Unit, first};
-use push_script::{Side, outcome_of, word_of};
+use push_terms::Side;
+use script_words::{outcome_of, word_of};
 
 /// The packet that is the whole payload.
 fn unit_in(payload: &[u8]) -> Option<Unit<'_>>

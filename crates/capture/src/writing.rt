@@ -11,7 +11,7 @@ ghost use Rattle.capture.specs.Lent.{plain_entry};
 use crate::entry::Entry;
 use crate::flow::Flow;
 use h4_framing::write_unit;
-use push_script::{Outcome, Side, Word, put_outcome, put_word};
+use push_terms::{Outcome, Side, Word, put_outcome, put_word};
 
 /// How many octets the text of a word or of an outcome has at most.
 const LONGEST_TEXT: usize = 24;

@@ -21,10 +21,10 @@ use Rattle.scenario_laws.specs.capture.specs.Entries.{Entry, Moved, Acted, Begun
 use Rattle.scenario_laws.specs.capture.specs.Histories.{EachAfter}
 use Rattle.scenario_laws.specs.capture.specs.Links.{Link, link_up}
 use Rattle.scenario_laws.specs.capture.proofs.HistoryLaws.{each_after-more}
-use Rattle.scenario_laws.specs.radio_air.specs.declared.deed.Deed.{Deed}
-use Rattle.scenario_laws.specs.radio_air.specs.declared.deed.Deed.TheVariants.{Nothing, Meets, Fires, FiresBoth, Breaks, Cancels}
-use Rattle.scenario_laws.specs.radio_air.specs.Controllers.{Answer, LinkMade, LinkGone, answer_packet, piece_packet}
-use Rattle.scenario_laws.specs.radio_air.specs.Radio.{found, is_together}
+use Rattle.scenario_laws.specs.radio_model.specs.declared.deed.Deed.{Deed}
+use Rattle.scenario_laws.specs.radio_model.specs.declared.deed.Deed.TheVariants.{Nothing, Meets, Fires, FiresBoth, Breaks, Cancels}
+use Rattle.scenario_laws.specs.radio_model.specs.Controllers.{Answer, LinkMade, LinkGone, answer_packet, piece_packet}
+use Rattle.scenario_laws.specs.radio_model.specs.Radio.{found, is_together}
 use Rattle.scenario_laws.specs.push_model.specs.Client.{Client, may_cancel}
 use Rattle.scenario_laws.specs.world_model.specs.Carriages.{Carriage, Doing, Carries, first_carriage}
 use Rattle.scenario_laws.specs.world_model.specs.Machines.{LinkEvent, Up, Down, Linked, Heard, TimerFired, Cancelled, Opening, Upper}

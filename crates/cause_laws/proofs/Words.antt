@@ -6,12 +6,12 @@ use Rattle.scenario_laws.specs.push_terms.specs.declared.word.Way.TheVariants.{A
 use Rattle.scenario_laws.specs.push_terms.specs.declared.word.Word.{Word}
 use Rattle.scenario_laws.specs.push_terms.specs.declared.word.Word.TheVariants.{Pass, Lose, Repeat, Damage, Cut, Timer, Drop, Cancel}
 use Rattle.scenario_laws.specs.capture.specs.Frames.{way_served}
-use Rattle.scenario_laws.specs.radio_air.specs.declared.deed.Deed.{Deed}
-use Rattle.scenario_laws.specs.radio_air.specs.declared.deed.Deed.TheVariants.{Nothing, Meets, Fires, FiresBoth, Breaks, Cancels}
-use Rattle.scenario_laws.specs.radio_air.specs.declared.fate.Fate.{Fate}
-use Rattle.scenario_laws.specs.radio_air.specs.declared.fate.Fate.TheVariants.{Delivered, Lost, Repeated, CutOff, Changed}
-use Rattle.scenario_laws.specs.radio_air.specs.Words.{meets_on, passing, deed_of}
-use Rattle.scenario_laws.specs.radio_air.specs.Fates.{first_can_meet}
+use Rattle.scenario_laws.specs.radio_model.specs.declared.deed.Deed.{Deed}
+use Rattle.scenario_laws.specs.radio_model.specs.declared.deed.Deed.TheVariants.{Nothing, Meets, Fires, FiresBoth, Breaks, Cancels}
+use Rattle.scenario_laws.specs.radio_model.specs.declared.fate.Fate.{Fate}
+use Rattle.scenario_laws.specs.radio_model.specs.declared.fate.Fate.TheVariants.{Delivered, Lost, Repeated, CutOff, Changed}
+use Rattle.scenario_laws.specs.radio_model.specs.Words.{meets_on, passing, deed_of}
+use Rattle.scenario_laws.specs.radio_model.specs.Fates.{first_can_meet}
 use Rattle.cause_laws.specs.FirstCauses.{is_cancel_word, is_firing_word}
 
 -- it cancels no push

@@ -9,7 +9,7 @@ pub use Rattle.scenario_laws.specs.obex_session
 pub use Rattle.scenario_laws.specs.push_model
 pub use Rattle.scenario_laws.specs.push_script
 pub use Rattle.scenario_laws.specs.push_terms
-pub use Rattle.scenario_laws.specs.radio_air
+pub use Rattle.scenario_laws.specs.radio_model
 pub use Rattle.scenario_laws.specs.radio_world
 pub use Rattle.scenario_laws.specs.rfcomm_frames
 pub use Rattle.scenario_laws.specs.rfcomm_model

@@ -1,5 +1,6 @@
 use crate::tables::rows;
 use bt_base::*;
+use ready_ports::*;
 use std::alloc::Global;
 use std::test::Fail;
 

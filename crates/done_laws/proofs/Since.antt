@@ -13,8 +13,8 @@ use Rattle.tape_laws.specs.capture.specs.declared.flow.Flow.TheVariants.{Out, In
 use Rattle.tape_laws.specs.capture.specs.Entries.{Entry, Moved, Acted, Begun, Ended}
 use Rattle.tape_laws.specs.capture.specs.Links.{link_up}
 use Rattle.tape_laws.specs.capture.proofs.HistoryLaws.{led_by-append, at_each-whole}
-use Rattle.tape_laws.specs.world_model.specs.radio_air.specs.Controllers.{Answer, LinkMade, Controller, answer_packet, piece_packet}
-use Rattle.tape_laws.specs.world_model.specs.radio_air.specs.Radio.{is_together}
+use Rattle.tape_laws.specs.world_model.specs.radio_model.specs.Controllers.{Answer, LinkMade, Controller, answer_packet, piece_packet}
+use Rattle.tape_laws.specs.world_model.specs.radio_model.specs.Radio.{is_together}
 use Rattle.tape_laws.specs.world_model.specs.Machines.{Upper}
 use Rattle.tape_laws.specs.world_model.specs.Stations.{order_packet}
 use Rattle.tape_laws.specs.world_model.specs.Worlds.{World, Happening, Tries, Departure, GivingBack, Piecemeal, Answering, Turns, Misses, Opens, Closes, all_entries, first_world}

@@ -8,8 +8,8 @@ use Rattle.cause_laws.specs.push_terms.specs.declared.word.Side.{Side}
 use Rattle.cause_laws.specs.push_terms.specs.declared.word.Side.TheVariants.{A, B}
 use Rattle.cause_laws.specs.acl_fragments.specs.Pieces.{Piece}
 use Rattle.cause_laws.specs.capture.specs.Entries.{Entry}
-use Rattle.cause_laws.specs.radio_air.specs.Controllers.{Answer, Returned, Stated, Called, LinkMade, LinkGone, GivenBack, Controller, after_telling}
-use Rattle.cause_laws.specs.radio_air.specs.Radio.{Radio, Paging, Requested, is_reached, after_reaching, may_page, is_requested, joined, parted_by, knows_link, owes, scanning, with_piece, after_taking}
+use Rattle.cause_laws.specs.radio_model.specs.Controllers.{Answer, Returned, Stated, Called, LinkMade, LinkGone, GivenBack, Controller, after_telling}
+use Rattle.cause_laws.specs.radio_model.specs.Radio.{Radio, Paging, Requested, is_reached, after_reaching, may_page, is_requested, joined, parted_by, knows_link, owes, scanning, with_piece, after_taking}
 use Rattle.cause_laws.specs.world_model.specs.Stations.{Order, Reset, ReadBuffers, ReadAddress, Scan, Page, Accept, End, Data}
 use Rattle.cause_laws.specs.world_model.specs.Worlds.{piece_on, after_order}
 use Rattle.cause_laws.specs.turn_laws.proofs.Departing.{Taken, takes_packet}

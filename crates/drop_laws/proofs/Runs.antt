@@ -21,14 +21,14 @@ use Rattle.cause_laws.specs.capture.specs.Entries.{Entry, Moved, Acted, Begun, E
 use Rattle.cause_laws.specs.capture.specs.Frames.{way_served}
 use Rattle.cause_laws.specs.capture.specs.Histories.{EachAfter}
 use Rattle.cause_laws.specs.capture.proofs.HistoryLaws.{each_after-more}
-use Rattle.cause_laws.specs.radio_air.specs.declared.deed.Deed.{Deed}
-use Rattle.cause_laws.specs.radio_air.specs.declared.deed.Deed.TheVariants.{Nothing, Meets, Fires, FiresBoth, Breaks, Cancels}
-use Rattle.cause_laws.specs.radio_air.specs.declared.fate.Fate.{Fate}
-use Rattle.cause_laws.specs.radio_air.specs.declared.fate.Fate.TheVariants.{Delivered, Lost, Repeated, CutOff, Changed}
-use Rattle.cause_laws.specs.radio_air.specs.Controllers.{Answer, LinkMade, LinkGone, Controller, answer_packet, piece_packet, after_handing, after_giving_back, after_telling}
-use Rattle.cause_laws.specs.radio_air.specs.Fates.{first_can_meet}
-use Rattle.cause_laws.specs.radio_air.specs.Radio.{Radio, knows_link, is_together, after_offer, after_meeting}
-use Rattle.cause_laws.specs.radio_air.specs.Words.{meets_on, passing, deed_of}
+use Rattle.cause_laws.specs.radio_model.specs.declared.deed.Deed.{Deed}
+use Rattle.cause_laws.specs.radio_model.specs.declared.deed.Deed.TheVariants.{Nothing, Meets, Fires, FiresBoth, Breaks, Cancels}
+use Rattle.cause_laws.specs.radio_model.specs.declared.fate.Fate.{Fate}
+use Rattle.cause_laws.specs.radio_model.specs.declared.fate.Fate.TheVariants.{Delivered, Lost, Repeated, CutOff, Changed}
+use Rattle.cause_laws.specs.radio_model.specs.Controllers.{Answer, LinkMade, LinkGone, Controller, answer_packet, piece_packet, after_handing, after_giving_back, after_telling}
+use Rattle.cause_laws.specs.radio_model.specs.Fates.{first_can_meet}
+use Rattle.cause_laws.specs.radio_model.specs.Radio.{Radio, knows_link, is_together, after_offer, after_meeting}
+use Rattle.cause_laws.specs.radio_model.specs.Words.{meets_on, passing, deed_of}
 use Rattle.cause_laws.specs.push_model.specs.Client.{may_cancel}
 use Rattle.cause_laws.specs.world_model.specs.Machines.{Up, Down, Linked, Heard, TimerFired, Cancelled, Opening, Upper}
 use Rattle.cause_laws.specs.world_model.specs.Pushes.{Pushes, one_begun, one_ended}

@@ -4,7 +4,7 @@
 
 mod receiver;
 
-use bt_base::{MemInbox, MemSink, StdSource};
+use ready_ports::{MemInbox, MemSink, StdSource};
 use receiver::{Halt, receive};
 use std::process::ExitCode;
 

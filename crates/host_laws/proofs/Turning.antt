@@ -6,10 +6,10 @@ use Rattle.std.proofs.lemmas.List.{map-append}
 use Rattle.std.proofs.lemmas.List.Sums.{fold-append}
 use Rattle.shelf_model.specs.push_terms.specs.declared.word.Side.TheVariants.{A, B}
 use Rattle.shelf_model.specs.push_terms.specs.declared.word.Way.TheVariants.{Ab, Ba}
-use Rattle.shelf_model.specs.radio_air.specs.declared.deed.Deed as air
-use Rattle.shelf_model.specs.radio_air.specs.declared.deed.Deed.TheVariants.{Nothing, Meets, Fires, FiresBoth, Breaks, Cancels}
-use Rattle.shelf_model.specs.radio_air.specs.declared.fate.Fate.{Fate}
-use Rattle.shelf_model.specs.radio_air.specs.Fates.{meets, comes_of}
+use Rattle.shelf_model.specs.radio_model.specs.declared.deed.Deed as air
+use Rattle.shelf_model.specs.radio_model.specs.declared.deed.Deed.TheVariants.{Nothing, Meets, Fires, FiresBoth, Breaks, Cancels}
+use Rattle.shelf_model.specs.radio_model.specs.declared.fate.Fate.{Fate}
+use Rattle.shelf_model.specs.radio_model.specs.Fates.{meets, comes_of}
 use Rattle.shelf_model.specs.world_model.specs.Machines.{Up, Down, News, Linked, Failed, Heard, TimerFired, Cancelled, Opening, Upper, said_next, drain, all_said, Breath, Whole, Short, Reaction}
 use Rattle.shelf_model.specs.world_model.specs.Talks.{Talk, Told, Said, Unsent, Met, Done}
 use Rattle.shelf_model.specs.world_model.specs.Turns.{Party, Pair, speaks_on, notes, hears, receives, event_heard, with_queue, with_talk, first_party, Step, Turn, Idle, Rise, Fall, Began, Ended, Hands, Acts, found, Moves, Passes, first_pair}

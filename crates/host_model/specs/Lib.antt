@@ -15,7 +15,7 @@ pub use Rattle.push_model.specs.obex_headers
 pub use Rattle.push_model.specs.obex_session
 pub use Rattle.push_model
 pub use Rattle.rest_laws.specs.push_terms
-pub use Rattle.rest_laws.specs.radio_air
+pub use Rattle.rest_laws.specs.radio_model
 pub use Rattle.rest_laws
 pub use Rattle.push_model.specs.rfcomm_credits
 pub use Rattle.push_model.specs.rfcomm_frames

@@ -1,9 +1,10 @@
 ghost use Rattle.std.specs.Prelude.{◌≡◌, None, IsTrue, is_some};
 ghost use Rattle.bt_host.specs.Serving.{Works};
 
-use bt_base::{MemInbox, Settings};
+use bt_base::Settings;
 use bt_host::{FeedRefusal, ServerHost};
 use h4_framing::H4Refusal;
+use ready_ports::MemInbox;
 use std::alloc::Global;
 
 /// What a controller says to a server, and what the server puts out then.

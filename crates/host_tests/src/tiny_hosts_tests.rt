@@ -1,9 +1,10 @@
-use bt_base::{MemSink, NoMemory};
+use bt_base::NoMemory;
 use capture::{Entry, Flow, entries_of};
 use h4_framing::Unit;
 use push_script::{Scenario, scenario_of};
 use push_terms::{Outcome, Side, Way};
 use radio_world::World;
+use ready_ports::MemSink;
 use std::alloc::Global;
 use tiny_hosts::{Counter, Echo, TinyHost, play};
 

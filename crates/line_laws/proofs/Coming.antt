@@ -1,6 +1,6 @@
 -- What comes to a host in code, and what its controller took.
 use Rattle.std.proofs.Common.{refl}
-use Rattle.radio_world.specs.radio_air.specs.Controllers.{answer_packet, piece_packet}
+use Rattle.radio_world.specs.radio_model.specs.Controllers.{answer_packet, piece_packet}
 use Rattle.radio_world.specs.host_link.specs.Hearing.{heard}
 use Rattle.radio_world.specs.world_model.specs.Machines.{Upper}
 use Rattle.radio_world.specs.world_model.specs.Stations.{hears_answer, hears_piece}

@@ -15,7 +15,7 @@ use Rattle.radio_world.specs.acl_fragments.specs.Pieces.{Piece}
 use Rattle.radio_world.specs.acl_fragments.specs.Cuts.{first_pieces}
 use Rattle.radio_world.specs.push_terms.specs.declared.word.Side.{Side}
 use Rattle.radio_world.specs.push_terms.specs.declared.word.Side.TheVariants.{A, B}
-use Rattle.radio_world.specs.radio_air.specs.Controllers.{Answer, Returned, Stated, Called, LinkMade, LinkGone, GivenBack}
+use Rattle.radio_world.specs.radio_model.specs.Controllers.{Answer, Returned, Stated, Called, LinkMade, LinkGone, GivenBack}
 use Rattle.radio_world.specs.world_model.specs.Machines.{Upper}
 use Rattle.radio_world.specs.world_model.specs.Stations.{Order, ReadBuffers, ReadAddress, Scan, Page, Accept, End, Data, Station, Effort, Taking, Putting, Asking, Leaving, Commanding, MakesEffort, command_of, first_station, learns, may_accept, is_handle, hears_answer, hears_piece}
 use Rattle.radio_world.specs.world_model.specs.Stations as orders

@@ -4,7 +4,7 @@ use Rattle.radio_world.specs.bt_base.specs.Numbers.{IsHandle}
 use Rattle.radio_world.specs.acl_fragments.specs.Pieces.{Piece}
 use Rattle.radio_world.specs.push_terms.specs.declared.word.Side.{Side}
 use Rattle.radio_world.specs.push_terms.specs.declared.word.Side.TheVariants.{A, B}
-use Rattle.radio_world.specs.radio_air.specs.Controllers.{Answer, answer_packet, piece_packet, address}
+use Rattle.radio_world.specs.radio_model.specs.Controllers.{Answer, answer_packet, piece_packet, address}
 use Rattle.radio_world.specs.host_link.specs.Lines.{Line}
 use Rattle.radio_world.specs.host_link.specs.Calling.{may_end}
 use Rattle.radio_world.specs.host_link.specs.PuttingOut.{connecting, leaving, started}

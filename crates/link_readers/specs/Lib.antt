@@ -1,5 +1,4 @@
 pub use Rattle.l2cap_config
-pub use Rattle.talk_laws.specs.push_script
 pub use Rattle.talk_laws
 pub mod Lent
 pub mod Spans

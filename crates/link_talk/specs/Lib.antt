@@ -6,7 +6,6 @@ pub use Rattle.capture.specs.h4_framing
 pub use Rattle.l2cap_config
 pub use Rattle.l2cap_signal
 pub use Rattle.obex_headers
-pub use Rattle.capture.specs.push_script
 pub use Rattle.push_terms
 pub use Rattle.rfcomm_frames
 pub use Rattle.sdp_client

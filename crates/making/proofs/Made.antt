@@ -3,7 +3,7 @@ use Rattle.std.proofs.Common.{◌≡◌, ℕ, ◌-◌, ◌≤◌, ◌⊎◌, Lis
 use Rattle.std.proofs.lemmas.List.{length-append, length-replicate}
 use Rattle.std.specs.Prelude.{replicate}
 use Rattle.bt_base.specs.Counts.{HasRisen}
-use Rattle.bt_base.specs.Memory.{MemoryShelved, MemoryStored, no_calls}
+use Rattle.ready_ports.specs.Memory.{MemoryShelved, MemoryStored, no_calls}
 use Rattle.bt_base.specs.Objects.{Object, Contents}
 use Rattle.bt_base.specs.Streams.{gained}
 use Rattle.object_push.specs.capture.specs.Entries.{Entry}

@@ -1,6 +1,6 @@
 -- The ports over which the scenario of a number is run (this project's own).
 use Rattle.std.specs.Prelude.{ℕ, ◌≡◌, [], None, Ok}
-use Rattle.bt_base.specs.Memory.{no_calls}
+use Rattle.ready_ports.specs.Memory.{no_calls}
 use Rattle.push_script.specs.Made.{made_script, made_objects, put_first}
 use Rattle.push_script.specs.Reading.{reading}
 use Rattle.making.specs.declared.memory_ports.MemoryPorts.{MemoryPorts}

@@ -4,7 +4,7 @@ ghost use Rattle.std.specs.Prelude.{◌≡◌, ◌==◌, slice_get};
 ghost use Rattle.std.specs.List.{position, before_first, after_first};
 ghost use Rattle.making.specs.Counting.{tells_done, done_lines, length_of, octets_counted};
 
-use bt_base::MemInbox;
+use ready_ports::MemInbox;
 
 /// The place of the first such octet of a text.
 fn place_of(text: &[u8], mark: u8) -> Option<usize>

@@ -5,8 +5,9 @@ ghost use Rattle.making.specs.MadePorts.{AreMade};
 
 use crate::report::Report;
 use crate::text_source::TextSource;
-use bt_base::{MemInbox, MemShelf, NoMemory};
+use bt_base::NoMemory;
 use push_script::{make_scenario, put_scenario};
+use ready_ports::{MemInbox, MemShelf};
 use std::alloc::Global;
 
 /// The ports in memory over which a scenario is run, but its trace.

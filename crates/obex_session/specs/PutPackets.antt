@@ -5,7 +5,7 @@ use Rattle.std.specs.List.{flat_map, AllByRecursion}
 use Rattle.std.specs.Char.Escape.{encode_utf16}
 use Rattle.std.specs.Str.{chars}
 use Rattle.bt_base.specs.Objects.{Object, octets_of, HasAt}
-use Rattle.bt_base.specs.Memory.{reaches}
+use Rattle.bt_base.specs.Objects.{reaches}
 use Rattle.obex_headers.specs.declared.packet.Phase.TheVariants.{Request}
 use Rattle.obex_headers.specs.Packets.{Text, Octets, Four, PlainHeader, PlainPacket, IsPacket, text_octets, headers_octets, packet_octets}
 use Rattle.obex_headers.specs.Runs.{joined, spelled}

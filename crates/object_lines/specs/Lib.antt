@@ -1,4 +1,3 @@
-pub use Rattle.link_readers.specs.push_script
 pub mod Lines
 pub mod Viewing
 pub mod Alone

@@ -3,8 +3,8 @@
 use Rattle.std.proofs.Common.{◌≡◌, ℕ, Bool, true, false, List, [], ◌∷◌, ◌++◌, Some, refl, sym, ap, subst, ◌∙◌, if◌then◌else◌}
 use Rattle.scenario_laws.specs.push_terms.specs.declared.word.Side.TheVariants.{A, B}
 use Rattle.scenario_laws.specs.push_terms.specs.declared.word.Way.TheVariants.{Ab, Ba}
-use Rattle.scenario_laws.specs.radio_air.specs.declared.deed.Deed.{Deed}
-use Rattle.scenario_laws.specs.radio_air.specs.declared.deed.Deed.TheVariants.{Nothing, Meets, Fires, FiresBoth, Breaks, Cancels}
+use Rattle.scenario_laws.specs.radio_model.specs.declared.deed.Deed.{Deed}
+use Rattle.scenario_laws.specs.radio_model.specs.declared.deed.Deed.TheVariants.{Nothing, Meets, Fires, FiresBoth, Breaks, Cancels}
 use Rattle.scenario_laws.specs.world_model.specs.Machines.{LinkEvent, Up, Down, Linked, TimerFired, Upper}
 use Rattle.scenario_laws.specs.world_model.specs.Carriages.{End, Carriage, Motion, Saying, Departure, Arrival, Telling, DoesMotion, Doing, Moved, Deeds, Misses, Rises, Falls, Opens, Closes, ActsOn, finds, told, IsDone, first_carriage}
 use Rattle.scenario_laws.specs.host_model.specs.Hosts.{Host}

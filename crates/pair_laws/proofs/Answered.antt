@@ -2,11 +2,11 @@
 use Rattle.std.proofs.Common.{◌≡◌, ℕ, Bool, List, refl, ap, ap₂, subst, ◌∙◌}
 use Rattle.scenario_laws.specs.push_terms.specs.declared.word.Side.TheVariants.{A, B}
 use Rattle.scenario_laws.specs.push_terms.specs.declared.word.Way.TheVariants.{Ab, Ba}
-use Rattle.scenario_laws.specs.radio_air.specs.Controllers.{Controller}
-use Rattle.scenario_laws.specs.radio_air.specs.Radio.{is_together}
-use Rattle.scenario_laws.specs.radio_air.specs.declared.fate.Fate.{Fate}
-use Rattle.scenario_laws.specs.radio_air.specs.declared.deed.Deed.{Deed}
-use Rattle.scenario_laws.specs.radio_air.specs.declared.deed.Deed.TheVariants.{Nothing, Meets, Fires, FiresBoth, Breaks, Cancels}
+use Rattle.scenario_laws.specs.radio_model.specs.Controllers.{Controller}
+use Rattle.scenario_laws.specs.radio_model.specs.Radio.{is_together}
+use Rattle.scenario_laws.specs.radio_model.specs.declared.fate.Fate.{Fate}
+use Rattle.scenario_laws.specs.radio_model.specs.declared.deed.Deed.{Deed}
+use Rattle.scenario_laws.specs.radio_model.specs.declared.deed.Deed.TheVariants.{Nothing, Meets, Fires, FiresBoth, Breaks, Cancels}
 use Rattle.scenario_laws.specs.world_model.specs.Machines.{News, Linked, Heard, TimerFired, Cancelled, Opening, Upper}
 use Rattle.scenario_laws.specs.world_model.specs.Pushes.{Pushes}
 use Rattle.scenario_laws.specs.world_model.specs.Turns.{IsCalm, FindsNothing}

@@ -6,11 +6,11 @@ use Rattle.scenario_laws.specs.acl_fragments.specs.Pieces.{channel_of}
 use Rattle.scenario_laws.specs.push_terms.specs.declared.word.Side.TheVariants as sides
 use Rattle.scenario_laws.specs.push_terms.specs.declared.outcome.Outcome.{Outcome}
 use Rattle.scenario_laws.specs.push_terms.specs.declared.word.Way.TheVariants.{Ab, Ba}
-use Rattle.scenario_laws.specs.radio_air.specs.Controllers.{is_empty}
-use Rattle.scenario_laws.specs.radio_air.specs.declared.deed.Deed.{Deed}
-use Rattle.scenario_laws.specs.radio_air.specs.declared.deed.Deed.TheVariants.{Nothing, Meets, Fires, FiresBoth, Breaks, Cancels}
-use Rattle.scenario_laws.specs.radio_air.specs.declared.fate.Fate.{Fate}
-use Rattle.scenario_laws.specs.radio_air.specs.Fates.{meets, comes_of}
+use Rattle.scenario_laws.specs.radio_model.specs.Controllers.{is_empty}
+use Rattle.scenario_laws.specs.radio_model.specs.declared.deed.Deed.{Deed}
+use Rattle.scenario_laws.specs.radio_model.specs.declared.deed.Deed.TheVariants.{Nothing, Meets, Fires, FiresBoth, Breaks, Cancels}
+use Rattle.scenario_laws.specs.radio_model.specs.declared.fate.Fate.{Fate}
+use Rattle.scenario_laws.specs.radio_model.specs.Fates.{meets, comes_of}
 use Rattle.channel_laws.specs.channel_model.specs.Calls.{has_fcs}
 use Rattle.channel_laws.specs.channel_model.specs.Changing.{is_answer}
 use Rattle.channel_laws.specs.channel_model.specs.Giving.{next_given}

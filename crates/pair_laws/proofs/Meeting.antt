@@ -4,17 +4,18 @@ use Rattle.std.specs.List.{AllByRecursion}
 use Rattle.std.proofs.lemmas.Bool.{ne_eqb}
 use Rattle.scenario_laws.specs.acl_fragments.specs.Pieces.{channel_of}
 use Rattle.scenario_laws.specs.capture.specs.Frames.{frame_pieces, way_served}
-use Rattle.scenario_laws.specs.push_script.specs.Runs.{IsWord, is_lossy}
+use Rattle.scenario_laws.specs.push_terms.specs.Words.{IsWord}
+use Rattle.scenario_laws.specs.push_script.specs.Runs.{is_lossy}
 use Rattle.scenario_laws.specs.push_terms.specs.declared.word.Way.{Way}
 use Rattle.scenario_laws.specs.push_terms.specs.declared.word.Way.TheVariants.{Ab, Ba}
 use Rattle.scenario_laws.specs.push_terms.specs.declared.word.Word.{Word}
 use Rattle.scenario_laws.specs.push_terms.specs.declared.word.Word.TheVariants.{Pass, Lose, Repeat, Damage, Cut, Timer, Drop, Cancel}
-use Rattle.scenario_laws.specs.radio_air.specs.declared.deed.Deed.{Deed}
-use Rattle.scenario_laws.specs.radio_air.specs.declared.deed.Deed.TheVariants.{Nothing, Meets, Fires, FiresBoth, Breaks, Cancels}
-use Rattle.scenario_laws.specs.radio_air.specs.declared.fate.Fate.{Fate}
-use Rattle.scenario_laws.specs.radio_air.specs.declared.fate.Fate.TheVariants.{Delivered, Lost, Repeated, CutOff, Changed}
-use Rattle.scenario_laws.specs.radio_air.specs.Fates.{changed, meets, comes_of, first_can_meet}
-use Rattle.scenario_laws.specs.radio_air.specs.Words.{first_meets, meets_on, passing, deed_of}
+use Rattle.scenario_laws.specs.radio_model.specs.declared.deed.Deed.{Deed}
+use Rattle.scenario_laws.specs.radio_model.specs.declared.deed.Deed.TheVariants.{Nothing, Meets, Fires, FiresBoth, Breaks, Cancels}
+use Rattle.scenario_laws.specs.radio_model.specs.declared.fate.Fate.{Fate}
+use Rattle.scenario_laws.specs.radio_model.specs.declared.fate.Fate.TheVariants.{Delivered, Lost, Repeated, CutOff, Changed}
+use Rattle.scenario_laws.specs.radio_model.specs.Fates.{changed, meets, comes_of, first_can_meet}
+use Rattle.scenario_laws.specs.radio_model.specs.Words.{first_meets, meets_on, passing, deed_of}
 use Rattle.scenario_laws.specs.world_model.specs.Carriages.{Doing, words_at, all_words}
 use Rattle.channel_laws.specs.channel_model.specs.Calls.{has_fcs}
 use Rattle.channel_laws.specs.channel_model.specs.Policies.{Policy}

@@ -3,8 +3,8 @@ use Rattle.std.proofs.Common.{◌≡◌, ℕ, ◌+◌, Bool, true, false, Option
 use Rattle.std.specs.Prelude.{slice_get}
 use Rattle.scenario_laws.specs.push_terms.specs.declared.word.Side.TheVariants.{A, B}
 use Rattle.scenario_laws.specs.push_terms.specs.declared.word.Way.TheVariants.{Ab, Ba}
-use Rattle.scenario_laws.specs.radio_air.specs.declared.deed.Deed.{Deed}
-use Rattle.scenario_laws.specs.radio_air.specs.declared.deed.Deed.TheVariants.{Nothing, Meets, Fires, FiresBoth, Breaks, Cancels}
+use Rattle.scenario_laws.specs.radio_model.specs.declared.deed.Deed.{Deed}
+use Rattle.scenario_laws.specs.radio_model.specs.declared.deed.Deed.TheVariants.{Nothing, Meets, Fires, FiresBoth, Breaks, Cancels}
 use Rattle.scenario_laws.specs.world_model.specs.Machines.{Heard, TimerFired, Cancelled, Opening, Upper}
 use Rattle.scenario_laws.specs.world_model.specs.Pushes.{next_name}
 use Rattle.scenario_laws.specs.world_model.specs.Talks.{Told, Said, Met, Done}

@@ -4,7 +4,7 @@ use Rattle.scenario_laws.specs.bt_base.specs.Octets.{IsOctets}
 use Rattle.scenario_laws.specs.acl_fragments.specs.Pieces.{channel_of}
 use Rattle.scenario_laws.specs.capture.specs.Histories.{EachAfter}
 use Rattle.scenario_laws.specs.ertm_frames.specs.Frames.{PlainFrame, Spells}
-use Rattle.scenario_laws.specs.radio_air.specs.Fates.{changed}
+use Rattle.scenario_laws.specs.radio_model.specs.Fates.{changed}
 use Rattle.channel_laws.specs.channel_model.specs.Calls.{has_fcs}
 use Rattle.channel_laws.specs.channel_model.specs.Policies.{Policy}
 use Rattle.channel_laws.specs.channel_model.specs.Value.{Channels}

@@ -16,14 +16,15 @@ use Rattle.push_script.specs.Runs.{IsRun, IsBorne}
 use Rattle.push_script.specs.Stated.{Stated, Known}
 use Rattle.push_terms.specs.Words.{word_text}
 use Rattle.push_script.specs.Scenarios.{transport_text, serves_text, switch_text, scenario_text}
-use Rattle.push_script.specs.Parts.{is_digit}
+use Rattle.script_words.specs.Parts.{is_digit}
 use Rattle.push_script.proofs.TextLines.{name_line, word_line, late_lines, all_lines, all_text, are_lines}
 use Rattle.push_script.specs.Keys.{key_of, with_key}
 use Rattle.push_script.specs.Laws.{IsReadAs}
 use Rattle.push_script.specs.Reading.{Script, script_of, with_value, is_ignored, radio_begun, run_read, line_read, at_line, finished, with_defaults, lines, lines_read, no_draft, reading, text_limit}
-use Rattle.push_script.proofs.Numbers.{digits_number}
-use Rattle.push_script.proofs.Splitting.{is_graphic, seen, ended, lines_again, text_of_lines}
-use Rattle.push_script.proofs.WordsAgain.{run_again}
+use Rattle.script_words.proofs.Numbers.{digits_number}
+use Rattle.script_words.proofs.Splitting.{is_graphic, seen}
+use Rattle.push_script.proofs.Splitting.{ended, lines_again, text_of_lines}
+use Rattle.push_script.proofs.RunsAgain.{run_again}
 use Rattle.push_script.proofs.KeysAgain.{number_again, transport_again, serves_again, switch_again, acl_again, key_line_again, named, name_again}
 
 -- the lines give that scenario, behind what was read already

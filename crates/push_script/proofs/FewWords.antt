@@ -13,8 +13,9 @@ use Rattle.push_script.specs.declared.stated.Key.TheVariants as keyed
 use Rattle.push_terms.specs.declared.word.Word.{Word}
 use Rattle.push_script.specs.Keys.{◌>>=◌, or_refusal, key_of, with_key}
 use Rattle.push_script.specs.Laws.{RunsAreFew, WordsAreFew}
-use Rattle.push_script.specs.Parts.{first_word, rest_of, number_of}
-use Rattle.push_script.specs.Radio.{said_of, word_within, count_within, lossless, run_of}
+use Rattle.script_words.specs.Parts.{first_word, rest_of, number_of}
+use Rattle.script_words.specs.Words.{said_of, word_within}
+use Rattle.push_script.specs.Radio.{count_within, lossless, run_of}
 use Rattle.push_script.specs.Stated.{Known}
 use Rattle.push_script.specs.Turns.{word_count}
 use Rattle.push_script.specs.Reading.{Script, name_stated, with_value, key_line_read, whole, radio_begun, run_read, is_ignored, line_read, at_line, with_defaults, finished, lines, in_front, lines_read, no_draft, text_limit, is_feed, reading}
@@ -59,7 +60,7 @@ few_in_run transport line run is =
     let number = bound (or_refusal BadLine (number_of (first_word line))) _ run text.then_is in
     let said = bound (or_refusal BadLine (said_of text.value)) _ run number.then_is in
     let count = bound (count_within number.value) _ run said.then_is in
-    let word = bound (word_within said.value) _ run count.then_is in
+    let word = bound (or_refusal OutOfRange (word_within said.value)) _ run count.then_is in
     let whole = bound (lossless transport word.value) _ run word.then_is in
     subst (λ (r : ℕ × Word). r.0 ≤ 4294967295) (same_ok _ _ whole.then_is) (few_times number.value count.value count.first_is)
 

@@ -13,12 +13,13 @@ use Rattle.push_script.specs.declared.stated.Key.TheVariants as keyed
 use Rattle.push_script.specs.Names.{IsName, ends_name, utf16_length}
 use Rattle.push_script.specs.Stated.{Stated, Known}
 use Rattle.push_script.specs.Scenarios.{transport_text, serves_text, switch_text}
-use Rattle.push_script.specs.Parts.{first_word, rest_of, number_of, pair_of}
+use Rattle.script_words.specs.Parts.{first_word, rest_of, number_of, pair_of}
 use Rattle.push_script.specs.Keys.{key_of, lowest, highest, number_stated, acl_stated, transport_stated, serves_stated, switch_stated}
 use Rattle.push_script.specs.Reading.{name_stated, with_value, key_line_read, is_ignored, line_read}
-use Rattle.push_script.proofs.Numbers.{numbers_again, graphic_number}
-use Rattle.push_script.proofs.Splitting.{is_graphic, without_blank, word_again, rest_again}
-use Rattle.push_script.proofs.WordsAgain.{within_again}
+use Rattle.script_words.proofs.Numbers.{numbers_again, graphic_number}
+use Rattle.script_words.proofs.Splitting.{is_graphic, without_blank, word_again, rest_again}
+use Rattle.push_script.proofs.RunsAgain.{within_again}
+use Rattle.script_words.proofs.PairsAgain.{pair_again}
 
 pub number_again : (key : Key) (n : ℕ) → lowest key ≤ n → n ≤ highest key → n < 10 ^ 10 → number_stated key false (decimal n) ≡ Ok n
 unfolding number_stated
@@ -40,20 +41,9 @@ unfolding switch_stated
 switch_again true = refl
 switch_again false = refl
 
-pair_from : (text rest : List ℕ) (a b : ℕ) → number_of (first_word text) ≡ Some a → rest_of text ≡ Some rest → number_of rest ≡ Some b → pair_of text ≡ Some (a, b)
-pair_from text rest a b e1 e2 e3 = rw (e1, e2, e3) refl
-
 acl_from : (text : List ℕ) (a b : ℕ) → pair_of text ≡ Some (a, b) → 27 ≤ a → a ≤ 1021 → 1 ≤ b → b ≤ 64 → acl_stated false text ≡ Ok (a, b)
 unfolding acl_stated
 acl_from text a b e a1 a2 b1 b2 = rw (e, within_again 27 1021 a a1 a2, within_again 1 64 b b1 b2) refl
-
-pub pair_again : (a b : ℕ) → a < 10 ^ 10 → b < 10 ^ 10 → pair_of (decimal a ++ 32 ∷ decimal b) ≡ Some (a, b)
-pair_again a b low high =
-    let digits : list_all is_graphic (decimal a) ≡ true = graphic_number a low in
-    pair_from (decimal a ++ 32 ∷ decimal b) (decimal b) a b
-    (ap number_of (word_again (decimal a) (decimal b) (without_blank (decimal a) digits)) ∙ numbers_again a low)
-    (rest_again (decimal a) (decimal b) (without_blank (decimal a) digits))
-    (numbers_again b high)
 
 pub acl_again : (a b : ℕ) → 27 ≤ a → a ≤ 1021 → 1 ≤ b → b ≤ 64 → acl_stated false (decimal a ++ 32 ∷ decimal b) ≡ Ok (a, b)
 acl_again a b a1 a2 b1 b2 = acl_from _ a b (pair_again a b (omega arith) (omega arith)) a1 a2 b1 b2

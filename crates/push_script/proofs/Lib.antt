@@ -1,13 +1,8 @@
 pub mod Feeds
 pub mod Telling
-pub mod Numbers
 pub mod FirstLines
 pub mod Splitting
-pub mod WordsAgain
-pub mod Written
-pub mod WordsWritten
-pub mod OutcomesWritten
-pub mod Lengths
+pub mod RunsAgain
 pub mod KeysAgain
 pub mod TextLines
 pub mod Again

@@ -3,10 +3,11 @@ use Rattle.std.proofs.Common.{◌≡◌, ℕ, zero, suc, ◌+◌, ◌<◌, ◌�
 use Rattle.std.specs.Prelude.{nat_lt, not, ◌&&◌}
 use Rattle.std.specs.List.{sum_by, list_all, list_any}
 use Rattle.std.proofs.lemmas.List.{map_push, length-map, drop_all, take-append-drop}
-use Rattle.bt_base.specs.Memory.{MemoryShelved}
+use Rattle.ready_ports.specs.Memory.{MemoryShelved}
 use Rattle.bt_base.specs.Objects.{Object}
 use Rattle.push_script.specs.Names.{IsName, ends_name, utf16_length}
-use Rattle.push_script.proofs.Splitting.{is_printable, printable_line}
+use Rattle.script_words.proofs.Splitting.{is_printable}
+use Rattle.push_script.proofs.Splitting.{printable_line}
 use Rattle.std.proofs.lemmas.Bool.{and_parts, ltb-true, not-true}
 use Rattle.std.proofs.lemmas.Str.{is_utf8-from_IsUtf8}
 use Rattle.push_script.specs.Turns.{turns}

@@ -15,9 +15,10 @@ use Rattle.push_script.specs.Names.{IsName, ends_name}
 use Rattle.push_script.specs.Runs.{IsRun}
 use Rattle.push_terms.specs.Words.{word_text}
 use Rattle.push_script.specs.Scenarios.{transport_text, serves_text, switch_text, key_line, object_line, run_line, scenario_text}
-use Rattle.push_script.proofs.Numbers.{graphic_number}
-use Rattle.push_script.proofs.Splitting.{differs, is_printable, all_append, seen, ended, IsLine, printable_line, value_line}
-use Rattle.push_script.proofs.WordsAgain.{word_printable}
+use Rattle.script_words.proofs.Numbers.{graphic_number}
+use Rattle.script_words.proofs.Splitting.{differs, is_printable, all_append, seen}
+use Rattle.push_script.proofs.Splitting.{ended, IsLine, printable_line, value_line}
+use Rattle.script_words.proofs.WordsAgain.{word_printable}
 
 abbrev pub name_line : List ℕ → List ℕ
 name_line name = codes "object" ++ 32 ∷ name

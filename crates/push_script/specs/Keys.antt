@@ -1,5 +1,5 @@
 -- The keys of a scenario and the lines that state them (this project's own).
-use Rattle.std.specs.Prelude.{ℕ, Bool, true, false, cond, nat_lt, List, codes, Option, Some, None, Result, Ok, Err, is_some}
+use Rattle.std.specs.Prelude.{ℕ, Bool, true, false, cond, List, codes, Option, Some, None, Result, Ok, Err, is_some}
 use Rattle.std.specs.Str.{bytes_eq}
 use Rattle.bt_base.specs.declared.settings.Transport.{Transport}
 use Rattle.bt_base.specs.declared.settings.Serves.{Serves}
@@ -8,7 +8,9 @@ use Rattle.push_script.specs.declared.refusal.ScriptRefusal.TheVariants.{BadLine
 use Rattle.push_script.specs.declared.stated.Key.{Key}
 use Rattle.push_script.specs.declared.stated.Key.TheVariants as keyed
 use Rattle.push_script.specs.Stated.{Stated}
-use Rattle.push_script.specs.Parts.{number_of, pair_of, transport_of, serves_of, switch_of}
+use Rattle.push_script.specs.Choices.{transport_of, serves_of, switch_of}
+use Rattle.script_words.specs.Parts.{number_of, pair_of}
+use Rattle.script_words.specs.Words.{number_within}
 
 infixl 10 ◌>>=◌
 abbrev pub ◌>>=◌ : {A B : Type 0} → Result A ScriptRefusal → (A → Result B ScriptRefusal) → Result B ScriptRefusal
@@ -69,8 +71,9 @@ abbrev pub unless_stated : Bool → Result (Unit {0}) ScriptRefusal
 unless_stated true = Err Repeated
 unless_stated false = Ok tt
 
+-- a number that is within a range, or `OutOfRange`
 abbrev pub within : ℕ → ℕ → ℕ → Result ℕ ScriptRefusal
-within low high number = cond (nat_lt number low) (Err OutOfRange) (cond (nat_lt high number) (Err OutOfRange) (Ok number))
+within low high number = or_refusal OutOfRange (number_within low high number)
 
 -- What a line states a number to be: its shape is judged first, then whether the key was stated before, and last the
 -- range.

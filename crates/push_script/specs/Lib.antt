@@ -2,11 +2,10 @@ pub mod Names
 pub mod Runs
 pub mod Scenarios
 pub mod Reports
-pub mod Parts
+pub mod Choices
 pub mod Stated
 pub mod Keys
 pub mod Radio
-pub mod Said
 pub mod Reading
 pub mod Refusals
 pub mod Turns

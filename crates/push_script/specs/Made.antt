@@ -1,6 +1,6 @@
 -- A scenario that is made from a number, and its objects (this project's own).
 use Rattle.std.specs.Prelude.{ℕ, zero, suc, ◌≡◌, ◌+◌, ◌*◌, ◌/◌, ◌%◌, Bool, true, false, ◌==◌, List, [], ◌∷◌, map, take, codes, Some}
-use Rattle.bt_base.specs.Memory.{MemoryShelved}
+use Rattle.ready_ports.specs.Memory.{MemoryShelved}
 use Rattle.bt_base.specs.Objects.{Object}
 use Rattle.bt_base.specs.declared.settings.Transport.{Transport}
 use Rattle.bt_base.specs.declared.settings.Transport.TheVariants as transports

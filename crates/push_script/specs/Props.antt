@@ -9,7 +9,8 @@ use Rattle.bt_base.specs.declared.settings.Transport.TheVariants as transports
 use Rattle.push_terms.specs.declared.word.Word.{Word}
 use Rattle.push_terms.specs.declared.word.Word.TheVariants.{Pass, Lose, Repeat, Damage, Cut, Timer, Drop, Cancel}
 use Rattle.push_script.specs.Names.{IsName}
-use Rattle.push_script.specs.Runs.{IsWord, IsRun, IsBorne}
+use Rattle.push_terms.specs.Words.{IsWord}
+use Rattle.push_script.specs.Runs.{IsRun, IsBorne}
 
 IsName-prop : (name : List ℕ) → IsProp (IsName name)
 IsName-prop name a b = λ i. record { text = Bool-set _ _ a.text b.text i; some = le_prop a.some b.some i; few = le_prop a.few b.few i; line = Bool-set _ _ a.line b.line i }

@@ -19,7 +19,7 @@ use Rattle.push_script.specs.declared.scenario.Scenario.{Scenario}
 use Rattle.push_terms.specs.declared.word.Word.{Word}
 use Rattle.push_script.specs.Names.{ends_name, utf16_length}
 use Rattle.push_script.specs.Stated.{Stated, Known}
-use Rattle.push_script.specs.Parts.{first_word, rest_of}
+use Rattle.script_words.specs.Parts.{first_word, rest_of}
 use Rattle.push_script.specs.Keys.{◌>>=◌, or_refusal, default_number, key_of, with_key}
 use Rattle.push_script.specs.Radio.{run_of}
 

@@ -5,10 +5,11 @@ ghost use Rattle.std.specs.Option.{option_map};
 ghost use Rattle.push_script.specs.Keys.{key_of, late_key_of, lowest, highest, unless_stated, within, number_stated, acl_stated, transport_stated, serves_stated, switch_stated, with_key};
 ghost use Rattle.push_script.specs.Stated.{IsBetween};
 
-use crate::parts::{number_of, pair_of, serves_of, switch_of, transport_of};
+use crate::choices::{serves_of, switch_of, transport_of};
 use crate::refusal::ScriptRefusal;
 use crate::stated::{Key, Keys};
 use bt_base::{Serves, Transport};
+use script_words::{number_of, number_within, pair_of};
 
 /// The key of that name.
 pub(crate) fn key_of(name: &str) -> Option<Key>
@@ -93,10 +94,10 @@ pub(crate) fn within(low: u16, high: u16, number: u64) -> Result<u16, ScriptRefu
     ensures value { result ≡ within low high number }
     ensures range { IfOk result (λ n. IsBetween low high n) }
 {
-    if number < low as u64 || number > high as u64 {
+    let Some(number) = number_within(low, high, number) else {
         return Err(ScriptRefusal::OutOfRange);
-    }
-    Ok(number as u16)
+    };
+    Ok(number)
 }
 
 /// What a line states a number to be.

@@ -1,26 +1,15 @@
 //! Laws of the text of scenarios, for every value. They speak of no call: the contracts of the calls
 //! tie these to the same definitions.
 
-ghost use Rattle.push_script.specs.Laws.{NumbersAgain, TextsAgain, OneWord, OneOutcome, RunsAreFew, WordsAreFew};
+ghost use Rattle.push_script.specs.Laws.{TextsAgain, RunsAreFew, WordsAreFew};
 
-/// A number that was written is read again.
-pub fn numbers_are_read_again()
-    ensures { NumbersAgain }
-{}
+pub use script_words::laws::{
+    numbers_are_read_again, outcomes_have_their_own_texts, words_have_their_own_texts,
+};
 
 /// The text of a scenario is read as that scenario, where it is no longer than 1,048,576 octets.
 pub fn texts_are_read_again()
     ensures { TextsAgain }
-{}
-
-/// A text is that of one word at most.
-pub fn words_have_their_own_texts()
-    ensures { OneWord }
-{}
-
-/// A text is that of one outcome at most.
-pub fn outcomes_have_their_own_texts()
-    ensures { OneOutcome }
 {}
 
 /// A scenario that is read has no more runs of words than its text has octets, which are 1,048,576 at

@@ -2,6 +2,7 @@
 //! it, and scenarios that are made from a number.
 #![tactic(auto)]
 
+mod choices;
 mod draft;
 mod finding;
 mod keys;
@@ -9,13 +10,11 @@ pub mod laws;
 mod lines;
 mod made;
 mod names;
-mod parts;
 mod radio;
 mod reading;
 mod refusal;
 mod report;
 mod runs;
-mod said;
 mod scenario;
 mod stated;
 mod writing;
@@ -28,6 +27,6 @@ pub use reading::scenario_of;
 pub use refusal::{ScriptFault, ScriptRefusal};
 pub use report::{put_refusal, put_report};
 pub use runs::Runs;
-pub use said::{outcome_of, word_of};
 pub use scenario::Scenario;
+pub use script_words::{outcome_of, word_of};
 pub use writing::put_scenario;

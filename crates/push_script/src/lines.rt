@@ -9,11 +9,11 @@ ghost use Rattle.push_script.specs.Reading.{is_feed, lines, name_stated, with_va
 use crate::draft::Draft;
 use crate::keys::{key_of, with_key};
 use crate::names::utf16_length;
-use crate::parts::split_word;
 use crate::radio::run_of;
 use crate::refusal::{LineFault, ScriptRefusal};
 use crate::stated::Key;
 use bt_base::Transport;
+use script_words::split_word;
 use std::alloc::Global;
 
 /// What stands before the first line feed of a text, and what stands behind it.

@@ -11,8 +11,9 @@ use crate::names::{Name, Names};
 use crate::reading::{no_draft, scenario_with};
 use crate::runs::Runs;
 use crate::scenario::Scenario;
-use bt_base::{MemShelf, NoMemory, Transport};
+use bt_base::{NoMemory, Transport};
 use push_terms::{Way, Word};
+use ready_ports::MemShelf;
 use std::alloc::Global;
 
 /// The generator of the draws: a linear congruential one, whose upper bits are drawn.

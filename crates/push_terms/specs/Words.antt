@@ -1,5 +1,5 @@
 -- The text of the words of a radio script (this project's own).
-use Rattle.std.specs.Prelude.{ℕ, ◌+◌, ◌-◌, ◌/◌, ◌%◌, cond, nat_lt, List, [], ◌∷◌, ◌++◌, codes, decimal}
+use Rattle.std.specs.Prelude.{ℕ, ◌+◌, ◌-◌, ◌/◌, ◌%◌, ◌≤◌, cond, nat_lt, List, [], ◌∷◌, ◌++◌, codes, decimal}
 use Rattle.push_terms.specs.declared.word.Way.{Way}
 use Rattle.push_terms.specs.declared.word.Way.TheVariants.{Ab, Ba}
 use Rattle.push_terms.specs.declared.word.Side.{Side}
@@ -39,3 +39,15 @@ word_text (Cut way packets) = codes "cut " ++ way_text way ++ codes " " ++ decim
 word_text (Timer side) = codes "timer " ++ side_text side
 word_text Drop = codes "drop"
 word_text Cancel = codes "cancel"
+
+-- The numbers of a word are in range: places of a frame count from 0, the basic header stays and there is a place behind
+-- the one that is named, at least one bit changes, and at least one packet is delivered.
+abbrev pub IsWord : Word → Type 0
+IsWord (Damage way at mask) = (4 ≤ at) × (at ≤ 65534) × (1 ≤ mask) × (mask ≤ 65535)
+IsWord (Cut way packets) = (1 ≤ packets) × (packets ≤ 65535)
+IsWord Pass = Unit {0}
+IsWord (Lose way) = Unit {0}
+IsWord (Repeat way) = Unit {0}
+IsWord (Timer side) = Unit {0}
+IsWord Drop = Unit {0}
+IsWord Cancel = Unit {0}

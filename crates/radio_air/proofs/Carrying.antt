@@ -6,10 +6,10 @@ use Rattle.h4_framing.specs.Packets.{Acl}
 use Rattle.acl_fragments.specs.Pieces.{Piece}
 use Rattle.push_terms.specs.declared.word.Side.{Side}
 use Rattle.push_terms.specs.declared.word.Side.TheVariants as sides
-use Rattle.radio_air.specs.Controllers.{Controller, after_giving_back}
-use Rattle.radio_air.specs.Queues.{Queue, is_crowded}
-use Rattle.radio_air.specs.Radio.{Radio, controller, knows_link, piece_from, with_piece, after_taking, after_acl}
-use Rattle.radio_air.specs.Owed.{with_queues, piece_taken, owes_many, wants_memory}
+use Rattle.radio_model.specs.Controllers.{Controller, after_giving_back}
+use Rattle.radio_model.specs.Queues.{Queue, is_crowded}
+use Rattle.radio_model.specs.Radio.{Radio, controller, knows_link, piece_from, with_piece, after_taking, after_acl}
+use Rattle.radio_model.specs.Owed.{with_queues, piece_taken, owes_many, wants_memory}
 
 waits_either : (b : Bool) (one other : Controller) (waiting : List (List ℕ)) → one.waiting ≡ waiting → other.waiting ≡ waiting → (cond b one other).waiting ≡ waiting
 waits_either b one other waiting first second = elim b as (λ t. (cond t one other).waiting ≡ waiting) [ true ↦ first | _ ↦ second ]

@@ -11,9 +11,11 @@ use Rattle.hci_packets.specs.AclWords.{flag_of}
 use Rattle.acl_fragments.specs.Pieces.{Piece}
 use Rattle.acl_fragments.specs.Cuts.{cut}
 use Rattle.acl_fragments.proofs.Cutting.{next_piece}
-use Rattle.radio_air.specs.Controllers.{piece_packet}
-use Rattle.radio_air.specs.Rings.{Kept, first_or_nothing}
-use Rattle.radio_air.specs.Queues.{Queue, queue_of, IsQueue, boundary_at, IsWritten, IsShort, IsHandedOver, piece_first, longest_packet}
+use Rattle.radio_model.specs.Controllers.{piece_packet}
+use Rattle.radio_air.specs.Rings.{Kept}
+use Rattle.radio_model.specs.Radio.{first_or_nothing}
+use Rattle.radio_model.specs.Queues.{Queue, IsWritten, IsShort, IsHandedOver, piece_first, longest_packet}
+use Rattle.radio_air.specs.Keeping.{queue_of, IsQueue, boundary_at}
 
 goes_on : (gone count : ℕ) → 0 < count → boundary_at (gone + count) ≡ Continuing
 goes_on gone count some = ap (λ (same : Bool). cond same FirstFromController Continuing) (ne_eqb (gone + count) 0 (λ (e : gone + count ≡ 0). omega arith))

@@ -5,7 +5,8 @@ use Rattle.std.proofs.lemmas.List.{take_all, drop_all, drop-append-le, drop-drop
 use Rattle.byteorder.specs.Endian.{little_number}
 use Rattle.circular_buffer.specs.Buffer.{Buffer, keep_last}
 use Rattle.acl_fragments.specs.Pieces.{joined}
-use Rattle.radio_air.specs.Rings.{total, split, Kept, kept_of, first_or_nothing, with_first, octets_in}
+use Rattle.radio_air.specs.Rings.{total, split, Kept, kept_of, with_first, octets_in}
+use Rattle.radio_model.specs.Radio.{first_or_nothing}
 use Rattle.radio_air.proofs.Splitting.{split-append, split-more, split-take, split-drop, length-split, joined-split, split-set}
 
 pub kept_on : (whole : ℕ) (lengths octets more : List ℕ) → whole ≡ total lengths → whole ≤ length octets

@@ -7,4 +7,3 @@ pub mod Handing
 pub mod Outstanding
 pub mod Pressing
 pub mod Carrying
-pub mod Flying

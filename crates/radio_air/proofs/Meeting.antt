@@ -5,11 +5,11 @@ use Rattle.hci_packets.specs.declared.acl.Boundary.{Boundary}
 use Rattle.hci_packets.specs.declared.acl.Boundary.TheVariants.{Continuing, FirstFromController}
 use Rattle.acl_fragments.specs.Cuts.{cut}
 use Rattle.acl_fragments.proofs.Cutting.{cut_step}
-use Rattle.radio_air.specs.declared.fate.Fate.{Fate}
-use Rattle.radio_air.specs.declared.fate.Fate.TheVariants.{CutOff}
-use Rattle.radio_air.specs.Rings.{first_or_nothing}
-use Rattle.radio_air.specs.Fates.{meets}
-use Rattle.radio_air.specs.Queues.{Queue, begun_with, first_meeting, meeting}
+use Rattle.radio_model.specs.declared.fate.Fate.{Fate}
+use Rattle.radio_model.specs.declared.fate.Fate.TheVariants.{CutOff}
+use Rattle.radio_model.specs.Radio.{first_or_nothing}
+use Rattle.radio_model.specs.Fates.{meets}
+use Rattle.radio_model.specs.Queues.{Queue, begun_with, first_meeting, meeting}
 
 -- ---- pieces
 

@@ -3,13 +3,10 @@ use Rattle.std.proofs.Common.{◌≡◌, ℕ, ◌+◌, ◌-◌, ◌^◌, ◌<◌
 use Rattle.std.specs.Prelude.{min, slice_get, zero, suc, Option, Some, None}
 use Rattle.std.proofs.lemmas.List.{take_all, take_more, map-append}
 use Rattle.radio_air.specs.declared.answer.Answer.{Answer as Told}
-use Rattle.radio_air.specs.Controllers.{Answer}
-use Rattle.radio_air.specs.Owed.{plain_answer, back, back_by}
-
--- what two lists of answers give back
-pub back-append : (handle : ℕ) (some more : List Answer) → back handle (some ++ more) ≡ back handle some + back handle more
-back-append handle [] more = omega arith
-back-append handle (answer ∷ some) more = let rest = back-append handle some more in omega (arith, rest)
+use Rattle.radio_model.specs.Controllers.{Answer}
+use Rattle.radio_air.specs.Plain.{plain_answer}
+use Rattle.radio_model.specs.Owed.{back, back_by}
+use Rattle.radio_model.proofs.Outstanding.{back-append}
 
 -- one answer more
 pub back-more : (told i : ℕ) (answers : List Told) (answer : Told) → i < length answers → get_or answers i answer ≡ answer

@@ -5,9 +5,9 @@ use Rattle.std.proofs.lemmas.Bool.{or_right, or_left, or_cases, leb-true, le-leb
 use Rattle.std.proofs.lemmas.Result.{on_err_weaker}
 use Rattle.push_terms.specs.declared.word.Side.{Side}
 use Rattle.push_terms.specs.declared.word.Side.TheVariants as sides
-use Rattle.radio_air.specs.Controllers.{Answer}
-use Rattle.radio_air.specs.Radio.{Radio, owes, scanning}
-use Rattle.radio_air.specs.Owed.{owes_many}
+use Rattle.radio_model.specs.Controllers.{Answer}
+use Rattle.radio_model.specs.Radio.{Radio, owes, scanning}
+use Rattle.radio_model.specs.Owed.{owes_many}
 
 one_less : (m n : ℕ) → n ≤ m + 1 → nat_le 16 n ≡ true → nat_le 15 m ≡ true
 one_less m n near many = le-leb 15 m (omega (arith, leb-true 16 n many))

@@ -6,10 +6,13 @@ use Rattle.std.proofs.lemmas.List.{append-nil, drop-append-le, get_or-set_other,
 use Rattle.acl_fragments.specs.Pieces.{Piece, joined, channel_of}
 use Rattle.acl_fragments.specs.Cuts.{cut, first_pieces}
 use Rattle.hci_packets.specs.declared.acl.Boundary.{Boundary}
-use Rattle.radio_air.specs.Radio.{first_channel}
-use Rattle.radio_air.specs.Rings.{Kept, first_or_nothing, with_first, octets_in}
-use Rattle.radio_air.specs.Fates.{changed}
-use Rattle.radio_air.specs.Queues.{Queue, queue_of, IsQueue, IsSize, begun_with, IsShortStep, boundary_at, is_crowded, stepped}
+use Rattle.radio_model.specs.Radio.{first_channel}
+use Rattle.radio_air.specs.Rings.{Kept, with_first, octets_in}
+use Rattle.radio_model.specs.Radio.{first_or_nothing}
+use Rattle.radio_model.specs.Fates.{changed}
+use Rattle.radio_model.specs.Queues.{Queue, IsSize, begun_with, is_crowded}
+use Rattle.radio_air.specs.Keeping.{queue_of, IsQueue, boundary_at}
+use Rattle.radio_air.specs.Plain.{IsShortStep, stepped}
 use Rattle.radio_air.specs.declared.step.Step.{Step}
 use Rattle.radio_air.specs.declared.step.Step.TheVariants.{Whole, More, Drop}
 

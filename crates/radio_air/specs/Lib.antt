@@ -1,13 +1,4 @@
-pub use Rattle.acl_credits
+pub use Rattle.radio_model
 pub mod Rings
-pub mod Fates
-pub mod Words
-pub mod Controllers
-pub mod Radio
-pub mod Queues
-pub mod Owed
-pub mod Flights
-pub mod Laws
-pub mod Air
-pub mod Honest
-pub mod Course
+pub mod Keeping
+pub mod Plain

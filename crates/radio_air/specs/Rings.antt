@@ -20,11 +20,7 @@ pub record Kept : Type 0 where
 abbrev pub kept_of : (whole : ℕ) → (lengths octets : List ℕ) → Kept
 kept_of whole lengths octets = record { frames = split lengths octets; begun = drop whole octets }
 
--- the first frame; nothing where there is none
-abbrev pub first_or_nothing : List (List ℕ) → List ℕ
-first_or_nothing [] = []
-first_or_nothing (frame ∷ frames) = frame
-
+-- the first frame replaced, where there is one
 abbrev pub with_first : List ℕ → List (List ℕ) → List (List ℕ)
 with_first first [] = []
 with_first first (frame ∷ frames) = first ∷ frames

@@ -6,18 +6,17 @@ ghost use Rattle.h4_framing.specs.Packets.{Acl};
 ghost use Rattle.push_terms.specs.declared.word.Side.{Side};
 ghost use Rattle.push_terms.specs.declared.word.Way.{Way};
 ghost use Rattle.capture.specs.Frames.{way_served};
-ghost use Rattle.radio_air.specs.Queues.{is_crowded};
-ghost use Rattle.radio_air.specs.Words.{meets_on};
-ghost use Rattle.radio_air.specs.Owed.{piece_taken, wants_memory, IsMet};
-ghost use Rattle.radio_air.specs.Radio.{channel, frames, found, piece_from, after_taking, after_acl, after_deed, is_quiet};
+ghost use Rattle.radio_model.specs.Queues.{is_crowded};
+ghost use Rattle.radio_model.specs.Words.{meets_on};
+ghost use Rattle.radio_model.specs.Owed.{piece_taken, wants_memory, IsMet};
+ghost use Rattle.radio_model.specs.Radio.{channel, frames, found, piece_from, after_taking, after_acl, after_deed, is_quiet};
 
-use crate::deed::Deed;
-use crate::fate::Fate;
 use crate::manager::LinkManager;
 use crate::queue::AirQueue;
 use crate::radio::Radio;
 use bt_base::NoMemory;
 use push_terms::{Side, Way, Word};
+use radio_model::{Deed, Fate};
 
 /// An ACL packet comes out of a host: its piece goes into the host's own direction, and the packet
 /// is counted.

@@ -4,9 +4,10 @@ ghost use Rattle.std.specs.Prelude.{◌≡◌, ◌+◌, ◌≤◌, ◌<◌, ◌�
 ghost use Rattle.hci_packets.specs.Units.{Writes, event_unit};
 ghost use Rattle.hci_packets.specs.Events.{ConnectionComplete, ConnectionRequest, DisconnectionComplete, CommandComplete, CommandStatus, CompletedPackets};
 ghost use Rattle.bt_base.specs.Octets.{le16};
-ghost use Rattle.radio_air.specs.Controllers.{address, other_side, answer_packet};
-ghost use Rattle.radio_air.specs.Owed.{plain_answer, back_by};
-ghost use Rattle.radio_air.specs.Queues.{IsWritten, IsShort};
+ghost use Rattle.radio_model.specs.Controllers.{address, other_side, answer_packet};
+ghost use Rattle.radio_air.specs.Plain.{plain_answer};
+ghost use Rattle.radio_model.specs.Owed.{back_by};
+ghost use Rattle.radio_model.specs.Queues.{IsWritten, IsShort};
 
 use bt_base::{BdAddr, Handle};
 use hci_packets::{Event, put_event};

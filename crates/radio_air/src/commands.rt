@@ -2,8 +2,8 @@
 
 ghost use Rattle.std.specs.Prelude.{◌≡◌, true, OnOk, OnErr};
 ghost use Rattle.hci_packets.specs.Commands.{plain_command, ReadBufferSize};
-ghost use Rattle.radio_air.specs.Owed.{after_kind, owes_many};
-ghost use Rattle.radio_air.specs.Radio.{after_command};
+ghost use Rattle.radio_model.specs.Owed.{after_kind, owes_many};
+ghost use Rattle.radio_model.specs.Radio.{after_command};
 
 use crate::answer::Answer;
 use crate::radio::Radio;

@@ -3,7 +3,8 @@
 ghost use Rattle.std.specs.Prelude.{◌≡◌, ◌≢◌, ◌+◌, ◌≤◌, ◌<◌, ◌^◌, ◌++◌, ◌∷◌, [], length, take, drop, bit_xor, slice_set, slice_get, slice_index, IfOk, OnOk, OnErr};
 ghost use Rattle.std.specs.Option.{option_map};
 ghost use Rattle.byteorder.specs.Endian.{little_number};
-ghost use Rattle.radio_air.specs.Rings.{total, first_or_nothing, with_first, octets_in, octets_reserved, frames_reserved};
+ghost use Rattle.radio_air.specs.Rings.{total, with_first, octets_in, octets_reserved, frames_reserved};
+ghost use Rattle.radio_model.specs.Radio.{first_or_nothing};
 
 use crate::ring::{append, change, copy_from, make_room, number_at, part};
 use bt_base::NoMemory;

@@ -4,10 +4,7 @@
 mod air;
 mod answer;
 mod commands;
-mod deed;
-mod fate;
 mod frames;
-pub mod laws;
 mod links;
 mod manager;
 mod phase;
@@ -16,6 +13,5 @@ mod radio;
 mod ring;
 mod step;
 
-pub use deed::Deed;
-pub use fate::Fate;
 pub use radio::Radio;
+pub use radio_model::{Deed, Fate};

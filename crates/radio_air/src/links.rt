@@ -2,8 +2,8 @@
 
 ghost use Rattle.std.specs.Prelude.{◌≡◌, ◌<◌, ◌&&◌, true, OnOk, OnErr};
 ghost use Rattle.push_terms.specs.declared.word.Side.{Side};
-ghost use Rattle.radio_air.specs.Owed.{owes_many};
-ghost use Rattle.radio_air.specs.Radio.{may_page, is_reached, is_requested, knows_link, joined, parted, parted_by, scanning, after_reaching, after_paging, after_accepting, after_disconnecting, is_quiet};
+ghost use Rattle.radio_model.specs.Owed.{owes_many};
+ghost use Rattle.radio_model.specs.Radio.{may_page, is_reached, is_requested, knows_link, joined, parted, parted_by, scanning, after_reaching, after_paging, after_accepting, after_disconnecting, is_quiet};
 
 use crate::answer::Answer;
 use crate::phase::Phase;

@@ -2,10 +2,11 @@
 
 ghost use Rattle.std.specs.Prelude.{◌≡◌, ◌%◌, ◌≤◌, ◌==◌, true, min, [], ◌∷◌, length, slice_get, IfOk, OnOk, OnErr};
 ghost use Rattle.std.specs.Option.{option_map};
-ghost use Rattle.radio_air.specs.Controllers.{new_controller, is_empty, owing, after_giving_back, after_telling, after_first_of};
-ghost use Rattle.radio_air.specs.Radio.{after_taking};
-ghost use Rattle.radio_air.specs.Owed.{outstanding_at};
-ghost use Rattle.radio_air.specs.Owed.{plain_answer, answers_reserved, boundary_from};
+ghost use Rattle.radio_model.specs.Controllers.{new_controller, is_empty, owing, after_giving_back, after_telling, after_first_of};
+ghost use Rattle.radio_model.specs.Radio.{after_taking};
+ghost use Rattle.radio_model.specs.Owed.{outstanding_at};
+ghost use Rattle.radio_air.specs.Plain.{plain_answer};
+ghost use Rattle.radio_model.specs.Owed.{answers_reserved, boundary_from};
 
 use crate::answer::Answer;
 use crate::ring::make_room;
@@ -35,8 +36,9 @@ pub(crate) struct LinkManager {
 
 impl Model for LinkManager {
     ghost use Rattle.std.specs.Prelude.{◌≤◌, [], map};
-    ghost use Rattle.radio_air.specs.Controllers.{Controller};
-    ghost use Rattle.radio_air.specs.Owed.{plain_answer, answers_reserved};
+    ghost use Rattle.radio_model.specs.Controllers.{Controller};
+    ghost use Rattle.radio_air.specs.Plain.{plain_answer};
+    ghost use Rattle.radio_model.specs.Owed.{answers_reserved};
 
     ghost Value = { Controller };
 

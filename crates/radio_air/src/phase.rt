@@ -1,8 +1,8 @@
 //! How far two devices are with a link.
 
 ghost use Rattle.std.specs.Prelude.{◌≡◌};
-ghost use Rattle.radio_air.specs.Radio.{is_apart, is_paging, is_requested, is_together};
-ghost use Rattle.radio_air.specs.Owed.{plain_phase};
+ghost use Rattle.radio_model.specs.Radio.{is_apart, is_paging, is_requested, is_together};
+ghost use Rattle.radio_air.specs.Plain.{plain_phase};
 
 /// How far the two devices are with a link.
 #[derive(Clone, Copy, Debug)]

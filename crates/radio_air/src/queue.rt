@@ -6,17 +6,20 @@ ghost use Rattle.h4_framing.specs.Packets.{Acl};
 ghost use Rattle.hci_packets.specs.AclWords.{flag_of};
 ghost use Rattle.acl_fragments.specs.Pieces.{pdu_length, starts, joined};
 ghost use Rattle.acl_fragments.specs.Answers.{next_answer};
-ghost use Rattle.radio_air.specs.Radio.{frame_limit, first_channel};
-ghost use Rattle.radio_air.specs.Controllers.{is_empty};
-ghost use Rattle.radio_air.specs.Rings.{first_or_nothing, with_first};
-ghost use Rattle.radio_air.specs.Fates.{changed, first_can_meet};
-ghost use Rattle.radio_air.specs.Queues.{IsSize, IsStep, IsShortStep, new_queue, begun_with, stepped, taking_part, taking, is_crowded, meeting, IsHandedOver, piece_first, longest_packet, boundary_at, HasPlaces, IsWritten};
+ghost use Rattle.radio_model.specs.Radio.{frame_limit, first_channel};
+ghost use Rattle.radio_model.specs.Controllers.{is_empty};
+ghost use Rattle.radio_model.specs.Radio.{first_or_nothing};
+ghost use Rattle.radio_air.specs.Rings.{with_first};
+ghost use Rattle.radio_model.specs.Fates.{changed, first_can_meet};
+ghost use Rattle.radio_model.specs.Queues.{IsSize, new_queue, begun_with, taking_part, taking, is_crowded, meeting, IsHandedOver, piece_first, longest_packet, HasPlaces, IsWritten};
+ghost use Rattle.radio_air.specs.Plain.{IsStep, IsShortStep, stepped};
+ghost use Rattle.radio_air.specs.Keeping.{boundary_at};
 
-use crate::fate::Fate;
 use crate::frames::Frames;
 use crate::step::{Step, start_step};
 use bt_base::{Handle, NoMemory};
 use hci_packets::Boundary;
+use radio_model::Fate;
 use std::alloc::Global;
 use std::marker::Model;
 
@@ -44,7 +47,8 @@ pub(crate) struct AirQueue {
 }
 
 impl Model for AirQueue {
-    ghost use Rattle.radio_air.specs.Queues.{Queue, queue_of, IsQueue};
+    ghost use Rattle.radio_model.specs.Queues.{Queue};
+    ghost use Rattle.radio_air.specs.Keeping.{queue_of, IsQueue};
 
     ghost Value = { Queue };
 

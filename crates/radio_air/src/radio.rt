@@ -3,19 +3,20 @@
 ghost use Rattle.std.specs.Prelude.{◌≡◌, ◌≤◌, ◌<◌, ◌^◌, ◌∷◌, [], true, min, length, drop, IfOk, OnOk, OnErr};
 ghost use Rattle.h4_framing.specs.Packets.{packet};
 ghost use Rattle.push_terms.specs.declared.word.Way.{Way};
-ghost use Rattle.radio_air.specs.Controllers.{first_packet};
-ghost use Rattle.radio_air.specs.Queues.{IsSize, IsHandedOver, longest_packet};
-ghost use Rattle.radio_air.specs.Owed.{plain_answer, told_first, forgot_begun, answers_reserved, owes_many, wants_memory, outstanding_at};
-ghost use Rattle.radio_air.specs.Radio.{new_radio, controller, with_controller, owes, channel, found, after_packet, after_offer, after_answer, after_deed, next_packet, is_quiet, is_apart, is_together};
+ghost use Rattle.radio_model.specs.Controllers.{first_packet};
+ghost use Rattle.radio_model.specs.Queues.{IsSize, IsHandedOver, longest_packet};
+ghost use Rattle.radio_air.specs.Plain.{plain_answer};
+ghost use Rattle.radio_model.specs.Owed.{told_first, forgot_begun, answers_reserved, owes_many, wants_memory, outstanding_at};
+ghost use Rattle.radio_model.specs.Radio.{new_radio, controller, with_controller, owes, channel, found, after_packet, after_offer, after_answer, after_deed, next_packet, is_quiet, is_apart, is_together};
 
 use crate::answer::Answer;
-use crate::deed::Deed;
 use crate::manager::LinkManager;
 use crate::phase::Phase;
 use crate::queue::AirQueue;
 use bt_base::{Handle, NoMemory};
 use h4_framing::Unit;
 use push_terms::{Side, Way, Word};
+use radio_model::Deed;
 use std::alloc::Global;
 use std::marker::Model;
 
@@ -42,9 +43,10 @@ pub struct Radio {
 
 impl Model for Radio {
     ghost use Rattle.std.specs.Prelude.{◌≡◌};
-    ghost use Rattle.radio_air.specs.Radio.{Radio as Seen};
-    ghost use Rattle.radio_air.specs.Queues.{IsSize};
-    ghost use Rattle.radio_air.specs.Owed.{HasHandle, plain_phase, with_queues};
+    ghost use Rattle.radio_model.specs.Radio.{Radio as Seen};
+    ghost use Rattle.radio_model.specs.Queues.{IsSize};
+    ghost use Rattle.radio_air.specs.Plain.{HasHandle, plain_phase};
+    ghost use Rattle.radio_model.specs.Owed.{with_queues};
 
     ghost Value = { Seen };
 

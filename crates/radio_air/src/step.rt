@@ -3,8 +3,8 @@
 ghost use Rattle.std.specs.Prelude.{◌≡◌, ◌≤◌, length};
 ghost use Rattle.acl_fragments.specs.Pieces.{pdu_length};
 ghost use Rattle.acl_fragments.specs.Answers.{start_answer};
-ghost use Rattle.radio_air.specs.Radio.{frame_limit};
-ghost use Rattle.radio_air.specs.Queues.{IsStep};
+ghost use Rattle.radio_model.specs.Radio.{frame_limit};
+ghost use Rattle.radio_air.specs.Plain.{IsStep};
 
 use byteorder::{ByteOrder, LittleEndian};
 

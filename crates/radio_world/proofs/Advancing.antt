@@ -7,8 +7,8 @@ use Rattle.bt_base.proofs.PortLaws.{gained-nil}
 use Rattle.push_terms.specs.declared.word.Side.TheVariants.{A, B}
 use Rattle.push_terms.specs.declared.word.Word.{Word}
 use Rattle.capture.specs.Entries.{Begun, Ended, entry_octets, capture_octets}
-use Rattle.radio_air.specs.Controllers.{Controller, is_empty}
-use Rattle.radio_air.specs.Radio.{is_idle}
+use Rattle.radio_model.specs.Controllers.{Controller, is_empty}
+use Rattle.radio_model.specs.Radio.{is_idle}
 use Rattle.room_laws.specs.world_model.specs.Machines.{Upper, Opening}
 use Rattle.room_laws.specs.world_model.specs.Stations.{Station, told}
 use Rattle.room_laws.specs.world_model.specs.Worlds.{Happening, Opens, Closes, entries_of, words_in, all_entries, all_words}

@@ -7,7 +7,7 @@ use Rattle.h4_framing.specs.Packets.{Packet, IsPacket}
 use Rattle.push_terms.specs.declared.word.Side.{Side}
 use Rattle.capture.specs.declared.flow.Flow.TheVariants.{Into}
 use Rattle.capture.specs.Entries.{Entry, Moved, entry_octets, capture_octets, IsEntry}
-use Rattle.radio_air.specs.Radio.{after_answer}
+use Rattle.radio_model.specs.Radio.{after_answer}
 use Rattle.room_laws.specs.world_model.specs.Machines.{Upper}
 use Rattle.room_laws.specs.world_model.specs.Stations.{Order}
 use Rattle.radio_world.specs.Hosts.{Asking, answering, Coming, coming_packet, hears_coming, JoinAnswers, acl_limit, AreSent}

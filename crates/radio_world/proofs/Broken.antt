@@ -3,11 +3,11 @@ use Rattle.std.proofs.Common.{◌≡◌, ℕ, ◌+◌, ◌<◌, ◌^◌, true, L
 use Rattle.std.proofs.lemmas.List.{append-nil}
 use Rattle.bt_base.specs.Streams.{GainedFront}
 use Rattle.bt_base.proofs.PortLaws.{front_none}
-use Rattle.push_script.specs.Runs.{IsWord}
+use Rattle.push_terms.specs.Words.{IsWord}
 use Rattle.push_terms.specs.declared.word.Side.TheVariants.{A, B}
 use Rattle.push_terms.specs.declared.word.Word.{Word}
 use Rattle.capture.specs.Entries.{Entry, Acted, Begun, Ended, entry_octets, capture_octets}
-use Rattle.radio_air.specs.Radio.{found, is_idle, after_deed}
+use Rattle.radio_model.specs.Radio.{found, is_idle, after_deed}
 use Rattle.room_laws.specs.world_model.specs.Machines.{Upper, Opening}
 use Rattle.room_laws.specs.world_model.specs.Pushes.{one_begun, one_ended}
 use Rattle.room_laws.specs.world_model.specs.Stations.{told}

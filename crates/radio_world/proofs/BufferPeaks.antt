@@ -19,9 +19,9 @@ use Rattle.capture.specs.Laws.{led_on}
 use Rattle.capture.specs.Peaks.{buffers_peak}
 use Rattle.capture.proofs.MoreLaws.{outstanding-more}
 use Rattle.capture.proofs.FurtherLaws.{entry_links-more, peak-more}
-use Rattle.radio_air.specs.Controllers.{Controller}
-use Rattle.radio_air.specs.Owed.{back, outstanding_at}
-use Rattle.radio_air.specs.Radio.{Radio}
+use Rattle.radio_model.specs.Controllers.{Controller}
+use Rattle.radio_model.specs.Owed.{back, outstanding_at}
+use Rattle.radio_model.specs.Radio.{Radio}
 use Rattle.room_laws.specs.world_model.specs.Machines.{Upper}
 use Rattle.room_laws.specs.world_model.specs.Stations.{Order, order_packet}
 use Rattle.room_laws.specs.world_model.specs.Worlds.{World, Happening, Tries, Departure, GivingBack, Piecemeal, Answering, Turns, Misses, Opens, Closes, Runs, all_entries, entries_of, first_world}

@@ -8,9 +8,9 @@ use Rattle.bt_base.specs.Streams.{gained}
 use Rattle.push_terms.specs.declared.word.Side.{Side}
 use Rattle.push_terms.specs.declared.word.Side.TheVariants.{A, B}
 use Rattle.capture.specs.Entries.{capture_octets, IsEntry}
-use Rattle.radio_air.specs.Owed.{owes_many}
-use Rattle.radio_air.specs.Queues.{is_crowded}
-use Rattle.radio_air.specs.Radio.{Radio}
+use Rattle.radio_model.specs.Owed.{owes_many}
+use Rattle.radio_model.specs.Queues.{is_crowded}
+use Rattle.radio_model.specs.Radio.{Radio}
 use Rattle.room_laws.specs.world_model.specs.Machines.{Upper}
 use Rattle.room_laws.specs.world_model.specs.Stations.{Order, Station}
 use Rattle.room_laws.specs.world_model.specs.Worlds.{Happening, after_order}

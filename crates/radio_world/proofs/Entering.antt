@@ -15,9 +15,9 @@ use Rattle.push_terms.specs.declared.word.Side.{Side}
 use Rattle.push_terms.specs.declared.word.Side.TheVariants.{A, B}
 use Rattle.capture.specs.declared.flow.Flow.TheVariants.{Into}
 use Rattle.capture.specs.Entries.{Moved, entry_octets, capture_octets}
-use Rattle.radio_air.specs.Controllers.{Controller, Answer, Returned, Stated, Called, LinkMade, LinkGone, GivenBack, first_packet, after_first_of, after_telling, after_handing}
-use Rattle.radio_air.specs.Queues.{IsHandedOver, IsWritten, IsShort, longest_packet}
-use Rattle.radio_air.specs.Radio.{Radio, controller, with_controller, next_packet, after_answer}
+use Rattle.radio_model.specs.Controllers.{Controller, Answer, Returned, Stated, Called, LinkMade, LinkGone, GivenBack, first_packet, after_first_of, after_telling, after_handing}
+use Rattle.radio_model.specs.Queues.{IsHandedOver, IsWritten, IsShort, longest_packet}
+use Rattle.radio_model.specs.Radio.{Radio, controller, with_controller, next_packet, after_answer}
 use Rattle.room_laws.specs.world_model.specs.Machines.{Upper}
 use Rattle.room_laws.specs.world_model.specs.Stations.{Station, Effort}
 use Rattle.room_laws.specs.world_model.specs.Worlds.{all_entries}

@@ -3,7 +3,7 @@ use Rattle.std.proofs.Common.{ℕ, List, [], ◌++◌, Option, refl, sym, subst}
 use Rattle.bt_base.specs.Numbers.{IsHandle}
 use Rattle.push_terms.specs.declared.word.Side.{Side}
 use Rattle.push_terms.specs.declared.word.Side.TheVariants.{A, B}
-use Rattle.radio_air.specs.Radio.{Radio, controller}
+use Rattle.radio_model.specs.Radio.{Radio, controller}
 use Rattle.room_laws.specs.world_model.specs.Machines.{Upper}
 use Rattle.room_laws.specs.world_model.specs.Stations.{Station}
 use Rattle.run_laws.specs.station_laws.specs.WorldLaws.{NextMayCome, AllMayCome}

@@ -17,7 +17,7 @@ use Rattle.push_terms.specs.declared.word.Side.TheVariants.{A, B}
 use Rattle.capture.specs.declared.flow.Flow.TheVariants.{Out}
 use Rattle.capture.specs.Entries.{Entry, Moved, IsEntry, entry_octets, capture_octets}
 use Rattle.capture.proofs.MoreLaws.{octets-in_parts}
-use Rattle.radio_air.specs.Radio.{Radio, after_packet}
+use Rattle.radio_model.specs.Radio.{Radio, after_packet}
 use Rattle.room_laws.specs.world_model.specs.Stations.{Order, order_packet}
 use Rattle.room_laws.specs.world_model.specs.Worlds.{after_order}
 use Rattle.room_laws.specs.turn_laws.proofs.Spelling.{orders_are_spelled}

@@ -1,7 +1,7 @@
 -- A round in which something happened lowers what is left to happen without a word.
 use Rattle.std.proofs.Common.{◌≡◌, ℕ, ◌+◌, ◌<◌, ◌≤◌, List, [], ◌++◌, length, arith}
 use Rattle.push_terms.specs.declared.word.Side.TheVariants.{A, B}
-use Rattle.radio_air.specs.Controllers.{Controller}
+use Rattle.radio_model.specs.Controllers.{Controller}
 use Rattle.room_laws.specs.world_model.specs.Machines.{Upper}
 use Rattle.room_laws.specs.world_model.specs.Worlds.{all_entries}
 use Rattle.room_laws.specs.rest_laws.specs.Premises.{AreOrderly}

@@ -7,7 +7,7 @@ use Rattle.bt_base.proofs.PortLaws.{gained-gained, gained-nil}
 use Rattle.push_terms.specs.declared.word.Side.{Side}
 use Rattle.capture.specs.Entries.{Entry, capture_octets}
 use Rattle.capture.proofs.MoreLaws.{octets-in_parts}
-use Rattle.radio_air.specs.Radio.{after_offer}
+use Rattle.radio_model.specs.Radio.{after_offer}
 use Rattle.room_laws.specs.world_model.specs.Machines.{Upper}
 use Rattle.room_laws.specs.world_model.specs.Stations.{Order, Station}
 use Rattle.room_laws.specs.world_model.specs.Worlds.{all_entries, entries_of}

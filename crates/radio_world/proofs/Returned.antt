@@ -4,11 +4,11 @@ use Rattle.push_terms.specs.declared.word.Side.{Side}
 use Rattle.push_terms.specs.declared.word.Side.TheVariants.{A, B}
 use Rattle.push_terms.specs.declared.word.Way.{Way}
 use Rattle.push_terms.specs.declared.word.Way.TheVariants.{Ab, Ba}
-use Rattle.radio_air.specs.declared.deed.Deed.{Deed}
-use Rattle.radio_air.specs.declared.deed.Deed.TheVariants.{Nothing, Meets, Fires, FiresBoth, Breaks, Cancels}
-use Rattle.radio_air.specs.declared.fate.Fate.{Fate}
-use Rattle.radio_air.specs.Controllers.{Answer, LinkGone, other_side}
-use Rattle.radio_air.specs.Radio.{Radio, controller, after_offer, after_answer, after_meeting, frames, after_deed}
+use Rattle.radio_model.specs.declared.deed.Deed.{Deed}
+use Rattle.radio_model.specs.declared.deed.Deed.TheVariants.{Nothing, Meets, Fires, FiresBoth, Breaks, Cancels}
+use Rattle.radio_model.specs.declared.fate.Fate.{Fate}
+use Rattle.radio_model.specs.Controllers.{Answer, LinkGone, other_side}
+use Rattle.radio_model.specs.Radio.{Radio, controller, after_offer, after_answer, after_meeting, frames, after_deed}
 use Rattle.room_laws.specs.world_model.specs.Machines.{Upper}
 use Rattle.room_laws.specs.world_model.specs.Stations.{Order, Data}
 use Rattle.room_laws.specs.world_model.specs.Worlds.{after_order}

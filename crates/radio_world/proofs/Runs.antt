@@ -6,7 +6,8 @@ use Rattle.std.proofs.lemmas.Grind.{flat_map-append}
 use Rattle.std.proofs.lemmas.Option.{slice_get_within, slice_get-get_or}
 use Rattle.std.proofs.Math.Seq.{take-suc}
 use Rattle.push_terms.specs.declared.word.Word.{Word}
-use Rattle.push_script.specs.Runs.{IsRun, IsWord}
+use Rattle.push_terms.specs.Words.{IsWord}
+use Rattle.push_script.specs.Runs.{IsRun}
 use Rattle.capture.specs.Air.{words_of}
 use Rattle.radio_world.specs.Crowds.{ScriptsAreCounted}
 

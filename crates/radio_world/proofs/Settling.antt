@@ -1,8 +1,8 @@
 -- A round in which nothing happened leaves all settled.
 use Rattle.std.proofs.Common.{◌≡◌, ◌&&◌, Bool, true, false, List, [], None, sym, ap, subst, ◌∙◌}
 use Rattle.push_terms.specs.declared.word.Side.TheVariants.{A, B}
-use Rattle.radio_air.specs.Controllers.{Controller, is_empty}
-use Rattle.radio_air.specs.Radio.{is_apart, is_idle, is_quiet}
+use Rattle.radio_model.specs.Controllers.{Controller, is_empty}
+use Rattle.radio_model.specs.Radio.{is_apart, is_idle, is_quiet}
 use Rattle.room_laws.specs.world_model.specs.Machines.{Upper}
 use Rattle.room_laws.specs.world_model.specs.Pushes.{next_name}
 use Rattle.room_laws.specs.world_model.specs.Stations.{IsStopped}

@@ -5,8 +5,8 @@ use Rattle.bt_base.proofs.PortLaws.{gained-nil}
 use Rattle.push_terms.specs.declared.word.Side.TheVariants.{A, B}
 use Rattle.push_terms.specs.declared.word.Word.{Word}
 use Rattle.capture.specs.Entries.{capture_octets}
-use Rattle.radio_air.specs.Queues.{IsSize}
-use Rattle.radio_air.specs.Radio.{found, is_idle, is_quiet}
+use Rattle.radio_model.specs.Queues.{IsSize}
+use Rattle.radio_model.specs.Radio.{found, is_idle, is_quiet}
 use Rattle.room_laws.specs.world_model.specs.Machines.{Upper}
 use Rattle.room_laws.specs.world_model.specs.Stations.{Station, first_station}
 use Rattle.room_laws.specs.world_model.specs.Turns.{FindsNothing}

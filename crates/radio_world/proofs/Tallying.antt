@@ -8,7 +8,7 @@ use Rattle.capture.specs.declared.flow.Flow.TheVariants.{Into}
 use Rattle.h4_framing.specs.Packets.{Packet, IsPacket}
 use Rattle.push_terms.specs.declared.word.Side.{Side}
 use Rattle.push_terms.specs.declared.word.Word.{Word}
-use Rattle.radio_air.specs.Radio.{after_answer}
+use Rattle.radio_model.specs.Radio.{after_answer}
 use Rattle.room_laws.specs.world_model.specs.Machines.{Upper}
 use Rattle.room_laws.specs.world_model.specs.Stations.{Order, Effort}
 use Rattle.room_laws.specs.world_model.specs.Worlds.{Happening, entries_of, all_entries}

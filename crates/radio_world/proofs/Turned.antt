@@ -4,7 +4,7 @@ use Rattle.std.proofs.lemmas.List.{append-nil}
 use Rattle.std.proofs.lemmas.Grind.{flat_map-append}
 use Rattle.bt_base.specs.Streams.{gained}
 use Rattle.room_laws.specs.acl_fragments.specs.Pieces.{channel_of}
-use Rattle.push_script.specs.Runs.{IsWord}
+use Rattle.push_terms.specs.Words.{IsWord}
 use Rattle.push_terms.specs.declared.word.Side.TheVariants.{A, B}
 use Rattle.push_terms.specs.declared.word.Way.{Way}
 use Rattle.push_terms.specs.declared.word.Way.TheVariants.{Ab, Ba}
@@ -12,16 +12,16 @@ use Rattle.push_terms.specs.declared.word.Word.{Word}
 use Rattle.push_terms.specs.declared.word.Word.TheVariants.{Pass, Lose, Repeat, Damage, Cut, Timer, Drop, Cancel}
 use Rattle.capture.specs.Frames.{way_served}
 use Rattle.capture.specs.Entries.{Acted, entry_octets, capture_octets}
-use Rattle.radio_air.specs.declared.fate.Fate.{Fate}
-use Rattle.radio_air.specs.declared.fate.Fate.TheVariants.{Delivered, Lost, Repeated, CutOff, Changed}
-use Rattle.radio_air.specs.declared.deed.Deed.{Deed}
-use Rattle.radio_air.specs.declared.deed.Deed.TheVariants.{Nothing, Meets, Fires, FiresBoth, Breaks, Cancels}
-use Rattle.radio_air.specs.Fates.{meets, first_can_meet}
-use Rattle.radio_air.specs.Words.{meets_on, passing, deed_of, served_by}
-use Rattle.radio_air.specs.Rings.{first_or_nothing}
-use Rattle.radio_air.specs.Queues.{HasPlaces}
-use Rattle.radio_air.specs.Owed.{IsMet}
-use Rattle.radio_air.specs.Radio.{Radio, is_together, found, first_channel, hands, after_deed, after_meeting}
+use Rattle.radio_model.specs.declared.fate.Fate.{Fate}
+use Rattle.radio_model.specs.declared.fate.Fate.TheVariants.{Delivered, Lost, Repeated, CutOff, Changed}
+use Rattle.radio_model.specs.declared.deed.Deed.{Deed}
+use Rattle.radio_model.specs.declared.deed.Deed.TheVariants.{Nothing, Meets, Fires, FiresBoth, Breaks, Cancels}
+use Rattle.radio_model.specs.Fates.{meets, first_can_meet}
+use Rattle.radio_model.specs.Words.{meets_on, passing, deed_of, served_by}
+use Rattle.radio_model.specs.Radio.{first_or_nothing}
+use Rattle.radio_model.specs.Queues.{HasPlaces}
+use Rattle.radio_model.specs.Owed.{IsMet}
+use Rattle.radio_model.specs.Radio.{Radio, is_together, found, first_channel, hands, after_deed, after_meeting}
 use Rattle.room_laws.specs.world_model.specs.Machines.{Upper}
 use Rattle.room_laws.specs.world_model.specs.Pushes.{Pushes}
 use Rattle.room_laws.specs.world_model.specs.Stations.{Station, Effort}

@@ -6,7 +6,7 @@ use Rattle.push_terms.specs.declared.word.Side.{Side}
 use Rattle.push_terms.specs.declared.word.Word.{Word}
 use Rattle.push_terms.specs.declared.outcome.Outcome.{Outcome}
 use Rattle.capture.specs.Entries.{Begun, Ended, IsEntry, entry_octets, capture_octets}
-use Rattle.radio_air.specs.Radio.{is_apart, is_quiet}
+use Rattle.radio_model.specs.Radio.{is_apart, is_quiet}
 use Rattle.room_laws.specs.world_model.specs.Machines.{Upper}
 use Rattle.room_laws.specs.world_model.specs.Pushes.{next_name}
 use Rattle.room_laws.specs.world_model.specs.Worlds.{Happening, all_entries, all_words}

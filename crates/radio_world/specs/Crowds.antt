@@ -7,8 +7,8 @@ use Rattle.push_terms.specs.declared.word.Word.{Word}
 use Rattle.push_script.specs.Runs.{IsRun}
 use Rattle.capture.specs.Air.{words_of}
 use Rattle.capture.specs.Entries.{Entry, capture_octets}
-use Rattle.radio_air.specs.Air.{Hosts}
-use Rattle.radio_air.specs.Queues.{IsSize}
+use Rattle.radio_model.specs.Air.{Hosts}
+use Rattle.radio_model.specs.Queues.{IsSize}
 use Rattle.room_laws.specs.world_model.specs.Machines.{Upper}
 use Rattle.room_laws.specs.world_model.specs.Stations.{first_station}
 use Rattle.room_laws.specs.world_model.specs.Worlds.{Happening, first_world, all_entries}

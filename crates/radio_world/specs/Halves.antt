@@ -6,8 +6,8 @@ use Rattle.room_laws.specs.acl_fragments.specs.Pieces.{Piece}
 use Rattle.push_terms.specs.declared.word.Side.{Side}
 use Rattle.capture.specs.declared.flow.Flow.TheVariants.{Into}
 use Rattle.capture.specs.Entries.{Moved, IsEntry, entry_octets, capture_octets}
-use Rattle.radio_air.specs.Controllers.{Answer, other_side}
-use Rattle.radio_air.specs.Radio.{Radio, controller, after_offer, after_answer}
+use Rattle.radio_model.specs.Controllers.{Answer, other_side}
+use Rattle.radio_model.specs.Radio.{Radio, controller, after_offer, after_answer}
 use Rattle.room_laws.specs.world_model.specs.Machines.{Upper}
 use Rattle.room_laws.specs.world_model.specs.Stations.{Order, Station, Effort, MakesEffort}
 use Rattle.room_laws.specs.world_model.specs.Worlds.{Happening, Tries, Departure, GivingBack, Piecemeal, Answering, all_entries}

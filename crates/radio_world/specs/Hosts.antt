@@ -6,7 +6,7 @@ use Rattle.h4_framing.specs.Packets.{Packet, spelling, spellings, IsPacket}
 use Rattle.bt_base.specs.Numbers.{IsHandle}
 use Rattle.room_laws.specs.acl_fragments.specs.Pieces.{Piece}
 use Rattle.push_terms.specs.declared.word.Side.{Side}
-use Rattle.radio_air.specs.Controllers.{Answer, answer_packet, piece_packet}
+use Rattle.radio_model.specs.Controllers.{Answer, answer_packet, piece_packet}
 use Rattle.room_laws.specs.world_model.specs.Machines.{Upper}
 use Rattle.room_laws.specs.turn_laws.specs.WorldLaws.{handle_of}
 use Rattle.run_laws.specs.station_laws.specs.Coming.{MayCome}

@@ -6,8 +6,8 @@ use Rattle.push_terms.specs.declared.word.Side.{Side}
 use Rattle.push_terms.specs.declared.word.Side.TheVariants.{A, B}
 use Rattle.capture.specs.declared.flow.Flow.TheVariants.{Out}
 use Rattle.capture.specs.Entries.{Entry, Moved, IsEntry, entry_octets, capture_octets}
-use Rattle.radio_air.specs.Owed.{outstanding_at}
-use Rattle.radio_air.specs.Radio.{Radio, new_radio, controller}
+use Rattle.radio_model.specs.Owed.{outstanding_at}
+use Rattle.radio_model.specs.Radio.{Radio, new_radio, controller}
 use Rattle.room_laws.specs.world_model.specs.Stations.{Order, order_packet}
 use Rattle.room_laws.specs.world_model.specs.Worlds.{after_order}
 

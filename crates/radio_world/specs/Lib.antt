@@ -7,7 +7,7 @@ pub use Rattle.room_laws.specs.hci_packets
 pub use Rattle.room_laws.specs.host_link
 pub use Rattle.push_script
 pub use Rattle.push_terms
-pub use Rattle.radio_air
+pub use Rattle.radio_model
 pub use Rattle.room_laws.specs.rest_laws
 pub use Rattle.room_laws
 pub use Rattle.run_laws

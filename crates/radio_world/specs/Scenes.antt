@@ -6,7 +6,7 @@ use Rattle.push_terms.specs.declared.word.Side.{Side}
 use Rattle.push_terms.specs.declared.word.Word.{Word}
 use Rattle.push_terms.specs.declared.outcome.Outcome.{Outcome}
 use Rattle.capture.specs.Entries.{Begun, Ended, IsEntry, entry_octets, capture_octets}
-use Rattle.radio_air.specs.Radio.{is_apart, is_quiet}
+use Rattle.radio_model.specs.Radio.{is_apart, is_quiet}
 use Rattle.room_laws.specs.world_model.specs.Machines.{Upper, Opening}
 use Rattle.room_laws.specs.world_model.specs.Pushes.{Pushes, no_pushes, next_name, one_begun, one_ended}
 use Rattle.room_laws.specs.world_model.specs.Stations.{Station, told}

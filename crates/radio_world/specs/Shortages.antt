@@ -6,9 +6,9 @@ use Rattle.bt_base.specs.Streams.{gained}
 use Rattle.push_terms.specs.declared.word.Side.{Side}
 use Rattle.push_terms.specs.declared.word.Word.{Word}
 use Rattle.capture.specs.Entries.{IsEntry, capture_octets}
-use Rattle.radio_air.specs.Queues.{is_crowded}
-use Rattle.radio_air.specs.Owed.{owes_many, wants_memory}
-use Rattle.radio_air.specs.Radio.{Radio}
+use Rattle.radio_model.specs.Queues.{is_crowded}
+use Rattle.radio_model.specs.Owed.{owes_many, wants_memory}
+use Rattle.radio_model.specs.Radio.{Radio}
 use Rattle.room_laws.specs.world_model.specs.Machines.{Upper}
 use Rattle.room_laws.specs.world_model.specs.Stations.{Order}
 use Rattle.radio_world.specs.declared.fault.WorldFault.{WorldFault}

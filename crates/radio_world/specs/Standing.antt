@@ -4,7 +4,7 @@ use Rattle.push_terms.specs.declared.word.Side.TheVariants.{A, B}
 use Rattle.push_terms.specs.declared.outcome.Outcome.{Outcome}
 use Rattle.push_terms.specs.declared.outcome.Outcome.TheVariants.{ScriptEnded}
 use Rattle.capture.specs.Entries.{Entry, Ended}
-use Rattle.radio_air.specs.Queues.{IsSize}
+use Rattle.radio_model.specs.Queues.{IsSize}
 use Rattle.room_laws.specs.world_model.specs.Machines.{Upper}
 use Rattle.room_laws.specs.world_model.specs.Pushes.{Pushes, one_ended}
 use Rattle.room_laws.specs.world_model.specs.Stations.{first_station}

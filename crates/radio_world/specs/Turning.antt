@@ -3,9 +3,9 @@ use Rattle.std.specs.Prelude.{ℕ, ◌||◌, Bool, true, false, List, Option, So
 use Rattle.push_terms.specs.declared.word.Side.{Side}
 use Rattle.push_terms.specs.declared.word.Side.TheVariants.{A, B}
 use Rattle.push_terms.specs.declared.word.Way.TheVariants.{Ab, Ba}
-use Rattle.radio_air.specs.declared.deed.Deed.{Deed}
-use Rattle.radio_air.specs.declared.deed.Deed.TheVariants.{Nothing, Meets, Fires, FiresBoth, Breaks, Cancels}
-use Rattle.radio_air.specs.Radio.{Radio, channel}
+use Rattle.radio_model.specs.declared.deed.Deed.{Deed}
+use Rattle.radio_model.specs.declared.deed.Deed.TheVariants.{Nothing, Meets, Fires, FiresBoth, Breaks, Cancels}
+use Rattle.radio_model.specs.Radio.{Radio, channel}
 use Rattle.room_laws.specs.world_model.specs.Machines.{Upper, Cancelled}
 use Rattle.room_laws.specs.world_model.specs.Stations.{Station, told}
 use Rattle.room_laws.specs.world_model.specs.Pushes.{Pushes}

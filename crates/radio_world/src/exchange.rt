@@ -1,8 +1,8 @@
 //! All that moves between a host and its controller.
 
 ghost use Rattle.std.specs.Prelude.{◌≡◌, ◌<◌, [], false, true, Ok, IfOk, OnOk, OnErr};
-ghost use Rattle.radio_air.specs.Owed.{owes_many};
-ghost use Rattle.radio_air.specs.Radio.{after_offer};
+ghost use Rattle.radio_model.specs.Owed.{owes_many};
+ghost use Rattle.radio_model.specs.Radio.{after_offer};
 ghost use Rattle.radio_world.specs.Leaving.{in_radio, after_all};
 ghost use Rattle.radio_world.specs.Counting.{one_if, GoesBy};
 ghost use Rattle.radio_world.specs.Halves.{IsStillIn, IsSaidFirst, MayAllBeHeard, StaysPut, comes_count};

@@ -3,12 +3,12 @@
 ghost use Rattle.std.specs.Prelude.{◌≡◌, ◌≤◌, ◌+◌, ◌^◌, ◌∷◌, [], true, false, ◌<◌, List, replicate, length, OnOk, OnErr};
 ghost use Rattle.std.specs.List.{AllByRecursion};
 ghost use Rattle.bt_base.specs.Streams.{gained, GainedFront};
-ghost use Rattle.push_script.specs.Runs.{IsWord};
+ghost use Rattle.push_terms.specs.Words.{IsWord};
 ghost use Rattle.push_terms.specs.declared.word.Side.TheVariants as sides;
 ghost use Rattle.capture.specs.Entries.{IsEntry, capture_octets};
 ghost use Rattle.capture.specs.Air.{words_of};
 ghost use Rattle.room_laws.specs.rest_laws.specs.Premises.{AreOrderly};
-ghost use Rattle.radio_air.specs.Radio.{found};
+ghost use Rattle.radio_model.specs.Radio.{found};
 ghost use Rattle.radio_world.specs.Turning.{can_be_done};
 ghost use Rattle.radio_world.specs.Standing.{Stands, last_ended, last_entries, all_outcomes};
 ghost use Rattle.room_laws.specs.Rooms.{OwesNoneBack};

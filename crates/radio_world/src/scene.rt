@@ -4,7 +4,7 @@ ghost use Rattle.std.specs.Prelude.{◌≡◌, ◌+◌, ◌<◌, ◌&&◌, ◌�
 ghost use Rattle.bt_base.specs.Streams.{gained, GainedFront};
 ghost use Rattle.push_terms.specs.declared.word.Side.TheVariants as sides;
 ghost use Rattle.capture.specs.Entries.{Ended, IsEntry, entry_octets};
-ghost use Rattle.radio_air.specs.Radio.{is_apart, is_quiet};
+ghost use Rattle.radio_model.specs.Radio.{is_apart, is_quiet};
 ghost use Rattle.room_laws.specs.world_model.specs.Pushes.{next_name, one_ended};
 ghost use Rattle.radio_world.specs.Counting.{one_if, GoesBy};
 ghost use Rattle.radio_world.specs.Halves.{IsStillIn, MayAllBeHeard, StaysPut};

@@ -2,10 +2,10 @@
 
 ghost use Rattle.std.specs.Prelude.{◌≡◌, ◌+◌, ◌<◌, ◌^◌, ◌∷◌, [], ◌⊎◌, true, List, OnErr, OnOk};
 ghost use Rattle.bt_base.specs.Streams.{gained, GainedFront};
-ghost use Rattle.push_script.specs.Runs.{IsWord};
+ghost use Rattle.push_terms.specs.Words.{IsWord};
 ghost use Rattle.capture.specs.Entries.{Acted, entry_octets};
-ghost use Rattle.radio_air.specs.Owed.{IsMet};
-ghost use Rattle.radio_air.specs.Radio.{found, after_deed, is_quiet};
+ghost use Rattle.radio_model.specs.Owed.{IsMet};
+ghost use Rattle.radio_model.specs.Radio.{found, after_deed, is_quiet};
 ghost use Rattle.push_terms.specs.declared.word.Side.TheVariants as sides;
 ghost use Rattle.room_laws.specs.world_model.specs.Worlds.{fired, IsAtRest};
 ghost use Rattle.radio_world.specs.Hosts.{answering, Reacts};

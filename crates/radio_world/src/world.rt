@@ -2,8 +2,8 @@
 
 ghost use Rattle.std.specs.Prelude.{◌≡◌, ◌∷◌, ◌++◌, [], List, min, slice_get, IfOk};
 ghost use Rattle.std.specs.Option.{option_map};
-ghost use Rattle.radio_air.specs.Radio.{frames};
-ghost use Rattle.push_script.specs.Runs.{IsWord};
+ghost use Rattle.radio_model.specs.Radio.{frames};
+ghost use Rattle.push_terms.specs.Words.{IsWord};
 ghost use Rattle.capture.specs.Air.{words_of};
 ghost use Rattle.push_terms.specs.declared.word.Side.TheVariants as sides;
 ghost use Rattle.room_laws.specs.rest_laws.specs.Premises.{AreOrderly};

@@ -8,7 +8,7 @@ use Rattle.station_laws.specs.bt_base.proofs.OctetLemmas.{le16-number}
 use Rattle.station_laws.specs.acl_fragments.specs.Pieces.{Piece}
 use Rattle.station_laws.specs.push_terms.specs.declared.word.Side.{Side}
 use Rattle.station_laws.specs.push_terms.specs.declared.word.Side.TheVariants.{A, B}
-use Rattle.station_laws.specs.radio_air.specs.Controllers.{Answer, Returned, Stated, Called, LinkMade, LinkGone, GivenBack, Controller, after_telling}
+use Rattle.station_laws.specs.radio_model.specs.Controllers.{Answer, Returned, Stated, Called, LinkMade, LinkGone, GivenBack, Controller, after_telling}
 use Rattle.station_laws.specs.world_model.specs.Machines.{Heard, Upper}
 use Rattle.station_laws.specs.world_model.specs.Stations.{Order, Accept, opcode, asks, Station, longest_pdu, gives, holds, is_handle, hears_each, hears_piece, answered, learns, may_accept, hears_answer}
 use Rattle.station_laws.specs.turn_laws.proofs.Leading.{Tiding, Came, Went, tidings, made, Led}

@@ -1,8 +1,8 @@
 -- The page of host b: a request of the other device stands in one place, and a page waits only for host b to be reached.
 use Rattle.std.proofs.Common.{◌≡◌, ℕ, ◌+◌, ◌≤◌, nat_lt, nat_le, Bool, true, false, List, [], ◌∷◌, ◌++◌, if◌then◌else◌, refl, ap, arith}
 use Rattle.station_laws.specs.push_terms.specs.declared.word.Side.TheVariants.{B}
-use Rattle.station_laws.specs.radio_air.specs.Controllers.{Answer, Returned, Stated, Called, LinkMade, LinkGone, GivenBack, gives_back}
-use Rattle.station_laws.specs.radio_air.specs.Radio.{Phase, Apart, Paging, Requested, Together, is_paging}
+use Rattle.station_laws.specs.radio_model.specs.Controllers.{Answer, Returned, Stated, Called, LinkMade, LinkGone, GivenBack, gives_back}
+use Rattle.station_laws.specs.radio_model.specs.Radio.{Phase, Apart, Paging, Requested, Together, is_paging}
 use Rattle.station_laws.specs.world_model.specs.Machines.{Upper}
 use Rattle.station_laws.specs.world_model.specs.Stations.{Order, Reset, ReadBuffers, ReadAddress, Scan, Page, Accept, End, Data, Station, Effort, Taking, Putting, Asking, Leaving, Commanding, MakesEffort}
 use Rattle.station_laws.specs.turn_laws.proofs.Wiring.{asking, count, count-append}

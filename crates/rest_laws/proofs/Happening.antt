@@ -5,11 +5,11 @@ use Rattle.std.proofs.lemmas.Bool.{eq-eqb}
 use Rattle.std.proofs.lemmas.Option.{slice_get_within}
 use Rattle.station_laws.specs.push_terms.specs.declared.word.Side.TheVariants.{A, B}
 use Rattle.station_laws.specs.push_terms.specs.declared.word.Way.TheVariants.{Ab, Ba}
-use Rattle.station_laws.specs.radio_air.specs.declared.fate.Fate.{Fate}
-use Rattle.station_laws.specs.radio_air.specs.declared.deed.Deed.{Deed}
-use Rattle.station_laws.specs.radio_air.specs.declared.deed.Deed.TheVariants.{Nothing, Meets, Fires, FiresBoth, Breaks, Cancels}
-use Rattle.station_laws.specs.radio_air.specs.Controllers.{Answer, Returned, Stated, Called, LinkMade, LinkGone, GivenBack, Controller, after_telling}
-use Rattle.station_laws.specs.radio_air.specs.Radio.{Radio, Phase, is_together, with_controller, after_meeting, found}
+use Rattle.station_laws.specs.radio_model.specs.declared.fate.Fate.{Fate}
+use Rattle.station_laws.specs.radio_model.specs.declared.deed.Deed.{Deed}
+use Rattle.station_laws.specs.radio_model.specs.declared.deed.Deed.TheVariants.{Nothing, Meets, Fires, FiresBoth, Breaks, Cancels}
+use Rattle.station_laws.specs.radio_model.specs.Controllers.{Answer, Returned, Stated, Called, LinkMade, LinkGone, GivenBack, Controller, after_telling}
+use Rattle.station_laws.specs.radio_model.specs.Radio.{Radio, Phase, is_together, with_controller, after_meeting, found}
 use Rattle.station_laws.specs.world_model.specs.Machines.{Linked, Down, TimerFired, Cancelled, Opening, Upper}
 use Rattle.station_laws.specs.world_model.specs.Pushes.{Pushes, one_begun, next_name}
 use Rattle.station_laws.specs.world_model.specs.Stations.{Order, Accept, Station, Effort, Taking, Putting, Asking, Leaving, Commanding, MakesEffort, is_handle, hears_piece, hears_answer, told}

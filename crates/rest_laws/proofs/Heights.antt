@@ -4,8 +4,8 @@ use Rattle.byteorder.specs.Endian.{little_number}
 use Rattle.station_laws.specs.acl_fragments.specs.Pieces.{Piece}
 use Rattle.station_laws.specs.push_terms.specs.declared.word.Side.{Side}
 use Rattle.station_laws.specs.push_terms.specs.declared.word.Side.TheVariants.{A, B}
-use Rattle.station_laws.specs.radio_air.specs.Controllers.{Answer, Returned, Stated, Called, LinkMade, LinkGone, GivenBack, Controller, after_giving_back}
-use Rattle.station_laws.specs.radio_air.specs.Radio.{Radio, Phase, Apart, Paging, Requested, Together, with_piece, after_taking}
+use Rattle.station_laws.specs.radio_model.specs.Controllers.{Answer, Returned, Stated, Called, LinkMade, LinkGone, GivenBack, Controller, after_giving_back}
+use Rattle.station_laws.specs.radio_model.specs.Radio.{Radio, Phase, Apart, Paging, Requested, Together, with_piece, after_taking}
 use Rattle.station_laws.specs.world_model.specs.Machines.{Upper}
 use Rattle.station_laws.specs.world_model.specs.Pushes.{Pushes}
 use Rattle.station_laws.specs.world_model.specs.Stations.{Order, Page, Accept, End, Data, Station, Effort, Taking, Putting, Asking, Leaving, Commanding, MakesEffort, is_handle, answered, learns, may_accept, hears_answer}

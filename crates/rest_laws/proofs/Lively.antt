@@ -2,8 +2,8 @@
 -- left where it is asked for.
 use Rattle.std.proofs.Common.{◌≡◌, ◌⊎◌, ℕ, ◌+◌, ◌≤◌, not, Bool, true, false, List, [], ◌∷◌, ◌++◌, length, inl, inr, refl, sym, ap, ◌∙◌, subst, arith}
 use Rattle.station_laws.specs.push_terms.specs.declared.word.Side.TheVariants.{A, B}
-use Rattle.station_laws.specs.radio_air.specs.Controllers.{Answer, LinkMade, LinkGone, Controller, is_empty}
-use Rattle.station_laws.specs.radio_air.specs.Radio.{Radio, Phase, Apart, Paging, Requested, Together, is_together, joined, parted}
+use Rattle.station_laws.specs.radio_model.specs.Controllers.{Answer, LinkMade, LinkGone, Controller, is_empty}
+use Rattle.station_laws.specs.radio_model.specs.Radio.{Radio, Phase, Apart, Paging, Requested, Together, is_together, joined, parted}
 use Rattle.station_laws.specs.world_model.specs.Machines.{Upper}
 use Rattle.station_laws.specs.world_model.specs.Pushes.{Pushes}
 use Rattle.station_laws.specs.world_model.specs.Stations.{Order, Accept, Station}

@@ -6,7 +6,7 @@ use Rattle.std.proofs.lemmas.Bool.{eq-eqb}
 use Rattle.std.proofs.lemmas.List.{map-append}
 use Rattle.station_laws.specs.push_terms.specs.declared.word.Side.{Side}
 use Rattle.station_laws.specs.push_terms.specs.declared.word.Side.TheVariants.{A, B}
-use Rattle.station_laws.specs.radio_air.specs.Controllers.{Controller, is_empty}
+use Rattle.station_laws.specs.radio_model.specs.Controllers.{Controller, is_empty}
 use Rattle.station_laws.specs.world_model.specs.Machines.{Upper}
 use Rattle.station_laws.specs.world_model.specs.Stations.{Order, Reset, ReadBuffers, ReadAddress, Scan, Page, Accept, End, Data, opcode, asks, Station, Commands, Effort, Taking, Putting, Asking, Leaving, Commanding, MakesEffort}
 use Rattle.station_laws.specs.turn_laws.proofs.Leading.{Tiding, tidings, made}

@@ -5,9 +5,9 @@ use Rattle.station_laws.specs.acl_fragments.specs.Pieces.{Piece}
 use Rattle.station_laws.specs.push_terms.specs.declared.word.Side.{Side}
 use Rattle.station_laws.specs.push_terms.specs.declared.word.Side.TheVariants.{A, B}
 use Rattle.station_laws.specs.capture.specs.Entries.{Entry}
-use Rattle.station_laws.specs.radio_air.specs.Controllers.{Answer, Controller, is_empty}
-use Rattle.station_laws.specs.radio_air.specs.Owed.{back}
-use Rattle.station_laws.specs.radio_air.specs.Radio.{Phase, Apart, Paging, Requested, Together, is_apart, is_paging, is_requested, is_together}
+use Rattle.station_laws.specs.radio_model.specs.Controllers.{Answer, Controller, is_empty}
+use Rattle.station_laws.specs.radio_model.specs.Owed.{back}
+use Rattle.station_laws.specs.radio_model.specs.Radio.{Phase, Apart, Paging, Requested, Together, is_apart, is_paging, is_requested, is_together}
 use Rattle.station_laws.specs.world_model.specs.Machines.{Upper}
 use Rattle.station_laws.specs.world_model.specs.Stations.{Order, Station, opcode, asks, is_end, IsStopped, Taking, Putting, Asking, Leaving, Commanding}
 use Rattle.station_laws.specs.world_model.specs.Worlds.{World, Happening, IsSettled, IsStill, IsAtRest, first_world, all_entries}

@@ -5,8 +5,8 @@ use Rattle.std.proofs.lemmas.Option.{slice_get_within}
 use Rattle.station_laws.specs.bt_base.specs.Octets.{le16}
 use Rattle.station_laws.specs.acl_fragments.specs.Pieces.{Piece}
 use Rattle.station_laws.specs.push_terms.specs.declared.word.Side.TheVariants.{A, B}
-use Rattle.station_laws.specs.radio_air.specs.Controllers.{Answer, Returned, Stated, Called, LinkMade, LinkGone, GivenBack, address, Controller, owing, after_giving_back, after_telling}
-use Rattle.station_laws.specs.radio_air.specs.Radio.{Radio, Phase, Apart, Paging, Requested, is_paging, is_requested, is_together, owes, after_reaching, joined, parted, knows_link, with_controller}
+use Rattle.station_laws.specs.radio_model.specs.Controllers.{Answer, Returned, Stated, Called, LinkMade, LinkGone, GivenBack, address, Controller, owing, after_giving_back, after_telling}
+use Rattle.station_laws.specs.radio_model.specs.Radio.{Radio, Phase, Apart, Paging, Requested, is_paging, is_requested, is_together, owes, after_reaching, joined, parted, knows_link, with_controller}
 use Rattle.station_laws.specs.world_model.specs.Machines.{Upper}
 use Rattle.station_laws.specs.world_model.specs.Pushes.{Pushes}
 use Rattle.station_laws.specs.world_model.specs.Stations.{Order, Reset, ReadBuffers, ReadAddress, Scan, Page, Accept, End, Data, Station, hears_piece, hears_answer}

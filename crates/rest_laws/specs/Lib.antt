@@ -7,7 +7,7 @@ pub use Rattle.station_laws.specs.h4_framing
 pub use Rattle.station_laws.specs.hci_packets
 pub use Rattle.station_laws.specs.host_link
 pub use Rattle.station_laws.specs.push_terms
-pub use Rattle.station_laws.specs.radio_air
+pub use Rattle.station_laws.specs.radio_model
 pub use Rattle.station_laws
 pub use Rattle.station_laws.specs.turn_laws
 pub use Rattle.station_laws.specs.world_model

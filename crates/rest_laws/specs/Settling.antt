@@ -1,6 +1,6 @@
 -- How the world settles (this project's own).
 use Rattle.std.specs.Prelude.{ℕ, ◌≤◌, List, length}
-use Rattle.station_laws.specs.radio_air.specs.Radio.{controller}
+use Rattle.station_laws.specs.radio_model.specs.Radio.{controller}
 use Rattle.station_laws.specs.world_model.specs.Machines.{Upper}
 use Rattle.station_laws.specs.world_model.specs.Worlds.{World, Happening, GivingBack, Turns, Misses, Does, Runs, first_world}
 use Rattle.station_laws.specs.WorldLaws.{AreSizes}

@@ -4,11 +4,11 @@ use Rattle.rest_laws.specs.push_terms.specs.declared.word.Side.TheVariants.{A, B
 use Rattle.rest_laws.specs.push_terms.specs.declared.word.Way.{Way}
 use Rattle.rest_laws.specs.push_terms.specs.declared.word.Way.TheVariants.{Ab, Ba}
 use Rattle.rest_laws.specs.acl_fragments.specs.Pieces.{Piece}
-use Rattle.rest_laws.specs.radio_air.specs.declared.fate.Fate.{Fate}
-use Rattle.rest_laws.specs.radio_air.specs.declared.deed.Deed.{Deed}
-use Rattle.rest_laws.specs.radio_air.specs.declared.deed.Deed.TheVariants.{Nothing, Meets, Fires, FiresBoth, Breaks, Cancels}
-use Rattle.rest_laws.specs.radio_air.specs.Controllers.{Answer, Returned, Stated, Called, LinkMade, LinkGone, GivenBack, Controller, after_telling, after_handing}
-use Rattle.rest_laws.specs.radio_air.specs.Radio.{Radio, is_together, found, after_meeting}
+use Rattle.rest_laws.specs.radio_model.specs.declared.fate.Fate.{Fate}
+use Rattle.rest_laws.specs.radio_model.specs.declared.deed.Deed.{Deed}
+use Rattle.rest_laws.specs.radio_model.specs.declared.deed.Deed.TheVariants.{Nothing, Meets, Fires, FiresBoth, Breaks, Cancels}
+use Rattle.rest_laws.specs.radio_model.specs.Controllers.{Answer, Returned, Stated, Called, LinkMade, LinkGone, GivenBack, Controller, after_telling, after_handing}
+use Rattle.rest_laws.specs.radio_model.specs.Radio.{Radio, is_together, found, after_meeting}
 use Rattle.rest_laws.specs.world_model.specs.Machines.{Upper}
 use Rattle.rest_laws.specs.world_model.specs.Turns.{IsCalm}
 use Rattle.rest_laws.specs.world_model.specs.Stations.{Station, longest_pdu, gives, holds, is_handle, hears_each, hears_piece}

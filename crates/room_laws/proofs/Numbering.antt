@@ -2,8 +2,8 @@
 use Rattle.std.proofs.Common.{◌≡◌, ℕ, ◌+◌, ◌*◌, ◌≤◌, ◌||◌, nat_le, Bool, true, false, List, [], ◌∷◌, length, Option, Some, None, if◌then◌else◌, refl, ap, arith, length-append}
 use Rattle.std.proofs.lemmas.Bool.{lt-leb}
 use Rattle.rest_laws.specs.push_terms.specs.declared.word.Side.TheVariants.{A, B}
-use Rattle.rest_laws.specs.radio_air.specs.Controllers.{Answer, Returned, Stated, Called, LinkMade, LinkGone, GivenBack, Controller}
-use Rattle.rest_laws.specs.radio_air.specs.Radio.{Phase, Apart, Paging, Requested, Together}
+use Rattle.rest_laws.specs.radio_model.specs.Controllers.{Answer, Returned, Stated, Called, LinkMade, LinkGone, GivenBack, Controller}
+use Rattle.rest_laws.specs.radio_model.specs.Radio.{Phase, Apart, Paging, Requested, Together}
 use Rattle.rest_laws.specs.world_model.specs.Machines.{Upper}
 use Rattle.rest_laws.specs.world_model.specs.Stations.{Station}
 use Rattle.rest_laws.specs.turn_laws.proofs.Leading.{Tiding, Came, Went, tidings, made, Led}

@@ -4,10 +4,10 @@ use Rattle.rest_laws.specs.push_terms.specs.declared.word.Side.TheVariants.{A, B
 use Rattle.rest_laws.specs.push_terms.specs.declared.word.Way.{Way}
 use Rattle.rest_laws.specs.push_terms.specs.declared.word.Way.TheVariants.{Ab, Ba}
 use Rattle.rest_laws.specs.capture.specs.Entries.{Entry}
-use Rattle.rest_laws.specs.radio_air.specs.declared.fate.Fate.{Fate}
-use Rattle.rest_laws.specs.radio_air.specs.declared.deed.Deed.{Deed}
-use Rattle.rest_laws.specs.radio_air.specs.declared.deed.Deed.TheVariants.{Nothing, Meets, Fires, FiresBoth, Breaks, Cancels}
-use Rattle.rest_laws.specs.radio_air.specs.Radio.{found, is_together, knows_link, after_meeting}
+use Rattle.rest_laws.specs.radio_model.specs.declared.fate.Fate.{Fate}
+use Rattle.rest_laws.specs.radio_model.specs.declared.deed.Deed.{Deed}
+use Rattle.rest_laws.specs.radio_model.specs.declared.deed.Deed.TheVariants.{Nothing, Meets, Fires, FiresBoth, Breaks, Cancels}
+use Rattle.rest_laws.specs.radio_model.specs.Radio.{found, is_together, knows_link, after_meeting}
 use Rattle.rest_laws.specs.world_model.specs.Machines.{Upper}
 use Rattle.rest_laws.specs.world_model.specs.Stations.{Order, Data}
 use Rattle.rest_laws.specs.world_model.specs.Worlds.{World, Happening, Tries, Departure, GivingBack, Piecemeal, Answering, Turns, Misses, Opens, Closes, piece_on, checks, Acts, Does, Runs, first_world, all_entries, after_order}

@@ -8,8 +8,8 @@ use Rattle.rest_laws.specs.acl_fragments.specs.Pieces.{Piece}
 use Rattle.rest_laws.specs.push_terms.specs.declared.word.Side.{Side}
 use Rattle.rest_laws.specs.push_terms.specs.declared.word.Side.TheVariants.{A, B}
 use Rattle.rest_laws.specs.capture.specs.Entries.{Entry}
-use Rattle.rest_laws.specs.radio_air.specs.Controllers.{Answer, Returned, Stated, Called, LinkMade, LinkGone, GivenBack, Controller, after_giving_back, after_telling}
-use Rattle.rest_laws.specs.radio_air.specs.Radio.{with_piece, after_taking}
+use Rattle.rest_laws.specs.radio_model.specs.Controllers.{Answer, Returned, Stated, Called, LinkMade, LinkGone, GivenBack, Controller, after_giving_back, after_telling}
+use Rattle.rest_laws.specs.radio_model.specs.Radio.{with_piece, after_taking}
 use Rattle.rest_laws.specs.world_model.specs.Machines.{Upper, TimerFired}
 use Rattle.rest_laws.specs.world_model.specs.Stations.{Order, Accept, Data, Station, Effort, Taking, Putting, Asking, Leaving, Commanding, MakesEffort, answered, learns, is_handle, may_accept, hears_answer, hears_each, hears_piece, gives, holds, longest_pdu, told}
 use Rattle.rest_laws.specs.turn_laws.proofs.Leading.{Went, tidings, Led}

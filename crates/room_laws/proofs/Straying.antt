@@ -5,8 +5,8 @@ use Rattle.rest_laws.specs.bt_base.specs.Octets.{le16}
 use Rattle.rest_laws.specs.acl_fragments.specs.Pieces.{Piece}
 use Rattle.rest_laws.specs.push_terms.specs.declared.word.Side.{Side}
 use Rattle.rest_laws.specs.push_terms.specs.declared.word.Side.TheVariants.{A, B}
-use Rattle.rest_laws.specs.radio_air.specs.Controllers.{Answer, Returned, Stated, Called, LinkMade, LinkGone, address, Controller, owing, after_giving_back}
-use Rattle.rest_laws.specs.radio_air.specs.Radio.{Radio, Paging, Requested, controller, owes, scanning, is_reached, after_reaching, may_page, is_requested, joined, knows_link, parted, with_piece, after_taking}
+use Rattle.rest_laws.specs.radio_model.specs.Controllers.{Answer, Returned, Stated, Called, LinkMade, LinkGone, address, Controller, owing, after_giving_back}
+use Rattle.rest_laws.specs.radio_model.specs.Radio.{Radio, Paging, Requested, controller, owes, scanning, is_reached, after_reaching, may_page, is_requested, joined, knows_link, parted, with_piece, after_taking}
 use Rattle.rest_laws.specs.world_model.specs.Stations.{Order, Reset, ReadBuffers, ReadAddress, Scan, Page, Accept, End, Data}
 use Rattle.rest_laws.specs.world_model.specs.Worlds.{piece_on, after_order}
 use Rattle.rest_laws.specs.turn_laws.proofs.Recording.{NoData}

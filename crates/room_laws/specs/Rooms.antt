@@ -2,9 +2,9 @@
 use Rattle.std.specs.Prelude.{ℕ, ◌≡◌, ◌≤◌, ◌+◌, false, List, [], ◌∷◌, length}
 use Rattle.rest_laws.specs.push_terms.specs.declared.word.Side.{Side}
 use Rattle.rest_laws.specs.push_terms.specs.declared.word.Side.TheVariants.{A, B}
-use Rattle.rest_laws.specs.radio_air.specs.Controllers.{Answer, Returned, Stated, Called, LinkMade, LinkGone, GivenBack}
-use Rattle.rest_laws.specs.radio_air.specs.Owed.{owes_many}
-use Rattle.rest_laws.specs.radio_air.specs.Radio.{Radio}
+use Rattle.rest_laws.specs.radio_model.specs.Controllers.{Answer, Returned, Stated, Called, LinkMade, LinkGone, GivenBack}
+use Rattle.rest_laws.specs.radio_model.specs.Owed.{owes_many}
+use Rattle.rest_laws.specs.radio_model.specs.Radio.{Radio}
 use Rattle.rest_laws.specs.world_model.specs.Machines.{Upper}
 use Rattle.rest_laws.specs.world_model.specs.Stations.{Order}
 use Rattle.rest_laws.specs.world_model.specs.Worlds.{after_order, World, Happening, Runs, first_world}

@@ -5,9 +5,9 @@ use Rattle.std.proofs.lemmas.List.{append-nil}
 use Rattle.station_laws.specs.push_terms.specs.declared.word.Side.TheVariants.{A, B}
 use Rattle.station_laws.specs.push_terms.specs.declared.word.Way.TheVariants.{Ab, Ba}
 use Rattle.station_laws.specs.capture.specs.Entries.{Entry}
-use Rattle.station_laws.specs.radio_air.specs.declared.deed.Deed.{Deed}
-use Rattle.station_laws.specs.radio_air.specs.declared.deed.Deed.TheVariants.{Nothing, Meets, Fires, FiresBoth, Breaks, Cancels}
-use Rattle.station_laws.specs.radio_air.specs.Radio.{found}
+use Rattle.station_laws.specs.radio_model.specs.declared.deed.Deed.{Deed}
+use Rattle.station_laws.specs.radio_model.specs.declared.deed.Deed.TheVariants.{Nothing, Meets, Fires, FiresBoth, Breaks, Cancels}
+use Rattle.station_laws.specs.radio_model.specs.Radio.{found}
 use Rattle.station_laws.specs.world_model.specs.Machines.{Upper}
 use Rattle.station_laws.specs.world_model.specs.Worlds.{World, Happening, Tries, Departure, GivingBack, Piecemeal, Answering, Turns, Misses, Opens, Closes, Acts, Does, Runs, one_turned, entries_of, all_entries, first_world}
 use Rattle.run_laws.specs.Breaking.{MayAct, IsWritten, WrittenIsHappened, FrontsAreRuns}

@@ -4,8 +4,8 @@ use Rattle.std.proofs.Math.Nat.{le-min}
 use Rattle.std.proofs.lemmas.List.{take-append-drop}
 use Rattle.station_laws.specs.push_terms.specs.declared.word.Side.TheVariants.{A, B}
 use Rattle.station_laws.specs.push_terms.specs.declared.word.Way.{Way}
-use Rattle.station_laws.specs.radio_air.specs.Controllers.{is_empty}
-use Rattle.station_laws.specs.radio_air.specs.Radio.{Phase, Apart, Together}
+use Rattle.station_laws.specs.radio_model.specs.Controllers.{is_empty}
+use Rattle.station_laws.specs.radio_model.specs.Radio.{Phase, Apart, Together}
 use Rattle.station_laws.specs.world_model.specs.Machines.{Upper, Spoken, drain, all_said, Breath, Whole, Short}
 use Rattle.station_laws.specs.world_model.specs.Pushes.{Pushes}
 use Rattle.station_laws.specs.world_model.specs.Turns.{Party, Pair, breathes, speaks}

@@ -7,10 +7,10 @@ use Rattle.station_laws.specs.acl_fragments.specs.Pieces.{Piece, channel_of}
 use Rattle.station_laws.specs.acl_fragments.specs.Cuts.{cut}
 use Rattle.station_laws.specs.hci_packets.specs.declared.acl.Boundary.TheVariants.{First}
 use Rattle.byteorder.specs.Endian.{little_number}
-use Rattle.station_laws.specs.radio_air.specs.declared.deed.Deed.{Deed}
-use Rattle.station_laws.specs.radio_air.specs.declared.deed.Deed.TheVariants.{Nothing, Meets, Fires, FiresBoth, Breaks, Cancels}
-use Rattle.station_laws.specs.radio_air.specs.Controllers.{Controller, Answer, Returned, Stated, Called, LinkMade, LinkGone, GivenBack, after_handing}
-use Rattle.station_laws.specs.radio_air.specs.Radio.{Radio, controller, with_controller, after_meeting, after_offer, parted, found, is_together}
+use Rattle.station_laws.specs.radio_model.specs.declared.deed.Deed.{Deed}
+use Rattle.station_laws.specs.radio_model.specs.declared.deed.Deed.TheVariants.{Nothing, Meets, Fires, FiresBoth, Breaks, Cancels}
+use Rattle.station_laws.specs.radio_model.specs.Controllers.{Controller, Answer, Returned, Stated, Called, LinkMade, LinkGone, GivenBack, after_handing}
+use Rattle.station_laws.specs.radio_model.specs.Radio.{Radio, controller, with_controller, after_meeting, after_offer, parted, found, is_together}
 use Rattle.station_laws.specs.world_model.specs.Machines.{LinkEvent, Up, Down, News, Linked, Heard, TimerFired, Cancelled, Opening, Upper}
 use Rattle.station_laws.specs.world_model.specs.Pushes.{Pushes, one_begun, one_ended}
 use Rattle.station_laws.specs.world_model.specs.Turns.{IsCalm, FindsNothing}

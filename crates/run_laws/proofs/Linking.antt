@@ -4,8 +4,8 @@ use Rattle.std.proofs.lemmas.Bool.{eq-eqb, lt-ltb}
 use Rattle.station_laws.specs.push_terms.specs.declared.word.Side.{Side}
 use Rattle.station_laws.specs.push_terms.specs.declared.word.Side.TheVariants.{A, B}
 use Rattle.station_laws.specs.push_terms.specs.declared.word.Way.{Way}
-use Rattle.station_laws.specs.radio_air.specs.Controllers.{Stated, Called, LinkMade, LinkGone, Controller}
-use Rattle.station_laws.specs.radio_air.specs.Radio.{Radio, Apart, Paging, Requested, Together, owes, may_page, after_reaching, parted_by}
+use Rattle.station_laws.specs.radio_model.specs.Controllers.{Stated, Called, LinkMade, LinkGone, Controller}
+use Rattle.station_laws.specs.radio_model.specs.Radio.{Radio, Apart, Paging, Requested, Together, owes, may_page, after_reaching, parted_by}
 use Rattle.station_laws.specs.world_model.specs.Machines.{Up, Down, Linked, Upper}
 use Rattle.station_laws.specs.world_model.specs.Pushes.{Pushes}
 use Rattle.station_laws.specs.world_model.specs.Stations.{Page, Accept, End, opcode, Station, Asking, Leaving, Commanding, hears_answer, upper_told}

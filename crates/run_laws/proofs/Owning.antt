@@ -6,8 +6,8 @@ use Rattle.station_laws.specs.acl_fragments.specs.Pieces.{Piece}
 use Rattle.station_laws.specs.push_terms.specs.declared.word.Side.{Side}
 use Rattle.station_laws.specs.push_terms.specs.declared.word.Side.TheVariants.{A, B}
 use Rattle.station_laws.specs.push_terms.specs.declared.word.Word.{Word}
-use Rattle.station_laws.specs.radio_air.specs.Controllers.{Answer, Controller, after_giving_back, after_handing}
-use Rattle.station_laws.specs.radio_air.specs.Radio.{with_controller, knows_link, is_together, with_piece, after_taking}
+use Rattle.station_laws.specs.radio_model.specs.Controllers.{Answer, Controller, after_giving_back, after_handing}
+use Rattle.station_laws.specs.radio_model.specs.Radio.{with_controller, knows_link, is_together, with_piece, after_taking}
 use Rattle.station_laws.specs.world_model.specs.Machines.{Upper}
 use Rattle.station_laws.specs.world_model.specs.Stations.{Order, Data, Station, Effort, MakesEffort, hears_piece, hears_answer}
 use Rattle.station_laws.specs.world_model.specs.Worlds.{World, Happening, Tries, Departure, GivingBack, Piecemeal, Answering, Does, Runs, piece_on, words_in, all_words}

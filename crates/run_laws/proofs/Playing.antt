@@ -1,17 +1,17 @@
 -- Each turn is a stretch of a run of the world, and so is each run of turns.
 use Rattle.std.proofs.Common.{◌≡◌, ℕ, ◌+◌, ◌≤◌, Bool, true, false, List, [], ◌∷◌, ◌++◌, Option, if◌then◌else◌, refl, sym, ap, subst, ◌∙◌, arith}
 use Rattle.std.specs.List.{AllByRecursion}
-use Rattle.station_laws.specs.push_script.specs.Runs.{IsWord}
+use Rattle.station_laws.specs.push_terms.specs.Words.{IsWord}
 use Rattle.station_laws.specs.push_terms.specs.declared.word.Side.TheVariants.{A, B}
 use Rattle.station_laws.specs.push_terms.specs.declared.word.Way.{Way}
 use Rattle.station_laws.specs.push_terms.specs.declared.word.Way.TheVariants.{Ab, Ba}
 use Rattle.station_laws.specs.push_terms.specs.declared.word.Word.{Word}
-use Rattle.station_laws.specs.radio_air.specs.declared.fate.Fate.{Fate}
-use Rattle.station_laws.specs.radio_air.specs.declared.deed.Deed.{Deed}
-use Rattle.station_laws.specs.radio_air.specs.declared.deed.Deed.TheVariants.{Nothing, Meets, Fires, FiresBoth, Breaks, Cancels}
-use Rattle.station_laws.specs.radio_air.specs.Fates.{meets, comes_of}
-use Rattle.station_laws.specs.radio_air.specs.Words.{deed_of, served_by}
-use Rattle.station_laws.specs.radio_air.specs.Radio.{is_apart}
+use Rattle.station_laws.specs.radio_model.specs.declared.fate.Fate.{Fate}
+use Rattle.station_laws.specs.radio_model.specs.declared.deed.Deed.{Deed}
+use Rattle.station_laws.specs.radio_model.specs.declared.deed.Deed.TheVariants.{Nothing, Meets, Fires, FiresBoth, Breaks, Cancels}
+use Rattle.station_laws.specs.radio_model.specs.Fates.{meets, comes_of}
+use Rattle.station_laws.specs.radio_model.specs.Words.{deed_of, served_by}
+use Rattle.station_laws.specs.radio_model.specs.Radio.{is_apart}
 use Rattle.station_laws.specs.world_model.specs.Machines.{Up, Down, Linked, TimerFired, Cancelled, Opening, Upper, Reaction}
 use Rattle.station_laws.specs.world_model.specs.Pushes.{Pushes, one_begun, one_ended}
 use Rattle.station_laws.specs.world_model.specs.Turns.{Party, Pair, Step, Turn, Idle, Rise, Fall, Began, Ended, IsCalmPair, FindsNothing, Acts, Moves, found, fires, hears, notes, receives, event_heard, with_event, words_in, words_of, first_pair}

@@ -5,8 +5,8 @@ use Rattle.station_laws.specs.hci_packets.specs.declared.acl.Boundary.TheVariant
 use Rattle.station_laws.specs.acl_fragments.specs.Pieces.{Piece}
 use Rattle.station_laws.specs.acl_fragments.specs.Cuts.{cut}
 use Rattle.station_laws.specs.push_terms.specs.declared.word.Side.{Side}
-use Rattle.station_laws.specs.radio_air.specs.Controllers.{GivenBack, Controller}
-use Rattle.station_laws.specs.radio_air.specs.Radio.{frame_limit, with_piece, after_taking}
+use Rattle.station_laws.specs.radio_model.specs.Controllers.{GivenBack, Controller}
+use Rattle.station_laws.specs.radio_model.specs.Radio.{frame_limit, with_piece, after_taking}
 use Rattle.station_laws.specs.world_model.specs.Machines.{Upper, all_said}
 use Rattle.station_laws.specs.world_model.specs.Stations.{Data, Station, Taking, Putting, gives, holds, longest_pdu}
 use Rattle.station_laws.specs.turn_laws.specs.Premises.{IsFrame, SaysFrames}

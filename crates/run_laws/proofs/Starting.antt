@@ -5,8 +5,8 @@ use Rattle.byteorder.specs.Endian.{little_number}
 use Rattle.station_laws.specs.bt_base.specs.Octets.{le16}
 use Rattle.station_laws.specs.bt_base.proofs.OctetLemmas.{le16-number}
 use Rattle.station_laws.specs.push_terms.specs.declared.word.Side.TheVariants.{A, B}
-use Rattle.station_laws.specs.radio_air.specs.Controllers.{Returned, address}
-use Rattle.station_laws.specs.radio_air.specs.Radio.{Apart}
+use Rattle.station_laws.specs.radio_model.specs.Controllers.{Returned, address}
+use Rattle.station_laws.specs.radio_model.specs.Radio.{Apart}
 use Rattle.station_laws.specs.world_model.specs.Machines.{Upper}
 use Rattle.station_laws.specs.world_model.specs.Pushes.{Pushes, no_pushes}
 use Rattle.station_laws.specs.world_model.specs.Stations.{Order, ReadBuffers, ReadAddress, Scan, opcode, Station, Commanding, learns}

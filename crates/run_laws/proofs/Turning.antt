@@ -2,19 +2,19 @@
 use Rattle.std.proofs.Common.{◌≡◌, ◌⊎◌, ℕ, ◌+◌, ◌≤◌, ◌||◌, Bool, true, false, List, [], ◌∷◌, ◌++◌, length, nat_lt, Option, Some, None, if◌then◌else◌, inl, inr, refl, sym, ap, subst, ◌∙◌}
 use Rattle.station_laws.specs.acl_fragments.specs.Pieces.{Piece, channel_of}
 use Rattle.station_laws.specs.capture.specs.Frames.{frame_pieces, way_served}
-use Rattle.station_laws.specs.push_script.specs.Runs.{IsWord}
+use Rattle.station_laws.specs.push_terms.specs.Words.{IsWord}
 use Rattle.station_laws.specs.push_terms.specs.declared.word.Side.TheVariants.{A, B}
 use Rattle.station_laws.specs.push_terms.specs.declared.word.Way.{Way}
 use Rattle.station_laws.specs.push_terms.specs.declared.word.Way.TheVariants.{Ab, Ba}
 use Rattle.station_laws.specs.push_terms.specs.declared.word.Word.{Word}
 use Rattle.station_laws.specs.push_terms.specs.declared.word.Word.TheVariants.{Pass, Lose, Repeat, Damage, Cut, Timer, Drop, Cancel}
-use Rattle.station_laws.specs.radio_air.specs.declared.fate.Fate.{Fate}
-use Rattle.station_laws.specs.radio_air.specs.declared.fate.Fate.TheVariants.{Delivered, Lost, Repeated, CutOff, Changed}
-use Rattle.station_laws.specs.radio_air.specs.declared.deed.Deed.{Deed}
-use Rattle.station_laws.specs.radio_air.specs.declared.deed.Deed.TheVariants.{Nothing, Meets, Breaks}
-use Rattle.station_laws.specs.radio_air.specs.Fates.{meets, comes_of, can_meet}
-use Rattle.station_laws.specs.radio_air.specs.Words.{first_meets, meets_on, passing, deed_of, served_by}
-use Rattle.station_laws.specs.radio_air.specs.Radio.{is_together, is_paging, is_requested, after_meeting, parted}
+use Rattle.station_laws.specs.radio_model.specs.declared.fate.Fate.{Fate}
+use Rattle.station_laws.specs.radio_model.specs.declared.fate.Fate.TheVariants.{Delivered, Lost, Repeated, CutOff, Changed}
+use Rattle.station_laws.specs.radio_model.specs.declared.deed.Deed.{Deed}
+use Rattle.station_laws.specs.radio_model.specs.declared.deed.Deed.TheVariants.{Nothing, Meets, Breaks}
+use Rattle.station_laws.specs.radio_model.specs.Fates.{meets, comes_of, can_meet}
+use Rattle.station_laws.specs.radio_model.specs.Words.{first_meets, meets_on, passing, deed_of, served_by}
+use Rattle.station_laws.specs.radio_model.specs.Radio.{is_together, is_paging, is_requested, after_meeting, parted}
 use Rattle.station_laws.specs.world_model.specs.Machines.{Down, Linked, Heard, Upper, Reaction}
 use Rattle.station_laws.specs.world_model.specs.Pushes.{Pushes}
 use Rattle.station_laws.specs.world_model.specs.Turns.{Party, IsCalm, notes, receives}

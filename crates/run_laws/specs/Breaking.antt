@@ -3,12 +3,12 @@
 use Rattle.std.specs.Prelude.{ℕ, ◌≡◌, ◌+◌, ◌||◌, true, List, [], ◌∷◌, ◌++◌, Some}
 use Rattle.station_laws.specs.acl_fragments.specs.Pieces.{Piece}
 use Rattle.station_laws.specs.push_terms.specs.declared.word.Side.TheVariants.{A, B}
-use Rattle.station_laws.specs.push_script.specs.Runs.{IsWord}
+use Rattle.station_laws.specs.push_terms.specs.Words.{IsWord}
 use Rattle.station_laws.specs.capture.specs.Entries.{Entry}
-use Rattle.station_laws.specs.radio_air.specs.declared.deed.Deed.{Deed}
-use Rattle.station_laws.specs.radio_air.specs.declared.deed.Deed.TheVariants.{Nothing, Meets, Fires, FiresBoth, Breaks, Cancels}
-use Rattle.station_laws.specs.radio_air.specs.Controllers.{Answer}
-use Rattle.station_laws.specs.radio_air.specs.Radio.{found}
+use Rattle.station_laws.specs.radio_model.specs.declared.deed.Deed.{Deed}
+use Rattle.station_laws.specs.radio_model.specs.declared.deed.Deed.TheVariants.{Nothing, Meets, Fires, FiresBoth, Breaks, Cancels}
+use Rattle.station_laws.specs.radio_model.specs.Controllers.{Answer}
+use Rattle.station_laws.specs.radio_model.specs.Radio.{found}
 use Rattle.station_laws.specs.world_model.specs.Machines.{Upper}
 use Rattle.station_laws.specs.world_model.specs.Pushes.{next_name}
 use Rattle.station_laws.specs.world_model.specs.Turns.{may_be_cancelled}

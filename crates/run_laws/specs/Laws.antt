@@ -1,7 +1,7 @@
 -- Each run of turns is the run of some world, for every two machines and whatever their ports answer.
 use Rattle.std.specs.Prelude.{ℕ, ◌≡◌, ◌≤◌, ◌+◌, true, List, [], ◌∷◌}
 use Rattle.std.specs.List.{AllByRecursion}
-use Rattle.station_laws.specs.push_script.specs.Runs.{IsWord}
+use Rattle.station_laws.specs.push_terms.specs.Words.{IsWord}
 use Rattle.station_laws.specs.world_model.specs.Machines.{Upper}
 use Rattle.station_laws.specs.world_model.specs.Turns.{Step, Rise, Pair, IsCalmPair, Moves, words_of, first_pair}
 use Rattle.station_laws.specs.world_model.specs.Worlds.{World, Happening, Runs, IsAtRest, all_words, first_world}

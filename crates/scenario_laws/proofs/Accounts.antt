@@ -10,8 +10,8 @@ use Rattle.radio_world.specs.capture.specs.Histories.{AtEach}
 use Rattle.radio_world.specs.capture.specs.Links.{Link, Linking, linking}
 use Rattle.radio_world.specs.capture.specs.Moves.{Move, moves}
 use Rattle.radio_world.specs.capture.proofs.HistoryLaws.{each_after-more, at_each-more, at_each-whole}
-use Rattle.radio_world.specs.radio_air.specs.Course.{PushesInTurn}
-use Rattle.radio_world.specs.radio_air.specs.Honest.{sent_on, completed_on, IsHonest, IsNumbered, IsOnItsLink, AreHonest}
+use Rattle.radio_world.specs.radio_model.specs.Course.{PushesInTurn}
+use Rattle.radio_world.specs.radio_model.specs.Honest.{sent_on, completed_on, IsHonest, IsNumbered, IsOnItsLink, AreHonest}
 use Rattle.host_laws.specs.world_model.specs.Worlds.{all_entries}
 use Rattle.host_laws.specs.air_laws.proofs.Addressing.{captures_are_honest}
 use Rattle.host_laws.specs.air_laws.proofs.Balancing.{buffers_are_kept}

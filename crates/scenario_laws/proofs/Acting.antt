@@ -7,7 +7,7 @@ use Rattle.std.proofs.lemmas.List.Concat.{flat_map-append}
 use Rattle.std.proofs.lemmas.List.Sums.{fold-append}
 use Rattle.radio_world.specs.push_terms.specs.declared.outcome.Outcome.{Outcome}
 use Rattle.radio_world.specs.capture.specs.Pdus.{Pdu}
-use Rattle.radio_world.specs.radio_air.specs.declared.fate.Fate.{Fate}
+use Rattle.radio_world.specs.radio_model.specs.declared.fate.Fate.{Fate}
 use Rattle.host_laws.specs.world_model.specs.Machines.{LinkEvent, Up, Down, News, Linked, Failed, Heard, TimerFired, Cancelled, Opening, Upper}
 use Rattle.host_laws.specs.world_model.specs.Talks.{Talk, Told, Said, Unsent, Met, Done}
 use Rattle.host_laws.specs.world_model.specs.PerLink.{Linkage, no_linkage, linkage_after, linkage}

@@ -10,7 +10,7 @@ use Rattle.radio_world.specs.capture.specs.Entries.{Entry, Ended}
 use Rattle.radio_world.specs.capture.specs.Histories.{EachAfter}
 use Rattle.radio_world.specs.capture.proofs.HistoryLaws.{each_after-more}
 use Rattle.host_laws.specs.link_talk.specs.Waits.{waits, has_check_word}
-use Rattle.radio_world.specs.radio_air.specs.Air.{KeepsTo, Obeys}
+use Rattle.radio_world.specs.radio_model.specs.Air.{KeepsTo, Obeys}
 use Rattle.host_laws.specs.world_model.specs.Worlds.{Happening, IsAtRest, all_entries, all_words}
 use Rattle.host_laws.specs.turn_laws.specs.Laws.{IsFront}
 use Rattle.host_laws.specs.air_laws.specs.AirLaws.{Agrees, PassesEnds, TellsHosts}

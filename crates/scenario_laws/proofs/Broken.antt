@@ -6,7 +6,7 @@ use Rattle.radio_world.specs.capture.specs.Entries.{Entry}
 use Rattle.radio_world.specs.capture.specs.Histories.{EachAfter}
 use Rattle.host_laws.specs.air_laws.proofs.Crowding as air
 use Rattle.host_laws.specs.link_talk.specs.Captures.{objects_heard}
-use Rattle.radio_world.specs.radio_air.specs.Air.{KeepsTo}
+use Rattle.radio_world.specs.radio_model.specs.Air.{KeepsTo}
 use Rattle.host_laws.specs.world_model.specs.Worlds.{all_entries}
 use Rattle.scenario_laws.specs.Air.{hosts_of}
 use Rattle.scenario_laws.specs.Broken.{ScenariosBreakOff, CrowdsAreTold}

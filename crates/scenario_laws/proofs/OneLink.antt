@@ -16,11 +16,11 @@ use Rattle.radio_world.specs.capture.specs.Histories.{AtEach}
 use Rattle.radio_world.specs.capture.specs.Links.{Linking}
 use Rattle.radio_world.specs.capture.proofs.HistoryLaws.{led_by-append}
 use Rattle.std.specs.Prelude.{option_to_list}
-use Rattle.radio_world.specs.radio_air.specs.declared.fate.Fate.{Fate}
-use Rattle.radio_world.specs.radio_air.specs.declared.deed.Deed.{Deed}
-use Rattle.radio_world.specs.radio_air.specs.declared.deed.Deed.TheVariants.{Nothing, Meets, Fires, FiresBoth, Breaks, Cancels}
-use Rattle.radio_world.specs.radio_air.specs.Controllers.{Answer, Returned, Stated, Called, LinkMade, LinkGone, GivenBack, Controller, owing, after_telling, answer_packet, piece_packet}
-use Rattle.radio_world.specs.radio_air.specs.Radio.{Radio, Phase, Apart, Paging, Requested, Together, is_together, is_requested, is_reached, after_reaching, may_page, knows_link, joined, parted, owes, scanning, with_controller, after_meeting, found}
+use Rattle.radio_world.specs.radio_model.specs.declared.fate.Fate.{Fate}
+use Rattle.radio_world.specs.radio_model.specs.declared.deed.Deed.{Deed}
+use Rattle.radio_world.specs.radio_model.specs.declared.deed.Deed.TheVariants.{Nothing, Meets, Fires, FiresBoth, Breaks, Cancels}
+use Rattle.radio_world.specs.radio_model.specs.Controllers.{Answer, Returned, Stated, Called, LinkMade, LinkGone, GivenBack, Controller, owing, after_telling, answer_packet, piece_packet}
+use Rattle.radio_world.specs.radio_model.specs.Radio.{Radio, Phase, Apart, Paging, Requested, Together, is_together, is_requested, is_reached, after_reaching, may_page, knows_link, joined, parted, owes, scanning, with_controller, after_meeting, found}
 use Rattle.host_laws.specs.world_model.specs.Machines.{LinkEvent, Up, Down, News, Linked, Heard, TimerFired, Cancelled, Upper}
 use Rattle.host_laws.specs.world_model.specs.Stations.{Order, Reset, ReadBuffers, ReadAddress, Scan, Page, Accept, End, Data, Station, Effort, Taking, Putting, Asking, Leaving, Commanding, MakesEffort, order_packet, event_in, upper_told, hears_answer, hears_piece, told}
 use Rattle.host_laws.specs.world_model.specs.Worlds.{World, Happening, Tries, Departure, GivingBack, Piecemeal, Answering, Turns, Misses, Opens, Closes, entries_of, all_entries, all_words, checks, fired, after_order, Acts, Does, Runs, first_world}

@@ -11,8 +11,8 @@ use Rattle.radio_world.specs.push_terms.specs.declared.word.Way.TheVariants.{Ab,
 use Rattle.radio_world.specs.capture.specs.Entries.{Entry}
 use Rattle.radio_world.specs.capture.specs.Links.{Link, link_up}
 use Rattle.radio_world.specs.capture.specs.Pdus.{pdus}
-use Rattle.radio_world.specs.radio_air.specs.declared.deed.Deed.{Deed}
-use Rattle.radio_world.specs.radio_air.specs.declared.deed.Deed.TheVariants.{Nothing, Meets, Fires, FiresBoth, Breaks, Cancels}
+use Rattle.radio_world.specs.radio_model.specs.declared.deed.Deed.{Deed}
+use Rattle.radio_world.specs.radio_model.specs.declared.deed.Deed.TheVariants.{Nothing, Meets, Fires, FiresBoth, Breaks, Cancels}
 use Rattle.host_laws.specs.channel_model.specs.Calls.{link_down}
 use Rattle.host_laws.specs.channel_model.specs.Giving.{next_given}
 use Rattle.host_laws.specs.channel_model.proofs.Lookups.{and_off}

@@ -9,10 +9,10 @@ use Rattle.radio_world.specs.push_terms.specs.declared.outcome.Outcome.TheVarian
 use Rattle.radio_world.specs.push_terms.specs.declared.word.Side.TheVariants.{A, B}
 use Rattle.radio_world.specs.push_terms.specs.declared.word.Way.TheVariants.{Ab, Ba}
 use Rattle.radio_world.specs.capture.specs.Entries.{Entry, Ended}
-use Rattle.radio_world.specs.radio_air.specs.declared.deed.Deed.{Deed}
-use Rattle.radio_world.specs.radio_air.specs.declared.deed.Deed.TheVariants.{Nothing, Meets, Fires, FiresBoth, Breaks, Cancels}
-use Rattle.radio_world.specs.radio_air.specs.Course.{push_begun, pushes_begun}
-use Rattle.radio_world.specs.radio_air.specs.Radio.{found}
+use Rattle.radio_world.specs.radio_model.specs.declared.deed.Deed.{Deed}
+use Rattle.radio_world.specs.radio_model.specs.declared.deed.Deed.TheVariants.{Nothing, Meets, Fires, FiresBoth, Breaks, Cancels}
+use Rattle.radio_world.specs.radio_model.specs.Course.{push_begun, pushes_begun}
+use Rattle.radio_world.specs.radio_model.specs.Radio.{found}
 use Rattle.host_laws.specs.world_model.specs.Machines.{Upper}
 use Rattle.host_laws.specs.world_model.specs.Pushes.{Pushes, next_name, one_ended}
 use Rattle.host_laws.specs.world_model.specs.Worlds.{World, Happening, Tries, Departure, GivingBack, Piecemeal, Answering, Turns, Misses, Opens, Closes, Acts, Does, Runs, entries_of, all_entries}

@@ -8,7 +8,7 @@ use Rattle.radio_world.specs.push_script.specs.declared.scenario.Scenario.{Scena
 use Rattle.radio_world.specs.push_terms.specs.declared.outcome.Outcome.{Outcome}
 use Rattle.radio_world.specs.push_terms.specs.declared.outcome.Outcome.TheVariants.{ScriptEnded}
 use Rattle.radio_world.specs.capture.specs.Entries.{Entry, Moved, Acted, Begun, Ended}
-use Rattle.radio_world.specs.radio_air.specs.Course.{push_begun, pushes_begun}
+use Rattle.radio_world.specs.radio_model.specs.Course.{push_begun, pushes_begun}
 use Rattle.host_laws.specs.world_model.specs.Pushes.{Pushes}
 use Rattle.host_laws.specs.world_model.specs.Worlds.{all_entries}
 use Rattle.host_laws.specs.air_laws.specs.AirLaws.{IsLastEnd}

@@ -12,12 +12,12 @@ use Rattle.host_laws.specs.link_talk.specs.declared.call.Call.{Call}
 use Rattle.host_laws.specs.link_talk.specs.Sayings.{Command, Carried}
 use Rattle.host_laws.specs.link_talk.specs.Senses.{sense}
 use Rattle.host_laws.specs.link_talk.specs.Requests.{call, went}
-use Rattle.radio_world.specs.radio_air.specs.declared.deed.Deed.{Deed}
-use Rattle.radio_world.specs.radio_air.specs.declared.deed.Deed.TheVariants.{Nothing, Meets, Fires, FiresBoth, Breaks, Cancels}
-use Rattle.radio_world.specs.radio_air.specs.declared.fate.Fate.{Fate}
-use Rattle.radio_world.specs.radio_air.specs.declared.fate.Fate.TheVariants.{Delivered, Lost, Repeated, CutOff, Changed}
-use Rattle.radio_world.specs.radio_air.specs.Controllers.{is_empty}
-use Rattle.radio_world.specs.radio_air.specs.Fates.{changed, meets, comes_of}
+use Rattle.radio_world.specs.radio_model.specs.declared.deed.Deed.{Deed}
+use Rattle.radio_world.specs.radio_model.specs.declared.deed.Deed.TheVariants.{Nothing, Meets, Fires, FiresBoth, Breaks, Cancels}
+use Rattle.radio_world.specs.radio_model.specs.declared.fate.Fate.{Fate}
+use Rattle.radio_world.specs.radio_model.specs.declared.fate.Fate.TheVariants.{Delivered, Lost, Repeated, CutOff, Changed}
+use Rattle.radio_world.specs.radio_model.specs.Controllers.{is_empty}
+use Rattle.radio_world.specs.radio_model.specs.Fates.{changed, meets, comes_of}
 use Rattle.radio_world.specs.capture.specs.Frames.{frame_pieces}
 use Rattle.host_laws.specs.world_model.specs.Machines.{LinkEvent, Up, Down, News, Linked, Heard, TimerFired, Cancelled, Opening, Upper}
 use Rattle.host_laws.specs.world_model.specs.Talks.{Talk, Told, Said, Unsent, Met, Done}

@@ -12,8 +12,8 @@ use Rattle.radio_world.specs.push_terms.specs.declared.word.Word.{Word}
 use Rattle.radio_world.specs.capture.specs.Entries.{Entry}
 use Rattle.radio_world.specs.capture.specs.Links.{Link, link_up}
 use Rattle.radio_world.specs.capture.specs.Pdus.{Pdu, pdus}
-use Rattle.radio_world.specs.radio_air.specs.declared.deed.Deed.{Deed}
-use Rattle.radio_world.specs.radio_air.specs.declared.deed.Deed.TheVariants.{Nothing, Meets, Fires, FiresBoth, Breaks, Cancels}
+use Rattle.radio_world.specs.radio_model.specs.declared.deed.Deed.{Deed}
+use Rattle.radio_world.specs.radio_model.specs.declared.deed.Deed.TheVariants.{Nothing, Meets, Fires, FiresBoth, Breaks, Cancels}
 use Rattle.host_laws.specs.channel_model.specs.Giving.{next_given}
 use Rattle.host_laws.specs.channel_model.specs.Policies.{policy}
 use Rattle.host_laws.specs.channel_model.specs.Value.{Channels}

@@ -6,19 +6,19 @@ use Rattle.std.proofs.lemmas.Nat.{xor_of_8, div_below, mod_below}
 use Rattle.host_laws.specs.acl_fragments.specs.Pieces.{channel_of}
 use Rattle.radio_world.specs.bt_base.specs.Octets.{IsOctets}
 use Rattle.host_laws.specs.l2cap_signal.specs.Reading.{answers}
-use Rattle.radio_world.specs.push_script.specs.Runs.{IsWord}
+use Rattle.radio_world.specs.push_terms.specs.Words.{IsWord}
 use Rattle.radio_world.specs.push_terms.specs.declared.word.Side.TheVariants.{A, B}
 use Rattle.radio_world.specs.push_terms.specs.declared.word.Way.{Way}
 use Rattle.radio_world.specs.push_terms.specs.declared.word.Way.TheVariants.{Ab, Ba}
 use Rattle.radio_world.specs.push_terms.specs.declared.word.Word.{Word}
 use Rattle.radio_world.specs.push_terms.specs.declared.word.Word.TheVariants.{Pass, Lose, Repeat, Damage, Cut, Timer, Drop, Cancel}
 use Rattle.radio_world.specs.capture.specs.Frames.{frame_pieces, way_served}
-use Rattle.radio_world.specs.radio_air.specs.declared.deed.Deed.{Deed}
-use Rattle.radio_world.specs.radio_air.specs.declared.deed.Deed.TheVariants.{Nothing, Meets, Fires, FiresBoth, Breaks, Cancels}
-use Rattle.radio_world.specs.radio_air.specs.declared.fate.Fate.{Fate}
-use Rattle.radio_world.specs.radio_air.specs.declared.fate.Fate.TheVariants.{Delivered, Lost, Repeated, CutOff, Changed}
-use Rattle.radio_world.specs.radio_air.specs.Fates.{changed, meets, comes_of, first_can_meet}
-use Rattle.radio_world.specs.radio_air.specs.Words.{first_meets, meets_on, passing, deed_of}
+use Rattle.radio_world.specs.radio_model.specs.declared.deed.Deed.{Deed}
+use Rattle.radio_world.specs.radio_model.specs.declared.deed.Deed.TheVariants.{Nothing, Meets, Fires, FiresBoth, Breaks, Cancels}
+use Rattle.radio_world.specs.radio_model.specs.declared.fate.Fate.{Fate}
+use Rattle.radio_world.specs.radio_model.specs.declared.fate.Fate.TheVariants.{Delivered, Lost, Repeated, CutOff, Changed}
+use Rattle.radio_world.specs.radio_model.specs.Fates.{changed, meets, comes_of, first_can_meet}
+use Rattle.radio_world.specs.radio_model.specs.Words.{first_meets, meets_on, passing, deed_of}
 use Rattle.radio_world.specs.capture.specs.Pdus.{Pdu}
 use Rattle.host_laws.specs.world_model.specs.Machines.{LinkEvent, Up, Down, News, Linked, Failed, Heard, TimerFired, Cancelled, Opening, Upper}
 use Rattle.host_laws.specs.world_model.specs.Talks.{Talk, Told, Said, Unsent, Met, Done}

@@ -10,8 +10,8 @@ use Rattle.host_laws.specs.link_talk.specs.Accounts.{window_used}
 use Rattle.host_laws.specs.link_talk.specs.Captures.{talk_now}
 use Rattle.host_laws.specs.link_talk.specs.Channels.{Entry as Known, is_alive, reading}
 use Rattle.host_laws.specs.channel_laws.specs.Views.{read_at}
-use Rattle.radio_world.specs.radio_air.specs.Course.{PushesInTurn}
-use Rattle.radio_world.specs.radio_air.specs.Honest.{AreHonest}
+use Rattle.radio_world.specs.radio_model.specs.Course.{PushesInTurn}
+use Rattle.radio_world.specs.radio_model.specs.Honest.{AreHonest}
 use Rattle.host_laws.specs.world_model.specs.Worlds.{IsAtRest}
 use Rattle.scenario_laws.specs.Captures.{client_of, server_of, Ran}
 use Rattle.scenario_laws.specs.Parties.{party_of}

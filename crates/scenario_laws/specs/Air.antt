@@ -8,7 +8,7 @@ use Rattle.radio_world.specs.capture.specs.Air.{words_of}
 use Rattle.radio_world.specs.capture.specs.Entries.{Entry}
 use Rattle.radio_world.specs.capture.specs.Histories.{EachAfter}
 use Rattle.host_laws.specs.link_talk.specs.Captures.{is_armed, is_checked_at}
-use Rattle.radio_world.specs.radio_air.specs.Air.{Hosts, KeepsTo, Obeys}
+use Rattle.radio_world.specs.radio_model.specs.Air.{Hosts, KeepsTo, Obeys}
 use Rattle.host_laws.specs.world_model.specs.Worlds.{all_words}
 use Rattle.scenario_laws.specs.Captures.{Ran, Finished}
 use Rattle.scenario_laws.specs.Parties.{party_of}

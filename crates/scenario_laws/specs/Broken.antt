@@ -10,10 +10,10 @@ use Rattle.radio_world.specs.capture.specs.Buffers.{KeepsWithin}
 use Rattle.radio_world.specs.capture.specs.Entries.{Entry}
 use Rattle.radio_world.specs.capture.specs.Histories.{EachAfter}
 use Rattle.host_laws.specs.link_talk.specs.Captures.{objects_heard}
-use Rattle.radio_world.specs.radio_air.specs.Air.{KeepsTo}
-use Rattle.radio_world.specs.radio_air.specs.Course.{PushesInTurn}
-use Rattle.radio_world.specs.radio_air.specs.Honest.{AreHonest}
-use Rattle.radio_world.specs.radio_air.specs.Queues.{is_crowded}
+use Rattle.radio_world.specs.radio_model.specs.Air.{KeepsTo}
+use Rattle.radio_world.specs.radio_model.specs.Course.{PushesInTurn}
+use Rattle.radio_world.specs.radio_model.specs.Honest.{AreHonest}
+use Rattle.radio_world.specs.radio_model.specs.Queues.{is_crowded}
 use Rattle.host_laws.specs.air_laws.specs.Crowded.{IsCrowded}
 use Rattle.host_laws.specs.push_laws.specs.Laws.{stored_in}
 use Rattle.host_laws.specs.turn_laws.specs.Laws.{IsFront}

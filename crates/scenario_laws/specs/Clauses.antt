@@ -9,9 +9,9 @@ use Rattle.radio_world.specs.capture.specs.Air.{words_of}
 use Rattle.radio_world.specs.capture.specs.Buffers.{KeepsWithin}
 use Rattle.radio_world.specs.capture.specs.Entries.{Entry}
 use Rattle.host_laws.specs.link_talk.specs.Captures.{objects_heard}
-use Rattle.radio_world.specs.radio_air.specs.Air.{Obeys}
-use Rattle.radio_world.specs.radio_air.specs.Course.{PushesInTurn}
-use Rattle.radio_world.specs.radio_air.specs.Honest.{AreHonest}
+use Rattle.radio_world.specs.radio_model.specs.Air.{Obeys}
+use Rattle.radio_world.specs.radio_model.specs.Course.{PushesInTurn}
+use Rattle.radio_world.specs.radio_model.specs.Honest.{AreHonest}
 use Rattle.host_laws.specs.push_laws.specs.Laws.{stored_in}
 use Rattle.radio_world.specs.Standing.{last_ended, last_entries, all_outcomes}
 use Rattle.host_laws.specs.Calls.{HostsAsk}

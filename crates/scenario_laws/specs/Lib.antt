@@ -22,7 +22,7 @@ pub use Rattle.host_laws.specs.push_laws
 pub use Rattle.host_laws.specs.push_model
 pub use Rattle.radio_world.specs.push_script
 pub use Rattle.radio_world.specs.push_terms
-pub use Rattle.radio_world.specs.radio_air
+pub use Rattle.radio_world.specs.radio_model
 pub use Rattle.radio_world
 pub use Rattle.host_laws.specs.rest_laws
 pub use Rattle.host_laws.specs.rfcomm_credits

@@ -6,7 +6,7 @@ use Rattle.radio_world.specs.push_script.specs.declared.scenario.Scenario.{Scena
 use Rattle.radio_world.specs.push_terms.specs.declared.outcome.Outcome.{Outcome}
 use Rattle.radio_world.specs.push_terms.specs.declared.outcome.Outcome.TheVariants.{ScriptEnded}
 use Rattle.radio_world.specs.capture.specs.Entries.{Entry, Ended}
-use Rattle.radio_world.specs.radio_air.specs.Course.{pushes_begun}
+use Rattle.radio_world.specs.radio_model.specs.Course.{pushes_begun}
 use Rattle.host_laws.specs.world_model.specs.Worlds.{all_entries}
 use Rattle.radio_world.specs.Standing.{last_ended, last_entries, all_outcomes}
 use Rattle.scenario_laws.specs.Captures.{Ran}

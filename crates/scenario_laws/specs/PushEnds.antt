@@ -4,7 +4,7 @@ use Rattle.radio_world.specs.bt_base.specs.Objects.{Contents}
 use Rattle.radio_world.specs.push_script.specs.declared.scenario.Scenario.{Scenario}
 use Rattle.radio_world.specs.push_terms.specs.declared.outcome.Outcome.{Outcome}
 use Rattle.radio_world.specs.capture.specs.Entries.{Entry}
-use Rattle.radio_world.specs.radio_air.specs.Course.{pushes_begun}
+use Rattle.radio_world.specs.radio_model.specs.Course.{pushes_begun}
 use Rattle.radio_world.specs.Standing.{last_entries}
 use Rattle.scenario_laws.specs.Captures.{Ran}
 use Rattle.scenario_laws.specs.Outcomes.{outcomes_in, outcomes_of}

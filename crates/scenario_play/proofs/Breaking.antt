@@ -13,8 +13,8 @@ use Rattle.push_terms.specs.declared.outcome.Outcome.TheVariants.{ScriptEnded}
 use Rattle.push_terms.specs.declared.word.Word.{Word}
 use Rattle.capture.specs.Air.{words_of}
 use Rattle.capture.specs.Entries.{Ended, capture_octets}
-use Rattle.radio_world.specs.radio_air.specs.Queues.{is_crowded}
-use Rattle.radio_world.specs.radio_air.specs.Radio.{Radio}
+use Rattle.radio_world.specs.radio_model.specs.Queues.{is_crowded}
+use Rattle.radio_world.specs.radio_model.specs.Radio.{Radio}
 use Rattle.noting_laws.specs.world_model.specs.Machines.{Upper}
 use Rattle.noting_laws.specs.world_model.specs.Pushes.{Pushes}
 use Rattle.noting_laws.specs.world_model.specs.Worlds.{Happening, all_entries, all_words, entries_of, words_in}

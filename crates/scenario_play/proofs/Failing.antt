@@ -11,10 +11,10 @@ use Rattle.push_terms.specs.declared.outcome.Outcome.{Outcome}
 use Rattle.push_terms.specs.declared.outcome.Outcome.TheVariants.{ScriptEnded}
 use Rattle.push_terms.specs.declared.word.Side.TheVariants.{A, B}
 use Rattle.push_terms.specs.declared.word.Way.TheVariants.{Ab, Ba}
-use Rattle.radio_world.specs.radio_air.specs.declared.deed.Deed.{Deed}
-use Rattle.radio_world.specs.radio_air.specs.declared.deed.Deed.TheVariants.{Nothing, Meets, Fires, FiresBoth, Breaks, Cancels}
-use Rattle.radio_world.specs.radio_air.specs.Controllers.{Answer}
-use Rattle.radio_world.specs.radio_air.specs.Radio.{found}
+use Rattle.radio_world.specs.radio_model.specs.declared.deed.Deed.{Deed}
+use Rattle.radio_world.specs.radio_model.specs.declared.deed.Deed.TheVariants.{Nothing, Meets, Fires, FiresBoth, Breaks, Cancels}
+use Rattle.radio_world.specs.radio_model.specs.Controllers.{Answer}
+use Rattle.radio_world.specs.radio_model.specs.Radio.{found}
 use Rattle.noting_laws.specs.world_model.specs.Machines.{News, LinkEvent, Linked, Heard, TimerFired, Cancelled, Opening, Upper}
 use Rattle.noting_laws.specs.world_model.specs.Pushes.{Pushes, one_begun, one_ended}
 use Rattle.noting_laws.specs.world_model.specs.Stations.{Station, Effort, Taking, Putting, Asking, Leaving, Commanding, MakesEffort, is_handle, longest_pdu, gives, holds, hears_each, hears_piece, event_in, upper_told, hears_answer, told}

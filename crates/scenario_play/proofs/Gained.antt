@@ -13,7 +13,7 @@ use Rattle.push_terms.specs.declared.word.Word.{Word}
 use Rattle.capture.specs.Entries.{Entry}
 use Rattle.capture.specs.Histories.{EachAfter, AtEach}
 use Rattle.capture.proofs.HistoryLaws.{at_each-whole}
-use Rattle.radio_world.specs.radio_air.specs.Air.{KeepsTo}
+use Rattle.radio_world.specs.radio_model.specs.Air.{KeepsTo}
 use Rattle.noting_laws.specs.link_talk.specs.Captures.{objects_heard, talk_now}
 use Rattle.noting_laws.specs.channel_laws.proofs.Windowing.{windows-hold}
 use Rattle.noting_laws.specs.world_model.specs.Machines.{News, Linked, Failed, Heard, TimerFired, Cancelled, Opening}

@@ -8,7 +8,7 @@ use Rattle.noting_laws.specs.obex_session.specs.InboxCalls.{Answer}
 use Rattle.push_script.specs.declared.scenario.Scenario.{Scenario}
 use Rattle.push_terms.specs.declared.outcome.Outcome.TheVariants.{Done}
 use Rattle.capture.specs.Entries.{Entry, Ended}
-use Rattle.radio_world.specs.radio_air.specs.Radio.{Radio}
+use Rattle.radio_world.specs.radio_model.specs.Radio.{Radio}
 use Rattle.noting_laws.specs.world_model.specs.Worlds.{Happening, all_entries}
 use Rattle.noting_laws.specs.air_laws.specs.AirLaws.{IsLastEnd}
 use Rattle.radio_world.specs.run_laws.specs.Embedding.{Embeds, said_as}

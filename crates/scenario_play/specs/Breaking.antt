@@ -9,7 +9,7 @@ use Rattle.push_script.specs.declared.scenario.Scenario.{Scenario}
 use Rattle.push_terms.specs.declared.word.Word.{Word}
 use Rattle.capture.specs.Air.{words_of}
 use Rattle.capture.specs.Entries.{Entry, capture_octets, IsEntry}
-use Rattle.radio_world.specs.radio_air.specs.Queues.{is_crowded}
+use Rattle.radio_world.specs.radio_model.specs.Queues.{is_crowded}
 use Rattle.noting_laws.specs.world_model.specs.Machines.{Upper}
 use Rattle.noting_laws.specs.world_model.specs.Worlds.{Happening, all_entries, all_words}
 use Rattle.radio_world.specs.Hosts.{Asking}

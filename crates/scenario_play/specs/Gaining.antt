@@ -12,9 +12,9 @@ use Rattle.capture.specs.Air.{words_of}
 use Rattle.capture.specs.Buffers.{KeepsWithin}
 use Rattle.capture.specs.Entries.{Entry}
 use Rattle.capture.specs.Histories.{EachAfter, AtEach}
-use Rattle.radio_world.specs.radio_air.specs.Air.{KeepsTo, Obeys}
-use Rattle.radio_world.specs.radio_air.specs.Course.{pushes_begun, PushesInTurn}
-use Rattle.radio_world.specs.radio_air.specs.Honest.{AreHonest}
+use Rattle.radio_world.specs.radio_model.specs.Air.{KeepsTo, Obeys}
+use Rattle.radio_world.specs.radio_model.specs.Course.{pushes_begun, PushesInTurn}
+use Rattle.radio_world.specs.radio_model.specs.Honest.{AreHonest}
 use Rattle.noting_laws.specs.link_talk.specs.Captures.{objects_heard}
 use Rattle.noting_laws.specs.world_model.specs.Worlds.{all_entries}
 use Rattle.noting_laws.specs.push_laws.specs.Laws.{stored_in}

@@ -1,9 +1,9 @@
 ghost use Rattle.std.specs.Prelude.{◌≡◌, ◌≤◌, ◌<◌, ◌^◌, None, IsSome, is_some, length};
 ghost use Rattle.obex_session.specs.Rules.{is_under_way, progress_in};
 
-use bt_base::{MemInbox, MemShelf};
 use obex_headers::ObexRefusal;
 use obex_session::{Answered, ClientSession, PutNext, Reply, ServerSession};
+use ready_ports::{MemInbox, MemShelf};
 use std::alloc::Global;
 use std::test::Fail;
 

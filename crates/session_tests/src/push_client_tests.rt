@@ -1,7 +1,8 @@
 ghost use Rattle.std.specs.Prelude.{◌<◌, ◌^◌, length};
 
-use bt_base::{MemShelf, NoMemory, Psm, Settings, Transport};
+use bt_base::{NoMemory, Psm, Settings, Transport};
 use push_client::{CloseCause, Outcome, ProfileEvent, PushClient, Step};
+use ready_ports::MemShelf;
 use std::alloc::Global;
 
 /// A search for Object Push, with its transaction, for the protocols and the PSM.

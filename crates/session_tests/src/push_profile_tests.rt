@@ -1,8 +1,9 @@
 ghost use Rattle.std.specs.Prelude.{◌≡◌, None, is_some};
 ghost use Rattle.push_client.specs.push_model.specs.Sessions.{is_pending};
 
-use bt_base::{MemInbox, Psm, Settings};
+use bt_base::{Psm, Settings};
 use push_profile::PushServer;
+use ready_ports::MemInbox;
 use std::alloc::Global;
 
 /// A search for Object Push, with its transaction, for the protocols and the PSM.

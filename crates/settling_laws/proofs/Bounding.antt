@@ -5,8 +5,8 @@ use Rattle.std.proofs.lemmas.Option.{slice_get_within}
 use Rattle.rest_laws.specs.push_terms.specs.declared.outcome.Outcome.{Outcome}
 use Rattle.rest_laws.specs.push_terms.specs.declared.word.Side.{Side}
 use Rattle.rest_laws.specs.push_terms.specs.declared.word.Side.TheVariants.{A, B}
-use Rattle.rest_laws.specs.radio_air.specs.Controllers.{Answer, Returned, Stated, Called, LinkMade, LinkGone, GivenBack, Controller, after_giving_back, after_telling}
-use Rattle.rest_laws.specs.radio_air.specs.Radio.{Radio, with_controller}
+use Rattle.rest_laws.specs.radio_model.specs.Controllers.{Answer, Returned, Stated, Called, LinkMade, LinkGone, GivenBack, Controller, after_giving_back, after_telling}
+use Rattle.rest_laws.specs.radio_model.specs.Radio.{Radio, with_controller}
 use Rattle.rest_laws.specs.world_model.specs.Machines.{Upper, Opening}
 use Rattle.rest_laws.specs.world_model.specs.Pushes.{Pushes, one_begun, one_ended}
 use Rattle.rest_laws.specs.world_model.specs.Stations.{Station, told, hears_piece, hears_answer}

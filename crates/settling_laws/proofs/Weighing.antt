@@ -9,8 +9,8 @@ use Rattle.rest_laws.specs.acl_fragments.specs.Cuts.{first_pieces, cut}
 use Rattle.rest_laws.specs.acl_fragments.specs.Answers.{Answer as Joined, Pdu, More, Dropped, answer as joined_by}
 use Rattle.rest_laws.specs.push_terms.specs.declared.word.Side.{Side}
 use Rattle.rest_laws.specs.push_terms.specs.declared.word.Side.TheVariants.{A, B}
-use Rattle.rest_laws.specs.radio_air.specs.Controllers.{Answer, Returned, Stated, Called, LinkMade, LinkGone, GivenBack, Controller, gives_back, after_giving_back, after_telling}
-use Rattle.rest_laws.specs.radio_air.specs.Radio.{with_piece, after_taking}
+use Rattle.rest_laws.specs.radio_model.specs.Controllers.{Answer, Returned, Stated, Called, LinkMade, LinkGone, GivenBack, Controller, gives_back, after_giving_back, after_telling}
+use Rattle.rest_laws.specs.radio_model.specs.Radio.{with_piece, after_taking}
 use Rattle.rest_laws.specs.world_model.specs.Machines.{LinkEvent, Linked, Heard, Upper}
 use Rattle.rest_laws.specs.world_model.specs.Stations.{Order, Page, Accept, End, Data, Station, Effort, Taking, Putting, Asking, Leaving, Commanding, MakesEffort, opcode, asks, longest_pdu, whole_in, gives, holds, hears_each, is_handle, answered, learns, may_accept, event_in, upper_told, hears_piece, hears_answer}
 use Rattle.rest_laws.specs.turn_laws.specs.Premises.{SaysFrames}

@@ -2,8 +2,8 @@
 use Rattle.std.specs.Prelude.{ℕ, ◌≡◌, ◌≤◌, ◌+◌, ◌*◌, List, [], ◌∷◌, length}
 use Rattle.rest_laws.specs.push_terms.specs.declared.word.Side.{Side}
 use Rattle.rest_laws.specs.push_terms.specs.declared.word.Side.TheVariants.{A, B}
-use Rattle.rest_laws.specs.radio_air.specs.Controllers.{Answer, Returned, Stated, Called, LinkMade, LinkGone, GivenBack, Controller}
-use Rattle.rest_laws.specs.radio_air.specs.Radio.{Radio}
+use Rattle.rest_laws.specs.radio_model.specs.Controllers.{Answer, Returned, Stated, Called, LinkMade, LinkGone, GivenBack, Controller}
+use Rattle.rest_laws.specs.radio_model.specs.Radio.{Radio}
 use Rattle.rest_laws.specs.world_model.specs.Machines.{News, Upper}
 use Rattle.rest_laws.specs.world_model.specs.Pushes.{Pushes}
 use Rattle.rest_laws.specs.world_model.specs.Stations.{Station, longest_pdu}

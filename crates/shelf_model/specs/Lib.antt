@@ -15,7 +15,7 @@ pub use Rattle.host_model.specs.l2cap_signal
 pub use Rattle.host_model.specs.obex_headers
 pub use Rattle.host_model.specs.obex_session
 pub use Rattle.host_model.specs.push_terms
-pub use Rattle.host_model.specs.radio_air
+pub use Rattle.host_model.specs.radio_model
 pub use Rattle.host_model.specs.rest_laws
 pub use Rattle.host_model.specs.rfcomm_credits
 pub use Rattle.host_model.specs.rfcomm_frames

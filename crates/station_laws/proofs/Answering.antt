@@ -11,7 +11,7 @@ use Rattle.turn_laws.specs.hci_packets.specs.Events.{PlainEvent, code_of, event_
 use Rattle.turn_laws.specs.acl_credits.specs.Ledgers.{Account, packets_of, without}
 use Rattle.turn_laws.specs.push_terms.specs.declared.word.Side.{Side}
 use Rattle.turn_laws.specs.push_terms.specs.declared.word.Side.TheVariants.{A, B}
-use Rattle.turn_laws.specs.radio_air.specs.Controllers.{Answer, Returned, Stated, Called, LinkMade, LinkGone, GivenBack, address, other_side, event_of, answer_packet}
+use Rattle.turn_laws.specs.radio_model.specs.Controllers.{Answer, Returned, Stated, Called, LinkMade, LinkGone, GivenBack, address, other_side, event_of, answer_packet}
 use Rattle.host_link.specs.declared.role.Role.{Role}
 use Rattle.host_link.specs.declared.host_command.HostCommand.TheVariants.{AcceptConnection}
 use Rattle.host_link.specs.declared.news.ControllerFault.{ControllerFault}

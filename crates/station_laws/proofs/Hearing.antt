@@ -6,7 +6,7 @@ use Rattle.turn_laws.specs.acl_fragments.specs.Answers.{Answer, Pdu, More, Dropp
 use Rattle.turn_laws.specs.acl_fragments.specs.declared.joined.DropReason.{DropReason}
 use Rattle.turn_laws.specs.acl_fragments.specs.declared.joined.DropReason.TheVariants.{StrayContinuation, Overrun, AboveLimit, ShortStart}
 use Rattle.turn_laws.specs.push_terms.specs.declared.word.Side.{Side}
-use Rattle.turn_laws.specs.radio_air.specs.Controllers.{piece_packet}
+use Rattle.turn_laws.specs.radio_model.specs.Controllers.{piece_packet}
 use Rattle.host_link.specs.Lines.{Line}
 use Rattle.host_link.specs.Hearing.{piece_on, piece_news, after_piece, joined_news}
 use Rattle.turn_laws.specs.world_model.specs.Machines.{Upper}

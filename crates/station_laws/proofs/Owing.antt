@@ -9,9 +9,9 @@ use Rattle.turn_laws.specs.push_terms.specs.declared.word.Side.{Side}
 use Rattle.turn_laws.specs.push_terms.specs.declared.word.Side.TheVariants.{A, B}
 use Rattle.turn_laws.specs.push_terms.specs.declared.word.Way.{Way}
 use Rattle.turn_laws.specs.push_terms.specs.declared.word.Way.TheVariants.{Ab, Ba}
-use Rattle.turn_laws.specs.radio_air.specs.declared.fate.Fate.{Fate}
-use Rattle.turn_laws.specs.radio_air.specs.Controllers.{Answer, Returned, Stated, Called, LinkMade, LinkGone, GivenBack, address, other_side, Controller, owing, after_giving_back, after_telling, after_first_of, after_handing}
-use Rattle.turn_laws.specs.radio_air.specs.Radio.{Radio, Paging, is_apart, is_paging, is_requested, controller, with_controller, owes, may_page, is_reached, after_reaching, after_paging, after_accepting, parting, parted, parted_by, knows_link, after_disconnecting, scanning, with_piece, after_taking, after_meeting}
+use Rattle.turn_laws.specs.radio_model.specs.declared.fate.Fate.{Fate}
+use Rattle.turn_laws.specs.radio_model.specs.Controllers.{Answer, Returned, Stated, Called, LinkMade, LinkGone, GivenBack, address, other_side, Controller, owing, after_giving_back, after_telling, after_first_of, after_handing}
+use Rattle.turn_laws.specs.radio_model.specs.Radio.{Radio, Paging, is_apart, is_paging, is_requested, controller, with_controller, owes, may_page, is_reached, after_reaching, after_paging, after_accepting, parting, parted, parted_by, knows_link, after_disconnecting, scanning, with_piece, after_taking, after_meeting}
 use Rattle.turn_laws.specs.world_model.specs.Stations.{Order, ReadBuffers, ReadAddress, Scan, Page, Accept, End, Data, opcode}
 use Rattle.turn_laws.specs.world_model.specs.Stations as orders
 use Rattle.turn_laws.specs.world_model.specs.Worlds.{piece_on, after_order}

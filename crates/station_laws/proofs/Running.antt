@@ -2,10 +2,10 @@
 use Rattle.std.proofs.Common.{ℕ, Bool, true, false, List, [], ◌∷◌, if◌then◌else◌, refl, sym, subst, arith}
 use Rattle.turn_laws.specs.push_terms.specs.declared.word.Side.TheVariants.{A, B}
 use Rattle.turn_laws.specs.push_terms.specs.declared.word.Way.TheVariants.{Ab, Ba}
-use Rattle.turn_laws.specs.radio_air.specs.declared.deed.Deed.{Deed}
-use Rattle.turn_laws.specs.radio_air.specs.declared.deed.Deed.TheVariants.{Nothing, Meets, Fires, FiresBoth, Breaks, Cancels}
-use Rattle.turn_laws.specs.radio_air.specs.Controllers.{Answer, Controller, after_handing}
-use Rattle.turn_laws.specs.radio_air.specs.Radio.{Radio, controller, with_controller, found}
+use Rattle.turn_laws.specs.radio_model.specs.declared.deed.Deed.{Deed}
+use Rattle.turn_laws.specs.radio_model.specs.declared.deed.Deed.TheVariants.{Nothing, Meets, Fires, FiresBoth, Breaks, Cancels}
+use Rattle.turn_laws.specs.radio_model.specs.Controllers.{Answer, Controller, after_handing}
+use Rattle.turn_laws.specs.radio_model.specs.Radio.{Radio, controller, with_controller, found}
 use Rattle.turn_laws.specs.world_model.specs.Machines.{TimerFired, Cancelled, Opening, Upper}
 use Rattle.turn_laws.specs.world_model.specs.Stations.{Station, told, hears_answer}
 use Rattle.turn_laws.specs.world_model.specs.Worlds.{World, Happening, Tries, Departure, GivingBack, Piecemeal, Answering, Turns, Misses, Opens, Closes, Does, Acts, Runs, checks, first_world}

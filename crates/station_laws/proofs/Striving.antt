@@ -7,7 +7,7 @@ use Rattle.turn_laws.specs.acl_fragments.specs.Pieces.{Piece}
 use Rattle.turn_laws.specs.acl_credits.specs.Ledgers.{packets_of, outstanding_on}
 use Rattle.turn_laws.specs.push_terms.specs.declared.word.Side.{Side}
 use Rattle.turn_laws.specs.push_terms.specs.declared.word.Side.TheVariants.{A, B}
-use Rattle.turn_laws.specs.radio_air.specs.Controllers.{address}
+use Rattle.turn_laws.specs.radio_model.specs.Controllers.{address}
 use Rattle.host_link.specs.declared.host_command.HostCommand.{HostCommand}
 use Rattle.host_link.specs.declared.host_command.HostCommand.TheVariants.{Reset, ReadBufferSize, ReadBdAddr, WriteScanEnable, CreateConnection, Disconnect}
 use Rattle.host_link.specs.HostCommands.{command_packet}

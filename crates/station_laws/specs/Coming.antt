@@ -3,7 +3,7 @@ use Rattle.std.specs.Prelude.{ℕ, ◌≡◌, ◌≤◌, ◌<◌, ◌^◌, ◌�
 use Rattle.turn_laws.specs.bt_base.specs.Octets.{le16}
 use Rattle.turn_laws.specs.bt_base.specs.Numbers.{IsHandle}
 use Rattle.turn_laws.specs.acl_fragments.specs.Pieces.{Piece, channel_of}
-use Rattle.turn_laws.specs.radio_air.specs.Controllers.{Answer, Returned, Stated, Called, LinkMade, LinkGone, GivenBack}
+use Rattle.turn_laws.specs.radio_model.specs.Controllers.{Answer, Returned, Stated, Called, LinkMade, LinkGone, GivenBack}
 use Rattle.host_link.specs.Hearing.{PlainNews, Nothing, LinkUp, LinkDown, Pdu}
 use Rattle.turn_laws.specs.world_model.specs.Machines.{LinkEvent, Up, Down}
 use Rattle.turn_laws.specs.world_model.specs.Stations.{Station, longest_pdu, is_handle, gives}

@@ -6,7 +6,7 @@ use Rattle.turn_laws.specs.bt_base.specs.Numbers.{IsHandle}
 use Rattle.turn_laws.specs.acl_fragments.specs.Pieces.{Piece}
 use Rattle.turn_laws.specs.push_terms.specs.declared.word.Side.{Side}
 use Rattle.turn_laws.specs.push_terms.specs.declared.word.Side.TheVariants.{A, B}
-use Rattle.turn_laws.specs.radio_air.specs.Controllers.{Answer, answer_packet, piece_packet, address}
+use Rattle.turn_laws.specs.radio_model.specs.Controllers.{Answer, answer_packet, piece_packet, address}
 use Rattle.host_link.specs.declared.host_command.HostCommand.{HostCommand}
 use Rattle.host_link.specs.HostCommands.{command_packet}
 use Rattle.host_link.specs.Lines.{Line, fresh}

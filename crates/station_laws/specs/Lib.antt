@@ -5,9 +5,8 @@ pub use Rattle.turn_laws.specs.capture
 pub use Rattle.turn_laws.specs.h4_framing
 pub use Rattle.turn_laws.specs.hci_packets
 pub use Rattle.host_link
-pub use Rattle.turn_laws.specs.push_script
 pub use Rattle.turn_laws.specs.push_terms
-pub use Rattle.turn_laws.specs.radio_air
+pub use Rattle.turn_laws.specs.radio_model
 pub use Rattle.turn_laws
 pub use Rattle.turn_laws.specs.world_model
 pub mod Seen

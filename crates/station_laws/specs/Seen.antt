@@ -5,7 +5,7 @@ use Rattle.turn_laws.specs.h4_framing.specs.Packets.{spelling, spellings}
 use Rattle.turn_laws.specs.acl_credits.specs.Ledgers.{packets_of, outstanding_on}
 use Rattle.turn_laws.specs.push_terms.specs.declared.word.Side.{Side}
 use Rattle.turn_laws.specs.push_terms.specs.declared.word.Side.TheVariants.{A, B}
-use Rattle.turn_laws.specs.radio_air.specs.Controllers.{address}
+use Rattle.turn_laws.specs.radio_model.specs.Controllers.{address}
 use Rattle.host_link.specs.declared.role.Role.{Role}
 use Rattle.host_link.specs.declared.role.Role.TheVariants.{Client, Server}
 use Rattle.host_link.specs.declared.host_command.HostCommand.{HostCommand}

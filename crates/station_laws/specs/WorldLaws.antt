@@ -3,8 +3,8 @@ use Rattle.std.specs.Prelude.{ℕ, ◌≡◌, ◌≤◌, ◌<◌, ◌^◌, List,
 use Rattle.turn_laws.specs.bt_base.specs.Numbers.{IsHandle}
 use Rattle.turn_laws.specs.push_terms.specs.declared.word.Side.{Side}
 use Rattle.turn_laws.specs.push_terms.specs.declared.word.Side.TheVariants.{A, B}
-use Rattle.turn_laws.specs.radio_air.specs.Controllers.{Answer, Controller}
-use Rattle.turn_laws.specs.radio_air.specs.Radio.{Radio}
+use Rattle.turn_laws.specs.radio_model.specs.Controllers.{Answer, Controller}
+use Rattle.turn_laws.specs.radio_model.specs.Radio.{Radio}
 use Rattle.turn_laws.specs.world_model.specs.Machines.{Upper}
 use Rattle.turn_laws.specs.world_model.specs.Stations.{Order, Station, Effort}
 use Rattle.turn_laws.specs.world_model.specs.Worlds.{after_order, World, Happening, Tries, Departure, Runs, first_world}

@@ -17,9 +17,10 @@ use Rattle.push_terms.specs.declared.word.Word.{Word}
 use Rattle.push_terms.specs.declared.outcome.Outcome.{Outcome}
 use Rattle.push_terms.specs.Words.{word_text}
 use Rattle.push_terms.specs.Outcomes.{outcome_text}
-use Rattle.push_script.specs.Said.{word_read, outcome_read}
-use Rattle.push_script.proofs.WordsWritten.{word_again, word_written}
-use Rattle.push_script.proofs.OutcomesWritten.{outcome_again, outcome_written}
+use Rattle.script_words.specs.Words.{word_read}
+use Rattle.script_words.specs.Outcomes.{outcome_read}
+use Rattle.script_words.proofs.WordsWritten.{word_again, word_written}
+use Rattle.script_words.proofs.OutcomesWritten.{outcome_again, outcome_written}
 use Rattle.capture.specs.declared.flow.Flow.{Flow}
 use Rattle.capture.specs.declared.flow.Flow.TheVariants.{Out, Into}
 use Rattle.capture.specs.declared.entry_refusal.EntryRefusal.{EntryRefusal}

@@ -5,7 +5,6 @@ pub use Rattle.link_talk.specs.ertm_frames
 pub use Rattle.link_talk.specs.l2cap_config
 pub use Rattle.link_talk.specs.l2cap_signal
 pub use Rattle.link_talk
-pub use Rattle.link_talk.specs.push_script
 pub use Rattle.link_talk.specs.sdp_elements
 pub mod Lists
 pub mod Setups

@@ -9,7 +9,7 @@ use Rattle.inbox_laws.specs.push_terms.specs.declared.word.Side.TheVariants as s
 use Rattle.inbox_laws.specs.capture.specs.Entries.{Entry}
 use Rattle.inbox_laws.specs.capture.specs.Links.{linking}
 use Rattle.inbox_laws.specs.capture.specs.Moves.{moves}
-use Rattle.inbox_laws.specs.world_model.specs.radio_air.specs.Controllers.{Answer}
+use Rattle.inbox_laws.specs.world_model.specs.radio_model.specs.Controllers.{Answer}
 use Rattle.inbox_laws.specs.air_laws.specs.AirLaws.{IsLastEnd}
 use Rattle.inbox_laws.specs.channel_laws.specs.Frames.{AreUttered}
 use Rattle.inbox_laws.specs.channel_laws.specs.Runs.{Occurrence}

@@ -10,7 +10,7 @@ use Rattle.radio_world.specs.capture.proofs.MoreLaws.{octets-in_parts}
 use Rattle.host_link.specs.declared.role.Role.TheVariants.{Client, Server}
 use Rattle.host_link.specs.Lines.{Line}
 use Rattle.host_link.specs.PuttingOut.{started}
-use Rattle.radio_world.specs.radio_air.specs.Queues.{IsSize}
+use Rattle.radio_world.specs.radio_model.specs.Queues.{IsSize}
 use Rattle.line_laws.specs.world_model.specs.Machines.{Upper}
 use Rattle.line_laws.specs.world_model.specs.Stations.{Station, Commanding, first_station}
 use Rattle.line_laws.specs.world_model.specs.Worlds.{Happening, Tries, IsSettled, entries_of, words_in, all_entries, all_words}

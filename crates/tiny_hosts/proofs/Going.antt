@@ -3,7 +3,7 @@ use Rattle.std.proofs.Common.{◌≡◌, ℕ, ◌||◌, ◌&&◌, not, Bool, tru
 use Rattle.std.specs.List.{list_any}
 use Rattle.push_terms.specs.declared.word.Side.{Side}
 use Rattle.push_terms.specs.declared.word.Side.TheVariants.{A, B}
-use Rattle.radio_world.specs.radio_air.specs.Controllers.{address}
+use Rattle.radio_world.specs.radio_model.specs.Controllers.{address}
 use Rattle.host_link.specs.declared.host_command.HostCommand.{HostCommand}
 use Rattle.host_link.specs.HostCommands as code
 use Rattle.host_link.specs.Lines.{Line}

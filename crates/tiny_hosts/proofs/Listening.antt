@@ -5,7 +5,7 @@ use Rattle.line_laws.specs.acl_fragments.specs.Answers.{Answer as Joined, answer
 use Rattle.line_laws.specs.acl_fragments.specs.Answers as joined
 use Rattle.h4_framing.specs.Packets.{Packet}
 use Rattle.push_terms.specs.declared.word.Side.{Side}
-use Rattle.radio_world.specs.radio_air.specs.Controllers.{Answer, answer_packet, piece_packet}
+use Rattle.radio_world.specs.radio_model.specs.Controllers.{Answer, answer_packet, piece_packet}
 use Rattle.host_link.specs.Lines.{Line}
 use Rattle.host_link.specs.Hearing.{PlainNews, fault_of, news_of, heard}
 use Rattle.line_laws.specs.world_model.specs.Machines.{LinkEvent, Up, Down, Upper}

@@ -3,7 +3,7 @@
 ghost use Rattle.std.specs.Prelude.{◌≡◌, [], true, false, None};
 ghost use Rattle.push_terms.specs.declared.word.Side.TheVariants as sides;
 ghost use Rattle.h4_framing.specs.Packets.{packet};
-ghost use Rattle.radio_world.specs.radio_air.specs.Controllers.{address};
+ghost use Rattle.radio_world.specs.radio_model.specs.Controllers.{address};
 ghost use Rattle.host_link.specs.Hearing.{plain_news};
 ghost use Rattle.host_link.specs.PuttingOut.{can_take_pdu};
 ghost use Rattle.host_link.specs.Calling.{may_end};

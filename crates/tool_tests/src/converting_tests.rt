@@ -1,7 +1,7 @@
-use bt_base::{MemSink, MemSource};
 use btsnoop::*;
 use codec_tests::tables::rows;
 use push_terms::Side;
+use ready_ports::{MemSink, MemSource};
 use std::alloc::Global;
 
 /// A capture of both hosts, with entries that are no packets and say nothing that they should.

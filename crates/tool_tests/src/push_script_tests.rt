@@ -1,6 +1,7 @@
-use bt_base::{MemShelf, MemSink, Shelf};
+use bt_base::Shelf;
 use codec_tests::tables::rows;
 use push_script::*;
+use ready_ports::{MemShelf, MemSink};
 use std::alloc::Global;
 
 fn refusal_of(alloc: Global, text: &[u8]) -> Option<(u32, ScriptRefusal)> {

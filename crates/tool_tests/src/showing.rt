@@ -1,8 +1,8 @@
 //! What views write of inputs by hand.
 
-use bt_base::{MemSink, MemSource};
 use h4_view::{ViewFault, view_entries, view_raw, view_snoop};
 use object_lines::view_tagged;
+use ready_ports::{MemSink, MemSource};
 use std::alloc::Global;
 
 /// Which view is written.

@@ -1,8 +1,8 @@
 use crate::capture_reader_tests::octets_of;
 use crate::capture_samples::{CUT_OFF, NAMELESS, PUSH, REFUSED, TWO_CHANNELS};
 use crate::showing::{View, is_shown, is_written_of, parts_are_shown, shows};
-use bt_base::MemSink;
 use codec_tests::tables::rows;
+use ready_ports::MemSink;
 use std::alloc::Global;
 
 /// Entries of a capture and the lines of each: pieces of one handle at two hosts and in two directions,

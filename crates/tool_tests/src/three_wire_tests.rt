@@ -1,5 +1,5 @@
-use bt_base::{MemSink, MemSource};
 use h4_framing::H4Refusal;
+use ready_ports::{MemSink, MemSource};
 use std::test::Fail;
 use three_wire::*;
 

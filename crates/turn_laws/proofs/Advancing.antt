@@ -6,12 +6,12 @@ use Rattle.world_model.specs.push_terms.specs.declared.word.Way.TheVariants.{Ab,
 use Rattle.world_model.specs.push_terms.specs.declared.word.Word.{Word}
 use Rattle.world_model.specs.push_terms.specs.declared.word.Word.TheVariants.{Pass, Lose, Repeat, Damage, Cut, Timer, Drop, Cancel}
 use Rattle.world_model.specs.capture.specs.Frames.{way_served}
-use Rattle.world_model.specs.radio_air.specs.declared.fate.Fate.{Fate}
-use Rattle.world_model.specs.radio_air.specs.declared.fate.Fate.TheVariants.{Delivered, Lost, Repeated, CutOff, Changed}
-use Rattle.world_model.specs.radio_air.specs.declared.deed.Deed.{Deed}
-use Rattle.world_model.specs.radio_air.specs.declared.deed.Deed.TheVariants.{Nothing, Meets, Fires, FiresBoth, Breaks, Cancels}
-use Rattle.world_model.specs.radio_air.specs.Fates.{first_can_meet}
-use Rattle.world_model.specs.radio_air.specs.Words.{first_meets, meets_on, passing, deed_of}
+use Rattle.world_model.specs.radio_model.specs.declared.fate.Fate.{Fate}
+use Rattle.world_model.specs.radio_model.specs.declared.fate.Fate.TheVariants.{Delivered, Lost, Repeated, CutOff, Changed}
+use Rattle.world_model.specs.radio_model.specs.declared.deed.Deed.{Deed}
+use Rattle.world_model.specs.radio_model.specs.declared.deed.Deed.TheVariants.{Nothing, Meets, Fires, FiresBoth, Breaks, Cancels}
+use Rattle.world_model.specs.radio_model.specs.Fates.{first_can_meet}
+use Rattle.world_model.specs.radio_model.specs.Words.{first_meets, meets_on, passing, deed_of}
 use Rattle.world_model.specs.Machines.{Up, Down, TimerFired, Cancelled, Opening, Upper}
 use Rattle.world_model.specs.Pushes.{one_begun, one_ended}
 use Rattle.world_model.specs.Talks.{Done}

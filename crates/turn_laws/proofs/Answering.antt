@@ -5,12 +5,12 @@ use Rattle.std.proofs.lemmas.Bool.{eq-eqb, leb-true}
 use Rattle.byteorder.specs.Endian.{little_number}
 use Rattle.world_model.specs.acl_fragments.specs.Pieces.{Piece}
 use Rattle.world_model.specs.push_terms.specs.declared.word.Side.{Side}
-use Rattle.world_model.specs.radio_air.specs.Controllers.{Answer, Returned, Stated, Called, LinkMade, LinkGone, GivenBack, Controller, after_telling}
+use Rattle.world_model.specs.radio_model.specs.Controllers.{Answer, Returned, Stated, Called, LinkMade, LinkGone, GivenBack, Controller, after_telling}
 use Rattle.world_model.specs.Machines.{Up, Down, Linked, Upper}
 use Rattle.world_model.specs.Talks.{Talk, Told, Unsent}
 use Rattle.world_model.specs.Carriages.{End, Telling, is_told}
 use Rattle.world_model.specs.Stations.{Accept, asks, Station, longest_pdu, is_handle, answered, learns, is_server, may_accept, hears_answer}
-use Rattle.world_model.specs.radio_air.specs.Radio.{frame_limit}
+use Rattle.world_model.specs.radio_model.specs.Radio.{frame_limit}
 use Rattle.turn_laws.proofs.Joining.{completions, held_behind, EndsOnce}
 use Rattle.turn_laws.proofs.Leading.{Tiding, Came, Went, tidings, events, made, Led}
 use Rattle.world_model.specs.PerLink.{link_begins, link_ends}

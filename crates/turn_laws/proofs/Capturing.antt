@@ -14,8 +14,8 @@ use Rattle.world_model.specs.capture.specs.Moves.{Move, move_of, moves}
 use Rattle.world_model.specs.capture.specs.Links.{Link, Linking, Asked, LinkEnded, NoNews, link_news, longer, gone_on, ends_with, after_move, linking}
 use Rattle.world_model.specs.capture.specs.Pdus.{Pdu, piece_of, piece_in, pdus}
 use Rattle.world_model.specs.capture.proofs.MoreLaws.{moves-more, links-more}
-use Rattle.world_model.specs.radio_air.specs.Controllers.{LinkMade, LinkGone, Controller, answer_packet}
-use Rattle.world_model.specs.radio_air.specs.Radio.{frame_limit}
+use Rattle.world_model.specs.radio_model.specs.Controllers.{LinkMade, LinkGone, Controller, answer_packet}
+use Rattle.world_model.specs.radio_model.specs.Radio.{frame_limit}
 use Rattle.world_model.specs.PerLink.{Linkage, with_moved, link_begins, link_ends}
 use Rattle.world_model.specs.Stations.{asks, Station, longest_pdu, gives, holds}
 use Rattle.turn_laws.proofs.Linkages.{said_by}

@@ -4,8 +4,8 @@ use Rattle.std.proofs.Common.{◌≡◌, ◌⊎◌, ℕ, ◌+◌, ◌≤◌, ◌
 use Rattle.std.proofs.lemmas.List.{map-append}
 use Rattle.std.proofs.lemmas.List.Concat.{flat_map-append}
 use Rattle.world_model.specs.acl_fragments.specs.Pieces.{Piece}
-use Rattle.world_model.specs.radio_air.specs.Controllers.{Answer, LinkMade, LinkGone, Controller, owing as owes}
-use Rattle.world_model.specs.radio_air.specs.Radio.{parting}
+use Rattle.world_model.specs.radio_model.specs.Controllers.{Answer, LinkMade, LinkGone, Controller, owing as owes}
+use Rattle.world_model.specs.radio_model.specs.Radio.{parting}
 use Rattle.world_model.specs.Machines.{Up, Down, Upper}
 use Rattle.world_model.specs.Talks.{Talk}
 use Rattle.world_model.specs.Carriages.{owing}

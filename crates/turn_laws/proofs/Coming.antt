@@ -3,8 +3,8 @@ use Rattle.std.proofs.Common.{◌≡◌, ℕ, ◌+◌, ◌-◌, ◌==◌, ◌&&�
 use Rattle.byteorder.specs.Endian.{little_number}
 use Rattle.world_model.specs.acl_fragments.specs.Pieces.{Piece}
 use Rattle.world_model.specs.push_terms.specs.declared.word.Side.TheVariants.{A, B}
-use Rattle.world_model.specs.radio_air.specs.Controllers.{Answer, Returned, Stated, Called, LinkMade, LinkGone, GivenBack, Controller, after_telling, after_first_of, after_handing}
-use Rattle.world_model.specs.radio_air.specs.Radio.{Radio, Phase, Apart, Paging, Requested, Together, is_together, with_controller}
+use Rattle.world_model.specs.radio_model.specs.Controllers.{Answer, Returned, Stated, Called, LinkMade, LinkGone, GivenBack, Controller, after_telling, after_first_of, after_handing}
+use Rattle.world_model.specs.radio_model.specs.Radio.{Radio, Phase, Apart, Paging, Requested, Together, is_together, with_controller}
 use Rattle.world_model.specs.Machines.{Upper}
 use Rattle.world_model.specs.Talks.{Talk}
 use Rattle.world_model.specs.Stations.{Station, longest_pdu, is_handle, gives, holds, hears_each, hears_piece, hears_answer, answered, learns, after_answer}

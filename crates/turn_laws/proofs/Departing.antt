@@ -6,8 +6,8 @@ use Rattle.world_model.specs.acl_fragments.specs.Pieces.{Piece, starts}
 use Rattle.world_model.specs.acl_fragments.specs.Answers.{Answer as Joined, Pdu, More, Dropped, answer}
 use Rattle.world_model.specs.capture.specs.declared.flow.Flow.TheVariants.{Out}
 use Rattle.world_model.specs.capture.specs.Pdus.{whole_of}
-use Rattle.world_model.specs.radio_air.specs.Controllers.{Answer, GivenBack, Controller, gives_back, after_giving_back, is_empty}
-use Rattle.world_model.specs.radio_air.specs.Radio.{frame_limit, frames_by, with_piece, after_taking}
+use Rattle.world_model.specs.radio_model.specs.Controllers.{Answer, GivenBack, Controller, gives_back, after_giving_back, is_empty}
+use Rattle.world_model.specs.radio_model.specs.Radio.{frame_limit, frames_by, with_piece, after_taking}
 use Rattle.world_model.specs.Machines.{LinkEvent, Upper}
 use Rattle.world_model.specs.Talks.{Talk, Said}
 use Rattle.world_model.specs.Carriages.{End, Motion, Departure, landed}

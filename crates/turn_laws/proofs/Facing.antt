@@ -1,8 +1,8 @@
 -- What words and links do to one host that waits for nothing, and to one that faces it.
 use Rattle.std.proofs.Common.{ℕ, ◌≡◌, inl, inr, Bool, true, false, List, [], ◌∷◌, ◌++◌, None, if◌then◌else◌, refl, ap, sym, ◌∙◌}
-use Rattle.world_model.specs.radio_air.specs.Controllers.{is_empty}
-use Rattle.world_model.specs.radio_air.specs.declared.fate.Fate.{Fate}
-use Rattle.world_model.specs.radio_air.specs.Fates.{meets, comes_of}
+use Rattle.world_model.specs.radio_model.specs.Controllers.{is_empty}
+use Rattle.world_model.specs.radio_model.specs.declared.fate.Fate.{Fate}
+use Rattle.world_model.specs.radio_model.specs.Fates.{meets, comes_of}
 use Rattle.world_model.specs.Machines.{LinkEvent, Up, Down, News, TimerFired, Upper, Reaction}
 use Rattle.world_model.specs.Talks.{Talk, Met}
 use Rattle.world_model.specs.Turns.{speaks_on, hears, receives, event_heard, fires, Hands}

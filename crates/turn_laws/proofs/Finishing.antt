@@ -2,7 +2,7 @@
 use Rattle.std.proofs.Common.{ℕ, suc, ◌≡◌, Bool, true, false, List, [], ◌∷◌, ◌++◌, Some, None, map, take, drop, is_none, ◌&&◌, refl, ap, ◌∙◌}
 use Rattle.std.proofs.Math.Seq.{take-nil, drop-nil}
 use Rattle.std.proofs.lemmas.List.{append_assoc, append-nil}
-use Rattle.world_model.specs.radio_air.specs.Controllers.{is_empty}
+use Rattle.world_model.specs.radio_model.specs.Controllers.{is_empty}
 use Rattle.world_model.specs.Machines.{LinkEvent, Down, Heard, Upper, drain, all_said, Breath, Whole, Short, Reaction}
 use Rattle.world_model.specs.Talks.{Talk, Told, Said, Unsent}
 use Rattle.world_model.specs.Turns.{Party, stops_short, breathes, speaks_on, hears, event_heard}

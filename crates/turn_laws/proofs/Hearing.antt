@@ -3,7 +3,7 @@ use Rattle.std.proofs.Common.{◌≡◌, ◌⊎◌, ℕ, ◌≤◌, Bool, true, 
 use Rattle.std.proofs.lemmas.Bool.{eq-eqb}
 use Rattle.world_model.specs.acl_fragments.specs.Pieces.{Piece, starts}
 use Rattle.world_model.specs.acl_fragments.specs.Answers.{Answer as Joined, Pdu, More, Dropped, answer}
-use Rattle.world_model.specs.radio_air.specs.Controllers.{Answer, Controller}
+use Rattle.world_model.specs.radio_model.specs.Controllers.{Answer, Controller}
 use Rattle.world_model.specs.Machines.{Heard, Upper}
 use Rattle.world_model.specs.Talks.{Talk, Told}
 use Rattle.world_model.specs.Carriages.{End, Arrival}

@@ -10,9 +10,9 @@ use Rattle.world_model.specs.acl_fragments.specs.Cuts.{first_pieces, cut}
 use Rattle.world_model.specs.acl_fragments.specs.Answers.{Answer, Pdu, More, start_answer, next_answer, answer, kept}
 use Rattle.world_model.specs.acl_fragments.specs.Laws.{IsPdu}
 use Rattle.world_model.specs.capture.specs.Frames.{frame_pieces}
-use Rattle.world_model.specs.radio_air.specs.declared.fate.Fate.{Fate}
-use Rattle.world_model.specs.radio_air.specs.declared.fate.Fate.TheVariants.{Delivered, Lost, Repeated, CutOff, Changed}
-use Rattle.world_model.specs.radio_air.specs.Fates.{changed, meets, comes_of}
+use Rattle.world_model.specs.radio_model.specs.declared.fate.Fate.{Fate}
+use Rattle.world_model.specs.radio_model.specs.declared.fate.Fate.TheVariants.{Delivered, Lost, Repeated, CutOff, Changed}
+use Rattle.world_model.specs.radio_model.specs.Fates.{changed, meets, comes_of}
 use Rattle.turn_laws.specs.Premises.{IsFrame}
 use Rattle.world_model.specs.Stations.{longest_pdu, whole_in, gives, holds}
 

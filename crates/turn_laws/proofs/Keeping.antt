@@ -2,8 +2,8 @@
 use Rattle.std.proofs.Common.{◌≡◌, ℕ, ◌+◌, ◌≤◌, ◌==◌, ◌&&◌, not, nat_lt, nat_le, Bool, true, false, List, [], ◌∷◌, ◌++◌, if◌then◌else◌, refl, sym, ap, ◌∙◌, arith, subst}
 use Rattle.std.proofs.lemmas.Bool.{eqb-true}
 use Rattle.world_model.specs.acl_fragments.specs.Pieces.{Piece}
-use Rattle.world_model.specs.radio_air.specs.Controllers.{Answer, Called, Controller, owing as owes_more}
-use Rattle.world_model.specs.radio_air.specs.Radio.{Radio, Phase, Apart, Paging, Requested, Together, is_apart, is_paging, is_requested, is_together, is_reached, after_reaching, may_page, joined, parted}
+use Rattle.world_model.specs.radio_model.specs.Controllers.{Answer, Called, Controller, owing as owes_more}
+use Rattle.world_model.specs.radio_model.specs.Radio.{Radio, Phase, Apart, Paging, Requested, Together, is_apart, is_paging, is_requested, is_together, is_reached, after_reaching, may_page, joined, parted}
 use Rattle.world_model.specs.Machines.{Up, Down, Upper}
 use Rattle.world_model.specs.Pushes.{Pushes}
 use Rattle.world_model.specs.Talks.{Talk}

@@ -5,8 +5,8 @@ use Rattle.std.proofs.lemmas.List.{append-nil}
 use Rattle.world_model.specs.capture.specs.declared.flow.Flow.{Flow}
 use Rattle.world_model.specs.capture.specs.declared.flow.Flow.TheVariants.{Out, Into}
 use Rattle.world_model.specs.capture.specs.Pdus.{Pdu}
-use Rattle.world_model.specs.radio_air.specs.Controllers.{Answer, Returned, Stated, Called, LinkMade, LinkGone, GivenBack, Controller}
-use Rattle.world_model.specs.radio_air.specs.Radio.{frame_limit}
+use Rattle.world_model.specs.radio_model.specs.Controllers.{Answer, Returned, Stated, Called, LinkMade, LinkGone, GivenBack, Controller}
+use Rattle.world_model.specs.radio_model.specs.Radio.{frame_limit}
 use Rattle.world_model.specs.Talks.{Talk, Unsent}
 use Rattle.world_model.specs.PerLink.{Linkage, no_linkage, with_moved, link_begins, link_ends, linkage_after, linkage_from, linkage}
 use Rattle.world_model.specs.Stations.{Order, Reset, ReadBuffers, ReadAddress, Scan, Page, Accept, End, Data, gives}

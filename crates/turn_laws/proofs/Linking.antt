@@ -4,11 +4,11 @@ use Rattle.std.proofs.lemmas.List.{append_assoc, append-nil}
 use Rattle.world_model.specs.push_terms.specs.declared.word.Side.TheVariants.{A, B}
 use Rattle.world_model.specs.push_terms.specs.declared.word.Way.TheVariants.{Ab, Ba}
 use Rattle.world_model.specs.capture.specs.Frames.{frame_pieces}
-use Rattle.world_model.specs.radio_air.specs.declared.fate.Fate.{Fate}
-use Rattle.world_model.specs.radio_air.specs.declared.fate.Fate.TheVariants.{Delivered, Lost, Repeated, CutOff, Changed}
-use Rattle.world_model.specs.radio_air.specs.declared.deed.Deed.{Deed}
-use Rattle.world_model.specs.radio_air.specs.declared.deed.Deed.TheVariants.{Nothing, Meets, Fires, FiresBoth, Breaks, Cancels}
-use Rattle.world_model.specs.radio_air.specs.Fates.{meets, comes_of}
+use Rattle.world_model.specs.radio_model.specs.declared.fate.Fate.{Fate}
+use Rattle.world_model.specs.radio_model.specs.declared.fate.Fate.TheVariants.{Delivered, Lost, Repeated, CutOff, Changed}
+use Rattle.world_model.specs.radio_model.specs.declared.deed.Deed.{Deed}
+use Rattle.world_model.specs.radio_model.specs.declared.deed.Deed.TheVariants.{Nothing, Meets, Fires, FiresBoth, Breaks, Cancels}
+use Rattle.world_model.specs.radio_model.specs.Fates.{meets, comes_of}
 use Rattle.world_model.specs.Machines.{Up, Down, News, Linked, Failed, Heard, TimerFired, Cancelled, Opening, Upper, drain, all_said, Breath, Whole, Short, Reaction}
 use Rattle.world_model.specs.Talks.{Talk, Told, Said, Unsent, Met, Done}
 use Rattle.world_model.specs.Turns.{Party, Pair, breathes, speaks, notes, hears, with_queue, with_talk, receives, event_heard, fires, Step, Turn, Idle, Rise, Fall, Began, Ended, Hands, Acts, found, Moves, Passes, first_pair}

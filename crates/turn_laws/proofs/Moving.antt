@@ -2,8 +2,8 @@
 use Rattle.std.proofs.Common.{◌≡◌, ◌+◌, ◌≤◌, ◌==◌, ◌&&◌, Bool, true, false, List, [], ◌∷◌, ◌++◌, refl, sym, ap, ◌∙◌, arith, subst}
 use Rattle.world_model.specs.bt_base.specs.Octets.{le16}
 use Rattle.world_model.specs.push_terms.specs.declared.word.Side.TheVariants.{A, B}
-use Rattle.world_model.specs.radio_air.specs.Controllers.{Answer, Returned, Stated, address, gives_back}
-use Rattle.world_model.specs.radio_air.specs.Radio.{is_requested, is_together, may_page, knows_link, after_offer}
+use Rattle.world_model.specs.radio_model.specs.Controllers.{Answer, Returned, Stated, address, gives_back}
+use Rattle.world_model.specs.radio_model.specs.Radio.{is_requested, is_together, may_page, knows_link, after_offer}
 use Rattle.world_model.specs.Machines.{Upper}
 use Rattle.world_model.specs.Talks.{Talk}
 use Rattle.world_model.specs.Carriages.{End}

@@ -5,8 +5,8 @@ use Rattle.world_model.specs.acl_fragments.specs.Pieces.{Piece}
 use Rattle.world_model.specs.push_terms.specs.declared.word.Side.{Side}
 use Rattle.world_model.specs.push_terms.specs.declared.word.Side.TheVariants.{A, B}
 use Rattle.world_model.specs.push_terms.specs.declared.word.Word.{Word}
-use Rattle.world_model.specs.radio_air.specs.Controllers.{Answer, Stated, Controller}
-use Rattle.world_model.specs.radio_air.specs.Radio.{frame_limit, Radio, Paging, is_requested, is_together, after_reaching, joined, parted, knows_link, with_piece, after_taking}
+use Rattle.world_model.specs.radio_model.specs.Controllers.{Answer, Stated, Controller}
+use Rattle.world_model.specs.radio_model.specs.Radio.{frame_limit, Radio, Paging, is_requested, is_together, after_reaching, joined, parted, knows_link, with_piece, after_taking}
 use Rattle.world_model.specs.Machines.{Up, Down, Upper}
 use Rattle.world_model.specs.Talks.{Talk}
 use Rattle.world_model.specs.Carriages.{End, Carriage, Motion, Doing, Moved, Rises, Falls, IsIdle, Carries, all_words, with_events}

@@ -4,9 +4,9 @@ use Rattle.std.specs.Prelude.{slice_get}
 use Rattle.world_model.specs.push_terms.specs.declared.word.Side.TheVariants.{A, B}
 use Rattle.world_model.specs.push_terms.specs.declared.word.Word.{Word}
 use Rattle.world_model.specs.push_terms.specs.declared.outcome.Outcome.{Outcome}
-use Rattle.world_model.specs.push_script.specs.Runs.{IsWord}
-use Rattle.world_model.specs.radio_air.specs.Controllers.{Controller, new_controller}
-use Rattle.world_model.specs.radio_air.specs.Radio.{Phase, Apart, Paging, Requested, Together, is_apart, is_together, new_radio, found}
+use Rattle.world_model.specs.push_terms.specs.Words.{IsWord}
+use Rattle.world_model.specs.radio_model.specs.Controllers.{Controller, new_controller}
+use Rattle.world_model.specs.radio_model.specs.Radio.{Phase, Apart, Paging, Requested, Together, is_apart, is_together, new_radio, found}
 use Rattle.world_model.specs.Machines.{Opening, Upper}
 use Rattle.world_model.specs.Pushes.{next_name, one_begun, one_ended}
 use Rattle.world_model.specs.Talks.{Talk, Told, Done}

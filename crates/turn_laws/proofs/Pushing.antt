@@ -2,10 +2,10 @@
 use Rattle.std.proofs.Common.{ℕ, ◌≡◌, Bool, true, false, List, [], ◌∷◌, ◌++◌, map, take, drop, if◌then◌else◌, refl, ap, sym, ◌∙◌, subst}
 use Rattle.world_model.specs.push_terms.specs.declared.word.Side.TheVariants.{A, B}
 use Rattle.world_model.specs.push_terms.specs.declared.word.Way.TheVariants.{Ab, Ba}
-use Rattle.world_model.specs.radio_air.specs.declared.deed.Deed.{Deed}
-use Rattle.world_model.specs.radio_air.specs.declared.deed.Deed.TheVariants.{Nothing, Meets, Fires, FiresBoth, Breaks, Cancels}
-use Rattle.world_model.specs.radio_air.specs.Controllers.{is_empty}
-use Rattle.world_model.specs.radio_air.specs.Fates.{comes_of}
+use Rattle.world_model.specs.radio_model.specs.declared.deed.Deed.{Deed}
+use Rattle.world_model.specs.radio_model.specs.declared.deed.Deed.TheVariants.{Nothing, Meets, Fires, FiresBoth, Breaks, Cancels}
+use Rattle.world_model.specs.radio_model.specs.Controllers.{is_empty}
+use Rattle.world_model.specs.radio_model.specs.Fates.{comes_of}
 use Rattle.world_model.specs.Machines.{LinkEvent, Up, Down, News, Linked, Heard, TimerFired, Cancelled, Opening, Upper, drain, all_said, Breath, Whole, Short, Reaction}
 use Rattle.world_model.specs.Pushes.{no_pushes, one_begun, one_ended}
 use Rattle.world_model.specs.Talks.{Talk, Told, Said, Unsent, Met, Done}

@@ -9,8 +9,8 @@ use Rattle.world_model.specs.push_terms.specs.declared.word.Side.TheVariants.{A,
 use Rattle.world_model.specs.capture.specs.declared.flow.Flow.TheVariants.{Into}
 use Rattle.world_model.specs.capture.specs.Links.{Linking, Asked, NoNews, link_news, after_move}
 use Rattle.world_model.specs.capture.specs.Pdus.{piece_of}
-use Rattle.world_model.specs.radio_air.specs.Controllers.{Answer, Returned, Stated, Called, LinkMade, LinkGone, GivenBack, Controller, event_of, answer_packet, piece_packet, after_telling}
-use Rattle.world_model.specs.radio_air.specs.Radio.{Radio, Paging, Requested, is_requested, is_reached, after_reaching, may_page, joined, parted, knows_link, owes, scanning, frame_limit, with_piece, after_taking}
+use Rattle.world_model.specs.radio_model.specs.Controllers.{Answer, Returned, Stated, Called, LinkMade, LinkGone, GivenBack, Controller, event_of, answer_packet, piece_packet, after_telling}
+use Rattle.world_model.specs.radio_model.specs.Radio.{Radio, Paging, Requested, is_requested, is_reached, after_reaching, may_page, joined, parted, knows_link, owes, scanning, frame_limit, with_piece, after_taking}
 use Rattle.world_model.specs.Machines.{Upper}
 use Rattle.world_model.specs.PerLink.{Linkage, with_moved, link_begins, link_ends}
 use Rattle.world_model.specs.Stations.{Order, Reset, ReadBuffers, ReadAddress, Scan, Page, Accept, End, Data, order_packet, asks, Station, Effort, Taking, Putting, Asking, Leaving, Commanding, MakesEffort, longest_pdu, gives, holds, is_handle, hears_piece, answered, learns, may_accept, hears_answer, told}

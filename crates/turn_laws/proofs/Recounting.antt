@@ -9,17 +9,17 @@ use Rattle.world_model.specs.push_terms.specs.declared.word.Side.TheVariants.{A,
 use Rattle.world_model.specs.push_terms.specs.declared.word.Way.{Way}
 use Rattle.world_model.specs.push_terms.specs.declared.word.Way.TheVariants.{Ab, Ba}
 use Rattle.world_model.specs.push_terms.specs.declared.word.Word.{Word}
-use Rattle.world_model.specs.push_script.specs.Runs.{IsWord}
+use Rattle.world_model.specs.push_terms.specs.Words.{IsWord}
 use Rattle.world_model.specs.capture.specs.declared.flow.Flow.TheVariants.{Out, Into}
 use Rattle.world_model.specs.capture.specs.Entries.{Entry, Moved, Acted, Begun, Ended}
 use Rattle.world_model.specs.capture.specs.Moves.{moves}
 use Rattle.world_model.specs.capture.specs.Links.{Link, Linking, linking}
 use Rattle.world_model.specs.capture.specs.Pdus.{Pdu, pdus}
-use Rattle.world_model.specs.radio_air.specs.declared.fate.Fate.{Fate}
-use Rattle.world_model.specs.radio_air.specs.declared.deed.Deed.{Deed}
-use Rattle.world_model.specs.radio_air.specs.declared.deed.Deed.TheVariants.{Nothing, Meets, Fires, FiresBoth, Breaks, Cancels}
-use Rattle.world_model.specs.radio_air.specs.Controllers.{Returned, Stated, Controller, answer_packet, piece_packet, after_telling}
-use Rattle.world_model.specs.radio_air.specs.Radio.{Radio, Phase, Apart, Paging, Requested, Together, is_apart, is_paging, is_requested, is_together, is_reached, after_reaching, may_page, joined, parted, knows_link, owes, scanning, after_meeting, found}
+use Rattle.world_model.specs.radio_model.specs.declared.fate.Fate.{Fate}
+use Rattle.world_model.specs.radio_model.specs.declared.deed.Deed.{Deed}
+use Rattle.world_model.specs.radio_model.specs.declared.deed.Deed.TheVariants.{Nothing, Meets, Fires, FiresBoth, Breaks, Cancels}
+use Rattle.world_model.specs.radio_model.specs.Controllers.{Returned, Stated, Controller, answer_packet, piece_packet, after_telling}
+use Rattle.world_model.specs.radio_model.specs.Radio.{Radio, Phase, Apart, Paging, Requested, Together, is_apart, is_paging, is_requested, is_together, is_reached, after_reaching, may_page, joined, parted, knows_link, owes, scanning, after_meeting, found}
 use Rattle.world_model.specs.Machines.{TimerFired, Upper}
 use Rattle.world_model.specs.Talks.{Talk}
 use Rattle.world_model.specs.PerLink.{Linkage, no_linkage, with_moved, linkage, captured}

@@ -23,8 +23,8 @@ use Rattle.world_model.specs.capture.specs.Links.{Link, Linking, Answered, LinkE
 use Rattle.world_model.specs.capture.specs.PieceHeads.{piece_head}
 use Rattle.world_model.specs.capture.specs.Pdus.{Pdu, piece_with, piece_of, piece_in, pieces, whole_of, completed_by, completed, pdus}
 use Rattle.world_model.specs.capture.proofs.MoreLaws.{pdus-more}
-use Rattle.world_model.specs.radio_air.specs.Controllers.{address, other_side}
-use Rattle.world_model.specs.radio_air.specs.Radio.{frame_limit}
+use Rattle.world_model.specs.radio_model.specs.Controllers.{address, other_side}
+use Rattle.world_model.specs.radio_model.specs.Radio.{frame_limit}
 use Rattle.world_model.specs.PerLink.{Linkage, pdus_of}
 use Rattle.world_model.specs.Stations.{longest_pdu, gives, holds, whole_in}
 

@@ -10,8 +10,8 @@ use Rattle.world_model.specs.acl_fragments.specs.Pieces.{Piece}
 use Rattle.world_model.specs.push_terms.specs.declared.word.Side.{Side}
 use Rattle.world_model.specs.push_terms.specs.declared.word.Side.TheVariants.{A, B}
 use Rattle.world_model.specs.capture.specs.Pdus.{piece_of}
-use Rattle.world_model.specs.radio_air.specs.Controllers.{Controller}
-use Rattle.world_model.specs.radio_air.specs.Radio.{Radio, controller, with_controller, knows_link, piece_from, with_piece, after_taking, after_packet}
+use Rattle.world_model.specs.radio_model.specs.Controllers.{Controller}
+use Rattle.world_model.specs.radio_model.specs.Radio.{Radio, controller, with_controller, knows_link, piece_from, with_piece, after_taking, after_packet}
 use Rattle.world_model.specs.Stations.{Order, Reset, ReadBuffers, ReadAddress, Scan, Page, Accept, End, Data, order_packet}
 use Rattle.world_model.specs.Worlds.{piece_on, after_order}
 use Rattle.turn_laws.specs.WorldLaws.{handle_of, OrdersAreSpelled}

@@ -1,7 +1,7 @@
 -- What is true of a host whatever happened; each motion keeps that, and what the host comes to.
 use Rattle.std.proofs.Common.{ℕ, ◌≡◌, ◌⊎◌, inl, inr, Bool, true, false, List, [], ◌∷◌, ◌++◌, Some, map, refl, ap, sym, ◌∙◌, subst}
 use Rattle.std.proofs.lemmas.List.{append_assoc, append-nil}
-use Rattle.world_model.specs.radio_air.specs.Controllers.{is_empty}
+use Rattle.world_model.specs.radio_model.specs.Controllers.{is_empty}
 use Rattle.world_model.specs.Machines.{LinkEvent, Up, Down, Linked, Heard, Upper, Breath, Whole, Short, Reaction}
 use Rattle.world_model.specs.Talks.{Talk, Told, Said, Unsent}
 use Rattle.world_model.specs.Turns.{Party, breathes, speaks_on, event_heard}

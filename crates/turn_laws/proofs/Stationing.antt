@@ -7,7 +7,7 @@ use Rattle.std.proofs.lemmas.List.Concat.{flat_map-append}
 use Rattle.world_model.specs.hci_packets.specs.declared.acl.Boundary.TheVariants.{First}
 use Rattle.world_model.specs.acl_fragments.specs.Pieces.{Piece}
 use Rattle.world_model.specs.acl_fragments.specs.Cuts.{cut}
-use Rattle.world_model.specs.radio_air.specs.Controllers.{Controller}
+use Rattle.world_model.specs.radio_model.specs.Controllers.{Controller}
 use Rattle.world_model.specs.Machines.{LinkEvent, Upper}
 use Rattle.world_model.specs.Talks.{Talk}
 use Rattle.world_model.specs.Carriages.{End, Motion, Saying, DoesMotion}

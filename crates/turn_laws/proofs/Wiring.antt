@@ -7,7 +7,7 @@ use Rattle.std.proofs.lemmas.List.Concat.{flat_map-append}
 use Rattle.world_model.specs.hci_packets.specs.declared.acl.Boundary.TheVariants.{First}
 use Rattle.world_model.specs.acl_fragments.specs.Pieces.{Piece}
 use Rattle.world_model.specs.acl_fragments.specs.Cuts.{cut}
-use Rattle.world_model.specs.radio_air.specs.Radio.{frame_limit}
+use Rattle.world_model.specs.radio_model.specs.Radio.{frame_limit}
 use Rattle.world_model.specs.Machines.{Upper}
 use Rattle.world_model.specs.Stations.{Order, Reset, ReadBuffers, ReadAddress, Scan, Page, Accept, End, Data, asks, longest_pdu, gives, holds}
 use Rattle.turn_laws.specs.WorldLaws.{handle_of}

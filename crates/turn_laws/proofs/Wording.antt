@@ -6,16 +6,16 @@ use Rattle.world_model.specs.push_terms.specs.declared.word.Way.{Way}
 use Rattle.world_model.specs.push_terms.specs.declared.word.Way.TheVariants.{Ab, Ba}
 use Rattle.world_model.specs.push_terms.specs.declared.word.Word.{Word}
 use Rattle.world_model.specs.push_terms.specs.declared.word.Word.TheVariants.{Pass, Lose, Repeat, Damage, Cut, Timer, Drop, Cancel}
-use Rattle.world_model.specs.push_script.specs.Runs.{IsWord}
+use Rattle.world_model.specs.push_terms.specs.Words.{IsWord}
 use Rattle.world_model.specs.capture.specs.Frames.{way_served}
-use Rattle.world_model.specs.radio_air.specs.declared.fate.Fate.{Fate}
-use Rattle.world_model.specs.radio_air.specs.declared.fate.Fate.TheVariants.{Delivered, Lost, Repeated, CutOff, Changed}
-use Rattle.world_model.specs.radio_air.specs.declared.deed.Deed.{Deed}
-use Rattle.world_model.specs.radio_air.specs.declared.deed.Deed.TheVariants.{Nothing, Meets, Fires, FiresBoth, Breaks, Cancels}
-use Rattle.world_model.specs.radio_air.specs.Controllers.{Answer, Controller}
-use Rattle.world_model.specs.radio_air.specs.Fates.{meets, comes_of, can_meet}
-use Rattle.world_model.specs.radio_air.specs.Words.{first_meets, meets_on, passing, deed_of, served_by}
-use Rattle.world_model.specs.radio_air.specs.Radio.{Radio, Phase, Apart, Paging, Requested, Together, is_paging, is_requested, is_together, after_meeting}
+use Rattle.world_model.specs.radio_model.specs.declared.fate.Fate.{Fate}
+use Rattle.world_model.specs.radio_model.specs.declared.fate.Fate.TheVariants.{Delivered, Lost, Repeated, CutOff, Changed}
+use Rattle.world_model.specs.radio_model.specs.declared.deed.Deed.{Deed}
+use Rattle.world_model.specs.radio_model.specs.declared.deed.Deed.TheVariants.{Nothing, Meets, Fires, FiresBoth, Breaks, Cancels}
+use Rattle.world_model.specs.radio_model.specs.Controllers.{Answer, Controller}
+use Rattle.world_model.specs.radio_model.specs.Fates.{meets, comes_of, can_meet}
+use Rattle.world_model.specs.radio_model.specs.Words.{first_meets, meets_on, passing, deed_of, served_by}
+use Rattle.world_model.specs.radio_model.specs.Radio.{Radio, Phase, Apart, Paging, Requested, Together, is_paging, is_requested, is_together, after_meeting}
 use Rattle.world_model.specs.Machines.{News, TimerFired, Cancelled, Upper}
 use Rattle.world_model.specs.Talks.{Talk, Told, Met}
 use Rattle.world_model.specs.Carriages.{End, Carriage, IsQuiet, IsIdle, MeetsFate, ActsOn, finds, with_events}

@@ -1,7 +1,7 @@
 -- What ties PDUs that move one at a time to the world of turns, for every two machines and whatever their ports answer.
 use Rattle.std.specs.Prelude.{ℕ, ◌≡◌, true, false, List, ◌++◌}
 use Rattle.world_model.specs.push_terms.specs.declared.word.Side.TheVariants.{A, B}
-use Rattle.world_model.specs.radio_air.specs.Controllers.{is_empty}
+use Rattle.world_model.specs.radio_model.specs.Controllers.{is_empty}
 use Rattle.world_model.specs.Machines.{Upper}
 use Rattle.world_model.specs.Pushes.{no_pushes}
 use Rattle.world_model.specs.Talks.{Talk}

@@ -4,9 +4,8 @@ pub use Rattle.world_model.specs.bt_base
 pub use Rattle.world_model.specs.capture
 pub use Rattle.world_model.specs.h4_framing
 pub use Rattle.world_model.specs.hci_packets
-pub use Rattle.world_model.specs.push_script
 pub use Rattle.world_model.specs.push_terms
-pub use Rattle.world_model.specs.radio_air
+pub use Rattle.world_model.specs.radio_model
 pub use Rattle.world_model
 pub mod Laws
 pub mod Premises

@@ -2,7 +2,7 @@
 use Rattle.std.specs.Prelude.{ℕ, ◌≡◌, ◌≤◌, true, List}
 use Rattle.world_model.specs.push_terms.specs.declared.word.Side.{Side}
 use Rattle.world_model.specs.push_terms.specs.declared.word.Side.TheVariants.{A, B}
-use Rattle.world_model.specs.radio_air.specs.Radio.{Radio, is_together, after_packet}
+use Rattle.world_model.specs.radio_model.specs.Radio.{Radio, is_together, after_packet}
 use Rattle.world_model.specs.Machines.{Upper}
 use Rattle.world_model.specs.Talks.{Talk}
 use Rattle.world_model.specs.Turns.{Step, Pair, Passes, words_of, first_pair}

@@ -10,11 +10,11 @@ use Rattle.push_terms.specs.declared.word.Way.{Way}
 use Rattle.push_terms.specs.declared.word.Way.TheVariants.{Ab, Ba}
 use Rattle.push_terms.specs.declared.word.Word.{Word}
 use Rattle.push_terms.specs.declared.outcome.Outcome.{Outcome}
-use Rattle.radio_air.specs.declared.fate.Fate.{Fate}
-use Rattle.radio_air.specs.declared.deed.Deed.{Deed}
-use Rattle.radio_air.specs.declared.deed.Deed.TheVariants.{Nothing, Meets, Fires, FiresBoth, Breaks, Cancels}
-use Rattle.radio_air.specs.Fates.{meets, comes_of}
-use Rattle.radio_air.specs.Words.{deed_of, served_by}
+use Rattle.radio_model.specs.declared.fate.Fate.{Fate}
+use Rattle.radio_model.specs.declared.deed.Deed.{Deed}
+use Rattle.radio_model.specs.declared.deed.Deed.TheVariants.{Nothing, Meets, Fires, FiresBoth, Breaks, Cancels}
+use Rattle.radio_model.specs.Fates.{meets, comes_of}
+use Rattle.radio_model.specs.Words.{deed_of, served_by}
 use Rattle.world_model.specs.Machines.{LinkEvent, Up, Down, News, Linked, Heard, TimerFired, Cancelled, Opening, Upper}
 use Rattle.world_model.specs.Pushes.{Pushes, no_pushes, next_name, one_begun, one_ended}
 use Rattle.world_model.specs.Talks.{Talk, Told, Said, Unsent, Met, Done}

@@ -1,12 +1,11 @@
-pub use Rattle.radio_air.specs.acl_credits
+pub use Rattle.radio_model.specs.acl_credits
 pub use Rattle.acl_fragments
 pub use Rattle.bt_base
 pub use Rattle.capture
 pub use Rattle.h4_framing
 pub use Rattle.hci_packets
-pub use Rattle.push_script
 pub use Rattle.push_terms
-pub use Rattle.radio_air
+pub use Rattle.radio_model
 pub mod Machines
 pub mod Pushes
 pub mod Talks

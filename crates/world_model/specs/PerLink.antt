@@ -8,8 +8,8 @@ use Rattle.capture.specs.Entries.{Entry}
 use Rattle.capture.specs.Moves.{moves}
 use Rattle.capture.specs.Links.{linking}
 use Rattle.capture.specs.Pdus.{Pdu, pdus}
-use Rattle.radio_air.specs.declared.fate.Fate.{Fate}
-use Rattle.radio_air.specs.Fates.{meets, comes_of}
+use Rattle.radio_model.specs.declared.fate.Fate.{Fate}
+use Rattle.radio_model.specs.Fates.{meets, comes_of}
 use Rattle.world_model.specs.Machines.{Up, Down, Linked, Heard, Opening}
 use Rattle.world_model.specs.Pushes.{Pushes, next_name, one_begun, one_ended}
 use Rattle.world_model.specs.Talks.{Talk, Told, Said, Unsent, Met, Done}

@@ -14,7 +14,7 @@ use Rattle.acl_fragments.specs.Cuts.{cut}
 use Rattle.acl_fragments.specs.Answers.{Answer as Joined, Pdu, answer, held_after}
 use Rattle.push_terms.specs.declared.word.Side.{Side}
 use Rattle.push_terms.specs.declared.word.Side.TheVariants.{A, B}
-use Rattle.radio_air.specs.Controllers.{Answer, Returned, Stated, Called, LinkMade, LinkGone, GivenBack, address, other_side}
+use Rattle.radio_model.specs.Controllers.{Answer, Returned, Stated, Called, LinkMade, LinkGone, GivenBack, address, other_side}
 use Rattle.world_model.specs.Machines.{LinkEvent, Up, Down, News, Linked, Heard, Upper}
 
 -- ---- what a host puts out

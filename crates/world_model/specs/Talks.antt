@@ -1,7 +1,7 @@
 -- What a host was told and said, in the order in which it was (this project's own).
 use Rattle.std.specs.Prelude.{ℕ, Bool, List}
 use Rattle.push_terms.specs.declared.outcome.Outcome.{Outcome}
-use Rattle.radio_air.specs.declared.fate.Fate.{Fate}
+use Rattle.radio_model.specs.declared.fate.Fate.{Fate}
 use Rattle.world_model.specs.Machines.{News, Heard}
 
 pub data Talk : Type 0 where

@@ -9,13 +9,13 @@ use Rattle.push_terms.specs.declared.word.Side.TheVariants.{A, B}
 use Rattle.push_terms.specs.declared.word.Way.TheVariants.{Ab, Ba}
 use Rattle.push_terms.specs.declared.word.Word.{Word}
 use Rattle.push_terms.specs.declared.outcome.Outcome.{Outcome}
-use Rattle.push_script.specs.Runs.{IsWord}
+use Rattle.push_terms.specs.Words.{IsWord}
 use Rattle.capture.specs.declared.flow.Flow.TheVariants.{Out, Into}
 use Rattle.capture.specs.Entries.{Entry, Moved as Passed, Acted, Begun, Ended}
-use Rattle.radio_air.specs.declared.deed.Deed.{Deed}
-use Rattle.radio_air.specs.declared.deed.Deed.TheVariants.{Nothing, Meets, Fires, FiresBoth, Breaks, Cancels}
-use Rattle.radio_air.specs.Controllers.{Controller, Answer, Returned, Stated, answer_packet, piece_packet, address, after_handing}
-use Rattle.radio_air.specs.Radio.{Radio, new_radio, controller, with_controller, owes, is_apart, is_paging, is_requested, is_together, after_paging, after_reaching, after_accepting, after_disconnecting, scanning, knows_link, with_piece, after_taking, after_offer, after_meeting, parted, found}
+use Rattle.radio_model.specs.declared.deed.Deed.{Deed}
+use Rattle.radio_model.specs.declared.deed.Deed.TheVariants.{Nothing, Meets, Fires, FiresBoth, Breaks, Cancels}
+use Rattle.radio_model.specs.Controllers.{Controller, Answer, Returned, Stated, answer_packet, piece_packet, address, after_handing}
+use Rattle.radio_model.specs.Radio.{Radio, new_radio, controller, with_controller, owes, is_apart, is_paging, is_requested, is_together, after_paging, after_reaching, after_accepting, after_disconnecting, scanning, knows_link, with_piece, after_taking, after_offer, after_meeting, parted, found}
 use Rattle.world_model.specs.Machines.{TimerFired, Cancelled, Opening, Upper}
 use Rattle.world_model.specs.Pushes.{Pushes, no_pushes, next_name, one_begun, one_ended}
 use Rattle.world_model.specs.Turns.{IsCalm, FindsNothing, may_be_cancelled}

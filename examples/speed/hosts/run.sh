@@ -10,5 +10,5 @@ trap 'rm -rf "$work"' EXIT
 git clone -q "$top" "$work/repository"
 cd "$work/repository"
 . "$here/../beside.sh"
-add hosts_speed 'bt_base object_push'
+add hosts_speed 'bt_base ready_ports object_push'
 time_both hosts_speed

@@ -10,12 +10,12 @@ trap 'rm -rf "$work"' EXIT
 mkdir -p "$work/repository/crates"
 cd "$work/repository"
 git init -q .
-for crate in bt_base h4_framing draws wire_packets wire_model three_wire; do
+for crate in bt_base ready_ports h4_framing draws wire_packets wire_model three_wire; do
     cp -a "$top/crates/$crate" crates/
     grep "^$crate:" "$top/crates.txt" >> crates.txt
 done
 . "$here/../beside.sh"
-add three_wire_speed 'bt_base three_wire'
+add three_wire_speed 'ready_ports three_wire'
 cd crates/three_wire_speed
 rt run < /dev/null > "$work/proved" 2> "$work/log" || { tail -20 "$work/log"; exit 1; }
 for units in 100000 200000 400000; do

@@ -3,8 +3,9 @@
 ghost use Rattle.std.specs.Prelude.{◌≡◌, false};
 
 use crate::run::run;
-use bt_base::{Inbox, MemInbox, MemShelf, MemSink, MemSource, NoMemory, Source};
+use bt_base::{Inbox, NoMemory, Source};
 use btpush_forms::Status;
+use ready_ports::{MemInbox, MemShelf, MemSink, MemSource};
 use std::alloc::Global;
 
 /// The rows of a table. No contract tells what they are, so that a proof does not carry them along: the run compares them.

@@ -13,7 +13,7 @@ use crate::readers::{Link, Move};
 use bt_base::NoMemory;
 use byteorder::{ByteOrder, LittleEndian};
 use h4_framing::Unit;
-use push_script::Side;
+use push_terms::Side;
 use std::alloc::Global;
 
 const COMPLETED_PACKETS: u8 = 0x13;

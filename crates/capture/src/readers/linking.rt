@@ -16,7 +16,7 @@ use crate::readers::{Link, Move};
 use bt_base::{NoMemory, read_le16};
 use h4_framing::Unit;
 use hci_packets::{command_of, event_of};
-use push_script::Side;
+use push_terms::Side;
 use std::alloc::Global;
 
 const CREATE_CONNECTION: u16 = 0x0405;

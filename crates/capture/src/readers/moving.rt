@@ -8,7 +8,7 @@ ghost use Rattle.capture.specs.Lent.{plain_entry, plain_entries, plain_move, pla
 use crate::entry::Entry;
 use crate::readers::Move;
 use bt_base::NoMemory;
-use push_script::Side;
+use push_terms::Side;
 use std::alloc::Global;
 
 fn move_of<'a>(entry: &Entry<'a>, host: Side) -> Option<Move<'a>>

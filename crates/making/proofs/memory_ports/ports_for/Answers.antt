@@ -1,5 +1,5 @@
 use Rattle.std.proofs.Common.{◌∙◌, ap}
-use Rattle.bt_base.specs.Memory.{MemoryShelved}
+use Rattle.ready_ports.specs.Memory.{MemoryShelved}
 use Rattle.push_script.specs.Made.{made_objects, shelved}
 use Rattle.making.proofs.MadeTexts.{made_again}
 use Rattle.making.proofs.memory_ports.ports_for.Goals as goal

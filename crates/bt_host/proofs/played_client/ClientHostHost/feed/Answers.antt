@@ -1,7 +1,7 @@
 use Rattle.std.proofs.Common.{◌≡◌, ◌∙◌, sym, ap, subst}
 use Rattle.push_terms.specs.declared.word.Side.TheVariants.{A, B}
 use Rattle.radio_world.specs.Hosts as world
-use Rattle.radio_world.specs.radio_air.specs.Controllers.{address}
+use Rattle.radio_world.specs.radio_model.specs.Controllers.{address}
 use Rattle.shelf_model.specs.host_model.specs.Clients.{ClientProfile}
 use Rattle.bt_host.specs.Pushing.{Pushes, Lacks}
 use Rattle.bt_host.specs.Noting.{Noted}

@@ -1,7 +1,7 @@
 use Rattle.std.proofs.Common.{◌≡◌, ℕ, ◌+◌, true, cond, rules, sym, ap, ◌∙◌}
 use Rattle.std.specs.Prelude.{min}
-use Rattle.radio_air.specs.Controllers.{Controller}
-use Rattle.radio_air.specs.Owed.{outstanding_at, back}
+use Rattle.radio_model.specs.Controllers.{Controller}
+use Rattle.radio_model.specs.Owed.{outstanding_at, back}
 use Rattle.radio_air.proofs.Outstanding.{sum_more, sum_all, read_at}
 use Rattle.radio_air.proofs.manager.LinkManager.outstanding.Goals as goal
 

@@ -1,6 +1,7 @@
 use Rattle.std.proofs.Common.{◌≡◌, ◌+◌, ◌-◌, ◌^◌, take, map}
 use Rattle.std.specs.Prelude.{min}
-use Rattle.radio_air.specs.Owed.{plain_answer, back}
+use Rattle.radio_model.specs.Owed.{back}
+use Rattle.radio_air.specs.Plain.{plain_answer}
 use Rattle.radio_air.proofs.manager.LinkManager.outstanding.Given as goal
 
 abbrev pub invariant-loop-i : goal.invariant-loop-i

@@ -1,5 +1,5 @@
 use Rattle.std.proofs.Common.{◌≤◌, ◌<◌, length, drop, subst, sym, ap, ◌∙◌, arith}
-use Rattle.radio_air.specs.Rings.{first_or_nothing}
+use Rattle.radio_model.specs.Radio.{first_or_nothing}
 use Rattle.radio_air.proofs.Queueing.{still_is, still_frames, queue_still, queue_begun, begun_nothing, begun_some}
 use Rattle.radio_air.proofs.queue.AirQueue.begin.Goals as goal
 

@@ -1,6 +1,6 @@
 use Rattle.std.proofs.Common.{◌≤◌, ◌<◌, ◌+◌, length, drop, subst, sym, ap, ◌∙◌, arith, refl}
 use Rattle.std.specs.Prelude.{bit_xor, slice_index, ◌/◌, ◌%◌}
-use Rattle.radio_air.specs.Rings.{first_or_nothing}
+use Rattle.radio_model.specs.Radio.{first_or_nothing}
 use Rattle.radio_air.proofs.Queueing.{still_is, still_frames, queue_changed, first_same}
 use Rattle.radio_air.proofs.queue.AirQueue.change.Goals as goal
 

@@ -1,6 +1,6 @@
 use Rattle.std.proofs.Common.{◌≡◌, ◌<◌, ◌≤◌, length, sym, ap, ◌∙◌, arith, Some, None}
-use Rattle.radio_air.specs.Rings.{first_or_nothing}
-use Rattle.radio_air.specs.Radio.{first_channel}
+use Rattle.radio_model.specs.Radio.{first_or_nothing}
+use Rattle.radio_model.specs.Radio.{first_channel}
 use Rattle.radio_air.proofs.Queueing.{still_frames, no_channel, a_channel}
 use Rattle.radio_air.proofs.queue.AirQueue.channel.Goals as goal
 

@@ -1,5 +1,5 @@
 use Rattle.std.proofs.Common.{length, sym, ap, ◌∙◌}
-use Rattle.radio_air.specs.Rings.{first_or_nothing}
+use Rattle.radio_model.specs.Radio.{first_or_nothing}
 use Rattle.radio_air.proofs.Queueing.{still_frames}
 use Rattle.radio_air.proofs.queue.AirQueue.first_len.Goals as goal
 

@@ -1,6 +1,6 @@
 use Rattle.std.proofs.Common.{◌≡◌, ◌*◌, ◌<◌, length, min, sym, ap, subst, ◌∙◌, arith}
-use Rattle.radio_air.specs.declared.fate.Fate.TheVariants.{CutOff}
-use Rattle.radio_air.specs.Queues.{meeting}
+use Rattle.radio_model.specs.declared.fate.Fate.TheVariants.{CutOff}
+use Rattle.radio_model.specs.Queues.{meeting}
 use Rattle.radio_air.proofs.Meeting.{met_cut}
 use Rattle.radio_air.proofs.queue.AirQueue.meet.Goals as goal
 

@@ -1,7 +1,8 @@
 use Rattle.std.proofs.Common.{◌≡◌, ◌+◌, ◌≤◌, ◌<◌, ◌++◌, ◌∷◌, [], length, sym, ap, subst, ◌∙◌, arith, length-append, true}
 use Rattle.std.proofs.lemmas.List.{append-nil}
 use Rattle.radio_air.specs.declared.step.Step.TheVariants.{Whole}
-use Rattle.radio_air.specs.Queues.{IsShortStep, is_crowded, stepped}
+use Rattle.radio_air.specs.Plain.{IsShortStep, stepped}
+use Rattle.radio_model.specs.Queues.{is_crowded}
 use Rattle.radio_air.proofs.Faults.{on_err}
 use Rattle.radio_air.proofs.Queueing.{queue_grown, whole_crowded, frames_crowded, more_crowded}
 use Rattle.radio_air.proofs.queue.AirQueue.step.Goals as goal

@@ -1,8 +1,8 @@
 use Rattle.std.proofs.Common.{◌≡◌, [], sym, ap, subst, ◌∙◌, true}
 use Rattle.std.proofs.lemmas.Result.{on_err_weaker}
 use Rattle.push_terms.specs.declared.word.Side.TheVariants.{A, B}
-use Rattle.radio_air.specs.Radio.{controller, knows_link, after_acl}
-use Rattle.radio_air.specs.Owed.{wants_memory}
+use Rattle.radio_model.specs.Radio.{controller, knows_link, after_acl}
+use Rattle.radio_model.specs.Owed.{wants_memory}
 use Rattle.radio_air.proofs.Carrying.{carry_wants}
 use Rattle.radio_air.proofs.radio.Radio.carry.Goals as goal
 

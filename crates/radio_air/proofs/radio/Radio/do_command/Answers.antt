@@ -1,4 +1,4 @@
-use Rattle.radio_air.specs.Controllers.{Returned, Stated}
+use Rattle.radio_model.specs.Controllers.{Returned, Stated}
 use Rattle.std.proofs.Common.{[], ◌∷◌}
 use Rattle.radio_air.proofs.Pressing.{full_after, full_scanned}
 use Rattle.radio_air.proofs.radio.Radio.do_command.Goals as goal

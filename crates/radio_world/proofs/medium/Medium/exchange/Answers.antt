@@ -1,14 +1,14 @@
 use Rattle.std.proofs.Common.{◌≡◌, ◌||◌, Bool, true, false, Result, Ok, inl, refl, ap, subst, ◌∙◌, arith}
 use Rattle.push_terms.specs.declared.word.Side.{Side}
 use Rattle.push_terms.specs.declared.word.Side.TheVariants.{A, B}
-use Rattle.radio_air.specs.Controllers.{other_side}
-use Rattle.radio_air.specs.Radio.{Radio, controller, after_offer}
+use Rattle.radio_model.specs.Controllers.{other_side}
+use Rattle.radio_model.specs.Radio.{Radio, controller, after_offer}
 use Rattle.radio_world.specs.Leaving.{Medium}
 use Rattle.radio_world.proofs.Moving.{goes_back}
 use Rattle.radio_world.specs.Counting.{one_if}
 use Rattle.radio_world.proofs.Tallying.{either_one, goes_by_any, goes_by_then}
 use Rattle.radio_world.proofs.Hearing.{heard_then}
-use Rattle.radio_air.specs.Owed.{owes_many}
+use Rattle.radio_model.specs.Owed.{owes_many}
 use Rattle.radio_world.specs.Shortages.{PortLacked, ReturnWants}
 use Rattle.radio_world.proofs.Wanting.{any_err, lacks_for, lacks_on}
 use Rattle.radio_world.proofs.Breaking.{goes_no_more, goes_broken_then}

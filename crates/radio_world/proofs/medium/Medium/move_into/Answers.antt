@@ -5,7 +5,7 @@ use Rattle.capture.specs.declared.flow.Flow.TheVariants.{Into}
 use Rattle.capture.specs.Entries.{Moved, entry_octets}
 use Rattle.h4_framing.specs.Packets.{packet, spelling, IsPacket}
 use Rattle.push_terms.specs.declared.word.Side.{Side}
-use Rattle.radio_air.specs.Radio.{Radio, after_answer}
+use Rattle.radio_model.specs.Radio.{Radio, after_answer}
 use Rattle.radio_world.specs.Hosts.{acl_limit, Coming, coming_packet, hears_coming, Reacts}
 use Rattle.radio_world.specs.Leaving.{Medium, in_radio}
 use Rattle.radio_world.specs.Halves.{IsStillIn, ComesFirst}

@@ -1,7 +1,7 @@
 use Rattle.std.proofs.Common.{ℕ, suc, ◌+◌, ◌≤◌, length, ap, subst, ◌∙◌, arith}
 use Rattle.bt_base.specs.Streams.{gained, GainedFront}
 use Rattle.push_terms.specs.Words.{word_text}
-use Rattle.push_script.proofs.Lengths.{word_short}
+use Rattle.script_words.proofs.Lengths.{word_short}
 use Rattle.capture.specs.Entries.{Acted, entry_octets}
 use Rattle.radio_world.specs.Scenes.{Scene}
 use Rattle.radio_world.proofs.scene.Scene.act.Goals as goal

@@ -1,9 +1,9 @@
 use Rattle.std.proofs.Common.{◌≡◌, [], inl, inr, refl, sym, ap, subst, ◌∙◌}
 use Rattle.push_terms.specs.declared.word.Side.{Side}
 use Rattle.push_terms.specs.declared.word.Side.TheVariants.{A, B}
-use Rattle.radio_air.specs.declared.deed.Deed.{Deed}
-use Rattle.radio_air.specs.Owed.{IsMet}
-use Rattle.radio_air.specs.Radio.{found, after_deed}
+use Rattle.radio_model.specs.declared.deed.Deed.{Deed}
+use Rattle.radio_model.specs.Owed.{IsMet}
+use Rattle.radio_model.specs.Radio.{found, after_deed}
 use Rattle.radio_world.specs.Hosts.{answering, Reacts}
 use Rattle.radio_world.specs.Turning.{cancels, done_by, is_checked}
 use Rattle.room_laws.specs.Rooms.{OwesNoneBack}

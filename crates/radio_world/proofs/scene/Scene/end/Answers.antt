@@ -1,6 +1,6 @@
 use Rattle.std.proofs.Common.{rules, ℕ, suc, ◌≤◌, length, arith}
 use Rattle.push_terms.specs.Outcomes.{outcome_text, IsOutcome}
-use Rattle.push_script.proofs.Lengths.{outcome_short}
+use Rattle.script_words.proofs.Lengths.{outcome_short}
 use Rattle.radio_world.proofs.scene.Scene.end.Goals as goal
 
 -- an outcome's text is short beside a packet

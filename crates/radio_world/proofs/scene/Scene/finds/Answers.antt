@@ -1,5 +1,5 @@
 use Rattle.std.proofs.Common.{ap, ◌∙◌}
-use Rattle.radio_air.specs.declared.deed.Deed.{Deed}
+use Rattle.radio_model.specs.declared.deed.Deed.{Deed}
 use Rattle.radio_world.specs.Turning.{can_be_done}
 use Rattle.radio_world.proofs.scene.Scene.finds.Goals as goal
 

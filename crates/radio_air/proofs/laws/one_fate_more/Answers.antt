@@ -1,5 +1,0 @@
-use Rattle.radio_air.proofs.Flying.{one_fate_more}
-use Rattle.radio_air.proofs.laws.one_fate_more.Goals as goal
-
-pub returns : goal.returns
-returns c = one_fate_more

@@ -1,5 +1,0 @@
-use Rattle.radio_air.proofs.Flying.{one_frame_more}
-use Rattle.radio_air.proofs.laws.one_frame_more.Goals as goal
-
-pub returns : goal.returns
-returns c = one_frame_more

@@ -1,0 +1,12 @@
+pub use Rattle.acl_credits
+pub mod Fates
+pub mod Words
+pub mod Controllers
+pub mod Radio
+pub mod Queues
+pub mod Owed
+pub mod Flights
+pub mod Laws
+pub mod Air
+pub mod Honest
+pub mod Course

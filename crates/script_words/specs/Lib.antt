@@ -1,0 +1,4 @@
+pub mod Parts
+pub mod Words
+pub mod Outcomes
+pub mod Laws
