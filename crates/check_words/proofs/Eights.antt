@@ -1,9 +1,10 @@
 -- Octets behind octets, and eight at a time.
 use Rattle.std.proofs.Common.{◌≡◌, ℕ, zero, suc, ◌+◌, ◌-◌, ◌*◌, ◌/◌, ◌%◌, ◌<◌, ◌≤◌, Bool, List, [], ◌∷◌, ◌++◌, length, take, drop, get_or, replicate, bit_xor, refl, sym, ap, ◌∙◌, arith, length-append}
-use Rattle.std.specs.Int.Bits.{xor_zero_l, xor_zero_r}
+use Rattle.std.specs.Int.Bits.{xor_assoc, xor_zero_l, xor_zero_r}
 use Rattle.std.specs.List.{slice_range}
 use Rattle.std.proofs.Math.Seq.{take-add}
 use Rattle.std.proofs.lemmas.Grind.{flat_map-append}
+use Rattle.std.proofs.lemmas.Nat.{xor_comm}
 use Rattle.std.proofs.lemmas.List.{drop_more, drop_all, take_rest, take-append-drop}
 use Rattle.check_words.specs.Division.{added, remainder, zeros}
 use Rattle.check_words.specs.CheckWords.{low_bits, bits_of, l2cap_generator, l2cap_check}
@@ -144,11 +145,37 @@ all_elements (suc count) i xs long =
 abbrev pub IsBehind : ℕ → ℕ → ℕ → Type 0
 IsBehind word octet count = low_bits 16 word ≡ l2cap_check (octet ∷ replicate count 0)
 
+passed_over : (a b c : ℕ) → bit_xor (bit_xor a b) c ≡ bit_xor a (bit_xor c b)
+passed_over a b c = xor_assoc a b c ∙ ap (bit_xor a) (xor_comm b c)
+
+-- eight words that are added from the last one on
+turned : (s t u v w x y z : ℕ)
+    → bit_xor (bit_xor (bit_xor (bit_xor (bit_xor (bit_xor (bit_xor z y) x) w) v) u) t) s
+    ≡ bit_xor (bit_xor (bit_xor (bit_xor (bit_xor (bit_xor (bit_xor s t) u) v) w) x) y) z
+turned s t u v w x y z =
+    let st : ℕ = bit_xor s t in
+    let su : ℕ = bit_xor st u in
+    let sv : ℕ = bit_xor su v in
+    let sw : ℕ = bit_xor sv w in
+    let sx : ℕ = bit_xor sw x in
+    let zy : ℕ = bit_xor z y in
+    let zx : ℕ = bit_xor zy x in
+    let zw : ℕ = bit_xor zx w in
+    let zv : ℕ = bit_xor zw v in
+    let zu : ℕ = bit_xor zv u in
+    passed_over zu t s
+    ∙ passed_over zv u st
+    ∙ passed_over zw v su
+    ∙ passed_over zx w sv
+    ∙ passed_over zy x sw
+    ∙ passed_over z y sx
+    ∙ xor_comm z (bit_xor sx y)
+
 pub eight_behind : (word : ℕ) (octets : List ℕ) (s t u v w x y z : ℕ) → length octets ≡ 8
     → IsBehind s (bit_xor (word % 256) (get_or octets 0 0)) 7 → IsBehind t (bit_xor (word / 256) (get_or octets 1 0)) 6
     → IsBehind u (get_or octets 2 0) 5 → IsBehind v (get_or octets 3 0) 4 → IsBehind w (get_or octets 4 0) 3
     → IsBehind x (get_or octets 5 0) 2 → IsBehind y (get_or octets 6 0) 1 → low_bits 16 z ≡ l2cap_check (get_or octets 7 0 ∷ [])
-    → low_bits 16 (bit_xor (bit_xor (bit_xor (bit_xor (bit_xor (bit_xor (bit_xor s t) u) v) w) x) y) z) ≡ left_behind word octets
+    → low_bits 16 (bit_xor (bit_xor (bit_xor (bit_xor (bit_xor (bit_xor (bit_xor z y) x) w) v) u) t) s) ≡ left_behind word octets
 eight_behind word octets s t u v w x y z long is-s is-t is-u is-v is-w is-x is-y is-z =
     let at : ℕ → ℕ = λ (i : ℕ). get_or octets i 0 in
     let first : ℕ = bit_xor (word % 256) (at 0) in
@@ -159,7 +186,8 @@ eight_behind word octets s t u v w x y z long is-s is-t is-u is-v is-w is-x is-y
     let sw : ℕ = bit_xor sv w in
     let sx : ℕ = bit_xor sw x in
     let sy : ℕ = bit_xor sx y in
-    sym (ap (left_behind word) (all_elements 8 0 octets long)
+    ap (low_bits 16) (turned s t u v w x y z)
+    ∙ sym (ap (left_behind word) (all_elements 8 0 octets long)
     ∙ in_front word (at 0) (at 1) (elements 6 2 octets)
     ∙ apart first (second ∷ elements 6 2 octets)
     ∙ ap (λ (k : List Bool). added k (l2cap_check (second ∷ elements 6 2 octets))) (sym is-s)

@@ -22,21 +22,22 @@ pub fn fcs16(octets: &[u8]) -> u16
 }
 
 /// The check word with eight octets more behind those that `word` is of. The word is added to the
-/// first two, and then each octet goes in by itself, with zeros in the place of those behind it.
+/// first two, and then each octet goes in by itself, with zeros in the place of those behind it. The
+/// two that wait for the word come last, so that the others are looked up meanwhile.
 fn with_eight(word: u16, octets: &[u8]) -> u16
     requires { length octets.now ≡ 8 }
     ensures { low_bits 16 result ≡ remainder l2cap_generator (added (low_bits 16 word) (bits_of octets.now ++ zeros 16)) }
 {
     let first = (word % 256) as u8 ^ octets[0];
     let second = (word / 256) as u8 ^ octets[1];
-    check_word_behind(6, first)
-        ^ check_word_behind(5, second)
-        ^ check_word_behind(4, octets[2])
-        ^ check_word_behind(3, octets[3])
-        ^ check_word_behind(2, octets[4])
-        ^ check_word_behind(1, octets[5])
+    check_word_of(octets[7])
         ^ check_word_behind(0, octets[6])
-        ^ check_word_of(octets[7])
+        ^ check_word_behind(1, octets[5])
+        ^ check_word_behind(2, octets[4])
+        ^ check_word_behind(3, octets[3])
+        ^ check_word_behind(4, octets[2])
+        ^ check_word_behind(5, second)
+        ^ check_word_behind(6, first)
 }
 
 /// The check word with octets more behind those that `word` is of.

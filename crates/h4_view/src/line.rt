@@ -15,9 +15,19 @@ use std::alloc::Global;
 /// Text that is put together in memory.
 pub(crate) type Text = Vec<u8>;
 
+/// Adds the digits of a number. Most numbers of a line have one or two, which are written at once.
 pub(crate) fn push_decimal(text: &mut Text, number: u64) -> Result<(), NoMemory>
     ensures { OnOk result (text.new.items ≡ text.old.items ++ decimal number) }
 {
+    if number < 10 {
+        text.push(b'0' + number as u8)?;
+        return Ok(());
+    }
+    if number < 100 {
+        text.push(b'0' + (number / 10) as u8)?;
+        text.push(b'0' + (number % 10) as u8)?;
+        return Ok(());
+    }
     let mut buffer = itoa::Buffer::new();
     text.extend_from_slice(buffer.format(number).as_bytes())?;
     Ok(())
