@@ -67,11 +67,16 @@ const STARTS: [Row; 5] = [
     ),
 ];
 
+/// Whether a piece comes to what its row says.
+fn joins_piece(joiner: &mut Joiner, row: &Row) -> bool {
+    let joined = joiner.take(row.0, row.1);
+    joined.unfinished == row.2 && joined.got == row.3
+}
+
 /// Whether these pieces come to what their rows say.
 fn joins(joiner: &mut Joiner, table: &[Row]) -> bool {
-    for (boundary, piece, unfinished, got) in table {
-        let joined = joiner.take(*boundary, *piece);
-        if joined.unfinished != *unfinished || joined.got != *got {
+    for row in table {
+        if !joins_piece(joiner, row) {
             return false;
         }
     }

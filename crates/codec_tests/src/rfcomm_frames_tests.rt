@@ -73,11 +73,12 @@ const AGAIN: [(&[u8], &[u8]); 4] = [
     ),
 ];
 
+/// What is written to, before.
+const UNWRITTEN: [u8; 16] = [0xEE; 16];
+
 /// Whether these octets stand at the front of what was written to, and nothing behind them.
 fn is_written(into: &[u8], end: usize, written: &[u8]) -> bool {
-    end == written.len()
-        && into.get(..end) == Some(written)
-        && into.iter().skip(end).all(|octet| *octet == 0xEE)
+    into.get(..end) == Some(written) && into.get(end..) == UNWRITTEN.get(end..into.len())
 }
 
 /// Whether a frame of at most 16 octets is written again so.
