@@ -1,3 +1,4 @@
 pub mod Upsetting
 pub mod LeavingNone
 pub mod GoingOn
+pub mod Telling

@@ -7,6 +7,7 @@ use Rattle.channel_laws.specs.channel_model.specs.Policies.{Policy}
 use Rattle.channel_laws.specs.Pairs.{Turn}
 use Rattle.staying_laws.specs.forgoing_laws.specs.Lasts.{AreOrderly, GoOn}
 use Rattle.staying_laws.specs.Stays.{AnswerWell}
+use Rattle.told_laws.specs.Told.{ToldMildly}
 use Rattle.pair_laws.specs.world_model.specs.Worlds.{all_words}
 use Rattle.pair_laws.specs.host_model.specs.Clients.{client_profile}
 use Rattle.pair_laws.specs.host_model.specs.Servers.{server_profile}
@@ -34,3 +35,8 @@ FewWordsAnswerWell = OnLinksOfFew AnswerWell
 -- Host b asks for the end of no channel, its requests for options and host a's for ends are responded to, host a gives up none of these, and each channel for whose end it did not ask remains at host b.
 abbrev pub FewWordsGoOn : Type 0
 FewWordsGoOn = OnLinksOfFew GoOn
+
+-- And host a is told of no channel that host b closed, not that its question for features was lost, and of no limit that was met on a channel that remains at host b; and neither is told that the end of
+-- a channel that it closed was lost.
+abbrev pub FewWordsTellMildly : Type 0
+FewWordsTellMildly = OnLinksOfFew ToldMildly

@@ -1,7 +1,7 @@
 //! What the limits on how often something is sent come to in a run: which words have to be adverse before one is reached.
 #![tactic(auto)]
 
-ghost use Rattle.limit_laws.specs.GoesOn.{FewWordsAnswerWell, FewWordsGoOn, LinksAreOrderly};
+ghost use Rattle.limit_laws.specs.GoesOn.{FewWordsAnswerWell, FewWordsGoOn, FewWordsTellMildly, LinksAreOrderly};
 ghost use Rattle.limit_laws.specs.Upsets.{MachinesOutlastWords, UpsetsCostWords};
 
 /// On each link of a run at most so many turns upset as words of the run are adverse: those that lose, repeat, change or cut a frame, and those that fire a timer.
@@ -54,4 +54,17 @@ pub fn few_words_go_on()
     links_are_orderly();
     few_words_answer_well();
     staying_laws::few_turns_end_none_of_both();
+}
+
+/// And host a is told of no channel that host b closed, not that its question for features was lost, and of no limit that was met on a channel that remains at host b; and neither is told that
+/// a request for the end of a channel that it closed was lost.
+pub fn few_words_tell_mildly()
+    ensures { FewWordsTellMildly }
+{
+    links_are_orderly();
+    few_words_answer_well();
+    channel_laws::laws::connections_are_met();
+    channel_laws::laws::names_are_apart();
+    host_laws::laws::clients_ask_in_order();
+    told_laws::few_turns_tell_mildly();
 }

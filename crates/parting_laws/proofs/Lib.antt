@@ -1,0 +1,5 @@
+mod Tidings
+mod Server
+mod Client
+mod Radio
+mod Runs

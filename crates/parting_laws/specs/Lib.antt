@@ -1,0 +1,3 @@
+pub use Rattle.cause_laws
+pub use Rattle.limit_laws
+pub mod Parting

@@ -1,0 +1,2 @@
+pub use Rattle.staying_laws
+pub mod Told
