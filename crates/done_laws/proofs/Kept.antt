@@ -1,5 +1,5 @@
 -- Push after push over L2CAP: the object of each push that is done is stored.
-use Rattle.std.proofs.Common.{inl, inr, ◌⊎◌, Bool, true, false, ◌≡◌, ◌==◌, ℕ, ◌+◌, ◌≤◌, ◌||◌, List, [], ◌∷◌, ◌++◌, length, map, Some, None, refl, sym, ap, subst, ◌∙◌, arith, append-nil, append_assoc}
+use Rattle.std.proofs.Common.{inl, inr, ◌⊎◌, Bool, true, false, ◌≡◌, ◌==◌, ℕ, ◌≤◌, ◌||◌, List, [], ◌∷◌, ◌++◌, length, map, Some, None, refl, sym, ap, subst, ◌∙◌, arith, append-nil, append_assoc}
 use Rattle.std.specs.List.{AllByRecursion, flat_map}
 use Rattle.std.proofs.lemmas.Bool.{cases_Bool, eqb-true}
 use Rattle.std.proofs.lemmas.List.{length-append, append_cancel_left}
@@ -15,10 +15,9 @@ use Rattle.tape_laws.specs.push_model.specs.Laws as deeds
 use Rattle.tape_laws.specs.push_model.specs.Laws.{Deed}
 use Rattle.tape_laws.specs.push_model.specs.Server.{Reacted, object_psm}
 use Rattle.tape_laws.specs.push_laws.specs.Faults as faulty
-use Rattle.tape_laws.specs.push_laws.specs.Faults.{Marked, unmarked, heard_as, heard_over, mark_of, spent_from}
+use Rattle.tape_laws.specs.push_laws.specs.Faults.{Marked, unmarked, heard_as, heard_over, mark_of}
 use Rattle.tape_laws.specs.push_laws.specs.Gains as clear
 use Rattle.tape_laws.specs.push_laws.specs.Laws.{new_over, stored_in}
-use Rattle.tape_laws.specs.push_laws.specs.Losing.{LeavesOut}
 use Rattle.tape_laws.specs.push_laws.specs.Marks.{AllSayMarks}
 use Rattle.tape_laws.specs.push_laws.specs.Occurrences.{Occurrence, LinkDown, done, all_done}
 use Rattle.tape_laws.specs.push_laws.specs.Parties.{Move, OfServer, OfClient, server_side, client_side, Pipes, no_pipes, sent_by, come_by, sdu_if, pipes_after, IsFrontOf, StayPipes, Push, IsOffered, begun_of, ended_with, over_pushes, ServesDirectly, AllServeDirectly}
@@ -28,7 +27,6 @@ use Rattle.tape_laws.specs.push_laws.specs.Spelled.{ArePushed, IsOfShelf, IsOfSh
 use Rattle.tape_laws.specs.push_laws.proofs.Among.{one_pushed}
 use Rattle.tape_laws.specs.push_laws.proofs.Keeping.{Keeps, Brings, brings, keeps_more}
 use Rattle.tape_laws.specs.push_laws.proofs.Listening.{octets_of}
-use Rattle.tape_laws.specs.push_laws.proofs.Losing.{pushes-gain_less}
 use Rattle.tape_laws.specs.push_laws.proofs.Marking.{gains-all_but_refusals}
 use Rattle.tape_laws.specs.push_laws.proofs.Missing.{Stays, marked_at, stays_more, marks_later, first_stays, all_may_miss}
 use Rattle.tape_laws.specs.push_laws.proofs.OneName.{one_name_leaves, one_name_few}
@@ -37,16 +35,10 @@ use Rattle.tape_laws.specs.push_laws.proofs.Parties.{begun_so}
 use Rattle.tape_laws.specs.push_laws.proofs.Placing.{task_of}
 use Rattle.tape_laws.specs.push_laws.proofs.Pushing.{Task}
 use Rattle.tape_laws.specs.push_laws.proofs.Readings.{heard_more}
-use Rattle.done_laws.specs.Kept.{client_of, IsKept, AreKept, SpellEach, PushesSpellEach, DonePushesAreKept}
+use Rattle.done_laws.specs.Kept.{client_of, IsKept, HasGained, SpellsHere, SpellEach, PushesSpellEach}
 use Rattle.done_laws.proofs.Successes.{success_in}
 use Rattle.done_laws.proofs.Servers.{stored_with, last_is, stored_later, ends_quiet}
 use Rattle.done_laws.proofs.Walks.{Ends, Behind, walks}
-
--- what is left out of some objects is not among the others
-fewer_left : (kept objects : List Object) (most : ℕ) → LeavesOut kept objects most → length objects ≤ length kept + most
-fewer_left kept [] most none = omega arith
-fewer_left kept (object ∷ objects) most (inl stays) = let rest = fewer_left stays.0 objects most stays.2 in let same = ap length stays.1 in omega (arith, rest, same)
-fewer_left kept (object ∷ objects) most (inr left) = let rest = fewer_left kept objects left.0 left.2 in let same = left.1 in omega (arith, rest, same)
 
 -- ---- what one link leaves
 
@@ -271,89 +263,40 @@ module _ (settings : Settings) (before : List Object) where
   done_joined [] behind at = refl
   done_joined (one ∷ front) behind at = done_joined front behind (done one at)
 
-  -- what all of them leave, from a moment on
-  record All (ahead spelt : List Object) (pushes : List Push) (past : List Occurrence) (at : Reacted) : Type 0 where
-    stays : Stays settings before past at
-    gain : List Object
-    objects : List Object
-    stored : faulty.objects settings stays.marks ≡ ahead ++ gain
-    spelled : clear.objects settings past ≡ spelt ++ objects
-    kept : AreKept pushes gain objects
+  -- ---- what each of them spells, and what is gained of it
 
-  abbrev Leaves : List Push → (past : List Occurrence) (at : Reacted) → Stays settings before past at → List Occurrence → Type 0
-  Leaves pushes past at s more = All (faulty.objects settings s.marks) (clear.objects settings past) pushes (past ++ more) (all_done more at)
+  abbrev new : Reacted
+  new = new_over settings before
 
-  -- the last one
-  last_link : (last : Push) (past : List Occurrence) (at : Reacted) (s : Stays settings before past at) → Begins past at s → IsOffered last → AllServeDirectly NoneShort at (server_side last.moves) → AllSayMarks settings s.marks at (server_side last.moves)
-      → Leaves (last ∷ []) past at s (server_side last.moves)
-  last_link last past at s b over serve said =
-      let e = link_ends last over past at [] s b serve (subst (AllSayMarks settings s.marks at) (sym (append-nil (server_side last.moves))) said) in
-      let one = link_of (faulty.objects settings s.marks) (clear.objects settings past) last (task_of last) (past ++ server_side last.moves) (all_done (server_side last.moves) at) [] e.quiet e.still refl e.behind in
-      record {
-        stays = one.stays;
-        gain = one.kept;
-        objects = one.here;
-        stored = one.stored;
-        spelled = one.spelled;
-        kept = (one.kept, one.here, [], [], sym (append-nil one.kept), sym (append-nil one.here), one.fits, (refl, refl));
-      }
+  same_some : (xs ys : List Object) → Some xs ≡ Some ys → xs ≡ ys
+  same_some xs ys is = cc
 
-  -- one link, and all others behind it
-  two_links : (push : Push) (offered : IsOffered push) (others : List Push) (past : List Occurrence) (at : Reacted) (behind : List Occurrence) (s : Stays settings before past at) → Begins past at s → AllServeDirectly NoneShort at (server_side push.moves ++ LinkDown ∷ behind)
-      → AllSayMarks settings s.marks at (server_side push.moves ++ LinkDown ∷ behind)
-      → (let past' = (past ++ server_side push.moves) ++ LinkDown ∷ [] in
-      let at' = done LinkDown (all_done (server_side push.moves) at) in
-      (s' : Stays settings before past' at') → Begins past' at' s' → AllServeDirectly NoneShort at' behind → AllSayMarks settings s'.marks at' behind → Leaves others past' at' s' behind)
-      → Leaves (push ∷ others) past at s (server_side push.moves ++ LinkDown ∷ behind)
-  unfolding down_ends link_of
-  two_links push offered others past at behind s b serve said goes =
-      let ahead = faulty.objects settings s.marks in
-      let spelt = clear.objects settings past in
-      let w = task_of push in
-      let front = server_side push.moves in
-      let at' = all_done front at in
-      let past' = past ++ front in
-      let parts = serve_front front (LinkDown ∷ behind) at serve in
-      let e = link_ends push offered past at (LinkDown ∷ behind) s b parts.0 said in
-      let serves = parts.1.0 in
-      let down = down_ends ahead spelt w e.quiet (client_of push) past' at' e.behind.ends serves in
-      let rest_said = down_said ahead spelt w e.quiet (client_of push) past' at' e.behind.ends serves behind e.behind.said.1 in
-      let one = link_of ahead spelt push w (past' ++ LinkDown ∷ []) (done LinkDown at') behind e.quiet e.still refl (record { ends = down; said = rest_said }) in
-      let others_leave = goes (later ahead spelt w e.quiet (client_of push) past' at' e.behind.ends serves) (down_begins ahead spelt w e.quiet (client_of push) past' at' e.behind.ends serves) parts.1.1 rest_said in
-      let occurrences : (past' ++ LinkDown ∷ []) ++ behind ≡ past ++ (front ++ LinkDown ∷ behind) = append_assoc past' (LinkDown ∷ []) behind ∙ append_assoc past front (LinkDown ∷ behind) in
-      subst (λ (r : Reacted). All ahead spelt (push ∷ others) (past ++ (front ++ LinkDown ∷ behind)) r) (sym (done_joined front (LinkDown ∷ behind) at))
-      (subst (λ (os : List Occurrence). All ahead spelt (push ∷ others) os (all_done behind (done LinkDown at'))) occurrences
-      (record {
-        stays = others_leave.stays;
-        gain = one.kept ++ others_leave.gain;
-        objects = one.here ++ others_leave.objects;
-        stored = others_leave.stored ∙ ap (λ (os : List Object). os ++ others_leave.gain) one.stored ∙ append_assoc ahead one.kept others_leave.gain;
-        spelled = others_leave.spelled ∙ ap (λ (os : List Object). os ++ others_leave.objects) one.spelled ∙ append_assoc spelt one.here others_leave.objects;
-        kept = (one.kept, one.here, others_leave.gain, others_leave.objects, refl, refl, one.fits, others_leave.kept);
-      }))
+  gained_here : (past now : List Occurrence) (at at' : Reacted) (s : Stays settings before past at) (s' : Stays settings before now at') (kept : List Object) → at ≡ all_done past new → at' ≡ all_done now new
+      → faulty.objects settings s'.marks ≡ faulty.objects settings s.marks ++ kept → (gain : List Object) → HasGained settings before past gain → HasGained settings before now (gain ++ kept)
+  gained_here past now at at' s s' kept at_is now_is more gain held =
+      let were : before ++ faulty.objects settings s.marks ≡ before ++ gain = same_some _ _ (sym (ap stored_in s.holds.upholds.listens.serves.stands.holds) ∙ (ap (λ (r : Reacted). stored_in r.gift.content) at_is ∙ held)) in
+      let same : faulty.objects settings s.marks ≡ gain = append_cancel_left before (faulty.objects settings s.marks) gain were in
+      ap (λ (r : Reacted). stored_in r.gift.content) (sym now_is) ∙ (ap stored_in s'.holds.upholds.listens.serves.stands.holds ∙ ap (λ (os : List Object). Some (before ++ os)) (more ∙ ap (λ (os : List Object). os ++ kept) same))
 
-  all_links : (pushes : List Push) (last : Push) (past : List Occurrence) (at : Reacted) (s : Stays settings before past at) → Begins past at s → AllByRecursion IsOffered pushes → IsOffered last → AllServeDirectly NoneShort at (over_pushes pushes last)
-      → AllSayMarks settings s.marks at (over_pushes pushes last) → Leaves (pushes ++ last ∷ []) past at s (over_pushes pushes last)
-  all_links [] last past at s b offered over serve said = last_link last past at s b over serve said
-  all_links (push ∷ pushes) last past at s b offered over serve said =
-      let front = server_side push.moves in
-      let others : List Occurrence = over_pushes pushes last in
-      let same : front ++ LinkDown ∷ others ≡ over_pushes (push ∷ pushes) last =
-      sym (ap (λ (os : List Occurrence). os ++ server_side last.moves) (append_assoc front (LinkDown ∷ []) (flat_map ended_with pushes)) ∙ append_assoc front (LinkDown ∷ flat_map ended_with pushes) (server_side last.moves)) in
-      subst (Leaves (push ∷ (pushes ++ last ∷ [])) past at s) same
-      (two_links push offered.0 (pushes ++ last ∷ []) past at others s b (subst (AllServeDirectly NoneShort at) (sym same) serve) (subst (AllSayMarks settings s.marks at) (sym same) said)
-      (λ s' b' serve' said'. all_links pushes last ((past ++ front) ++ LinkDown ∷ []) (done LinkDown (all_done front at)) s' b' offered.1 over serve' said'))
+  spells_here : (push : Push) (past now : List Occurrence) (at at' : Reacted) (tail : List Occurrence) (s : Stays settings before past at) → at ≡ all_done past new → at' ≡ all_done now new → Link (faulty.objects settings s.marks) (clear.objects settings past) push now at' tail
+      → SpellsHere settings before past now push
+  spells_here push past now at at' tail s at_is now_is one = record {
+    gained = one.kept;
+    here = one.here;
+    spelled = one.spelled;
+    stored = gained_here past now at at' s one.stays one.kept at_is now_is one.stored;
+    kept = one.fits;
+  }
 
-  -- ---- what each of them spells
-
-  each_spells : (pushes : List Push) (last : Push) (past : List Occurrence) (at : Reacted) (s : Stays settings before past at) → Begins past at s → AllByRecursion IsOffered pushes → IsOffered last → AllServeDirectly NoneShort at (over_pushes pushes last)
-      → AllSayMarks settings s.marks at (over_pushes pushes last) → SpellEach settings past pushes last
-  unfolding link_of
-  each_spells [] last past at s b offered over serve said =
-      let e = link_ends last over past at [] s b serve (subst (AllSayMarks settings s.marks at) (sym (append-nil (server_side last.moves))) said) in
-      let one = link_of (faulty.objects settings s.marks) (clear.objects settings past) last (task_of last) (past ++ server_side last.moves) (all_done (server_side last.moves) at) [] e.quiet e.still refl e.behind in
-      record { gained = one.kept; here = one.here; spelled = one.spelled; kept = one.fits }
-  each_spells (push ∷ pushes) last past at s b offered over serve said =
+  each_spells : (pushes : List Push) (last : Push) (past : List Occurrence) (at : Reacted) (s : Stays settings before past at) → at ≡ all_done past new → Begins past at s → AllByRecursion IsOffered pushes → IsOffered last → AllServeDirectly NoneShort at (over_pushes pushes last)
+      → AllSayMarks settings s.marks at (over_pushes pushes last) → SpellEach settings before past pushes last
+  unfolding link_of down_ends
+  each_spells [] last past at s at_is b offered over serve said =
+      let side = server_side last.moves in
+      let e = link_ends last over past at [] s b serve (subst (AllSayMarks settings s.marks at) (sym (append-nil side)) said) in
+      spells_here last past (past ++ side) at (all_done side at) [] s at_is (ap (all_done side) at_is ∙ sym (done_joined past side new))
+      (link_of (faulty.objects settings s.marks) (clear.objects settings past) last (task_of last) (past ++ side) (all_done side at) [] e.quiet e.still refl e.behind)
+  each_spells (push ∷ pushes) last past at s at_is b offered over serve said =
       let ahead = faulty.objects settings s.marks in
       let spelt = clear.objects settings past in
       let w = task_of push in
@@ -363,45 +306,24 @@ module _ (settings : Settings) (before : List Object) where
       sym (ap (λ (os : List Occurrence). os ++ server_side last.moves) (append_assoc front (LinkDown ∷ []) (flat_map ended_with pushes)) ∙ append_assoc front (LinkDown ∷ flat_map ended_with pushes) (server_side last.moves)) in
       let at' = all_done front at in
       let past' = past ++ front in
+      let down_past = past' ++ LinkDown ∷ [] in
       let parts = serve_front front (LinkDown ∷ others) at (subst (AllServeDirectly NoneShort at) (sym same) serve) in
       let e = link_ends push offered.0 past at (LinkDown ∷ others) s b parts.0 (subst (AllSayMarks settings s.marks at) (sym same) said) in
-      let one = link_of ahead spelt push w past' at' (LinkDown ∷ others) e.quiet e.still refl e.behind in
       let serves = parts.1.0 in
-      let rest_said = down_said ahead spelt w e.quiet (client_of push) past' at' e.behind.ends serves others e.behind.said.1 in (
-        record { gained = one.kept; here = one.here; spelled = one.spelled; kept = one.fits },
-        subst (λ (os : List Occurrence). SpellEach settings os pushes last) (append_assoc past front (LinkDown ∷ []))
-            (each_spells pushes last (past' ++ LinkDown ∷ []) (done LinkDown at') (later ahead spelt w e.quiet (client_of push) past' at' e.behind.ends serves) (down_begins ahead spelt w e.quiet (client_of push) past' at' e.behind.ends serves)
-            offered.1 over parts.1.1 rest_said),
+      let down = down_ends ahead spelt w e.quiet (client_of push) past' at' e.behind.ends serves in
+      let rest_said = down_said ahead spelt w e.quiet (client_of push) past' at' e.behind.ends serves others e.behind.said.1 in
+      let one = link_of ahead spelt push w down_past (done LinkDown at') others e.quiet e.still refl (record { ends = down; said = rest_said }) in
+      let now_is : done LinkDown at' ≡ all_done down_past new = sym (done_joined past' (LinkDown ∷ []) new ∙ ap (done LinkDown) (done_joined past front new ∙ ap (all_done front) (sym at_is))) in
+      let here = spells_here push past down_past at (done LinkDown at') others s at_is now_is one in
+      subst (λ (os : List Occurrence). SpellsHere settings before past os push × SpellEach settings before os pushes last) (append_assoc past front (LinkDown ∷ [])) (
+        here,
+        each_spells pushes last down_past (done LinkDown at') (later ahead spelt w e.quiet (client_of push) past' at' e.behind.ends serves) now_is (down_begins ahead spelt w e.quiet (client_of push) past' at' e.behind.ends serves) offered.1 over parts.1.1 rest_said,
       )
 
--- ---- the laws
+-- ---- the law
 
 pub pushes-spell_each : PushesSpellEach
 pushes-spell_each settings before pushes last offered over serve =
     let first = first_stays settings before in
     let but = gains-all_but_refusals settings before (over_pushes pushes last) (all_may_miss settings before (over_pushes pushes last) [] (new_over settings before) first serve) in
-    each_spells settings before pushes last [] (new_over settings before) first (record { empty = refl; none = refl }) offered over serve but.said
-
-pub done-pushes_are_kept : DonePushesAreKept
-done-pushes_are_kept settings before pushes last offered over serve =
-    let first = first_stays settings before in
-    let new = new_over settings before in
-    let occurrences = over_pushes pushes last in
-    let but = gains-all_but_refusals settings before occurrences (all_may_miss settings before occurrences [] new first serve) in
-    let all = all_links settings before pushes last [] new first (record { empty = refl; none = refl }) offered over serve but.said in
-    let less = pushes-gain_less settings before pushes last offered over serve in
-    let stored : stored_in (all_done occurrences new).gift.content ≡ Some (before ++ all.gain) = ap stored_in all.stays.holds.upholds.listens.serves.stands.holds ∙ ap (λ (os : List Object). Some (before ++ os)) all.stored in
-    record {
-      gain = all.gain;
-      stored = stored;
-      kept = subst (AreKept (pushes ++ last ∷ []) all.gain) (sym all.spelled) all.kept;
-      few = (let few = fewer_left less.gain (clear.objects settings occurrences) (spent_from new occurrences) less.leaves in
-          let same = ap length (same_gain before less.gain all.gain (sym less.stored ∙ stored)) in
-          omega (arith, few, same));
-    }
-  where
-    same_gain : (before one other : List Object) → Some (before ++ one) ≡ Some (before ++ other) → one ≡ other
-    same_gain before one other same = append_cancel_left before one other (some (before ++ one) (before ++ other) same)
-      where
-        some : (xs ys : List Object) → Some xs ≡ Some ys → xs ≡ ys
-        some xs ys is = cc
+    each_spells settings before pushes last [] (new_over settings before) first refl (record { empty = refl; none = refl }) offered over serve but.said

@@ -77,14 +77,15 @@ use Rattle.done_laws.specs.Kept.{client_of, SpellsHere, SpellEach}
 use Rattle.done_laws.proofs.Kept.{serve_front, pushes-spell_each}
 use Rattle.done_laws.proofs.Lasts.{one_object}
 use Rattle.done_laws.proofs.Linked.{here_gained, side_gained, one_on, zip_split, at_place}
-use Rattle.done_laws.proofs.Off.{HasDone, between_off, turned_off}
+use Rattle.done_laws.proofs.Off.{HasDone, IsDoneAs, between_off, turned_off}
 
 -- ---- of the last push
 
-last_here : (settings : Settings) (past : List Occurrence) (pushes : List Push) (last : Push) → SpellEach settings past pushes last → SpellsHere settings (past ++ flat_map ended_with pushes) last
-last_here settings past [] last each = subst (λ (os : List Occurrence). SpellsHere settings os last) (sym (append-nil past)) each
-last_here settings past (push ∷ pushes) last each =
-    subst (λ (os : List Occurrence). SpellsHere settings os last) (append_assoc past (ended_with push) (flat_map ended_with pushes)) (last_here settings (past ++ ended_with push) pushes last each.1)
+last_here : (settings : Settings) (before : List Object) (past : List Occurrence) (pushes : List Push) (last : Push) → SpellEach settings before past pushes last
+    → (let front = past ++ flat_map ended_with pushes in SpellsHere settings before front (front ++ server_side last.moves) last)
+last_here settings before past [] last each = subst (λ (os : List Occurrence). SpellsHere settings before os (os ++ server_side last.moves) last) (sym (append-nil past)) each
+last_here settings before past (push ∷ pushes) last each =
+    subst (λ (os : List Occurrence). SpellsHere settings before os (os ++ server_side last.moves) last) (append_assoc past (ended_with push) (flat_map ended_with pushes)) (last_here settings before (past ++ ended_with push) pushes last each.1)
 
 -- ---- lists
 
@@ -174,7 +175,7 @@ module _ (scenario : Scenario) (shelf before : List Object) (answers : List Answ
       let settings = scenario.settings in
       let front = (serve_front settings before (over_pushes pushes one) behind (new_over settings before) (subst (AllServeDirectly NoneShort (new_over settings before)) is serve)).0 in
       let each = pushes-spell_each settings before pushes one (all_offered (Some shelf) longest_octets pushes (all_plain pushes pushed)) last.0.0 front in
-      let here : SpellsHere settings (flat_map ended_with pushes) one = last_here settings [] pushes one each in
+      let here : SpellsHere settings before (flat_map ended_with pushes) (over_pushes pushes one) one = last_here settings before [] pushes one each in
       let done = here.kept.done (record { cause = so; psm = last.1 so }) in
       let object = one_object here.here done.1 in
       let own = here_gained settings pushes (server_side one.moves) here.here (all_ahead IsDirect (over_pushes pushes one) behind (subst (AllByRecursion IsDirect) is direct')).0 here.spelled in
@@ -185,7 +186,7 @@ module _ (scenario : Scenario) (shelf before : List Object) (answers : List Answ
       all_plain (push ∷ pushes) all = (all.0.0, all_plain pushes all.1)
 
   -- and what the capture has of its link
-  of_link : RunOffered NoneShort scenario before capture ran turns → AllServeDirectly NoneShort (new_over scenario.settings before) served → Reached set IsTold HasDone served lists → SpellsLast (party_of scenario.settings sides.B) (talks sides.B capture)
+  of_link : RunOffered NoneShort scenario before capture ran turns → AllServeDirectly NoneShort (new_over scenario.settings before) served → Reached set IsTold (IsDoneAs ran.world.a.upper.profile.client.name) served lists → SpellsLast (party_of scenario.settings sides.B) (talks sides.B capture)
   of_link run serve found =
       let settings = scenario.settings in
       let b = turns.pairs.b in
@@ -194,7 +195,7 @@ module _ (scenario : Scenario) (shelf before : List Object) (answers : List Answ
       let order = is_in_order both_ask scenario before capture ran direct (asks-nothing settings (holding before)) b.came b.fed.so (pairs-are_whole both_ask scenario (holding before) capture ran turns.pairs (record { clients = clients_within; servers = servers_within })).b in
       let on = found.on in
       let (ahead, rest, lists_are, place) = on.place in
-      let one = gains_one found.pushes found.one found.behind found.pushed found.one_pushed found.so found.is serve run.direct in
+      let one = gains_one found.pushes found.one found.behind found.pushed found.one_pushed found.so.0 found.is serve run.direct in
       let carries : CarriesOne Q on.list =
       subst (CarriesOne Q) (ap (λ (ls : List (List channels.Occurrence)). get_or ls (length ahead) []) lists_are ∙ at_place ahead on.list rest [])
       (carries_at Q lives.spans lives.now (subst (AreTimely false) (sym lives.marks_are) b.fed.so.timely) order.carried order.carries (length ahead)) in
@@ -229,10 +230,10 @@ module _ (scenario : Scenario) (shelf before : List Object) (answers : List Answ
       let serve = serve_all NoneShort settings (holding before) far.lives.feeds B.first answered run.direct in
       let given = clients_are_given_objects (Some shelf) settings A.first near.lives.feeds tt told in
       elim (reached set (IsAskedSo (Some shelf) longest_octets) (Good L2cap maximum wanted) IsTold (Sound set) (λ one client asked. good_affair L2cap maximum wanted longest_octets (omega arith) one client asked.0)
-      (one_sound (Some shelf) set maximum wanted longest_octets (omega arith)) (none_sound (Some shelf) set maximum wanted longest_octets (omega arith)) HasDone (between_off settings (both_ask.clients settings)) (turned_off settings)
+      (one_sound (Some shelf) set maximum wanted longest_octets (omega arith)) (none_sound (Some shelf) set maximum wanted longest_octets (omega arith)) (IsDoneAs ran.world.a.upper.profile.client.name) (between_off ran.world.a.upper.profile.client.name settings (both_ask.clients settings)) (turned_off ran.world.a.upper.profile.client.name settings)
       (λ k. k) near.lives.spans near.lives.now near.lives.feeds A.first ran.world.a.upper.profile far.lives.spans far.lives.now far.lives.feeds B.first ran.world.b.upper.profile pairs.a.fed.fed pairs.b.fed.fed sound
       (subst (AreTimely false) (sym near.lives.marks_are) near.timely) (subst (AreTimely false) (sym far.lives.marks_are) far.timely) refl (good_first settings L2cap direct)
-      (both_asked (Some shelf) longest_octets (pushed_from settings A.first near.lives.feeds) A.first.client (clients_are_answered longest_octets settings A.first near.lives.feeds small) given) level done) [
-        | inl first ↦ absurd (let never : None ≡ Some Done = first.1 in cc)
+      (both_asked (Some shelf) longest_octets (pushed_from settings A.first near.lives.feeds) A.first.client (clients_are_answered longest_octets settings A.first near.lives.feeds small) given) level (done, refl)) [
+        | inl first ↦ absurd (let never : None ≡ Some Done = first.1.0 in cc)
         | inr found ↦ of_link run serve found
       ]

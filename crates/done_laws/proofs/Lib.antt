@@ -5,13 +5,15 @@ pub mod Clients
 pub mod Servers
 pub mod Walks
 pub mod Kept
+pub mod Fronts
 pub mod Lasts
+pub mod Names
 pub mod Off
 pub mod Linked
 pub mod LastSpells
 pub mod Growing
 pub mod Since
 pub mod Runs
-pub mod Ends
-pub mod Holding
+pub mod Along
+pub mod Keeping
 pub mod Stores

@@ -6,7 +6,7 @@ use Rattle.tape_laws.specs.bt_base.specs.declared.ports.PortFault.{PortFault}
 use Rattle.tape_laws.specs.bt_base.specs.declared.ports.PortFault.TheVariants as faults
 use Rattle.tape_laws.specs.bt_base.specs.declared.settings.Settings.{Settings}
 use Rattle.tape_laws.specs.push_terms.specs.declared.outcome.Outcome.{Outcome}
-use Rattle.tape_laws.specs.push_terms.specs.declared.outcome.Outcome.TheVariants.{Done}
+use Rattle.tape_laws.specs.push_terms.specs.declared.outcome.Outcome.TheVariants.{Done, ShelfFault}
 use Rattle.tape_laws.specs.push_model.specs.Client.{Client, begins, begun_by}
 use Rattle.tape_laws.specs.push_model.specs.Events as events
 use Rattle.tape_laws.specs.push_model.specs.Laws as deeds
@@ -35,9 +35,14 @@ use Rattle.tape_laws.specs.host_laws.proofs.StrandsFed.{woven_so}
 use Rattle.tape_laws.specs.request_laws.proofs.Feeding.{all_both, Holds, FeedSo, end_so, feed_so, all_so}
 use Rattle.tape_laws.specs.request_laws.proofs.Opening.{IsBetween, fed_between}
 use Rattle.tape_laws.specs.request_laws.proofs.Timely.{HearsNothing}
+use Rattle.done_laws.proofs.Names.{deed_named}
 
 abbrev pub HasDone : Client → Type 0
 HasDone client = client.cause ≡ Some Done
+
+-- and it pushed the object of that name
+abbrev pub IsDoneAs : List ℕ → Client → Type 0
+IsDoneAs name client = HasDone client × (client.name ≡ name)
 
 -- ---- one thing
 
@@ -53,14 +58,18 @@ outcome_is o e = cc
 none_done : None ≡ Some Done → ⊥
 none_done e = cc
 
-begun_off : (size : Result ℕ PortFault) (name : List ℕ) (client : Client) → HasDone (begun_by size name client) → HasDone client
-begun_off (Ok size) name client d = absurd (none_done d)
-begun_off (Err faults.Failed) name client d = absurd cc
-begun_off (Err faults.NoMemory) name client d = d
+fault_done : Some ShelfFault ≡ Some Done → ⊥
+fault_done e = cc
 
-begins_off : (failed : Bool) (size : Result ℕ PortFault) (name : List ℕ) (client : Client) → HasDone (if failed then client else begun_by size name client) → HasDone client
-begins_off true size name client d = d
-begins_off false size name client d = begun_off size name client d
+module _ (pushed : List ℕ) where
+  begun_off : (size : Result ℕ PortFault) (name : List ℕ) (client : Client) → IsDoneAs pushed (begun_by size name client) → IsDoneAs pushed client
+  begun_off (Ok size) name client d = absurd (none_done d.0)
+  begun_off (Err faults.Failed) name client d = absurd (fault_done d.0)
+  begun_off (Err faults.NoMemory) name client d = d
+
+  begins_off : (failed : Bool) (size : Result ℕ PortFault) (name : List ℕ) (client : Client) → IsDoneAs pushed (if failed then client else begun_by size name client) → IsDoneAs pushed client
+  begins_off true size name client d = d
+  begins_off false size name client d = begun_off size name client d
 
 -- it hears no success in it
 none_heard : (deed : Deed) (client : Client) → IsOff (Does deed) → HearsSuccess deed client → ⊥
@@ -95,10 +104,10 @@ deed_off deed client off d = by client.cause refl
     by (Some o) is = is ∙ ap (λ (x : Outcome). Some x) (outcome_is o (sym (first_causes_stay (deed ∷ []) client o is) ∙ d))
     by None is = let heard = (done-exactly.done (deed ∷ []) client is).only d in absurd (at heard.before heard.deed heard.after heard.parts heard.heard)
 
-all_off : (affairs : List Affair) (client : Client) → AllByRecursion IsOff affairs → HasDone (client_behind affairs client) → HasDone client
-all_off [] client off d = d
-all_off (Begins size name ∷ affairs) client off d = begins_off client.failed size name client (all_off affairs (client_after (Begins size name) client) off.1 d)
-all_off (Does deed ∷ affairs) client off d = deed_off deed client off.0 (all_off affairs (deeds.done deed client) off.1 d)
+all_off : (pushed : List ℕ) (affairs : List Affair) (client : Client) → AllByRecursion IsOff affairs → IsDoneAs pushed (client_behind affairs client) → IsDoneAs pushed client
+all_off pushed [] client off d = d
+all_off pushed (Begins size name ∷ affairs) client off d = begins_off pushed client.failed size name client (all_off pushed affairs (client_after (Begins size name) client) off.1 d)
+all_off pushed (Does deed ∷ affairs) client off d = let later = all_off pushed affairs (deeds.done deed client) off.1 d in (deed_off deed client off.0 later.0, sym (deed_named deed client) ∙ later.1)
 
 -- ---- what a profile goes through between two links, and as one comes up or goes down
 
@@ -131,7 +140,7 @@ feed_off (Happens event v) p so = feed_so IsOff off_holds p (Happens event v) tt
 feed_off (Sent v) p so = feed_so IsOff off_holds p (Sent v) tt
 feed_off (Steps v) p so = feed_so IsOff off_holds p (Steps v) tt
 
-module _ (settings : Settings) where
+module _ (pushed : List ℕ) (settings : Settings) where
   abbrev A : Profile ClientProfile
   A = client_profile settings
 
@@ -139,11 +148,11 @@ module _ (settings : Settings) where
   feeds_off [] p so = tt
   feeds_off (feed ∷ feeds) p so = let q = fed A p feed in all_both IsOff (pushed_with p feed) (pushed_from settings q feeds) (feed_off feed p so.0) (feeds_off feeds q so.1)
 
-  pub between_off : (asks : Asking (client_profile settings)) (list : List channels.Occurrence) (feeds : List Feed) (first last : ClientProfile) → WovenFed (client_profile settings) asks list feeds first last → AllByRecursion HearsNothing list → HasDone last.client → HasDone first.client
+  pub between_off : (asks : Asking (client_profile settings)) (list : List channels.Occurrence) (feeds : List Feed) (first last : ClientProfile) → WovenFed (client_profile settings) asks list feeds first last → AllByRecursion HearsNothing list → IsDoneAs pushed last.client → IsDoneAs pushed first.client
   between_off asks list feeds first last so deaf d =
       let last_is : all_fed A first feeds ≡ last = ap (all_fed A first) so.feeds_are ∙ (woven_so A asks so.woven.weave no_channels first ∙ sym so.woven.last_is) in
       let now : last.client ≡ client_behind (pushed_from settings first feeds) first.client = ap (λ (p : ClientProfile). p.client) (sym last_is) ∙ all_pushed settings feeds first in
-      all_off (pushed_from settings first feeds) first.client (feeds_off feeds first (fed_between settings asks list feeds first last so deaf)) (subst HasDone now d)
+      all_off pushed (pushed_from settings first feeds) first.client (feeds_off feeds first (fed_between settings asks list feeds first last so deaf)) (subst (IsDoneAs pushed) now d)
 
   happenings_off : (v : Channels) (found : List ChannelEvent) → AllByRecursion (FeedSo IsOff) (happenings v found)
   happenings_off v [] = tt
@@ -158,8 +167,8 @@ module _ (settings : Settings) where
   turns circumstances (Down reason) v p =
       let w = link_down v in fold-append (fed A) p (happenings w w.events) (Learns circumstances (Linked (Down reason)) ∷ []) ∙ ap (A.told circumstances (Linked (Down reason))) (sym (each_fed A w w.events p))
 
-  pub turned_off : (circumstances : List Circumstance) (event : LinkEvent) (v : Channels) (p : ClientProfile) → HasDone (turned (client_profile settings) circumstances event v p).client → HasDone p.client
+  pub turned_off : (circumstances : List Circumstance) (event : LinkEvent) (v : Channels) (p : ClientProfile) → IsDoneAs pushed (turned (client_profile settings) circumstances event v p).client → IsDoneAs pushed p.client
   turned_off circumstances event v p d =
       let feeds = turned_feeds circumstances event v in
       let now : (turned A circumstances event v p).client ≡ client_behind (pushed_from settings p feeds) p.client = ap (λ (q : ClientProfile). q.client) (sym (turns circumstances event v p)) ∙ all_pushed settings feeds p in
-      all_off (pushed_from settings p feeds) p.client (all_so IsOff off_holds settings feeds p (link_off circumstances event v)) (subst HasDone now d)
+      all_off pushed (pushed_from settings p feeds) p.client (all_so IsOff off_holds settings feeds p (link_off circumstances event v)) (subst (IsDoneAs pushed) now d)

@@ -44,40 +44,49 @@ AreKept [] gained spelled = (gained ≡ []) × (spelled ≡ [])
 AreKept (push ∷ pushes) gained spelled =
     (kept : List Object) × (here : List Object) × (gains : List Object) × (rest : List Object) × (gained ≡ kept ++ gains) × (spelled ≡ here ++ rest) × IsKept push kept here × AreKept pushes gains rest
 
--- The last object that was gained and the last one that was spelled are the same; and so it is of pushes and what stands before these.
-pub record EndsKept (pushes : List Push) (gained spelled : List Object) : Type 0 where
-  pub object : Object
-  pub gains : List Object
-  pub rest : List Object
-  pub gained_is : gained ≡ gains ++ object ∷ []
-  pub spelled_is : spelled ≡ rest ++ object ∷ []
-  pub kept : AreKept pushes gains rest
-
--- So it is where one of the pushes is done, and the clients of those behind it did nothing: at the end of that push the last object that the inbox gained is its own.
-abbrev pub DoneIsLast : Type 0
-DoneIsLast = (ahead : List Push) (done : Push) (behind : List Push) (gained spelled : List Object) → AreKept (ahead ++ done ∷ behind) gained spelled → IsDone done → AllByRecursion (λ (push : Push). client_side push.moves ≡ []) behind → EndsKept ahead gained spelled
-
 -- What is gained so is what is spelled, in its order, but for as many at most as it has less.
 abbrev pub KeptLeaveOut : Type 0
 KeptLeaveOut = (pushes : List Push) (gained spelled : List Object) (most : ℕ) → AreKept pushes gained spelled → length spelled ≤ length gained + most → LeavesOut gained spelled most
 
 -- ---- push after push
 
--- With what happened to the server in a push the packets spell its object more, or none.
-pub record SpellsHere (settings : Settings) (past : List Occurrence) (push : Push) : Type 0 where
+-- once this has happened to its server, the inbox has gained these behind what it stored at first
+abbrev pub HasGained : Settings → (before : List Object) → (past : List Occurrence) → (gain : List Object) → Type 0
+HasGained settings before past gain = stored_in (all_done past (new_over settings before)).gift.content ≡ Some (before ++ gain)
+
+-- By what happened to the server in a push the packets spell its object more, or none; and the inbox gained that, or nothing.
+pub record SpellsHere (settings : Settings) (before : List Object) (past now : List Occurrence) (push : Push) : Type 0 where
   pub gained : List Object
   pub here : List Object
-  pub spelled : objects settings (past ++ server_side push.moves) ≡ objects settings past ++ here
+  pub spelled : objects settings now ≡ objects settings past ++ here
+  pub stored : (gain : List Object) → HasGained settings before past gain → HasGained settings before now (gain ++ gained)
   pub kept : IsKept push gained here
 
-abbrev pub SpellEach : Settings → (past : List Occurrence) → (pushes : List Push) → (last : Push) → Type 0
-SpellEach settings past [] last = SpellsHere settings past last
-SpellEach settings past (push ∷ pushes) last = SpellsHere settings past push × SpellEach settings (past ++ ended_with push) pushes last
+abbrev pub SpellEach : Settings → (before : List Object) → (past : List Occurrence) → (pushes : List Push) → (last : Push) → Type 0
+SpellEach settings before past [] last = SpellsHere settings before past (past ++ server_side last.moves) last
+SpellEach settings before past (push ∷ pushes) last = SpellsHere settings before past (past ++ ended_with push) push × SpellEach settings before (past ++ ended_with push) pushes last
 
 -- So it is of each of them over L2CAP, where the inbox does not lack memory, whatever becomes of the pushes.
 abbrev pub PushesSpellEach : Type 0
 PushesSpellEach = (settings : Settings) (before : List Object) (pushes : List Push) (last : Push) → AllByRecursion IsOffered pushes → IsOffered last → AllServeDirectly NoneShort (new_over settings before) (over_pushes pushes last)
-    → SpellEach settings [] pushes last
+    → SpellEach settings before [] pushes last
+
+-- Behind the front of what happened one object more is spelled, that of this push, and the inbox gained it.
+pub record KeepsLast (settings : Settings) (before : List Object) (push : Push) (occurrences : List Occurrence) : Type 0 where
+  pub front : List Occurrence
+  pub since : List Occurrence
+  pub parts : occurrences ≡ front ++ since
+  pub object : Object
+  pub spelled : objects settings occurrences ≡ objects settings front ++ object ∷ []
+  pub gain : List Object
+  pub held : HasGained settings before front gain
+  pub stored : HasGained settings before occurrences (gain ++ object ∷ [])
+  pub once : (shelf : List Object) → IsOfShelfOrStill shelf push → ArePushed shelf (name_of push) (object ∷ [])
+
+-- So it is of one that is done, where the clients of those behind it did nothing.
+abbrev pub DoneIsLast : Type 0
+DoneIsLast = (settings : Settings) (before : List Object) (pushes : List Push) (last : Push) → SpellEach settings before [] pushes last → (ahead : List Push) (one : Push) (behind : List Push) → pushes ++ last ∷ [] ≡ ahead ++ one ∷ behind → IsDone one
+    → AllByRecursion (λ (push : Push). client_side push.moves ≡ []) behind → KeepsLast settings before one (over_pushes pushes last)
 
 -- ---- all pushes
 

@@ -2,6 +2,4 @@ pub use Rattle.cause_laws
 pub use Rattle.tape_laws
 pub mod Kept
 pub mod Runs
-pub mod Ends
-pub mod Lasting
 pub mod Storing

@@ -1,9 +1,7 @@
 //! Laws of pushes that are done: the object of each is stored, whatever the inbox answers besides.
 #![tactic(auto)]
 
-ghost use Rattle.done_laws.specs.Ends.{OwnServersEndDone};
 ghost use Rattle.done_laws.specs.Kept.{DoneIsLast, DonePushesAreKept, KeptLeaveOut, PushesSpellEach};
-ghost use Rattle.done_laws.specs.Lasting.{OwnServersSpellDone};
 ghost use Rattle.done_laws.specs.Runs.{OwnServersKeepDone};
 ghost use Rattle.done_laws.specs.Storing.{OwnServersStoreDone};
 
@@ -18,7 +16,8 @@ pub fn pushes_spell_each()
     ensures { PushesSpellEach }
 {}
 
-/// Behind a push that is done, where no other did anything since, the last object that the inbox gained is the last one that the packets spell: that push's.
+/// Of a push that is done, where no other did anything since, the object is the last one that the packets spell, and the inbox gained it besides what it had
+/// ahead of that push.
 pub fn done_is_last()
     ensures { DoneIsLast }
 {}
@@ -35,19 +34,8 @@ pub fn own_servers_keep_done()
     ensures { OwnServersKeepDone }
 {}
 
-/// Wherever a push ends in such a run that is done, by the time of its end host a's pushes are so by a reading of the run, and the last one of them in which its
-/// client did anything is done, and went to PSM 1001; the last object that the inbox has gained by then is the last one that the packets spell.
-pub fn own_servers_end_done()
-    ensures { OwnServersEndDone }
-{}
-
-/// And over the capture alone: by the time that a push ends in such a run that is done, the last link of host b whose packets spell anything spells one object.
-pub fn own_servers_spell_done()
-    ensures { OwnServersSpellDone }
-{}
-
-/// And with that push, from its begin on: what the packets spell that host b heard is what they spelled before it was begun, and one object more, wherever the capture shows why the push
-/// ended so. That object is one of those that the inbox gained in all, whatever its calls came to but want of memory: what it has stored by one moment stays in front of what it stores later.
+/// One list of marks tells which of the objects that the packets of such a run spell the inbox gained, whatever its calls came to but want of memory. Wherever a push ends that is done, what
+/// the packets spell that host b heard is what they spelled before it was begun, and one object more, which is marked: where the capture shows why the push ended so.
 pub fn own_servers_store_done()
     ensures { OwnServersStoreDone }
 {}

@@ -1,20 +1,23 @@
 -- What comes of the pushes of a played scenario that are done.
-use Rattle.std.proofs.Common.{◌≡◌, List, [], ◌∷◌, ◌++◌, Option, Some, None, refl, sym, ap, subst, ◌∙◌, append_assoc, append-nil}
+use Rattle.std.proofs.Common.{◌≡◌, Bool, List, [], ◌∷◌, ◌++◌, Option, Some, None, refl, sym, ap, subst, ◌∙◌, append_assoc, append-nil}
 use Rattle.std.specs.Prelude.{IfSome}
 use Rattle.bt_base.specs.Objects.{Object, Contents}
 use Rattle.bt_base.specs.declared.settings.Transport.TheVariants.{L2cap}
 use Rattle.noting_laws.specs.obex_session.specs.Counting.{Counts}
 use Rattle.push_script.specs.declared.scenario.Scenario.{Scenario}
 use Rattle.push_terms.specs.declared.outcome.Outcome.{Outcome}
+use Rattle.push_terms.specs.declared.word.Side.TheVariants.{B}
 use Rattle.capture.specs.Entries.{Entry, Moved, Acted, Begun, Ended}
 use Rattle.capture.specs.Histories.{EachAfter}
 use Rattle.noting_laws.specs.air_laws.specs.AirLaws.{IsLastEnd}
 use Rattle.noting_laws.specs.world_model.specs.Worlds.{Happening, all_entries}
+use Rattle.noting_laws.specs.link_talk.specs.Captures.{objects_heard}
 use Rattle.noting_laws.specs.push_laws.specs.Laws.{stored_in}
 use Rattle.noting_laws.specs.scenario_laws.specs.Gains.{holding}
+use Rattle.noting_laws.specs.scenario_laws.specs.Parties.{party_of}
 use Rattle.done_laws.specs.tape_laws.specs.capture.proofs.HistoryLaws.{each_after-both}
 use Rattle.drop_laws.specs.cause_laws.specs.FirstCauses.{since_begun, HasCause, EndsByCause, CausesAreShown}
-use Rattle.done_laws.specs.Storing.{StoresDone}
+use Rattle.done_laws.specs.Storing.{kept_of, StoresDone, StoresKept}
 use Rattle.done_laws.proofs.Stores.{own_servers_store_done}
 use Rattle.scenario_play.proofs.Causes.{causes_shown, causes_so_far}
 use Rattle.scenario_play.specs.Doing.{DoneAreStored, PlaysStoreDone}
@@ -36,38 +39,42 @@ each_so P Q past (x ∷ xs) all each = (all.0 each.0, each_so P Q (past ++ x ∷
 
 module _ (scenario : Scenario) (shelf before : List Object) (after : Option Contents) (counts counts' : Counts) (happenings : List Happening) (capture : List Entry) (direct : scenario.settings.transport ≡ L2cap) (shown : CausesAreShown scenario.settings capture)
     (ran : RanAnswered scenario (Some shelf) (holding before) after counts counts' happenings capture) where
-  abbrev Stores : List Object → List Entry → List Entry → Type 0
-  Stores gain past entries = EachAfter (StoresDone scenario.settings gain) past entries
+  all : StoresKept scenario shelf before ran.answers capture ran.own
+  all = own_servers_store_done scenario shelf before ran.answers capture ran.own direct ran.enough
+
+  abbrev Stores : List Entry → List Entry → Type 0
+  Stores past entries = EachAfter (StoresDone scenario.settings all.kept) past entries
 
   abbrev Shows : List Entry → List Entry → Type 0
   Shows past entries = EachAfter (EndsByCause scenario.settings) past entries
 
-  behind : (gain : List Object) → stored_in ran.own.world.b.upper.profile.inbox.content ≡ Some (before ++ gain) → (ends : List Entry) → ran.own.ends ≡ ends → Shows (all_entries ran.own.happenings) ends → IsLastEnd ran.own.world.pushes ends
-      → Stores gain (all_entries ran.own.happenings) ends
-  behind gain stored [] is shown_last last = tt
-  behind gain stored (Ended push outcome ∷ []) is shown_last last = (
+  behind : (ends : List Entry) → ran.own.ends ≡ ends → Shows (all_entries ran.own.happenings) ends → IsLastEnd ran.own.world.pushes ends → Stores (all_entries ran.own.happenings) ends
+  behind [] is shown_last last = tt
+  behind (Ended push outcome ∷ []) is shown_last last = (
     λ done.
-        own_servers_store_done.now scenario shelf before gain ran.answers capture ran.own direct ran.enough stored (ran.at_end push (is ∙ ap (λ (o : Outcome). Ended push o ∷ []) done))
+        all.now (ran.at_end push (is ∙ ap (λ (o : Outcome). Ended push o ∷ []) done))
         (subst (λ (o : Outcome). HasCause o (since_begun (all_entries ran.own.happenings))) done shown_last.0.cause),
     tt,
   )
-  behind gain stored (Ended push outcome ∷ other ∷ more) is shown_last last = absurd last
-  behind gain stored (Moved side flow packet ∷ more) is shown_last last = absurd last
-  behind gain stored (Acted ordinal word ∷ more) is shown_last last = absurd last
-  behind gain stored (Begun push ∷ more) is shown_last last = absurd last
+  behind (Ended push outcome ∷ other ∷ more) is shown_last last = absurd last
+  behind (Moved side flow packet ∷ more) is shown_last last = absurd last
+  behind (Acted ordinal word ∷ more) is shown_last last = absurd last
+  behind (Begun push ∷ more) is shown_last last = absurd last
 
-  all_stored : (gain : List Object) → stored_in ran.own.world.b.upper.profile.inbox.content ≡ Some (before ++ gain) → Stores gain [] capture
-  all_stored gain stored =
+  all_stored : Stores [] capture
+  all_stored =
       let past = all_entries ran.own.happenings in
       let cut = each_cut (EndsByCause scenario.settings) [] past ran.own.ends (subst (CausesAreShown scenario.settings) ran.own.capture_is shown) in
-      subst (Stores gain []) (sym ran.own.capture_is)
-      (each_after-both (StoresDone scenario.settings gain) [] past ran.own.ends
-      (each_so (EndsByCause scenario.settings) (StoresDone scenario.settings gain) [] past (own_servers_store_done.moments scenario shelf before gain ran.answers capture ran.own direct ran.enough stored) cut.0)
-      (behind gain stored ran.own.ends refl cut.1 ran.own.last))
+      subst (Stores []) (sym ran.own.capture_is)
+      (each_after-both (StoresDone scenario.settings all.kept) [] past ran.own.ends (each_so (EndsByCause scenario.settings) (StoresDone scenario.settings all.kept) [] past all.moments cut.0) (behind ran.own.ends refl cut.1 ran.own.last))
 
-  stored_by : (found : Option Contents) → found ≡ ran.own.world.b.upper.profile.inbox.content → IfSome found (λ held. (gain : List Object) → held.stored ≡ before ++ gain → Stores gain [] capture)
+  same_some : (xs ys : List Object) → Some xs ≡ Some ys → xs ≡ ys
+  same_some xs ys same = cc
+
+  stored_by : (found : Option Contents) → found ≡ ran.own.world.b.upper.profile.inbox.content
+      → IfSome found (λ held. (kept : List Bool) × (held.stored ≡ before ++ kept_of kept (objects_heard (party_of scenario.settings B) B capture)) × EachAfter (StoresDone scenario.settings kept) [] capture)
   stored_by None is = tt
-  stored_by (Some held) is = λ gain gained. all_stored gain (ap stored_in (sym is) ∙ ap (λ (l : List Object). Some l) gained)
+  stored_by (Some held) is = (all.kept, same_some held.stored (before ++ kept_of all.kept (objects_heard (party_of scenario.settings B) B capture)) (ap stored_in is ∙ all.gained), all_stored)
 
   stores_done : DoneAreStored scenario.settings before after capture
   stores_done = stored_by after ran.stored

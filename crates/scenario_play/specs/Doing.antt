@@ -1,5 +1,5 @@
 -- What comes of the pushes of a played scenario that are done, by its capture and its inbox (IrOBEX 1.5, 3.2.1 and 3.3.3; Object Push Profile 1.2, 4.3).
-use Rattle.std.specs.Prelude.{ℕ, ◌≡◌, List, [], ◌++◌, Option, Some, IfSome}
+use Rattle.std.specs.Prelude.{ℕ, ◌≡◌, Bool, List, [], ◌++◌, Option, Some, IfSome}
 use Rattle.bt_base.specs.Objects.{Object, Contents}
 use Rattle.bt_base.specs.declared.settings.Settings.{Settings}
 use Rattle.bt_base.specs.declared.settings.Transport.TheVariants.{L2cap}
@@ -7,18 +7,22 @@ use Rattle.noting_laws.specs.obex_session.specs.Counting.{Counts}
 use Rattle.push_script.specs.declared.scenario.Scenario.{Scenario}
 use Rattle.push_terms.specs.declared.outcome.Outcome.{Outcome}
 use Rattle.push_terms.specs.declared.peaks.Peaks.{Peaks}
+use Rattle.push_terms.specs.declared.word.Side.TheVariants.{B}
 use Rattle.capture.specs.Entries.{Entry}
 use Rattle.capture.specs.Histories.{EachAfter}
-use Rattle.done_laws.specs.Storing.{StoresDone}
+use Rattle.done_laws.specs.Storing.{kept_of, StoresDone}
+use Rattle.noting_laws.specs.link_talk.specs.Captures.{objects_heard}
 use Rattle.noting_laws.specs.world_model.specs.Worlds.{all_entries}
 use Rattle.noting_laws.specs.scenario_laws.specs.Gains.{holding}
+use Rattle.noting_laws.specs.scenario_laws.specs.Parties.{party_of}
 use Rattle.scenario_play.specs.Breaking.{IsBroken}
 use Rattle.scenario_play.specs.Playing.{LackedNever, IsPlayed}
 
--- Where the inbox tells what it holds, and has these objects behind what it had: wherever a push ends that is done, what the packets spell that host b heard is what
--- they spelled before that push was begun, and one object more, which is one of these.
+-- Where the inbox tells what it holds, it has what it had, and behind that, of the objects that the packets spell that host b heard, those that are kept, in their order. And wherever a
+-- push ends that is done, they spell what they spelled before that push was begun, and one object more, which is kept.
 abbrev pub DoneAreStored : Settings → (before : List Object) → (after : Option Contents) → List Entry → Type 0
-DoneAreStored settings before after capture = IfSome after (λ held. (gain : List Object) → held.stored ≡ before ++ gain → EachAfter (StoresDone settings gain) [] capture)
+DoneAreStored settings before after capture =
+    IfSome after (λ held. (kept : List Bool) × (held.stored ≡ before ++ kept_of kept (objects_heard (party_of settings B) B capture)) × EachAfter (StoresDone settings kept) [] capture)
 
 -- So it is of every scenario that was played over L2CAP with a shelf that tells what it holds, to its end or as far as it came, where the inbox never lacked memory,
 -- whatever its script says and its ports answer besides.

@@ -63,8 +63,8 @@ pub fn plays_gain_less()
     ensures { PlaysGainLess }
 {}
 
-/// Where the inbox of a scenario that was played over L2CAP never lacked memory, and its shelf tells what it holds: where a push ends that is done, what the packets spell
-/// that host b heard is what they spelled before that push was begun, and one object more, which is one of those that the inbox gained; to the end or as far as it came.
+/// Where the inbox of a scenario that was played over L2CAP never lacked memory, and its shelf tells what it holds: one list of marks says which of the objects that the packets spell
+/// the inbox gained. Where a push ends that is done, what they spell is what they spelled before that push was begun, and one object more, which is marked; to the end or as far as it came.
 pub fn plays_store_done()
     ensures { PlaysStoreDone }
 {}

@@ -89,8 +89,9 @@ module _ {P T : Type 0} (A : Profile P) (tape : Tape P T) where
   begins_so host (inl is) = subst (λ (h : On). BeginsGiven h.profile.past) (sym is) tt
   begins_so host (inr (circumstances, more, is)) = subst BeginsGiven (sym is) tt
 
+  -- all that it went through over its links is what it keeps
+  pub past_fed : (asks : Asks A) (talk : List Talk) (host : Host (Taped P T)) (is : TalksFed (taped A tape) (taped_asks A tape asks) talk host) → host.profile.past ≡ is.so.lives.feeds
+  past_fed asks talk host is = let lives = is.so.lives in ap (λ (now : Taped P T). now.past) lives.profile_is ∙ past_all lives.feeds B.first
+
   pub begins_given : (asks : Asks A) (talk : List Talk) (host : On) → OverLinks (upper B) talk host → (is : TalksFed B (taped_asks A tape asks) talk host) → BeginsGiven is.so.lives.feeds
-  begins_given asks talk host over is =
-      let lives = is.so.lives in
-      let past_is : host.profile.past ≡ lives.feeds = ap (λ (now : Taped P T). now.past) lives.profile_is ∙ past_all lives.feeds B.first in
-      subst BeginsGiven past_is (begins_so host (acts_so over.acts (first_host B) host over.acting (inl refl)))
+  begins_given asks talk host over is = subst BeginsGiven (past_fed asks talk host is) (begins_so host (acts_so over.acts (first_host B) host over.acting (inl refl)))

@@ -29,6 +29,7 @@ use Rattle.inbox_laws.specs.host_laws.specs.Calls.{Asks, HostsAsk}
 use Rattle.inbox_laws.specs.host_laws.specs.Calm.{HoldsNothingBack}
 use Rattle.inbox_laws.specs.host_laws.specs.Read.{IsSoberPdu}
 use Rattle.inbox_laws.specs.host_laws.specs.Feeds.{Feed}
+use Rattle.inbox_laws.specs.host_laws.specs.Openings.{names_told}
 use Rattle.inbox_laws.specs.host_laws.proofs.Fitting.{AnyServer, IsLowClient, IsProper}
 use Rattle.inbox_laws.specs.host_laws.proofs.OverLinks.{calmly_fed}
 use Rattle.inbox_laws.specs.scenario_laws.specs.Captures.{client_of, server_of, BothHosts, Happened, Ran}
@@ -58,7 +59,7 @@ use Rattle.inbox_laws.specs.pair_laws.proofs.Wording.{carried_worded}
 use Rattle.tape_laws.specs.Pairs.{TapedHosts, taped_of, taped_beginning, AreOfTape, TapedTakeTurns}
 use Rattle.tape_laws.specs.Runs.{HearsNewsAlone, untaped_world}
 use Rattle.tape_laws.specs.Taped.{Tape, Taped, taped, taped_asks, untaped_host, untaped, IsUntaped}
-use Rattle.tape_laws.proofs.Beginning.{begins_given}
+use Rattle.tape_laws.proofs.Beginning.{past_fed, begins_given}
 use Rattle.tape_laws.proofs.Falling.{IsCaptured, same_captured}
 use Rattle.tape_laws.proofs.Fitting.{Within, Bare, taped_fits, taped_keeps, taped_frames, taped_awaits, bare_rest, taped_rest}
 use Rattle.tape_laws.proofs.Hearing.{next_so, untaped_said, taped_runs_are_runs}
@@ -139,10 +140,14 @@ module _ {T : Type 0} (whole : Bool) (asks : HostsAsk) (scenario : Scenario) (co
       let ready = rests_hold scenario content happenings (runs_are_free scenario content happenings) front (untaped_world mid) talk_a talk_b is ran resting in
       ((ready.0, λ on. (back_so mid.b.upper (ready.1 on).0, λ armed. let fires = (ready.1 on).1 armed in (back_so mid.b.upper fires.0, fires.1))), (λ on. tt, λ on. tt))
 
-  pub record TurnsSo (capture : List Entry) (ran : Ran scenario content capture) : Type 0 where
+  pub record TurnsSo (capture : List Entry) (ran : Ran scenario content capture) (world : TapedHosts T) : Type 0 where
     pub turns : PairsInTurn asks scenario content capture ran
     pub told : AllByRecursion E turns.pairs.a.fed.so.lives.feeds
     pub given : AreOfTape scenario.settings content tape turns.pairs.b.fed.so.lives.feeds
+    -- host b went through all that its host with the tape keeps
+    pub past : turns.pairs.b.fed.so.lives.feeds ≡ untaped S tape B.first world.b.upper.profile.past
+    -- host a was told to begin so many pushes
+    pub begun : world.pushes.begun ≡ length (names_told turns.pairs.a.fed.so.lives.feeds)
     pub kept : (number : ℕ) → AllKept whole (turns.pairs.pairs number).turns
     -- where nothing is owed to either host both have been told as often that their link came up or went down
     pub level : ran.world.radio.a.owed ≡ [] → ran.world.radio.b.owed ≡ [] → length turns.pairs.a.fed.so.lives.spans ≡ length turns.pairs.b.fed.so.lives.spans
@@ -153,7 +158,7 @@ module _ {T : Type 0} (whole : Bool) (asks : HostsAsk) (scenario : Scenario) (co
     abbrev its_run : Ran scenario content capture
     its_run = record { happenings = happenings; world = untaped_world world; happened = happened; ends = ends; last = last; capture_is = capture_is }
 
-    its_turns : Runs U V happenings (taped_beginning scenario content tape) world → (whole ≡ true → LosesNothing (all_words happenings)) → TurnsSo capture its_run
+    its_turns : Runs U V happenings (taped_beginning scenario content tape) world → (whole ≡ true → LosesNothing (all_words happenings)) → TurnsSo capture its_run world
     unfolding lived calmly_fed bare_lived
     its_turns taped_happened gentle =
         let past = all_entries happenings in
@@ -205,6 +210,8 @@ module _ {T : Type 0} (whole : Bool) (asks : HostsAsk) (scenario : Scenario) (co
           };
           told = sane.pairs.a.given;
           given = (lived_b.fed.so.lives.feeds, begins_given S tape asks_s lived_b.came.talk c.b.upper lived_b.came.over lived_b.fed, bare_feeds S tape alone asks_s sides.B capture c.b.upper lived_b);
+          past = bare_feeds S tape alone asks_s sides.B capture c.b.upper lived_b ∙ ap (untaped S tape B.first) (sym (past_fed S tape asks_s lived_b.came.talk c.b.upper lived_b.fed));
+          begun = opened.begun ∙ ap length (sym sane.pairs.a.named);
           kept = λ number. (sane.pairs.links number).pair.kept;
           level = λ none_a none_b.
               same_number whole most A asks_a B asks_b to_a E allows_a as_it_is Always any_allowed Always Always c.a c.b sane.pairs (ap (λ (owed : List Answer). events (tidings owed)) none_a) (ap (λ (owed : List Answer). events (tidings owed)) none_b)
@@ -220,9 +227,9 @@ module _ {T : Type 0} (whole : Bool) (asks : HostsAsk) (scenario : Scenario) (co
           };
         }
 
-  pub takes_turns : (capture : List Entry) (ran : Ran scenario content capture) (world : TapedHosts T) → Runs U V ran.happenings (taped_beginning scenario content tape) world → ran.world ≡ untaped_world world → (whole ≡ true → LosesNothing (all_words ran.happenings)) → TurnsSo capture ran
+  pub takes_turns : (capture : List Entry) (ran : Ran scenario content capture) (world : TapedHosts T) → Runs U V ran.happenings (taped_beginning scenario content tape) world → ran.world ≡ untaped_world world → (whole ≡ true → LosesNothing (all_words ran.happenings)) → TurnsSo capture ran world
   takes_turns capture ran world taped_happened is gentle =
-      subst (λ (w : BothHosts). (happened : Happened scenario content ran.happenings w) (last : IsLastEnd w.pushes ran.ends) → TurnsSo capture (record { happenings = ran.happenings; world = w; happened = happened; ends = ran.ends; last = last; capture_is = ran.capture_is }))
+      subst (λ (w : BothHosts). (happened : Happened scenario content ran.happenings w) (last : IsLastEnd w.pushes ran.ends) → TurnsSo capture (record { happenings = ran.happenings; world = w; happened = happened; ends = ran.ends; last = last; capture_is = ran.capture_is }) world)
       (sym is) (λ happened last. its_turns capture ran.happenings world happened ran.ends last ran.capture_is taped_happened gentle) ran.happened ran.last
 
 pub taped_take_turns : {T : Type 0} (scenario : Scenario) (content : Option Contents) (tape : Tape ServerProfile T) → TapedTakeTurns scenario content tape

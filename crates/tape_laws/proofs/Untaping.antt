@@ -93,7 +93,7 @@ module _ {P T : Type 0} (A : Profile P) (tape : Tape P T) where
   tidings_so [] now = refl
   tidings_so (feed ∷ feeds) now = ap₂ (λ (a b : List Tiding). a ++ b) (tiding_so now feed) (tidings_so feeds (fed B now feed))
 
-  both : (xs ys : List Feed) (now : Now) → bare now (xs ++ ys) ≡ bare now xs ++ bare (all_fed B now xs) ys
+  pub both : (xs ys : List Feed) (now : Now) → bare now (xs ++ ys) ≡ bare now xs ++ bare (all_fed B now xs) ys
   both [] ys now = refl
   both (feed ∷ xs) ys now = ap (λ (l : List Feed). untaped_feed tape now feed ∷ l) (both xs ys (fed B now feed))
 

@@ -1,4 +1,4 @@
-use Rattle.done_laws.proofs.Kept.{done-pushes_are_kept}
+use Rattle.done_laws.proofs.Lasts.{done-pushes_are_kept}
 use Rattle.done_laws.proofs.done_pushes_are_kept.Goals as goal
 
 pub returns : goal.returns
