@@ -3,6 +3,7 @@ use Rattle.std.proofs.Common.{◌≡◌, ℕ, Bool, true, false, cond, ◌==◌,
 use Rattle.std.specs.List.{AllByRecursion}
 use Rattle.request_laws.specs.bt_base.specs.declared.ports.PortFault.{PortFault}
 use Rattle.request_laws.specs.bt_base.specs.declared.settings.Serves.{Serves}
+use Rattle.request_laws.specs.bt_base.specs.declared.settings.Settings.{Settings}
 use Rattle.request_laws.specs.bt_base.specs.declared.settings.Transport.{Transport}
 use Rattle.request_laws.specs.bt_base.specs.declared.settings.Transport.TheVariants.{L2cap, Rfcomm}
 use Rattle.request_laws.specs.push_terms.specs.declared.outcome.Outcome.{Outcome}
@@ -67,13 +68,13 @@ over_seeks true outcome c so = by c.cause
     by (Some earlier) = λ seeks. never seeks
 over_seeks false outcome c so = so
 
-module _ (serves : Serves) where
-  sdu_seeks : (psm : ℕ) (sdu : List ℕ) (c : Client) → ((psm == search_psm) ≡ true → sdu ≡ reply serves) → Searches c → Seeks c → Seeks (events.sdu_at c.stage psm sdu c)
+module _ (settings : Settings) where
+  sdu_seeks : (psm : ℕ) (sdu : List ℕ) (c : Client) → ((psm == search_psm) ≡ true → sdu ≡ reply settings.serves) → Searches c → Seeks c → Seeks (events.sdu_at c.stage psm sdu c)
   sdu_seeks psm sdu c fits searches so = by (is_search c.stage) refl
     where
-      on : c.stage ≡ Search → (here : Bool) → (here ≡ true → sdu ≡ reply serves) → Seeks (cond here (events.hears_reply sdu c) c)
+      on : c.stage ≡ Search → (here : Bool) → (here ≡ true → sdu ≡ reply settings.serves) → Seeks (cond here (events.hears_reply sdu c) c)
       on at true is =
-          let well = replied-well serves c.query (searches (ap is_searching at)) (so (ap is_seeking at)) in
+          let well = replied-well settings.serves c.query (searches (ap is_searching at)) (so (ap is_seeking at)) in
           λ seeks. subst IsUnrefused (sym (reply_query sdu c)) (subst (λ (octets : List ℕ). TakesWell c.query octets) (sym (is refl)) well).well_so
       on at false is = so
 
@@ -81,7 +82,7 @@ module _ (serves : Serves) where
       by true is = let at = search_is c.stage is in subst (λ (stage : Stage). Seeks (events.sdu_at stage psm sdu c)) (sym at) (on at (psm == search_psm) fits)
       by false is = keep c (events.sdu_at c.stage psm sdu c) (sdu_so c.stage psm sdu c refl (λ at. let no : true ≡ false = ap is_search (sym at) ∙ is in cc)) so
 
-  deed_seeks : (deed : Deed) (c : Client) → Fits serves deed → Searches c → Seeks c → Seeks (done deed c)
+  deed_seeks : (deed : Deed) (c : Client) → Fits settings.serves deed → Searches c → Seeks c → Seeks (done deed c)
   deed_seeks (Hears events.LinkUp) c fits searches so = absurd fits
   deed_seeks (Hears (events.LinkDown reason)) c fits searches so = over_seeks (is_linked c.stage) (cause_of_link reason) c so
   deed_seeks (Hears (events.LinkFailed status)) c fits searches so = over_seeks (is_paging c.stage) (cause_of_page status) c so
@@ -102,45 +103,45 @@ module _ (serves : Serves) where
     pub stands : Stands walk c
     pub searches : Searches c
     pub seeks : Seeks c
-    pub clear : IsClear c
+    pub clear : IsClear settings.transport c
 
-  fits_only : (deed : Deed) → Fits serves deed → (psm : ℕ) (sdu : List ℕ) → deed ≡ Hears (events.Sdu psm sdu) → (psm == search_psm) ≡ true → sdu ≡ reply serves
-  fits_only deed fits psm sdu is here = (subst (Fits serves) is fits) here
+  fits_only : (deed : Deed) → Fits settings.serves deed → (psm : ℕ) (sdu : List ℕ) → deed ≡ Hears (events.Sdu psm sdu) → (psm == search_psm) ≡ true → sdu ≡ reply settings.serves
+  fits_only deed fits psm sdu is here = (subst (Fits settings.serves) is fits) here
 
-  finds : (psm : ℕ) (sdu : List ℕ) (c : Client) → ((psm == search_psm) ≡ true → sdu ≡ reply serves) → Well c → FindsSpared psm sdu c
+  finds : (psm : ℕ) (sdu : List ℕ) (c : Client) → ((psm == search_psm) ≡ true → sdu ≡ reply settings.serves) → Well c → FindsSpared settings.transport psm sdu c
   finds psm sdu c fits well = λ at here.
-      (subst (λ (octets : List ℕ). TakesWell c.query octets) (sym (fits here)) (replied-well serves c.query (well.searches (ap is_searching at)) (well.seeks (ap is_seeking at)))).spared c.transport
+      (subst (λ (octets : List ℕ). TakesWell c.query octets) (sym (fits here)) (replied-well settings.serves c.query (well.searches (ap is_searching at)) (well.seeks (ap is_seeking at)))).spared settings.transport c.transport
 
-  clear_by : (deed : Deed) (c : Client) → Fits serves deed → Well c → IsClear (done deed c)
-  clear_by (Hears events.LinkUp) c fits well = deed_clear (Hears events.LinkUp) c tt well.clear
-  clear_by (Hears (events.LinkDown reason)) c fits well = deed_clear (Hears (events.LinkDown reason)) c tt well.clear
-  clear_by (Hears (events.LinkFailed status)) c fits well = deed_clear (Hears (events.LinkFailed status)) c tt well.clear
-  clear_by (Hears (events.ChannelOpen psm mtu)) c fits well = deed_clear (Hears (events.ChannelOpen psm mtu)) c tt well.clear
-  clear_by (Hears (events.ChannelClosed psm cause)) c fits well = deed_clear (Hears (events.ChannelClosed psm cause)) c tt well.clear
-  clear_by (Hears (events.Sdu psm sdu)) c fits well = deed_clear (Hears (events.Sdu psm sdu)) c (finds psm sdu c fits well) well.clear
-  clear_by (Hears events.FeaturesTold) c fits well = deed_clear (Hears events.FeaturesTold) c tt well.clear
-  clear_by (Hears events.FeaturesLost) c fits well = deed_clear (Hears events.FeaturesLost) c tt well.clear
-  clear_by (Hears events.Timer) c fits well = deed_clear (Hears events.Timer) c tt well.clear
-  clear_by (Asks parts) c fits well = deed_clear (Asks parts) c tt well.clear
-  clear_by Finishes c fits well = deed_clear Finishes c tt well.clear
-  clear_by Cancels c fits well = deed_clear Cancels c tt well.clear
+  clear_by : (deed : Deed) (c : Client) → Fits settings.serves deed → Well c → IsClear settings.transport (done deed c)
+  clear_by (Hears events.LinkUp) c fits well = deed_clear settings.transport (Hears events.LinkUp) c tt well.clear
+  clear_by (Hears (events.LinkDown reason)) c fits well = deed_clear settings.transport (Hears (events.LinkDown reason)) c tt well.clear
+  clear_by (Hears (events.LinkFailed status)) c fits well = deed_clear settings.transport (Hears (events.LinkFailed status)) c tt well.clear
+  clear_by (Hears (events.ChannelOpen psm mtu)) c fits well = deed_clear settings.transport (Hears (events.ChannelOpen psm mtu)) c tt well.clear
+  clear_by (Hears (events.ChannelClosed psm cause)) c fits well = deed_clear settings.transport (Hears (events.ChannelClosed psm cause)) c tt well.clear
+  clear_by (Hears (events.Sdu psm sdu)) c fits well = deed_clear settings.transport (Hears (events.Sdu psm sdu)) c (finds psm sdu c fits well) well.clear
+  clear_by (Hears events.FeaturesTold) c fits well = deed_clear settings.transport (Hears events.FeaturesTold) c tt well.clear
+  clear_by (Hears events.FeaturesLost) c fits well = deed_clear settings.transport (Hears events.FeaturesLost) c tt well.clear
+  clear_by (Hears events.Timer) c fits well = deed_clear settings.transport (Hears events.Timer) c tt well.clear
+  clear_by (Asks parts) c fits well = deed_clear settings.transport (Asks parts) c tt well.clear
+  clear_by Finishes c fits well = deed_clear settings.transport Finishes c tt well.clear
+  clear_by Cancels c fits well = deed_clear settings.transport Cancels c tt well.clear
 
-  deed_well : (deed : Deed) (c : Client) → Fits serves deed → Well c → Well (done deed c)
+  deed_well : (deed : Deed) (c : Client) → Fits settings.serves deed → Well c → Well (done deed c)
   deed_well deed c fits well = record {
     walk = behind_deed well.walk deed c;
     stands = deed_stands well.walk deed c well.stands;
-    searches = deed_search serves deed c (λ psm sdu is here. inr (fits_only deed fits psm sdu is here)) well.searches;
+    searches = deed_search settings.serves deed c (λ psm sdu is here. inr (fits_only deed fits psm sdu is here)) well.searches;
     seeks = deed_seeks deed c fits well.searches well.seeks;
     clear = clear_by deed c fits well;
   }
 
-  pub all_well : (deeds : List Deed) (c : Client) → AllByRecursion (Fits serves) deeds → Well c → Well (all_done deeds c)
+  pub all_well : (deeds : List Deed) (c : Client) → AllByRecursion (Fits settings.serves) deeds → Well c → Well (all_done deeds c)
   all_well [] c fits well = well
   all_well (deed ∷ deeds) c fits well = all_well deeds (done deed c) fits.1 (deed_well deed c fits.0 well)
 
   -- ---- where a link comes up
 
-  pub link_well : (c : Client) → WaitsForLink c → IsClear c → Well (events.hears_news events.LinkUp c)
+  pub link_well : (c : Client) → WaitsForLink c → IsClear settings.transport c → Well (events.hears_news events.LinkUp c)
   link_well c (at, new) clear = subst (λ (stage : Stage). Well (events.linked_at stage c)) (sym at) (by (is_some c.cause))
     where
       left : (let d : Client = record c { stage = LinkEnd Due } in Well d)
@@ -149,7 +150,7 @@ module _ (serves : Serves) where
         stands = record { one = omega arith; behind = whole_way c.transport []; way = refl };
         searches = λ e. never e;
         seeks = λ e. never e;
-        clear = clear;
+        clear = record { over = clear.over; spares = clear.spares };
       }
 
       sought : (let d : Client = record c { stage = SearchChannel Due } in Well d)
@@ -158,7 +159,7 @@ module _ (serves : Serves) where
         stands = record { same = refl; none = refl; is = refl };
         searches = λ e. (query.Due, new);
         seeks = λ e. ap (λ (q : Asking). is_refused q.stage) new;
-        clear = clear;
+        clear = record { over = clear.over; spares = clear.spares };
       }
 
       by : (ended : Bool) → Well (cond ended (record c { stage = LinkEnd Due }) (record c { stage = SearchChannel Due }))
@@ -253,5 +254,5 @@ step_takes BreakLink endpoints v plain all = tt
 step_takes (Ended outcome) endpoints v plain all = tt
 step_takes NoMemory endpoints v plain all = tt
 
-pub takes_requests : (serves : Serves) (p : ClientProfile) (v : Channels) → Well serves p.client → AllByRecursion IsRequest (taken_by search_psm (steps.steps p.client (fitted p)).step p.endpoints v)
-takes_requests serves p v well = step_takes (steps.steps p.client (fitted p)).step p.endpoints v (step_plain p.client (fitted p)) (deed_asks well.walk (Asks (fitted p)) p.client well.searches well.stands)
+pub takes_requests : (settings : Settings) (p : ClientProfile) (v : Channels) → Well settings p.client → AllByRecursion IsRequest (taken_by search_psm (steps.steps p.client (fitted p)).step p.endpoints v)
+takes_requests settings p v well = step_takes (steps.steps p.client (fitted p)).step p.endpoints v (step_plain p.client (fitted p)) (deed_asks well.walk (Asks (fitted p)) p.client well.searches well.stands)

@@ -5,6 +5,7 @@ use Rattle.std.specs.List.{AllByRecursion}
 use Rattle.std.proofs.lemmas.List.Sums.{fold-append}
 use Rattle.request_laws.specs.bt_base.specs.Objects.{Contents}
 use Rattle.request_laws.specs.bt_base.specs.declared.settings.Settings.{Settings}
+use Rattle.request_laws.specs.bt_base.specs.declared.settings.Transport.{Transport}
 use Rattle.request_laws.specs.channel_model.specs.declared.event.ChannelEvent.{ChannelEvent}
 use Rattle.request_laws.specs.channel_model.specs.Calls.{link_down}
 use Rattle.request_laws.specs.channel_model.specs.Policies.{policy}
@@ -94,24 +95,24 @@ feed_quiet (Happens event v) p none = feed_so IsQuiet quiet_holds p (Happens eve
 feed_quiet (Sent v) p none = feed_so IsQuiet quiet_holds p (Sent v) tt
 feed_quiet (Steps v) p none = feed_so IsQuiet quiet_holds p (Steps v) tt
 
-deed_quiet : (deed : Deed) (client : Client) → IsQuiet (Does deed) → IsClear client → IsClear (done deed client)
-deed_quiet (Hears (events.Sdu psm octets)) client quiet clear = absurd quiet
-deed_quiet (Hears events.LinkUp) client quiet clear = deed_clear (Hears events.LinkUp) client tt clear
-deed_quiet (Hears (events.LinkDown reason)) client quiet clear = deed_clear (Hears (events.LinkDown reason)) client tt clear
-deed_quiet (Hears (events.LinkFailed status)) client quiet clear = deed_clear (Hears (events.LinkFailed status)) client tt clear
-deed_quiet (Hears (events.ChannelOpen psm mtu)) client quiet clear = deed_clear (Hears (events.ChannelOpen psm mtu)) client tt clear
-deed_quiet (Hears (events.ChannelClosed psm cause)) client quiet clear = deed_clear (Hears (events.ChannelClosed psm cause)) client tt clear
-deed_quiet (Hears events.FeaturesTold) client quiet clear = deed_clear (Hears events.FeaturesTold) client tt clear
-deed_quiet (Hears events.FeaturesLost) client quiet clear = deed_clear (Hears events.FeaturesLost) client tt clear
-deed_quiet (Hears events.Timer) client quiet clear = deed_clear (Hears events.Timer) client tt clear
-deed_quiet (Asks parts) client quiet clear = deed_clear (Asks parts) client tt clear
-deed_quiet Finishes client quiet clear = deed_clear Finishes client tt clear
-deed_quiet Cancels client quiet clear = deed_clear Cancels client tt clear
+deed_quiet : (line : Transport) (deed : Deed) (client : Client) → IsQuiet (Does deed) → IsClear line client → IsClear line (done deed client)
+deed_quiet line (Hears (events.Sdu psm octets)) client quiet clear = absurd quiet
+deed_quiet line (Hears events.LinkUp) client quiet clear = deed_clear line (Hears events.LinkUp) client tt clear
+deed_quiet line (Hears (events.LinkDown reason)) client quiet clear = deed_clear line (Hears (events.LinkDown reason)) client tt clear
+deed_quiet line (Hears (events.LinkFailed status)) client quiet clear = deed_clear line (Hears (events.LinkFailed status)) client tt clear
+deed_quiet line (Hears (events.ChannelOpen psm mtu)) client quiet clear = deed_clear line (Hears (events.ChannelOpen psm mtu)) client tt clear
+deed_quiet line (Hears (events.ChannelClosed psm cause)) client quiet clear = deed_clear line (Hears (events.ChannelClosed psm cause)) client tt clear
+deed_quiet line (Hears events.FeaturesTold) client quiet clear = deed_clear line (Hears events.FeaturesTold) client tt clear
+deed_quiet line (Hears events.FeaturesLost) client quiet clear = deed_clear line (Hears events.FeaturesLost) client tt clear
+deed_quiet line (Hears events.Timer) client quiet clear = deed_clear line (Hears events.Timer) client tt clear
+deed_quiet line (Asks parts) client quiet clear = deed_clear line (Asks parts) client tt clear
+deed_quiet line Finishes client quiet clear = deed_clear line Finishes client tt clear
+deed_quiet line Cancels client quiet clear = deed_clear line Cancels client tt clear
 
-all_quiet : (affairs : List Affair) (client : Client) → AllByRecursion IsQuiet affairs → IsClear client → IsClear (client_behind affairs client)
-all_quiet [] client quiet clear = clear
-all_quiet (Begins size name ∷ affairs) client quiet clear = all_quiet affairs (client_after (Begins size name) client) quiet.1 (begins_clear size name client clear)
-all_quiet (Does deed ∷ affairs) client quiet clear = all_quiet affairs (done deed client) quiet.1 (deed_quiet deed client quiet.0 clear)
+all_quiet : (line : Transport) (affairs : List Affair) (client : Client) → AllByRecursion IsQuiet affairs → IsClear line client → IsClear line (client_behind affairs client)
+all_quiet line [] client quiet clear = clear
+all_quiet line (Begins size name ∷ affairs) client quiet clear = all_quiet line affairs (client_after (Begins size name) client) quiet.1 (begins_clear line size name client clear)
+all_quiet line (Does deed ∷ affairs) client quiet clear = all_quiet line affairs (done deed client) quiet.1 (deed_quiet line deed client quiet.0 clear)
 
 between_brings : (feeds : List Feed) → AllByRecursion IsBetween feeds → AllByRecursion BringsNone feeds
 between_brings [] so = tt
@@ -131,6 +132,10 @@ turned_bring circumstances Up v = (tt, tt)
 turned_bring circumstances (Down reason) v = let w = link_down v in all_both BringsNone (happenings w w.events) (Learns circumstances (Linked (Down reason)) ∷ []) (happenings_bring w w.events) (tt, tt)
 
 module _ (settings : Settings) (content : Option Contents) where
+  -- it blames its peer for no such fault
+  abbrev Clear : Client → Type 0
+  Clear client = IsClear settings.transport client
+
   abbrev A : Profile ClientProfile
   A = client_profile settings
 
@@ -149,15 +154,15 @@ module _ (settings : Settings) (content : Option Contents) where
   feeds_quiet [] p none = tt
   feeds_quiet (feed ∷ feeds) p none = let q = fed (client_profile settings) p feed in all_both IsQuiet (pushed_with p feed) (pushed_from settings q feeds) (feed_quiet feed p none.0) (feeds_quiet feeds q none.1)
 
-  fed_clear : (feeds : List Feed) (p : ClientProfile) → AllByRecursion BringsNone feeds → IsClear p.client → IsClear (all_fed (client_profile settings) p feeds).client
-  fed_clear feeds p none clear = subst IsClear (sym (all_pushed settings feeds p)) (all_quiet (pushed_from settings p feeds) p.client (feeds_quiet feeds p none) clear)
+  fed_clear : (feeds : List Feed) (p : ClientProfile) → AllByRecursion BringsNone feeds → Clear p.client → Clear (all_fed (client_profile settings) p feeds).client
+  fed_clear feeds p none clear = subst Clear (sym (all_pushed settings feeds p)) (all_quiet settings.transport (pushed_from settings p feeds) p.client (feeds_quiet feeds p none) clear)
 
   last_fed : (list : List channels.Occurrence) (feeds : List Feed) (first last : ClientProfile) (so : WovenFed (client_profile settings) (both_ask.clients settings) list feeds first last) → all_fed (client_profile settings) first feeds ≡ last
   last_fed list feeds first last so = ap (all_fed A first) so.feeds_are ∙ (woven_so A asks_a so.woven.weave no_channels first ∙ sym so.woven.last_is)
 
-  between_clear : (list : List channels.Occurrence) (feeds : List Feed) (first last : ClientProfile) → WovenFed (client_profile settings) (both_ask.clients settings) list feeds first last → AllByRecursion HearsNothing list → IsClear first.client → IsClear last.client
+  between_clear : (list : List channels.Occurrence) (feeds : List Feed) (first last : ClientProfile) → WovenFed (client_profile settings) (both_ask.clients settings) list feeds first last → AllByRecursion HearsNothing list → Clear first.client → Clear last.client
   between_clear list feeds first last so deaf clear =
-      subst (λ (p : ClientProfile). IsClear p.client) (last_fed list feeds first last so) (fed_clear feeds first (between_brings feeds (fed_between settings asks_a list feeds first last so deaf)) clear)
+      subst (λ (p : ClientProfile). Clear p.client) (last_fed list feeds first last so) (fed_clear feeds first (between_brings feeds (fed_between settings asks_a list feeds first last so deaf)) clear)
 
   -- as a link comes up for it or goes down it goes through that
   turned_a : (span : Span) (first : ClientProfile) (so : FedSpan (client_profile settings) (both_ask.clients settings) span first)
@@ -172,10 +177,10 @@ module _ (settings : Settings) (content : Option Contents) where
       let turning = turned_feeds so.circumstances span.event (values_after B.policy no_channels span.list) in
       ap (λ (q : ServerProfile). all_fed B q turning) (sym (here_so B asks_b span first so)) ∙ (sym (fold-append (fed B) first so.here turning) ∙ span_so B asks_b span first so)
 
-  turned_clear : (span : Span) (first : ClientProfile) (so : FedSpan (client_profile settings) (both_ask.clients settings) span first) → IsClear so.mid.client → IsClear (behind_span (client_profile settings) (both_ask.clients settings) span first so).client
+  turned_clear : (span : Span) (first : ClientProfile) (so : FedSpan (client_profile settings) (both_ask.clients settings) span first) → Clear so.mid.client → Clear (behind_span (client_profile settings) (both_ask.clients settings) span first so).client
   turned_clear span first so clear =
       let turning = turned_feeds so.circumstances span.event (values_after A.policy no_channels span.list) in
-      subst (λ (p : ClientProfile). IsClear p.client) (turned_a span first so) (fed_clear turning so.mid (turned_bring so.circumstances span.event (values_after A.policy no_channels span.list)) clear)
+      subst (λ (p : ClientProfile). Clear p.client) (turned_a span first so) (fed_clear turning so.mid (turned_bring so.circumstances span.event (values_after A.policy no_channels span.list)) clear)
 
   span_pages : (span : Span) (first : ClientProfile) (so : FedSpan (client_profile settings) (both_ask.clients settings) span first) → PagesSo first → PagesSo (behind_span (client_profile settings) (both_ask.clients settings) span first so)
   span_pages span first so pages = subst PagesSo (span_so A asks_a span first so) (fed_pages settings (span_feeds A asks_a span first so) first pages)
@@ -184,13 +189,13 @@ module _ (settings : Settings) (content : Option Contents) where
   abbrev Wants : ClientProfile → Type 0
   Wants p = (client_profile settings).wants_link p ≡ true
 
-  up_well : (one : Span) (first : ClientProfile) (so : FedSpan (client_profile settings) (both_ask.clients settings) one first) → one.event ≡ Up → AllByRecursion HearsNothing one.list → IsWantedAt Wants one.event so.mid → PagesSo first → IsClear first.client
-      → Well settings.serves (behind_span (client_profile settings) (both_ask.clients settings) one first so).client
+  up_well : (one : Span) (first : ClientProfile) (so : FedSpan (client_profile settings) (both_ask.clients settings) one first) → one.event ≡ Up → AllByRecursion HearsNothing one.list → IsWantedAt Wants one.event so.mid → PagesSo first → Clear first.client
+      → Well settings (behind_span (client_profile settings) (both_ask.clients settings) one first so).client
   up_well one first so up deaf wanted pages clear =
       let paged : PagesSo so.mid = subst PagesSo (here_so A asks_a one first so) (fed_pages settings so.here first pages) in
       let waits : WaitsForLink so.mid.client = paged (left (is_paging so.mid.bid) _ (wanted_up Wants one.event so.mid up wanted)) in
-      subst (λ (event : LinkEvent). Well settings.serves (turned A so.circumstances event (values_after A.policy no_channels one.list) so.mid).client) (sym up)
-      (link_well settings.serves so.mid.client waits (between_clear one.list so.here first so.mid so.so deaf clear))
+      subst (λ (event : LinkEvent). Well settings (turned A so.circumstances event (values_after A.policy no_channels one.list) so.mid).client) (sym up)
+      (link_well settings so.mid.client waits (between_clear one.list so.here first so.mid so.so deaf clear))
     where
       left : (a b : Bool) → (a && b) ≡ true → a ≡ true
       left true b is = refl
@@ -243,7 +248,7 @@ module _ (settings : Settings) (content : Option Contents) where
   module _ (near far : ℕ → List channels.Occurrence) (pairs : (k : ℕ) → PairOnLink (policy settings false) (policy settings true) (near k) (far k)) (carried : (k : ℕ) → AreCarried (policy settings false) (policy settings true) (pairs k).turns)
       (near_utters : (k : ℕ) → AreUttered (policy settings false) (near k)) (far_utters : (k : ℕ) → AreUttered (policy settings true) (far k)) where
     on_link : (k : ℕ) (list_a list_b : List channels.Occurrence) (client last_a : ClientProfile) (server last_b : ServerProfile) (a : Woven (client_profile settings) (both_ask.clients settings) list_a client last_a) → Woven (server_profile settings content) (both_ask.servers settings content) list_b server last_b
-        → list_a ≡ near k → list_b ≡ far k → client.endpoints ≡ [] → server.endpoints ≡ [] → AllByRecursion OpensNone a.weave → Well settings.serves client.client → Replies settings.serves server.server → LinkEnds settings content last_a last_b
+        → list_a ≡ near k → list_b ≡ far k → client.endpoints ≡ [] → server.endpoints ≡ [] → AllByRecursion OpensNone a.weave → Well settings client.client → Replies settings.serves server.server → LinkEnds settings content last_a last_b
     on_link k list_a list_b client last_a server last_b a b is_a is_b client_none server_none opens well replies =
         through_link settings content list_a list_b pair carried_so (subst (AreUttered (policy settings false)) (sym is_a) (near_utters k)) (subst (AreUttered (policy settings true)) (sym is_b) (far_utters k)) client last_a server last_b a b client_none server_none opens well replies
       where
@@ -280,7 +285,7 @@ module _ (settings : Settings) (content : Option Contents) where
     -- ---- where host a alone goes on
 
     alone : (number : ℕ → ℕ) (spans : List Span) (now : List channels.Occurrence) (feeds : List Feed) (client last : ClientProfile) (a : AreFed (client_profile settings) (both_ask.clients settings) spans now feeds client last) → Near_are number spans now → ((k : ℕ) → [] ≡ far (number (suc k)))
-        → AreTimely false (all_marks spans now) → AreAsked (client_profile settings) (both_ask.clients settings) Wants false spans now feeds client last a → PagesSo client → IsClear client.client → IsClear last.client
+        → AreTimely false (all_marks spans now) → AreAsked (client_profile settings) (both_ask.clients settings) Wants false spans now feeds client last a → PagesSo client → Clear client.client → Clear last.client
     alone number [] now feeds client last a near_is far_is timely asked pages clear = between_clear now feeds client last a (is_deaf_now now timely) clear
     alone number (one ∷ []) now feeds client last (here, later, is, a) near_is far_is timely (before, wanted, none) pages clear =
         let up = is_up one [] now timely in
@@ -306,7 +311,7 @@ module _ (settings : Settings) (content : Option Contents) where
     pub together : (number : ℕ → ℕ) (spans_a : List Span) (now_a : List channels.Occurrence) (feeds_a : List Feed) (client last_a : ClientProfile) (spans_b : List Span) (now_b : List channels.Occurrence) (feeds_b : List Feed) (server last_b : ServerProfile)
         (a : AreFed (client_profile settings) (both_ask.clients settings) spans_a now_a feeds_a client last_a) (b : AreFed (server_profile settings content) (both_ask.servers settings content) spans_b now_b feeds_b server last_b) → Near_are number spans_a now_a → Far_are number spans_b now_b
         → AreTimely false (all_marks spans_a now_a) → AreTimely false (all_marks spans_b now_b) → AreAsked (client_profile settings) (both_ask.clients settings) Wants false spans_a now_a feeds_a client last_a a
-        → PagesSo client → IsClear client.client → Replies settings.serves server.server → IsClear last_a.client
+        → PagesSo client → Clear client.client → Replies settings.serves server.server → Clear last_a.client
     together number spans_a now_a feeds_a client last_a [] now_b feeds_b server last_b a b near_is far_is timely_a timely_b asked pages clear replies =
         alone number spans_a now_a feeds_a client last_a a near_is (λ k. far_is (suc k)) timely_a asked pages clear
     together number [] now_a feeds_a client last_a (other ∷ spans_b) now_b feeds_b server last_b a b near_is far_is timely_a timely_b asked pages clear replies = between_clear now_a feeds_a client last_a a (is_deaf_now now_a timely_a) clear

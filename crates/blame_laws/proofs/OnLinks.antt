@@ -91,13 +91,13 @@ module _ (settings : Settings) (content : Option Contents) where
   deeds_fit (Begins size name ∷ affairs) all = absurd all.0
   deeds_fit (Does deed ∷ affairs) all = (all.0, deeds_fit affairs all.1)
 
-  strand_well : (strand : Strand) (v : Channels) (p : ClientProfile) → OpensNone strand → HearsReplies p strand v → Well settings.serves p.client → Well settings.serves (strand_profile (client_profile settings) strand v p).client
+  strand_well : (strand : Strand) (v : Channels) (p : ClientProfile) → OpensNone strand → HearsReplies p strand v → Well settings p.client → Well settings (strand_profile (client_profile settings) strand v p).client
   strand_well strand v p none all well =
       let affairs = pushed_from settings p (strand_feeds strand v) in
-      subst (Well settings.serves) (sym (strand_client settings (both_ask.clients settings) strand v p none))
-      (all_well settings.serves (all_deeds affairs) p.client (deeds_fit affairs (all_so FitsSo fits_hold settings (strand_feeds strand v) p (feeds_fit strand v p none all))) well)
+      subst (Well settings) (sym (strand_client settings (both_ask.clients settings) strand v p none))
+      (all_well settings (all_deeds affairs) p.client (deeds_fit affairs (all_so FitsSo fits_hold settings (strand_feeds strand v) p (feeds_fit strand v p none all))) well)
 
-  strand_takes : (strand : Strand) (v : Channels) (p : ClientProfile) → Well settings.serves p.client → AllByRecursion IsRequest (taken_at search_psm strand v p)
+  strand_takes : (strand : Strand) (v : Channels) (p : ClientProfile) → Well settings p.client → AllByRecursion IsRequest (taken_at search_psm strand v p)
   strand_takes (Hearing pdu) v p well = tt
   strand_takes (Giving pdu) v p well = tt
   strand_takes Firing v p well = tt
@@ -105,7 +105,7 @@ module _ (settings : Settings) (content : Option Contents) where
   strand_takes (Gifting circumstances) v p well = tt
   strand_takes (Learning circumstances heard) v p well = tt
   strand_takes Checking v p well = tt
-  strand_takes Stepping v p well = takes_requests settings.serves p v well
+  strand_takes Stepping v p well = takes_requests settings p v well
 
   -- ---- what goes from a server
 
@@ -132,13 +132,13 @@ module _ (settings : Settings) (content : Option Contents) where
   -- ---- both, one thing after the other
 
   record State (both : Both) (s : Streams) : Type 0 where
-    well : Well settings.serves both.client.client
+    well : Well settings both.client.client
     replies : Replies settings.serves both.server.server
     taken : AllByRecursion IsRequest s.taken
     gone : AllByRecursion (IsReply settings.serves) s.gone
 
   record Ends (both : Both) : Type 0 where
-    well : Well settings.serves both.client.client
+    well : Well settings both.client.client
     replies : Replies settings.serves both.server.server
 
   through : (twists : List Twist) (both : Both) (s : Streams) → AllByRecursion OpensNone (flat_map of_client twists) → AllStayTrue search_psm refl (asking settings content) twists both s → State both s → Ends (behind settings content twists both)
@@ -179,12 +179,12 @@ module _ (settings : Settings) (content : Option Contents) where
   -- ---- through a link
 
   pub record LinkEnds (client : ClientProfile) (server : ServerProfile) : Type 0 where
-    pub well : Well settings.serves client.client
+    pub well : Well settings client.client
     pub replies : Replies settings.serves server.server
 
   pub through_link : (near far : List channels.Occurrence) (pair : PairOnLink (policy settings false) (policy settings true) near far) → AreCarried (policy settings false) (policy settings true) pair.turns → AreUttered (policy settings false) near → AreUttered (policy settings true) far
       → (client last_a : ClientProfile) (server last_b : ServerProfile) (a : Woven (client_profile settings) (both_ask.clients settings) near client last_a) → Woven (server_profile settings content) (both_ask.servers settings content) far server last_b
-      → client.endpoints ≡ [] → server.endpoints ≡ [] → AllByRecursion OpensNone a.weave → Well settings.serves client.client → Replies settings.serves server.server → LinkEnds last_a last_b
+      → client.endpoints ≡ [] → server.endpoints ≡ [] → AllByRecursion OpensNone a.weave → Well settings client.client → Replies settings.serves server.server → LinkEnds last_a last_b
   through_link near far pair carried near_utters far_utters client last_a server last_b a b client_none server_none opens well replies =
       let all = lift (asking settings content) (joints_from (new_pair (policy settings false) (policy settings true)) pair.turns) a.weave b.weave (new_both client server) (pair.near_list ∙ a.list_is) (pair.far_list ∙ b.list_is) in
       let stays = records-stay_true settings content near far pair carried near_utters far_utters client server client_none server_none all.twists all.joints_are in
@@ -192,7 +192,7 @@ module _ (settings : Settings) (content : Option Contents) where
       let A = client_profile settings in
       let B = server_profile settings content in
       record {
-        well = subst (λ (p : ClientProfile). Well settings.serves p.client)
+        well = subst (λ (p : ClientProfile). Well settings p.client)
             (behind_client all.twists (new_both client server) ∙ (ap (λ (w : List Strand). woven_profile A (both_ask.clients settings) w no_channels client) all.near_is ∙ sym a.last_is)) ends.well;
         replies = subst (λ (q : ServerProfile). Replies settings.serves q.server)
             (behind_server all.twists (new_both client server) ∙ (ap (λ (w : List Strand). woven_profile B (both_ask.servers settings content) w no_channels server) all.far_is ∙ sym b.last_is)) ends.replies;

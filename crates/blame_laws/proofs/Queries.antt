@@ -83,33 +83,33 @@ service_answers q octets target well_so = by (is_of_another octets q.transaction
 
 -- it blames nobody for it, and is as well behind it
 pub record TakesWell (query : Asking) (octets : List ℕ) : Type 0 where
-  pub spared : (transport : Transport) → Within is_spared (found_shows transport (found_at query octets))
+  pub spared : (line transport : Transport) → Within (is_spared line) (found_shows transport (found_at query octets))
   pub well_so : IsUnrefused (after_reply query octets)
 
 module _ (serves : Serves) where
   named : found_at (query_at at.Written) (reply serves) ≡ Service (served_target serves)
   named = ap (found_at (query_at at.Written)) (reply_is serves) ∙ finds_the_server serves reply_room (omega arith)
 
-  service_spared : (transport : Transport) → Within is_spared (found_shows transport (Service (served_target serves)))
-  service_spared transport = either is_spared (is_none (way_of transport (served_target serves))) (Some NoService) None refl tt
+  service_spared : (line transport : Transport) → Within (is_spared line) (found_shows transport (Service (served_target serves)))
+  service_spared line transport = either (is_spared line) (is_none (way_of transport (served_target serves))) (Some NoService) None refl tt
 
   written_well : TakesWell (query_at at.Written) (reply serves)
   written_well = record {
-    spared = λ transport. subst (λ (found : Found). Within is_spared (found_shows transport found)) (sym named) (service_spared transport);
+    spared = λ line transport. subst (λ (found : Found). Within (is_spared line) (found_shows transport found)) (sym named) (service_spared line transport);
     well_so = service_answers (query_at at.Written) (reply serves) (served_target serves) refl named;
   }
 
   again_well : TakesWell (query_at at.Again) (reply serves)
   again_well = record {
-    spared = λ transport. subst (λ (found : Found). Within is_spared (found_shows transport found)) (sym named) (service_spared transport);
+    spared = λ line transport. subst (λ (found : Found). Within (is_spared line) (found_shows transport found)) (sym named) (service_spared line transport);
     well_so = service_answers (query_at at.Again) (reply serves) (served_target serves) refl named;
   }
 
   stage_well : (stage : Stage) → is_refused stage ≡ false → TakesWell (query_at stage) (reply serves)
-  stage_well at.Due well_so = record { spared = λ transport. tt; well_so = refl }
+  stage_well at.Due well_so = record { spared = λ line transport. tt; well_so = refl }
   stage_well at.Written well_so = written_well
   stage_well at.Again well_so = again_well
-  stage_well at.Answered well_so = record { spared = λ transport. tt; well_so = refl }
+  stage_well at.Answered well_so = record { spared = λ line transport. tt; well_so = refl }
   stage_well (at.Refused reason) well_so = absurd (let never : true ≡ false = well_so in cc)
 
   pub replied-well : (query : Asking) → IsFirst query → IsUnrefused query → TakesWell query (reply serves)

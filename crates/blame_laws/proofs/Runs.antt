@@ -1,7 +1,8 @@
--- No push of a run blames service discovery.
+-- No push of a run blames its peer for what is never its fault.
 use Rattle.std.proofs.Common.{◌≡◌, Bool, true, false, not, List, [], ◌∷◌, ◌++◌, Option, Some, None, unwrap_or, refl, sym, subst, append-nil, if◌then◌else◌}
 use Rattle.std.specs.List.{AllByRecursion, flat_map}
 use Rattle.request_laws.specs.bt_base.specs.Objects.{Contents}
+use Rattle.request_laws.specs.bt_base.specs.declared.settings.Transport.{Transport}
 use Rattle.request_laws.specs.capture.specs.Entries.{Entry, Ended}
 use Rattle.request_laws.specs.push_terms.specs.declared.outcome.Outcome.{Outcome}
 use Rattle.request_laws.specs.push_terms.specs.declared.outcome.Outcome.TheVariants.{ScriptEnded}
@@ -13,6 +14,7 @@ use Rattle.request_laws.specs.host_model.specs.Clients.{client_profile}
 use Rattle.request_laws.specs.host_model.specs.Servers.{server_profile}
 use Rattle.request_laws.specs.host_laws.specs.Lives.{on_links}
 use Rattle.request_laws.specs.host_laws.specs.OverLinks.{talk_marks, AreTimely}
+use Rattle.request_laws.specs.host_laws.proofs.GoingAsTold.{first_over}
 use Rattle.request_laws.specs.host_laws.proofs.Paging.{first_pages}
 use Rattle.request_laws.specs.pair_laws.specs.scenario_laws.specs.Captures.{client_of, server_of, BothHosts, beginning, Happened, Ran}
 use Rattle.request_laws.specs.pair_laws.specs.scenario_laws.specs.air_laws.proofs.Following.{runs_then}
@@ -25,14 +27,14 @@ use Rattle.request_laws.proofs.AlongStreams.{at_place}
 use Rattle.request_laws.proofs.Feeding.{all_both}
 use Rattle.request_laws.proofs.Summing.{both_ask}
 use Rattle.cause_laws.proofs.Clients.{Within}
-use Rattle.blame_laws.specs.Blamed.{is_blamed, SparesIt, SparesRecords, RunsSpareRecords}
+use Rattle.blame_laws.specs.Blamed.{is_blamed, SparesIt, SparesPeer, RunsSparePeers}
 use Rattle.blame_laws.proofs.Links.{together}
 use Rattle.blame_laws.proofs.Replying.{first_replies}
 use Rattle.blame_laws.proofs.Spared.{is_spared, IsClear}
 
 -- ---- at a moment
 
-turns_clear : (scenario : Scenario) (content : Option Contents) (capture : List Entry) (ran : Ran scenario content capture) → PairsInTurn both_ask scenario content capture ran → IsClear ran.world.a.upper.profile.client
+turns_clear : (scenario : Scenario) (content : Option Contents) (capture : List Entry) (ran : Ran scenario content capture) → PairsInTurn both_ask scenario content capture ran → IsClear scenario.settings.transport ran.world.a.upper.profile.client
 turns_clear scenario content capture ran turns =
     let settings = scenario.settings in
     let pairs = turns.pairs in
@@ -45,27 +47,30 @@ turns_clear scenario content capture ran turns =
     (at_place (AreUttered A.policy) tt (on_links A (both_ask.clients settings) (flat_map talk_marks pairs.a.came.talk) ran.world.a.upper a) pairs.a.uttered)
     (at_place (AreUttered B.policy) tt (on_links B (both_ask.servers settings content) (flat_map talk_marks pairs.b.came.talk) ran.world.b.upper b) pairs.b.uttered)
     (λ k. k) a.spans a.now a.feeds A.first ran.world.a.upper.profile b.spans b.now b.feeds B.first ran.world.b.upper.profile pairs.a.fed.fed pairs.b.fed.fed (λ k. refl) (λ k. refl)
-    (subst (AreTimely false) (sym a.marks_are) pairs.a.fed.so.timely) (subst (AreTimely false) (sym b.marks_are) pairs.b.fed.so.timely) turns.asked (first_pages settings) tt (first_replies settings content)
+    (subst (AreTimely false) (sym a.marks_are) pairs.a.fed.so.timely) (subst (AreTimely false) (sym b.marks_are) pairs.b.fed.so.timely) turns.asked (first_pages settings) (record { over = first_over settings; spares = tt }) (first_replies settings content)
 
-moment_clear : (scenario : Scenario) (content : Option Contents) (happenings : List Happening) (world : BothHosts) → Happened scenario content happenings world → IsClear world.a.upper.profile.client
+moment_clear : (scenario : Scenario) (content : Option Contents) (happenings : List Happening) (world : BothHosts) → Happened scenario content happenings world → IsClear scenario.settings.transport world.a.upper.profile.client
 moment_clear scenario content happenings world happened =
     let ran : Ran scenario content (all_entries happenings) = record { happenings = happenings; world = world; happened = happened; ends = []; last = tt; capture_is = sym (append-nil (all_entries happenings)) } in
     turns_clear scenario content (all_entries happenings) ran (hosts-take_turns both_ask scenario content (all_entries happenings) ran)
 
 -- ---- an end
 
-spared_not : (outcome : Outcome) → is_spared outcome ≡ true → is_blamed 3 outcome ≡ false
-spared_not outcome is = by (is_blamed 3 outcome) is
+spared_not : (line : Transport) (outcome : Outcome) → is_spared line outcome ≡ true → is_blamed line outcome ≡ false
+spared_not line outcome is = by (is_blamed line outcome) is
   where
     by : (blamed : Bool) → not blamed ≡ true → blamed ≡ false
     by true e = cc
     by false e = refl
 
-cause_not : (cause : Option Outcome) (outcome : Outcome) → cause ≡ Some outcome → Within is_spared cause → is_blamed 3 outcome ≡ false
-cause_not cause outcome is clear = spared_not outcome (subst (Within is_spared) is clear)
+cause_not : (line : Transport) (cause : Option Outcome) (outcome : Outcome) → cause ≡ Some outcome → Within (is_spared line) cause → is_blamed line outcome ≡ false
+cause_not line cause outcome is spares = spared_not line outcome (subst (Within (is_spared line)) is spares)
 
 module _ (scenario : Scenario) (content : Option Contents) where
-  one_spares : (happening : Happening) (done : List Happening) (old new : BothHosts) → Happened scenario content done old → Does (client_of scenario) (server_of scenario content) happening old new → AllByRecursion (SparesIt 3) (entries_of happening)
+  abbrev line : Transport
+  line = scenario.settings.transport
+
+  one_spares : (happening : Happening) (done : List Happening) (old new : BothHosts) → Happened scenario content done old → Does (client_of scenario) (server_of scenario content) happening old new → AllByRecursion (SparesIt scenario.settings.transport) (entries_of happening)
   one_spares (Tries side effort) done old new runs does = tt
   one_spares (Departure side order) done old new runs does = (tt, tt)
   one_spares (GivingBack side) done old new runs does = tt
@@ -74,31 +79,31 @@ module _ (scenario : Scenario) (content : Option Contents) where
   one_spares (Turns ordinal word) done old new runs does = (tt, tt)
   one_spares (Misses word) done old new runs does = tt
   one_spares (Opens push name) done old new runs does = (tt, tt)
-  one_spares (Closes push outcome) done old new runs (going, push_is, idle, is, apart, none_a, none_b, quiet_a, quiet_b, same) = (cause_not old.a.upper.profile.client.cause outcome is (moment_clear scenario content done old runs), tt)
+  one_spares (Closes push outcome) done old new runs (going, push_is, idle, is, apart, none_a, none_b, quiet_a, quiet_b, same) = (cause_not line old.a.upper.profile.client.cause outcome is (moment_clear scenario content done old runs).spares, tt)
 
-  all_spare : (done rest : List Happening) (now new : BothHosts) → Happened scenario content done now → Runs (client_of scenario) (server_of scenario content) rest now new → AllByRecursion (SparesIt 3) (all_entries rest)
+  all_spare : (done rest : List Happening) (now new : BothHosts) → Happened scenario content done now → Runs (client_of scenario) (server_of scenario content) rest now new → AllByRecursion (SparesIt scenario.settings.transport) (all_entries rest)
   all_spare done [] now new runs later = tt
   all_spare done (happening ∷ rest) now new runs (mid, does, later) =
-      all_both (SparesIt 3) (entries_of happening) (all_entries rest) (one_spares happening done now mid runs does)
+      all_both (SparesIt scenario.settings.transport) (entries_of happening) (all_entries rest) (one_spares happening done now mid runs does)
       (all_spare (done ++ happening ∷ []) rest mid new (runs_then (client_of scenario) (server_of scenario content) done happening (beginning scenario content) now mid runs does) later)
 
-  moments : (happenings : List Happening) (world : BothHosts) → Happened scenario content happenings world → SparesRecords (all_entries happenings)
+  moments : (happenings : List Happening) (world : BothHosts) → Happened scenario content happenings world → SparesPeer scenario.settings.transport (all_entries happenings)
   moments happenings world happened = all_spare [] happenings (beginning scenario content) world refl happened
 
-  last_spares : (happenings : List Happening) (world : BothHosts) → Happened scenario content happenings world → AllByRecursion (SparesIt 3) (last_entries ((client_of scenario).outcome world.a.upper) world.pushes)
+  last_spares : (happenings : List Happening) (world : BothHosts) → Happened scenario content happenings world → AllByRecursion (SparesIt scenario.settings.transport) (last_entries ((client_of scenario).outcome world.a.upper) world.pushes)
   last_spares happenings world happened = by world.pushes.going
     where
-      cause : (found : Option Outcome) → Within is_spared found → is_blamed 3 (unwrap_or found ScriptEnded) ≡ false
-      cause None clear = refl
-      cause (Some outcome) clear = spared_not outcome clear
+      cause : (found : Option Outcome) → Within (is_spared line) found → is_blamed line (unwrap_or found ScriptEnded) ≡ false
+      cause None spares = refl
+      cause (Some outcome) spares = spared_not line outcome spares
 
-      by : (going : Bool) → AllByRecursion (SparesIt 3) (if going then Ended world.pushes.begun (unwrap_or world.a.upper.profile.client.cause ScriptEnded) ∷ [] else [])
-      by true = (cause world.a.upper.profile.client.cause (moment_clear scenario content happenings world happened), tt)
+      by : (going : Bool) → AllByRecursion (SparesIt scenario.settings.transport) (if going then Ended world.pushes.begun (unwrap_or world.a.upper.profile.client.cause ScriptEnded) ∷ [] else [])
+      by true = (cause world.a.upper.profile.client.cause (moment_clear scenario content happenings world happened).spares, tt)
       by false = tt
 
-pub runs_spare_records : RunsSpareRecords
-runs_spare_records = record {
+pub runs_spare_peers : RunsSparePeers
+runs_spare_peers = record {
   moments = λ scenario content happenings world happened. moments scenario content happenings world happened;
   ends = λ scenario content happenings world happened.
-      all_both (SparesIt 3) (all_entries happenings) (last_entries ((client_of scenario).outcome world.a.upper) world.pushes) (moments scenario content happenings world happened) (last_spares scenario content happenings world happened);
+      all_both (SparesIt scenario.settings.transport) (all_entries happenings) (last_entries ((client_of scenario).outcome world.a.upper) world.pushes) (moments scenario content happenings world happened) (last_spares scenario content happenings world happened);
 }

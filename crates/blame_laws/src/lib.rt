@@ -1,10 +1,11 @@
-//! Laws of which layers of its peer no push blames, over the capture of a run alone, whatever shelf and inbox answer and whatever the script says.
+//! Laws of which faults no push blames its peer for, over the capture of a run alone, whatever shelf and inbox answer and whatever the script says.
 #![tactic(auto)]
 
-ghost use Rattle.blame_laws.specs.Blamed.{RunsSpareRecords};
+ghost use Rattle.blame_laws.specs.Blamed.{RunsSparePeers};
 
 /// No push of a run ends with its peer at fault of service discovery: each reply that comes to host a there is the one that host b gives to its request, whole, and it
-/// names a service. That is so over either transport, whatever a link loses, repeats, cuts and damages (Core 5.1, Volume 3 Part B, 4.2 and 4.7).
-pub fn runs_spare_records()
-    ensures { RunsSpareRecords }
+/// names a service. That is so over either transport, whatever a link loses, repeats, cuts and damages (Core 5.1, Volume 3 Part B, 4.2 and 4.7). And over L2CAP none
+/// ends with it at fault of RFCOMM, since no multiplexer is there (RFCOMM 1.2, 5).
+pub fn runs_spare_peers()
+    ensures { RunsSparePeers }
 {}

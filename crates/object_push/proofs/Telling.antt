@@ -24,7 +24,7 @@ use Rattle.scenario_play.specs.Losing.{LeavesOutCounted, GainsLess}
 use Rattle.scenario_play.specs.Playing.{LackedNever, IsPlayed}
 use Rattle.scenario_play.specs.Pushed.{SpellsOfShelf}
 use Rattle.scenario_play.proofs.BufferPeaks.{buffer_peaks_are_told}
-use Rattle.scenario_play.proofs.Causes.{causes_so_far, losses_so_far, records_spared_so_far}
+use Rattle.scenario_play.proofs.Causes.{causes_so_far, losses_so_far, peer_spared_so_far}
 use Rattle.scenario_play.proofs.Doing.{plays_store_done}
 use Rattle.scenario_play.proofs.Gained.{plays_keep}
 use Rattle.scenario_play.proofs.Lost.{none_left_out, plays_gain_less}
@@ -170,7 +170,7 @@ module _ (scenario : Scenario) (old new : Ports) where
     keeps = plays_keep.breaks scenario old.shelf.content old.inbox.content new.inbox.content old.trace.content new.trace.content (counts_in old.inbox) (counts_in new.inbox) broken;
     causes = causes_so_far scenario old.shelf.content old.inbox.content new.inbox.content old.trace.content new.trace.content (counts_in old.inbox) (counts_in new.inbox) broken;
     drops = losses_so_far scenario old.shelf.content old.inbox.content new.inbox.content old.trace.content new.trace.content (counts_in old.inbox) (counts_in new.inbox) broken;
-    spares = records_spared_so_far scenario old.shelf.content old.inbox.content new.inbox.content old.trace.content new.trace.content (counts_in old.inbox) (counts_in new.inbox) broken;
+    spares = peer_spared_so_far scenario old.shelf.content old.inbox.content new.inbox.content old.trace.content new.trace.content (counts_in old.inbox) (counts_in new.inbox) broken;
     pushed = has_pushed scenario old.shelf.content (all_entries broken.happenings) (λ shelf of. pushed_broken old.shelf.content shelf of broken);
     done = has_done scenario old.shelf.content old.inbox.content new.inbox.content (counts_in old.inbox) (counts_in new.inbox) (all_entries broken.happenings) none (λ shelf stored of is direct enough. done_broken old.shelf.content old.inbox.content shelf stored of is broken direct enough);
     gains = has_gained scenario old.inbox.content new.inbox.content kept (counts_in old.inbox) (counts_in new.inbox) (all_entries broken.happenings) none gains (less_broken old.inbox.content broken);

@@ -23,7 +23,7 @@ use Rattle.scenario_play.specs.scenario_laws.specs.Air.{hosts_of}
 use Rattle.scenario_play.specs.scenario_laws.specs.Parties.{party_of}
 use Rattle.scenario_play.specs.cause_laws.specs.FirstCauses.{CausesAreShown}
 use Rattle.scenario_play.specs.drop_laws.specs.Dropped.{LossesAreDrops}
-use Rattle.scenario_play.specs.blame_laws.specs.Blamed.{SparesRecords}
+use Rattle.scenario_play.specs.blame_laws.specs.Blamed.{SparesPeer}
 use Rattle.scenario_play.specs.credit_laws.specs.Kept.{StaysSolvent}
 use Rattle.scenario_play.specs.BufferPeaks.{AreBufferPeaks}
 use Rattle.scenario_play.specs.Doing.{DoneAreStored}
@@ -107,8 +107,8 @@ pub record EndsSo (scenario : Scenario) (old new : Ports) (outcomes : List Outco
 -- ---- short of it
 
 -- The trace gained the capture of what happened, and a front of its next entry, if one was begun. The inbox gained what that capture spells, by the same
--- rule; each push that ended has the cause of its outcome in its part of it, and none blames service discovery; and the credits are so behind that entry as well, and the
--- service too.
+-- rule; each push that ended has the cause of its outcome in its part of it, and none blames its peer for what is never its fault; and the credits are so behind that entry
+-- as well, and the service too.
 pub record StopsSo (scenario : Scenario) (old new : Ports) (past next : List Entry) : Type 0 where
   pub few : length next ≤ 1
   pub each : AllByRecursion IsEntry (past ++ next)
@@ -116,7 +116,7 @@ pub record StopsSo (scenario : Scenario) (old new : Ports) (past next : List Ent
   pub keeps : KeepsBroken scenario (past ++ next)
   pub causes : CausesAreShown scenario.settings past
   pub drops : LossesAreDrops past
-  pub spares : SparesRecords past
+  pub spares : SparesPeer scenario.settings.transport past
   pub pushed : HasPushed scenario old past
   pub done : HasDone scenario old new past
   pub gains : HasGained scenario old new past

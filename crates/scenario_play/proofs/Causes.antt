@@ -11,8 +11,8 @@ use Rattle.drop_laws.specs.cause_laws.specs.FirstCauses.{CausesAreShown}
 use Rattle.drop_laws.specs.cause_laws.proofs.Runs.{runs_show_causes}
 use Rattle.drop_laws.specs.Dropped.{LossesAreDrops}
 use Rattle.drop_laws.proofs.Runs.{runs_lose_by_drops}
-use Rattle.blame_laws.specs.Blamed.{SparesRecords}
-use Rattle.blame_laws.proofs.Runs.{runs_spare_records}
+use Rattle.blame_laws.specs.Blamed.{SparesPeer}
+use Rattle.blame_laws.proofs.Runs.{runs_spare_peers}
 use Rattle.scenario_play.specs.Breaking.{IsBroken}
 use Rattle.scenario_play.specs.Playing.{IsPlayed}
 
@@ -36,12 +36,12 @@ losses_shown scenario shelf before after trace trace' outcomes peaks counts coun
 pub losses_so_far : (scenario : Scenario) (shelf : Option (List Object)) (before after : Option Contents) (trace trace' : Option (List ℕ)) (counts counts' : Counts) (broken : IsBroken scenario shelf before after trace trace' counts counts') → LossesAreDrops (all_entries broken.happenings)
 losses_so_far scenario shelf before after trace trace' counts counts' broken = runs_lose_by_drops.moments scenario before broken.happenings broken.world broken.happened broken.able
 
--- and that none blames service discovery
-pub records_spared : (scenario : Scenario) (shelf : Option (List Object)) (before after : Option Contents) (trace trace' : Option (List ℕ)) (outcomes : List Outcome) (peaks : Peaks) (counts counts' : Counts) (played : IsPlayed scenario shelf before after trace trace' outcomes peaks counts counts')
-    → SparesRecords played.capture
-records_spared scenario shelf before after trace trace' outcomes peaks counts counts' played =
+-- and that none blames its peer for what is never its fault
+pub peer_spared : (scenario : Scenario) (shelf : Option (List Object)) (before after : Option Contents) (trace trace' : Option (List ℕ)) (outcomes : List Outcome) (peaks : Peaks) (counts counts' : Counts) (played : IsPlayed scenario shelf before after trace trace' outcomes peaks counts counts')
+    → SparesPeer scenario.settings.transport played.capture
+peer_spared scenario shelf before after trace trace' outcomes peaks counts counts' played =
     let ran = played.finished.ran in
-    subst SparesRecords (sym (ran.capture_is ∙ ap (λ (ends : List Entry). all_entries ran.happenings ++ ends) played.ends)) (runs_spare_records.ends scenario before ran.happenings ran.world ran.happened)
+    subst (SparesPeer scenario.settings.transport) (sym (ran.capture_is ∙ ap (λ (ends : List Entry). all_entries ran.happenings ++ ends) played.ends)) (runs_spare_peers.ends scenario before ran.happenings ran.world ran.happened)
 
-pub records_spared_so_far : (scenario : Scenario) (shelf : Option (List Object)) (before after : Option Contents) (trace trace' : Option (List ℕ)) (counts counts' : Counts) (broken : IsBroken scenario shelf before after trace trace' counts counts') → SparesRecords (all_entries broken.happenings)
-records_spared_so_far scenario shelf before after trace trace' counts counts' broken = runs_spare_records.moments scenario before broken.happenings broken.world broken.happened
+pub peer_spared_so_far : (scenario : Scenario) (shelf : Option (List Object)) (before after : Option Contents) (trace trace' : Option (List ℕ)) (counts counts' : Counts) (broken : IsBroken scenario shelf before after trace trace' counts counts') → SparesPeer scenario.settings.transport (all_entries broken.happenings)
+peer_spared_so_far scenario shelf before after trace trace' counts counts' broken = runs_spare_peers.moments scenario before broken.happenings broken.world broken.happened

@@ -50,7 +50,7 @@ use Rattle.credit_laws.specs.request_laws.proofs.Told.{all_tell, none_longer}
 use Rattle.credit_laws.specs.request_laws.proofs.ObjectPipes.{are_piped}
 use Rattle.credit_laws.specs.request_laws.proofs.Paired.{paired_servers_serve}
 use Rattle.credit_laws.specs.request_laws.proofs.Summing.{both_ask}
-use Rattle.scenario_play.proofs.Causes.{causes_shown, losses_shown, records_spared}
+use Rattle.scenario_play.proofs.Causes.{causes_shown, losses_shown, peer_spared}
 use Rattle.scenario_play.specs.Breaking.{IsBroken}
 use Rattle.scenario_play.specs.Gaining.{HaveAnswered, HaveGranted, HaveOffered, HoldsAtMost, KeepsAccounts, ServesAndGains, KeepsPlayed, KeepsBroken, GainsPlayed, GainsBroken, PlaysKeep, PlaysGain}
 use Rattle.scenario_play.specs.Playing.{IsPlayed}
@@ -86,7 +86,7 @@ played_kept scenario shelf before after trace trace' outcomes peaks counts count
   outcomes_are = played.outcomes_are;
   causes = causes_shown scenario shelf before after trace trace' outcomes peaks counts counts' played;
   drops = losses_shown scenario shelf before after trace trace' outcomes peaks counts counts' played;
-  spares = records_spared scenario shelf before after trace trace' outcomes peaks counts counts' played;
+  spares = peer_spared scenario shelf before after trace trace' outcomes peaks counts counts' played;
   outcomes_are_all = ap (λ (l : List Outcome). length l) played.outcomes_are ∙ (pushes_are_of_scenarios scenario before played.capture played.finished.ran).outcomes_are_all;
   obeys = air_obeyed scenario before played.capture played.finished;
 }

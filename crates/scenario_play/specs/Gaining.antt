@@ -34,7 +34,7 @@ use Rattle.noting_laws.specs.pair_laws.specs.InTurn.{PairsInTurn}
 use Rattle.noting_laws.specs.pair_laws.specs.Served.{HeldInTurn}
 use Rattle.drop_laws.specs.cause_laws.specs.FirstCauses.{CausesAreShown}
 use Rattle.drop_laws.specs.Dropped.{LossesAreDrops}
-use Rattle.blame_laws.specs.Blamed.{SparesRecords}
+use Rattle.blame_laws.specs.Blamed.{SparesPeer}
 use Rattle.credit_laws.specs.request_laws.specs.AllSizes.{InboxGrants}
 use Rattle.credit_laws.specs.request_laws.specs.BothFed.{most_octets, GrantsAll}
 use Rattle.credit_laws.specs.request_laws.specs.Together.{PortsAnswer}
@@ -87,7 +87,7 @@ pub record ServesAndGains (asks : HostsAsk) (scenario : Scenario) (before : List
   pub gained : stored ≡ Some (before ++ objects_heard (party_of scenario.settings B) B capture)
 
 -- A scenario that was played to its end: its accounts, that each push which began has its end, an outcome for each object and what shows why it came, that none
--- blames service discovery, and that the air obeyed the script, whatever ports answer.
+-- blames its peer for what is never its fault, and that the air obeyed the script, whatever ports answer.
 pub record KeepsPlayed (scenario : Scenario) (outcomes : List Outcome) (capture : List Entry) : Type 0 where
   pub accounts : KeepsAccounts scenario capture
   pub all_ended : AllHaveEnded capture
@@ -95,7 +95,7 @@ pub record KeepsPlayed (scenario : Scenario) (outcomes : List Outcome) (capture 
   pub outcomes_are_all : length outcomes ≡ length scenario.names
   pub causes : CausesAreShown scenario.settings capture
   pub drops : LossesAreDrops capture
-  pub spares : SparesRecords capture
+  pub spares : SparesPeer scenario.settings.transport capture
   pub obeys : Obeys (hosts_of scenario.settings) scenario.acl_length (words_of scenario.script) capture
 
 -- A scenario that broke off: its accounts, and each entry keeps to the script, whatever ports answer.

@@ -1,5 +1,0 @@
-use Rattle.blame_laws.proofs.Runs.{runs_spare_records}
-use Rattle.blame_laws.proofs.runs_spare_records.Goals as goal
-
-pub returns : goal.returns
-returns c = runs_spare_records
