@@ -1,5 +1,5 @@
 -- On the one channel of the object of a link no more responses are due than were taken, wherever a request comes that has one.
-use Rattle.std.proofs.Common.{◌≡◌, ◌≤◌, ℕ, Bool, true, false, cond, eqb, List, [], ◌∷◌, ◌++◌, length, drop, filter_map, find, Option, Some, None, refl, sym, ap, ap₂, subst, ◌∙◌, append_assoc, append-nil, arith, inl, inr}
+use Rattle.std.proofs.Common.{◌≡◌, ◌≤◌, ℕ, Bool, true, false, cond, eqb, List, [], ◌∷◌, ◌++◌, length, drop, filter_map, find, Option, Some, None, refl, sym, ap, ap₂, subst, ◌∙◌, append_assoc, append-nil, arith, inl, inr, length-append}
 use Rattle.std.specs.List.{AllByRecursion, cons_option}
 use Rattle.std.proofs.lemmas.Bool.{eq-eqb}
 use Rattle.std.proofs.lemmas.List.Elements.{filter_map-append}
@@ -52,6 +52,7 @@ use Rattle.request_laws.proofs.Sole.{is_of, for_of, IsSole, sole}
 use Rattle.request_laws.proofs.Takes.{run_more, grown}
 use Rattle.orderly_laws.specs.Answered.{responses_on, fresh_session, responses_due, LastIsDue, ComesBehind, IsAnswered, AreAnswered}
 use Rattle.orderly_laws.proofs.Due.{due_front, due_one, no_last}
+use Rattle.orderly_laws.proofs.Modes.{IsWished, none-or_wished}
 use Rattle.orderly_laws.proofs.Moments.{of-stays, stands, unopened_out, unopened_in, fewer_said, more_responses, answered-at}
 
 -- ---- what comes in is not of what goes out behind
@@ -142,9 +143,25 @@ module _ (settings : Settings) (list : List Occurrence) (talk outs : List Saying
           subst (λ (l : List Occurrence). Accepted (channel_by object_psm at peer) (read_at at (reading (run_of own l).said).entries)) (sym is) (accepted-stays own front (Comes pdu ∷ rest) (channel_by object_psm at peer) at accepted) in
           subst (λ (c : Channel). IsOf c (read_at c.own entries)) ((sole-at object_psm at peer later).same (eq-eqb object_psm object_psm refl)) (is_of (channel_by object_psm at peer) (read_at at entries) later)
 
+  -- ---- its mode
+
+  -- where anything came on it
+  wished_so : (front later : List Occurrence) → list ≡ front ++ later → IsWished own one (run_of own front).said → mode_of one (run_of own front).said ≡ Enhanced
+  wished_so front later is wished =
+      let g = grown own front later in
+      let there : IsOf wished.channel (read_at one.own entries) =
+      subst (λ (l : List Saying). IsOf wished.channel (read_at one.own (reading l).entries)) (sym (ap (λ (l : List Occurrence). (run_of own l).said) is ∙ g.is)) (of-stays wished.channel one.own (run_of own front).said g.more wished.of) in
+      wished.mode_is ∙ ap (λ (psm : ℕ). (own.wish psm).mode) (ap (λ (c : Channel). c.psm) (by (read_at one.own entries) refl there) ∙ psm_is)
+    where
+      by : (found : Option Entry) → read_at one.own entries ≡ found → IsOf wished.channel found → wished.channel ≡ one
+      by None at of = absurd of
+      by (Some entry) at of =
+          sym of ∙ (for_of one entry.channel (run_of own list).said one.own alone (subst (IsOf entry.channel) (sym at) refl)).same (eq-eqb entry.channel.own one.own (read-own one.own entries entry at))
+
   -- what its talk says that went is no more than what its channel took
-  responses_few : (front later : List Occurrence) (more : List Saying) → list ≡ front ++ later → talk ≡ (run_of own front).said ++ more → IsAnswered settings party talk one → length (responses_on party one (run_of own front).said) ≤ length (filter_map said (taken_of own one.own front))
-  responses_few front later more is talk_is a = by (has_opened (find (has_own one) (reading (run_of own front).said).entries)) refl
+  responses_few : (front later : List Occurrence) → list ≡ front ++ later → (has_opened (find (has_own one) (reading (run_of own front).said).entries) ≡ true → mode_of one (run_of own front).said ≡ Enhanced)
+      → length (responses_on party one (run_of own front).said) ≤ length (filter_map said (taken_of own one.own front))
+  responses_few front later is mode = by (has_opened (find (has_own one) (reading (run_of own front).said).entries)) refl
     where
       past : List Saying
       past = (run_of own front).said
@@ -154,11 +171,7 @@ module _ (settings : Settings) (list : List Occurrence) (talk outs : List Saying
 
       by : (opened : Bool) → has_opened (find (has_own one) (reading (run_of own front).said).entries) ≡ opened → length (responses_on party one (run_of own front).said) ≤ length (filter_map said (taken_of own one.own front))
       by false shut = let none = ap (λ (l : List (List ℕ)). length (filter_map said l)) (unopened_out party one past shut) in omega (arith, none)
-      by true open' =
-          let later' = stands one past more open' in
-          let mode : mode_of one past ≡ Enhanced =
-          sym later'.mode_is ∙ (ap (mode_of one) (sym talk_is) ∙ a.enhanced (subst (λ (l : List Saying). has_opened (find (has_own one) (reading l).entries) ≡ true) (sym talk_is) later'.opened)) in
-          fewer_said (sdus party one Out past) (taken_of own one.own front) (taken-goes_out own party front one states utters mode)
+      by true open' = fewer_said (sdus party one Out past) (taken_of own one.own front) (taken-goes_out own party front one states utters (mode open'))
 
   -- ---- one more comes
 
@@ -185,6 +198,25 @@ module _ (settings : Settings) (list : List Occurrence) (talk outs : List Saying
       ∙ (filter_map-append (up_for object_psm) (run_of own front).up (up (channel_of pdu) pdu (run_of own front).value ∷ [])
       ∙ ap (λ (u : Handed). handed_for object_psm (run_of own front).up ++ handed_for object_psm (u ∷ [])) brought)
 
+  -- as a request comes its channel is in that mode
+  mode_before : (front rest : List Occurrence) (pdu : List ℕ) (at : ℕ) (sdu : List ℕ) → list ≡ front ++ Comes pdu ∷ rest → up (channel_of pdu) pdu (run_of own front).value ≡ Received at object_psm sdu → has_opened (find (has_own one) (reading (run_of own front).said).entries) ≡ true
+      → mode_of one (run_of own front).said ≡ Enhanced
+  mode_before front rest pdu at sdu is brought open' =
+      let past = (run_of own front).said in
+      let next = front ++ Comes pdu ∷ [] in
+      let further : list ≡ next ++ rest = is ∙ sym (append_assoc front (Comes pdu ∷ []) rest) in
+      let grown_by : (run_of own next).said ≡ past ++ (Carried Into pdu ∷ asked front pdu) = said_next front pdu (no_signal front pdu at sdu brought) ∙ append_assoc past (Carried Into pdu ∷ []) (asked front pdu) in
+      let later = stands one past (Carried Into pdu ∷ asked front pdu) open' in
+      elim (none-or_wished own party one next) [
+        | inl none ↦ absurd (never (sdus_up one.own (run_of own next).up) (sdus party one Into (run_of own next).said) none (sym (handed-up next rest further) ∙ handed_next front pdu at sdu brought) (sdus-are_read own party next one states))
+        | inr wished ↦ sym later.mode_is ∙ (ap (mode_of one) (sym grown_by) ∙ wished_so next rest further wished)
+      ]
+    where
+      never : {broken : Bool} (ups read : List (List ℕ)) → read ≡ [] → ups ≡ handed_for object_psm (run_of own front).up ++ sdu ∷ [] → IsHandedUp broken ups read → ⊥
+      never ups read none some (inl same) =
+          let e = ap length (sym none ∙ (same ∙ some)) in let sum = length-append (handed_for object_psm (run_of own front).up) (sdu ∷ []) in omega (arith, e, sum)
+      never ups read none some (inr (is', other, same)) = let e = ap length (sym none ∙ same) in let sum = length-append ups (other ∷ []) in omega (arith, e, sum)
+
   pub behind-responses : (front rest : List Occurrence) (pdu : List ℕ) (at : ℕ) (sdu : List ℕ) → list ≡ front ++ Comes pdu ∷ rest → up (channel_of pdu) pdu (run_of (policy settings true) front).value ≡ Received at object_psm sdu
       → is_silent (session_behind (fresh_session settings) (handed_for object_psm (run_of (policy settings true) front).up)) sdu ≡ false
       → responses_due settings (handed_for object_psm (run_of (policy settings true) front).up) ≤ length (filter_map said (taken_of (policy settings true) one.own front))
@@ -208,7 +240,7 @@ module _ (settings : Settings) (list : List Occurrence) (talk outs : List Saying
       ∙ ap (responses_due settings) (stays-heard party one (asked front pdu) (past ++ Carried Into pdu ∷ []) (bare-comes (asked front pdu) (bare-asked (run_of own front).value (takes (channel_of pdu) pdu (run_of own front).value)))).sdus_are in
       let ups = ap (responses_due settings) (handed-up next rest further) in
       let more = ap (responses_due settings) (handed_next front pdu at sdu brought) ∙ due_one settings (handed_for object_psm (run_of own front).up) sdu loud in
-      let few = responses_few front (Comes pdu ∷ rest) (Carried Into pdu ∷ split.more) is split.is a in
+      let few = responses_few front (Comes pdu ∷ rest) is (mode_before front rest pdu at sdu is brought) in
       omega (arith, turn, read, same, ups, more, few)
 
   -- ---- all is handed up
@@ -251,16 +283,18 @@ module _ (settings : Settings) (list : List Occurrence) (talk outs : List Saying
           let e = ends in
           omega (arith, none, e)
       by true open' =
-          let a = talk_answered open' in
-          let later = stands one talk outs open' in
-          let mode : mode_of one (run_of own list).said ≡ Enhanced = ap (mode_of one) said_is ∙ (later.mode_is ∙ a.enhanced open') in
-          let each = a.each in
-          let more = more_responses party one talk outs in
-          let same = ap (λ (l : List Saying). length (responses_on party one l)) said_is in
-          let took = fewer_said (sdus party one Out (run_of own list).said) (taken_of own one.own list) (taken-goes_out own party list one states uttered mode) in
-          let ups = ap (responses_due settings) (handed-up list [] (sym (append-nil list))) in
-          let e = ends in
-          omega (arith, e, each, more, same, took, few, ups)
+          elim (none-or_wished own party one list) [
+            | inl none ↦ let zero_is = ap (responses_due settings) none in omega (arith, zero_is)
+            | inr wished ↦
+                let a = talk_answered open' in
+                let each = a.each in
+                let more = more_responses party one talk outs in
+                let same = ap (λ (l : List Saying). length (responses_on party one l)) said_is in
+                let took = fewer_said (sdus party one Out (run_of own list).said) (taken_of own one.own list) (taken-goes_out own party list one states uttered (wished_so list [] (sym (append-nil list)) wished)) in
+                let ups = ap (responses_due settings) (handed-up list [] (sym (append-nil list))) in
+                let e = ends in
+                omega (arith, e, each, more, same, took, few, ups)
+          ]
 
   pub hands-all_up : length (filter_map said (taken_of (policy settings true) one.own list)) ≤ responses_due settings (handed_for object_psm (run_of (policy settings true) list).up) → (run_of (policy settings true) list).value.events ≡ [] → HandsAllUp (policy settings true) list one
   hands-all_up few none broken other has =

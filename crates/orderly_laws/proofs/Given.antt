@@ -1,5 +1,5 @@
 -- A host lives through what it was told and said with what its ports gave it, and where its timer never fires it gives nothing up.
-use Rattle.std.proofs.Common.{◌≡◌, ℕ, Bool, true, false, cond, eqb, List, [], ◌∷◌, ◌++◌, map, filter_map, drop, fold, Option, Some, None, refl, sym, ap, subst, ◌∙◌, append_assoc, append-nil, if◌then◌else◌}
+use Rattle.std.proofs.Common.{ℕ, Bool, true, false, cond, eqb, List, [], ◌∷◌, ◌++◌, map, filter_map, drop, fold, Option, Some, None, refl, sym, subst, if◌then◌else◌}
 use Rattle.std.specs.Prelude.{option_map, option_to_list}
 use Rattle.std.specs.List.{AllByRecursion, AllZip, flat_map}
 use Rattle.request_laws.specs.acl_fragments.specs.Pieces.{channel_of}
@@ -19,102 +19,36 @@ use Rattle.request_laws.specs.channel_model.specs.Value.{Channels}
 use Rattle.request_laws.specs.channel_laws.specs.Frames.{AreUttered}
 use Rattle.request_laws.specs.channel_laws.specs.OwnTalk.{spoken, exchanged, reply_to, asked_between, said_with, said_with_all}
 use Rattle.request_laws.specs.channel_laws.specs.Runs.{Occurrence, Comes, Connects, AsksFeatures, Disconnects, Sends, Gives, Fires, Tells, peer_at, said_as, said_in, Run, new_link, run_on, run_of}
-use Rattle.request_laws.specs.world_model.specs.Machines.{LinkEvent, News, Linked, Failed, Heard, TimerFired, Cancelled, Opening}
+use Rattle.request_laws.specs.world_model.specs.Machines.{News, Linked, Failed, Heard, TimerFired, Cancelled, Opening}
 use Rattle.request_laws.specs.world_model.specs.Talks.{Talk, Told, Said, Unsent, Met, Done}
 use Rattle.request_laws.specs.host_model.specs.Circumstances.{Circumstance}
-use Rattle.request_laws.specs.host_model.specs.Hosts.{Host, first_host, ready, driven, hears_news, most_steps}
+use Rattle.request_laws.specs.host_model.specs.Hosts.{Host, first_host}
 use Rattle.request_laws.specs.host_model.specs.Machines.{upper}
 use Rattle.request_laws.specs.host_model.specs.Profiles.{Profile}
-use Rattle.request_laws.specs.host_laws.specs.Acts.{Act, Hears, Says, Does, Acting, StaysOnLink, from_news, from_act}
+use Rattle.request_laws.specs.host_laws.specs.Acts.{from_news}
 use Rattle.request_laws.specs.host_laws.specs.Calls.{Asks, outer}
-use Rattle.request_laws.specs.host_laws.specs.Calm.{IsCalmAct, AreCalm}
 use Rattle.request_laws.specs.host_laws.specs.Fed.{TalksFed}
-use Rattle.request_laws.specs.host_laws.specs.Gifts.{gifts_with, gifts_of}
+use Rattle.request_laws.specs.host_laws.specs.Gifts.{gifts_of}
 use Rattle.request_laws.specs.host_laws.specs.Keeping.{AsksForNothing, GivesNothingUp}
-use Rattle.request_laws.specs.host_laws.specs.Lives.{Mark, Occurred, Turned, act_marks, Span, on_links}
-use Rattle.request_laws.specs.host_laws.specs.OverLinks.{is_up_behind, AreInTurn, turns_link, parts_from, parts, talk_marks, talk_outer, OverLinks, AreGentleUp, IsTalkOf}
+use Rattle.request_laws.specs.host_laws.specs.Lives.{on_links}
+use Rattle.request_laws.specs.host_laws.specs.OverLinks.{turns_link, parts_from, parts, talk_marks, talk_outer, OverLinks, AreGentleUp, IsTalkOf}
 use Rattle.request_laws.specs.host_laws.proofs.Forgoing.{AllSpoken, both_spoken, asked_spoken, carrier_spoken, all_passed}
-use Rattle.request_laws.specs.host_laws.proofs.Gifts.{first-given, goes-given, turns-given}
-use Rattle.request_laws.specs.host_laws.proofs.Growing.{Gifted, act_gifted, drives_plain, readies_plain}
-use Rattle.request_laws.specs.host_laws.proofs.Links.{drives_told, act_told}
-use Rattle.request_laws.specs.host_laws.proofs.OverLinks.{Calmly, first_calmly, goes_calmly, turns_calmly, calmly_fed, all_spans, acts_marks, talks_marks}
-use Rattle.request_laws.specs.host_laws.proofs.Talking.{act_calm}
 use Rattle.request_laws.specs.pair_laws.proofs.Pairing.{all_utter}
 use Rattle.unit_laws.specs.Laws.{IsUnfired}
+use Rattle.unit_laws.proofs.Calming.{AreGiven, lives-calmly}
 
 -- ---- with what its ports gave it
 
-module _ {P : Type 0} (A : Profile P) (asks : Asks A) (G : List Circumstance → Type 0) where
-  record IsGiven (marks : List Mark) (host : Host P) : Type 0 where
-    so : Calmly A asks marks host
-    given : AllByRecursion G (gifts_of so.lives.feeds)
+-- it lives through its talk, utters what it says, and what its profile was given is so
+pub record LivesGiven {P : Type 0} (A : Profile P) (asks : Asks A) (G : List Circumstance → Type 0) (talk : List Talk) (now : Host P) : Type 0 where
+  pub fed : TalksFed A asks talk now
+  pub uttered : AllByRecursion (AreUttered A.policy) (on_links A asks (flat_map talk_marks talk) now fed.so.lives)
+  pub given : AllByRecursion G (gifts_of fed.so.lives.feeds)
 
-  goes_given : (marks : List Mark) (acted : List Occurrence) (gifts : List (List Circumstance)) (old new : Host P) → IsGiven marks old → Gifted A asks (Unit {0}) acted gifts old new → new.channels.events ≡ [] → AllByRecursion G gifts → IsGiven (marks ++ map Occurred acted) new
-  goes_given marks acted gifts old new has gifted told all = record {
-    so = goes_calmly A asks marks acted old new has.so gifted.grows told;
-    given = goes-given A asks G marks acted old new has.so gifted.grows told (subst (AllByRecursion G) (sym gifted.gifts_are) all) has.given;
-  }
-
-  stays_given : (marks : List Mark) (gifts : List (List Circumstance)) (old new : Host P) → IsGiven marks old → Gifted A asks (Unit {0}) [] gifts old new → new.channels.events ≡ [] → AllByRecursion G gifts → IsGiven marks new
-  stays_given marks gifts old new has gifted told all = subst (λ (m : List Mark). IsGiven m new) (append-nil marks) (goes_given marks [] gifts old new has gifted told all)
-
-  turns_given : (marks : List Mark) (event : LinkEvent) (circumstances : List Circumstance) (host : Host P) → IsGiven marks host → IsGiven (marks ++ Turned event ∷ []) (hears_news A circumstances (Linked event) host)
-  turns_given marks event circumstances host has = record { so = turns_calmly A asks marks event circumstances host has.so; given = turns-given A asks G marks event circumstances host has.so has.given }
-
-  on_link : (marks : List Mark) (act : Act Circumstance) (old new : Host P) → StaysOnLink act → IsGiven marks old → IsCalmAct A act old → Does (upper A) act old new → AllByRecursion G (gifts_with act) → IsGiven (marks ++ map Occurred (from_act act)) new
-  on_link marks act old new stays has calm does all =
-      goes_given marks (from_act act) (gifts_with act) old new has (act_gifted A asks (Unit {0}) act old new stays (λ c. calm) does) (act_told A act old new does has.so.lives.all_told) all
-
-  act_given : (marks : List Mark) (act : Act Circumstance) (old new : Host P) → IsGiven marks old → IsCalmAct A act old → Does (upper A) act old new → AllByRecursion G (gifts_with act) → IsGiven (marks ++ act_marks act) new
-  act_given marks (Hears circumstances (Linked event)) old new has calm does all =
-      let mid = ready A circumstances old in
-      let after = hears_news A circumstances (Linked event) mid in
-      let one = readies_plain A asks (Unit {0}) circumstances old in
-      let two = drives_plain A asks (Unit {0}) most_steps after in
-      let readied = stays_given marks (circumstances ∷ []) old mid has (record { grows = one.grows; gifts_are = one.gifts_are }) has.so.lives.all_told all in
-      let turned = turns_given marks event circumstances mid readied in
-      subst (λ (host : Host P). IsGiven (marks ++ Turned event ∷ []) host) (sym does)
-      (stays_given (marks ++ Turned event ∷ []) [] after (driven A after) turned (record { grows = two.grows; gifts_are = two.gifts_are }) (drives_told A most_steps after turned.so.lives.all_told) tt)
-  act_given marks (Hears circumstances (Failed status)) old new has calm does all = on_link marks (Hears circumstances (Failed status)) old new tt has calm does all
-  act_given marks (Hears circumstances (Heard pdu)) old new has calm does all = on_link marks (Hears circumstances (Heard pdu)) old new tt has calm does all
-  act_given marks (Hears circumstances TimerFired) old new has calm does all = on_link marks (Hears circumstances TimerFired) old new tt has calm does all
-  act_given marks (Hears circumstances Cancelled) old new has calm does all = on_link marks (Hears circumstances Cancelled) old new tt has calm does all
-  act_given marks (Hears circumstances (Opening name)) old new has calm does all = on_link marks (Hears circumstances (Opening name)) old new tt has calm does all
-  act_given marks (Says pdu) old new has calm does all = on_link marks (Says pdu) old new tt has calm does all
-
-  abbrev pub AreGiven : List (Act Circumstance) → Type 0
-  AreGiven acts = AllByRecursion (λ (act : Act Circumstance). AllByRecursion G (gifts_with act)) acts
-
-  all_given : (marks : List Mark) (acts : List (Act Circumstance)) (old new : Host P) → IsGiven marks old → AreCalm A acts old → Acting (upper A) acts old new → AreGiven acts → IsGiven (marks ++ flat_map act_marks acts) new
-  all_given marks [] old new has calm same all = subst (λ (host : Host P). IsGiven (marks ++ []) host) (sym same) (subst (λ (m : List Mark). IsGiven m old) (sym (append-nil marks)) has)
-  all_given marks (act ∷ acts) old new has calm (mid, does, rest) all =
-      subst (λ (m : List Mark). IsGiven m new) (append_assoc marks (act_marks act) (flat_map act_marks acts))
-      (all_given (marks ++ act_marks act) acts mid new (act_given marks act old mid has calm.0 does all.0) (calm.1 mid does) rest all.1)
-
-  calm_up : (up : Bool) (acts : List (Act Circumstance)) (host : Host P) → AreInTurn (upper A) up acts host → AreGentleUp A up acts host → AreCalm A acts host
-  calm_up up [] host quiet gentle = tt
-  calm_up true (act ∷ acts) host quiet gentle = (act_calm A act host (quiet.0.in_quiet refl, λ mid does. tt) gentle.0, λ mid does. calm_up (is_up_behind true act) acts mid (quiet.1 mid does) (gentle.1 mid does))
-  calm_up false (act ∷ acts) host quiet gentle = (gentle.0, λ mid does. calm_up (is_up_behind false act) acts mid (quiet.1 mid does) (gentle.1 mid does))
-
-  -- it lives through its talk, utters what it says, and what its profile was given is so
-  pub record LivesGiven (talk : List Talk) (now : Host P) : Type 0 where
-    pub fed : TalksFed A asks talk now
-    pub uttered : AllByRecursion (AreUttered A.policy) (on_links A asks (flat_map talk_marks talk) now fed.so.lives)
-    pub given : AllByRecursion G (gifts_of fed.so.lives.feeds)
-
-  lives_by : (talk : List Talk) (now : Host P) (over : OverLinks (upper A) talk now) → IsGiven (flat_map act_marks over.acts) now → flat_map act_marks over.acts ≡ flat_map talk_marks talk → LivesGiven talk now
-  unfolding calmly_fed
-  lives_by talk now over has same = record {
-    fed = calmly_fed A asks talk now over (flat_map act_marks over.acts) has.so same;
-    uttered = all_utter A.policy (map (λ (span : Span). span.list) has.so.lives.spans ++ has.so.lives.now ∷ []) (all_spans A.policy has.so.lives.spans has.so.lives.now has.so.spans_calm has.so.now_calm);
-    given = has.given;
-  }
-
-  pub lives-given : (talk : List Talk) (now : Host P) (over : OverLinks (upper A) talk now) → AreGentleUp A false over.acts (first_host A) → AreGiven over.acts → LivesGiven talk now
-  lives-given talk now over gentle all =
-      lives_by talk now over
-      (all_given [] over.acts (first_host A) now (record { so = first_calmly A asks; given = first-given A asks G }) (calm_up false over.acts (first_host A) over.in_turn gentle) over.acting all)
-      (acts_marks over.acts ∙ (ap (flat_map _) over.deeds_are ∙ talks_marks talk))
+pub lives-given : {P : Type 0} (A : Profile P) (asks : Asks A) (G : List Circumstance → Type 0) (talk : List Talk) (now : Host P) (over : OverLinks (upper A) talk now) → AreGentleUp A false over.acts (first_host A) → AreGiven A asks G over.acts → LivesGiven A asks G talk now
+lives-given A asks G talk now over gentle all =
+    let lives = lives-calmly A asks G talk now over gentle all in
+    record { fed = lives.fed; uttered = all_utter A.policy (on_links A asks (flat_map talk_marks talk) now lives.fed.so.lives) lives.calm; given = lives.given }
 
 -- ---- a host whose timer never fires gives nothing up
 

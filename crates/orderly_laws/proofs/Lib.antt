@@ -2,6 +2,7 @@ pub mod Due
 pub mod Counting
 pub mod Following
 pub mod Moments
+pub mod Modes
 pub mod Counts
 pub mod Weaving
 pub mod Linking

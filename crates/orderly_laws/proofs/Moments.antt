@@ -160,7 +160,6 @@ shut_answered settings party talk channel shut =
     let nothing = unopened_in party channel talk shut in
     let none : responses_due settings (sdus party channel Into talk) ≡ 0 = ap (responses_due settings) nothing in
     record {
-      enhanced = λ open'. let never : true ≡ false = sym open' ∙ shut in absurd cc;
       in_turn = shut_in_turn settings party channel [] talk shut;
       each = omega (arith, none);
       last = no_last settings (sdus party channel Into talk) nothing;

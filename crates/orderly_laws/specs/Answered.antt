@@ -7,12 +7,9 @@ use Rattle.request_laws.specs.bt_base.specs.declared.settings.Settings.{Settings
 use Rattle.request_laws.specs.bt_base.specs.declared.settings.Transport.TheVariants.{L2cap}
 use Rattle.request_laws.specs.capture.specs.declared.flow.Flow.TheVariants.{Out, Into}
 use Rattle.request_laws.specs.capture.specs.Histories.{EachAfter}
-use Rattle.request_laws.specs.l2cap_config.specs.declared.wish.Mode.TheVariants.{Enhanced}
 use Rattle.request_laws.specs.link_talk.specs.declared.channel.Channel.{Channel}
 use Rattle.request_laws.specs.link_talk.specs.declared.party.Party.{Party}
-use Rattle.request_laws.specs.link_talk.specs.Carriages.{mode_of}
 use Rattle.request_laws.specs.link_talk.specs.Channels.{Entry, reading}
-use Rattle.request_laws.specs.link_talk.specs.GrowingLaws.{HasOpened}
 use Rattle.request_laws.specs.link_talk.specs.Sayings.{Saying}
 use Rattle.request_laws.specs.link_talk.specs.Sdus.{sdus}
 use Rattle.request_laws.specs.obex_session.specs.Calls.{session_behind}
@@ -58,10 +55,9 @@ LastIsDue settings requests = (past : List (List ℕ)) (request : List ℕ) → 
 abbrev pub ComesBehind : Settings → Party → Channel → List Saying → Saying → Type 0
 ComesBehind settings party channel past more = responses_due settings (requests_on party channel (past ++ more ∷ [])) ≤ suc (length (responses_on party channel past))
 
--- A channel in enhanced retransmission mode, on which each request that has a response comes behind the response to the one before; those that came have
--- their responses, and the last of them has one.
+-- On a channel each request that has a response comes behind the response to the one before; those that came have their responses, and the last of them has
+-- one.
 pub record IsAnswered (settings : Settings) (party : Party) (talk : List Saying) (channel : Channel) : Type 0 where
-  pub enhanced : HasOpened channel talk → mode_of channel talk ≡ Enhanced
   pub in_turn : EachAfter (ComesBehind settings party channel) [] talk
   pub each : responses_due settings (requests_on party channel talk) ≤ length (responses_on party channel talk)
   pub last : LastIsDue settings (requests_on party channel talk)

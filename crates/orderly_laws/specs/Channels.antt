@@ -1,41 +1,63 @@
--- The channels of a server whose timer never fired, as a function of what moved and of what it let wait (Core 5.1, Volume 3 Part A, 4 and 7).
-use Rattle.std.specs.Prelude.{ℕ, true, List, ◌++◌, Option, Some, None}
+-- The channels of a server whose timer never fired, and which of them are open, as what moved says (Core 5.1, Volume 3 Part A, 4.4, 4.5, 6.1.4 and 7.1).
+use Rattle.std.specs.Prelude.{ℕ, ◌≡◌, ◌&&◌, Bool, true, false, not, is_some, List, ◌++◌, Option, Some, None}
 use Rattle.std.specs.List.{AllByRecursion}
 use Rattle.request_laws.specs.bt_base.specs.declared.settings.Settings.{Settings}
 use Rattle.request_laws.specs.bt_base.specs.Objects.{Contents}
 use Rattle.request_laws.specs.push_terms.specs.declared.word.Side.TheVariants as sides
 use Rattle.request_laws.specs.capture.specs.Links.{Link, link_up}
-use Rattle.request_laws.specs.link_talk.specs.Channels.{reading}
+use Rattle.request_laws.specs.link_talk.specs.declared.channel.Channel.{Channel}
+use Rattle.request_laws.specs.link_talk.specs.declared.party.Party.{Party}
+use Rattle.request_laws.specs.link_talk.specs.Carriages.{is_open}
+use Rattle.request_laws.specs.link_talk.specs.Channels.{Entry, reading}
 use Rattle.request_laws.specs.link_talk.specs.Sayings.{Saying, talk}
+use Rattle.request_laws.specs.link_talk.specs.Waits.{options_wait}
+use Rattle.request_laws.specs.channel_model.specs.Calls.{peer_mtu}
 use Rattle.request_laws.specs.channel_model.specs.Changing.{held_at}
 use Rattle.request_laws.specs.channel_model.specs.Policies.{Policy, policy}
-use Rattle.request_laws.specs.channel_model.specs.Value.{Channels}
+use Rattle.request_laws.specs.channel_model.specs.Value.{Channels, no_channels}
 use Rattle.request_laws.specs.channel_laws.specs.Views.{IsRead, read_at}
 use Rattle.request_laws.specs.host_link.specs.declared.role.Role.TheVariants.{Server}
 use Rattle.request_laws.specs.host_model.specs.Circumstances.{Circumstance}
 use Rattle.request_laws.specs.host_model.specs.Hosts.{Host}
+use Rattle.request_laws.specs.host_model.specs.Machines.{upper}
 use Rattle.request_laws.specs.host_model.specs.Servers.{ServerProfile, server_profile}
 use Rattle.request_laws.specs.host_laws.specs.OverLinks.{GoesOut}
+use Rattle.unit_laws.specs.scenario_laws.specs.Parties.{party_of}
 use Rattle.unit_laws.specs.Laws.{FiresNone}
 use Rattle.unit_laws.specs.Living.{Did, HaveCommands}
-use Rattle.unit_laws.specs.Units.{Lined, Occasion, units, lone_capture}
+use Rattle.unit_laws.specs.Units.{Lined, Occasion, units, lone_capture, HasSaidAll}
 
--- at each own endpoint there is the channel that these sayings have there, as far as they say
-abbrev pub AreAsSaid : Policy → List Saying → Channels → Type 0
-AreAsSaid rules said channels = (own : ℕ) → IsRead rules (held_at own channels) (read_at own (reading said).entries)
+-- ---- an open channel
 
--- they are those of what moved on a link, and behind it of some sayings that go out, as what the host let wait
-pub record AreOfLink (rules : Policy) (link : Link) (channels : Channels) : Type 0 where
+-- The talk has the channel; its host asked for its options and accepted those of the peer, waits for no answer to its own request, and has neither asked for its
+-- end nor closed it.
+abbrev pub says_open_by : Party → List Saying → Channel → Option Entry → Bool
+says_open_by party said channel None = false
+says_open_by party said channel (Some entry) = is_open entry && not (options_wait party said channel)
+
+abbrev pub says_open : Party → List Saying → Channel → Bool
+says_open party said channel = says_open_by party said channel (read_at channel.own (reading said).entries)
+
+-- ---- as sayings have them
+
+-- at each own endpoint there is the channel that these sayings have there, as far as they say; and it is open exactly where they say so
+pub record AreAsSaid (rules : Policy) (party : Party) (said : List Saying) (channels : Channels) : Type 0 where
+  pub read : (own : ℕ) → IsRead rules (held_at own channels) (read_at own (reading said).entries)
+  pub opens : (channel : Channel) → is_some (peer_mtu channel.own channels) ≡ says_open party said channel
+
+-- They are those of what moved on a link, and behind it of some sayings that go out, as what the host let wait; where it has said all, of what moved alone.
+pub record AreOfLink (rules : Policy) (party : Party) (has_said_all : Type 0) (link : Link) (channels : Channels) : Type 0 where
   pub waits : List Saying
   pub go_out : AllByRecursion GoesOut waits
-  pub read : AreAsSaid rules (talk link ++ waits) channels
+  pub so : AreAsSaid rules party (talk link ++ waits) channels
+  pub moved : has_said_all → AreAsSaid rules party (talk link) channels
 
--- on the link that is up, if there is one
-abbrev pub AreOfLinkUp : Policy → Option Link → Channels → Type 0
-AreOfLinkUp rules None channels = Unit {0}
-AreOfLinkUp rules (Some link) channels = AreOfLink rules link channels
+-- on the link that is up; where none is there are none
+abbrev pub AreOfLinkUp : Policy → Party → Type 0 → Option Link → Channels → Type 0
+AreOfLinkUp rules party has_said_all None channels = channels ≡ no_channels
+AreOfLinkUp rules party has_said_all (Some link) channels = AreOfLink rules party has_said_all link channels
 
 -- So are those of a server whose timer never fired: its units say all that it said.
 abbrev pub ServersHoldWhatMoved : Type 0
 ServersHoldWhatMoved = (settings : Settings) (content : Option Contents) (occasions : List (Occasion Circumstance)) (now : Lined (Host ServerProfile)) → Did (server_profile settings content) Server occasions now → HaveCommands sides.B (lone_capture sides.B (units occasions))
-    → AllByRecursion FiresNone occasions → AreOfLinkUp (policy settings true) (link_up sides.B (lone_capture sides.B (units occasions))) now.upper.channels
+    → AllByRecursion FiresNone occasions → AreOfLinkUp (policy settings true) (party_of settings sides.B) (HasSaidAll (upper (server_profile settings content)) now) (link_up sides.B (lone_capture sides.B (units occasions))) now.upper.channels

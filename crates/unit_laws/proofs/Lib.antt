@@ -6,6 +6,7 @@ pub mod Capacity
 pub mod Taking
 pub mod Written
 pub mod Doing
+pub mod Calming
 pub mod Living
 pub mod Holding
 pub mod Gaining

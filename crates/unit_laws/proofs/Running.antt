@@ -1,6 +1,6 @@
 -- What a host was told and said is what its units have of its links.
 use Rattle.std.proofs.Common.{◌≡◌, ◌≢◌, ℕ, ◌+◌, ◌*◌, ◌==◌, ◌||◌, ◌&&◌, Bool, true, false, cond, List, [], ◌∷◌, ◌++◌, map, length, Option, Some, None, is_some, is_none, if◌then◌else◌, refl, sym, ap, ap₂, subst, ◌∙◌, append_assoc, length-append, arith}
-use Rattle.std.specs.List.{AllByRecursion}
+use Rattle.std.specs.List.{AllByRecursion, flat_map}
 use Rattle.std.specs.Option.{option_map}
 use Rattle.std.proofs.lemmas.Bool.{eq-eqb}
 use Rattle.std.proofs.lemmas.List.{append-nil, append_cancel_left}
@@ -18,7 +18,7 @@ use Rattle.scenario_laws.specs.push_terms.specs.declared.word.Side.{Side}
 use Rattle.scenario_laws.specs.push_terms.specs.declared.word.Side.TheVariants as sides
 use Rattle.scenario_laws.specs.capture.specs.declared.flow.Flow.TheVariants.{Out}
 use Rattle.scenario_laws.specs.capture.specs.Moves.{Move, moves}
-use Rattle.scenario_laws.specs.capture.specs.Links.{links, Link, Linking, Asked, NoNews, longer, gone_on, after_news, after_move, linking}
+use Rattle.scenario_laws.specs.capture.specs.Links.{links, link_up, Link, Linking, Asked, NoNews, longer, gone_on, after_news, after_move, linking}
 use Rattle.scenario_laws.specs.capture.specs.Pdus.{pdu_limit, piece_of, pdus}
 use Rattle.scenario_laws.specs.capture.proofs.MoreLaws.{links-more}
 use Rattle.scenario_laws.specs.host_link.specs.declared.role.Role.{Role}
@@ -41,14 +41,16 @@ use Rattle.scenario_laws.specs.turn_laws.proofs.Linkages.{linkage_one, linkage_e
 use Rattle.scenario_laws.specs.turn_laws.proofs.Showing.{piece_packet_is}
 use Rattle.scenario_laws.specs.turn_laws.specs.Premises.{SaysFrames}
 use Rattle.scenario_laws.specs.host_laws.specs.Acts.{Act, Hears}
+use Rattle.scenario_laws.specs.host_laws.specs.Calm.{pdus_in}
 use Rattle.scenario_laws.specs.host_laws.specs.OverLinks.{IsTimely, parts}
 use Rattle.scenario_laws.specs.host_laws.specs.Turning.{IsHeardInQuiet}
+use Rattle.scenario_laws.specs.host_laws.proofs.Turning.{up_behind}
 use Rattle.scenario_laws.specs.Coming.{FallTo, LastIsUp}
 use Rattle.scenario_laws.proofs.Acting.{Anyhow, Acted, IsAside, IsNewsSo, first_acted, went_all, hears_acted, moves_acted, says_acted, tells_acted}
 use Rattle.scenario_laws.proofs.Coming.{captured_links, up_last}
-use Rattle.scenario_laws.proofs.Parting.{all_links, all_fall}
+use Rattle.scenario_laws.proofs.Parting.{past_from, now_from, parts_are, Parted, all_links, all_fall}
 use Rattle.unit_laws.specs.Units.{Lined, Occasion, Comes, Learns, Says, Puts, Commands, Waits, units_of, units, lone_capture, hears_line, IsOwnNews, SaysNext, PutsPiece, PutsCommand, OnlyWaits, Happens, Runs, Whatever, starting, HasSaidAll, IsToldInTurn, ComesInTurn}
-use Rattle.unit_laws.specs.Laws.{LinesAreRead, IsUntimed, IsUnfired, FiresNone, UnitsAreTalk}
+use Rattle.unit_laws.specs.Laws.{LinesAreRead, IsUntimed, IsUnfired, FiresNone, TalksAs, UnitsAreTalk}
 use Rattle.unit_laws.proofs.Shown.{shown, begun_on, OnUp, always_up, Completes, completes_none, completes_one, goes_on, begun_stays, begun_more}
 use Rattle.unit_laws.proofs.Hearing.{ShownBy, heard_shown}
 use Rattle.unit_laws.proofs.Lining.{IsFit, LineAs, heard_line}
@@ -443,19 +445,47 @@ lone_moves sides.B (move ∷ list) = ap (λ (l : List Move). move ∷ l) (lone_m
 pub lone_captured : (side : Side) (list : List Move) → shown (linking list) ≡ captured side (lone_capture side list)
 lone_captured side list = ap (λ (l : List Move). shown (linking l)) (sym (lone_moves side list))
 
-pub units_are_talk : {S G : Type 0} (U : Upper S G) → UnitsAreTalk U
-units_are_talk U side role occasions now frames runs =
+-- where a link is up, the last part has what moved on it alone
+abbrev pub LastIsWhole : (parts : List (List Talk)) → Option Link → Type 0
+LastIsWhole parts None = Unit {0}
+LastIsWhole parts (Some link) = (before : List (List Talk)) × (part : List Talk) × (parts ≡ before ++ part ∷ []) × (flat_map pdus_in part ≡ pdus link)
+
+last_whole : (linked : Bool) (talk : List Talk) (up : Option Link) → Parted linked talk → (linkage talk).up ≡ option_map pdus up → LastIsWhole (parts talk) up
+last_whole linked talk None parted is = tt
+last_whole false talk (Some link) parted is = let never : None ≡ Some (pdus link) = sym (parted.down refl).1 ∙ is in absurd cc
+last_whole true talk (Some link) parted is =
+    let same : Some (flat_map pdus_in (now_from [] talk)) ≡ Some (pdus link) = sym (parted.up refl) ∙ is in (past_from [] talk, now_from [] talk, parts_are [] talk, cc)
+
+-- and where no piece waits it has; and where no link is up none was by what it did
+pub record TalkedSo {S G : Type 0} (U : Upper S G) (side : Side) (occasions : List (Occasion G)) (now : Lined S) : Type 0 where
+  pub so : TalksAs U side occasions now.upper
+  pub whole : now.line.pieces ≡ [] → LastIsWhole (parts so.talk) (link_up side (lone_capture side (units occasions)))
+  pub off : link_up side (lone_capture side (units occasions)) ≡ None → up_behind false so.over.acts ≡ false
+
+pub talked_so : {S G : Type 0} (U : Upper S G) (side : Side) (role : Role) (occasions : List (Occasion G)) (now : Lined S) → SaysFrames U → Runs U (ComesInTurn U) occasions (starting U role) now → TalkedSo U side occasions now
+talked_so U side role occasions now frames runs =
     let at = all_talks U (AllByRecursion FiresNone occasions) frames role occasions now (λ still. still) runs in
     let capture = lone_capture side (units occasions) in
     let gone = at.talk ++ map Unsent at.waiting in
     let known = at.known ∙ lone_captured side (units occasions) in
     let links_are : all_links (linkage at.talk) ≡ map pdus (links side capture) = ap all_links known ∙ captured_links side capture in
     let all = went_all U Anyhow (is_some now.line.link) now.upper at.waiting at.talk at.acted in
+    let up_is : link_up side capture ≡ (linking (units occasions)).up = ap (λ (list : List Move). (linking list).up) (lone_moves side (units occasions)) in
+    let whole_is = last_whole (is_some now.line.link) at.talk (linking (units occasions)).up at.acted.parted (ap (λ (l : Linkage). l.up) at.known) in
     record {
-      talk = gone;
-      over = all.went.over;
-      fall = subst (FallTo (parts gone)) links_are (all_fall (is_some now.line.link) at.talk at.waiting at.acted.down at.acted.parted);
-      up = subst (λ (list : List Move). LastIsUp (parts gone) (linking list).up) (sym (lone_moves side (units occasions)))
-          (up_last (is_some now.line.link) at.talk at.waiting (linking (units occasions)).up at.acted.parted (ap (λ (l : Linkage). l.up) at.known));
-      unfired = λ still. both_unfired at.talk (map Unsent at.waiting) (at.unfired still) (none_sent at.waiting);
+      so = record {
+        talk = gone;
+        over = all.went.over;
+        fall = subst (FallTo (parts gone)) links_are (all_fall (is_some now.line.link) at.talk at.waiting at.acted.down at.acted.parted);
+        up = subst (LastIsUp (parts gone)) (sym up_is) (up_last (is_some now.line.link) at.talk at.waiting (linking (units occasions)).up at.acted.parted (ap (λ (l : Linkage). l.up) at.known));
+        unfired = λ still. both_unfired at.talk (map Unsent at.waiting) (at.unfired still) (none_sent at.waiting);
+      };
+      whole = λ none.
+          let silent = none_waits (begun_on (linking (units occasions)).up) now.line.pieces at.waiting none at.under_way in
+          let same : at.talk ≡ gone = sym (append-nil at.talk) ∙ ap (λ (w : List (List ℕ)). at.talk ++ map Unsent w) (sym silent) in
+          subst (LastIsWhole (parts gone)) (sym up_is) (subst (λ (t : List Talk). LastIsWhole (parts t) (linking (units occasions)).up) same whole_is);
+      off = λ none. all.went.up_is ∙ ap is_some (sym at.line.stands.link ∙ ap (option_map (λ (l : Link). l.handle)) (sym up_is ∙ none));
     }
+
+pub units_are_talk : {S G : Type 0} (U : Upper S G) → UnitsAreTalk U
+units_are_talk U side role occasions now frames runs = (talked_so U side role occasions now frames runs).so

@@ -1,42 +1,55 @@
 -- What the channels of a host are, read off its own units (Core 5.1, Volume 3 Part A, 4 and 7).
-use Rattle.std.specs.Prelude.{ℕ, ◌≡◌, true, false, List, ◌++◌, Option, Some, None}
+use Rattle.std.specs.Prelude.{ℕ, ◌≡◌, true, false, is_some, List, [], ◌++◌, Option, Some, None}
 use Rattle.std.specs.List.{AllByRecursion}
 use Rattle.scenario_laws.specs.bt_base.specs.declared.settings.Settings.{Settings}
 use Rattle.scenario_laws.specs.bt_base.specs.Objects.{Contents}
 use Rattle.scenario_laws.specs.push_terms.specs.declared.word.Side.TheVariants as sides
 use Rattle.scenario_laws.specs.capture.specs.Links.{Link, link_up}
+use Rattle.scenario_laws.specs.link_talk.specs.declared.channel.Channel.{Channel}
+use Rattle.scenario_laws.specs.link_talk.specs.declared.party.Party.{Party}
 use Rattle.scenario_laws.specs.link_talk.specs.Channels.{reading}
 use Rattle.scenario_laws.specs.link_talk.specs.Sayings.{Saying, talk}
+use Rattle.scenario_laws.specs.channel_model.specs.Calls.{peer_mtu}
 use Rattle.scenario_laws.specs.channel_model.specs.Changing.{held_at}
 use Rattle.scenario_laws.specs.channel_model.specs.Policies.{Policy, policy}
-use Rattle.scenario_laws.specs.channel_model.specs.Value.{Channels}
+use Rattle.scenario_laws.specs.channel_model.specs.Value.{Channels, no_channels}
 use Rattle.scenario_laws.specs.channel_laws.specs.Views.{IsRead, read_at}
+use Rattle.opening_laws.specs.Opening.{is_living, reads_open}
 use Rattle.scenario_laws.specs.host_link.specs.declared.role.Role.TheVariants.{Client, Server}
 use Rattle.scenario_laws.specs.host_model.specs.Circumstances.{Circumstance}
 use Rattle.scenario_laws.specs.host_model.specs.Hosts.{Host}
 use Rattle.scenario_laws.specs.host_model.specs.Clients.{ClientProfile, client_profile}
 use Rattle.scenario_laws.specs.host_model.specs.Servers.{ServerProfile, server_profile}
+use Rattle.scenario_laws.specs.host_model.specs.Machines.{upper}
 use Rattle.scenario_laws.specs.host_laws.specs.OverLinks.{GoesOut}
 use Rattle.scenario_laws.specs.host_laws.specs.Seen.{spoken_of}
-use Rattle.unit_laws.specs.Units.{Lined, Occasion, units, lone_capture}
+use Rattle.scenario_laws.specs.Parties.{party_of}
+use Rattle.unit_laws.specs.Units.{Lined, Occasion, units, lone_capture, HasSaidAll}
 use Rattle.unit_laws.specs.Living.{Did, HaveCommands}
 
--- These are the channels of a talk, each as far as it says: the talk is what moved, but for what was given up, and behind it what the host let wait.
-pub record AreChannelsOf (rules : Policy) (moved : List Saying) (channels : Channels) : Type 0 where
+-- ---- on a link
+
+-- These are the channels of a talk, each as far as it says, and each that its host has not closed, nor asked to end, is open exactly where it says so. The talk
+-- is what moved, but for what was given up, and behind it what the host let wait: nothing, where it has said all.
+pub record AreChannelsOf (rules : Policy) (party : Party) (has_said_all : Type 0) (moved : List Saying) (channels : Channels) : Type 0 where
   pub said : List Saying
   pub waits : List Saying
   pub talk_is : spoken_of said ≡ moved ++ waits
+  pub none : has_said_all → waits ≡ []
   pub go_out : AllByRecursion GoesOut waits
   pub read : (own : ℕ) → IsRead rules (held_at own channels) (read_at own (reading said).entries)
+  pub opens : (channel : Channel) → is_living (read_at channel.own (reading said).entries) ≡ true → is_some (peer_mtu channel.own channels) ≡ reads_open party said channel
 
--- on the link that is up, if there is one
-abbrev pub AreChannelsAt : Policy → Option Link → Channels → Type 0
-AreChannelsAt rules None channels = Unit {0}
-AreChannelsAt rules (Some link) channels = AreChannelsOf rules (talk link) channels
+-- on the link that is up; where none is there are none
+abbrev pub AreChannelsAt : Policy → Party → Type 0 → Option Link → Channels → Type 0
+AreChannelsAt rules party has_said_all None channels = channels ≡ no_channels
+AreChannelsAt rules party has_said_all (Some link) channels = AreChannelsOf rules party has_said_all (talk link) channels
 
--- The channels of both hosts are those that their own units say.
+-- ---- of both hosts
+
+-- Their channels are those that their own units say.
 pub record ChannelsAreSeen : Type 0 where
   pub clients : (settings : Settings) (occasions : List (Occasion Circumstance)) (now : Lined (Host ClientProfile)) → Did (client_profile settings) Client occasions now → HaveCommands sides.A (lone_capture sides.A (units occasions))
-      → AreChannelsAt (policy settings false) (link_up sides.A (lone_capture sides.A (units occasions))) now.upper.channels
+      → AreChannelsAt (policy settings false) (party_of settings sides.A) (HasSaidAll (upper (client_profile settings)) now) (link_up sides.A (lone_capture sides.A (units occasions))) now.upper.channels
   pub servers : (settings : Settings) (content : Option Contents) (occasions : List (Occasion Circumstance)) (now : Lined (Host ServerProfile)) → Did (server_profile settings content) Server occasions now → HaveCommands sides.B (lone_capture sides.B (units occasions))
-      → AreChannelsAt (policy settings true) (link_up sides.B (lone_capture sides.B (units occasions))) now.upper.channels
+      → AreChannelsAt (policy settings true) (party_of settings sides.B) (HasSaidAll (upper (server_profile settings content)) now) (link_up sides.B (lone_capture sides.B (units occasions))) now.upper.channels

@@ -1,4 +1,5 @@
 pub use Rattle.scenario_laws
+pub use Rattle.opening_laws
 pub mod Units
 pub mod Laws
 pub mod Calls

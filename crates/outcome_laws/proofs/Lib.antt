@@ -1,0 +1,4 @@
+pub mod FirstCause
+pub mod Units
+pub mod Telling
+pub mod Bringing

@@ -1,0 +1,19 @@
+//! Laws of why the pushes of a client over any controller end: of what happens to the client itself, whatever that is.
+#![tactic(auto)]
+
+ghost use Rattle.outcome_laws.specs.BroughtAbout.{OutcomesAreBroughtAbout};
+ghost use Rattle.outcome_laws.specs.FirstCause.{OutcomesAreFirstCauses};
+
+/// The outcome of a push is the first cause since it began of all that happened to the client, as its own units have it: a link that ended or was not made, a channel that
+/// was closed, an SDU, an answer of the shelf, a firing or a cancel shows the one outcome that a table names, with its reason, or none.
+pub fn outcomes_are_first_causes()
+    ensures { OutcomesAreFirstCauses }
+{}
+
+/// Whatever comes to a client, and whatever it does: one thing since its push began brought the outcome about. One that is done or refused, or found no service, a piece of
+/// a PDU; one whose link was lost, a Disconnection Complete with another reason than that the peer ended it; one that is cancelled, that it was cancelled; one at its limit,
+/// a piece of a PDU or a firing; one that its peer closed, a piece of a PDU or that the peer ended the link; and one whose peer is at fault of HCI, a Connection Complete with
+/// that status, of another layer a piece of a PDU, or, of L2CAP, a firing.
+pub fn outcomes_are_brought_about()
+    ensures { OutcomesAreBroughtAbout }
+{}
