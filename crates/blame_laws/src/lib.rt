@@ -3,8 +3,8 @@
 
 ghost use Rattle.blame_laws.specs.Blamed.{RunsSparePeers};
 
-/// No push of a run ends with its peer at fault of service discovery: each reply that comes to host a there is the one that host b gives to its request, whole, and it
-/// names a service. That is so over either transport, whatever a link loses, repeats, cuts and damages (Core 5.1, Volume 3 Part B, 4.2 and 4.7). And over L2CAP none
+/// No push of a run ends with its peer at fault of service discovery: each reply that comes to host a there is the one that host b gives to its request, a whole
+/// answer. That is so over either transport, whatever a link loses, repeats, cuts and damages (Core 5.1, Volume 3 Part B, 4.2 and 4.7). And over L2CAP none
 /// ends with it at fault of RFCOMM, since no multiplexer is there (RFCOMM 1.2, 5).
 pub fn runs_spare_peers()
     ensures { RunsSparePeers }

@@ -73,6 +73,7 @@ pub record SpellsNamed (scenario : Scenario) (shelf : List Object) (push : ℕ) 
 
 -- Of the objects that the packets spell the inbox gained those that are kept, in their order: that of each push that is done is one of them, wherever the capture shows
 -- why it ended so, and where nothing is owed to either host and host a's client is done. It is the shelf's under the name of that push, where the client did not lack memory.
+-- What a front spells is a front of what all spells, so the mark at its place is its own.
 pub record StoresKept (scenario : Scenario) (shelf before : List Object) (answers : List Answer) (capture : List Entry) (own : RanOwn scenario (Some shelf) (holding before) answers capture) : Type 0 where
   pub kept : List Bool
   pub gained : stored_in own.world.b.upper.profile.inbox.content ≡ Some (before ++ kept_of kept (objects_heard (party_of scenario.settings B) B capture))

@@ -35,7 +35,8 @@ pub fn own_servers_keep_done()
 {}
 
 /// One list of marks tells which of the objects that the packets of such a run spell the inbox gained, whatever its calls came to but want of memory. Wherever a push ends that is done, what
-/// the packets spell that host b heard is what they spelled before it was begun, and one object more, which is marked: where the capture shows why the push ended so.
+/// the packets spell that host b heard is what they spelled before it was begun, and one object more, which is marked: where the capture shows why the push ended so. That object is the
+/// shelf's under the name of that push, where the client did not lack memory.
 pub fn own_servers_store_done()
     ensures { OwnServersStoreDone }
 {}

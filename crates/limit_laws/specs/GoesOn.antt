@@ -1,4 +1,4 @@
--- That the channels of both hosts of a run go on while few words are adverse (Core 5.1, Volume 3 Part A, 4.4, 4.5, 4.6 and 6.2.1; which words are adverse is this project's own).
+-- That the channels of both hosts of a run go on while few words are adverse (Core 5.1, Volume 3 Part A, 4.4, 4.5, 4.6, 4.10, 6.2.1 and 8.6.5; which words are adverse is this project's own).
 use Rattle.std.specs.Prelude.{ℕ, ◌<◌, List, Option}
 use Rattle.pair_laws.specs.bt_base.specs.Objects.{Contents}
 use Rattle.pair_laws.specs.capture.specs.Entries.{Entry}

@@ -22,7 +22,8 @@ pub fn servers_gain_carried()
     ensures { ServersGainCarried }
 {}
 
-/// The channels of a server whose timer never fired are those of what moved on its link, and behind it of some sayings that go out, as what it let wait.
+/// The channels of a server whose timer never fired are those of what moved on its link, and behind it of some sayings that go out, as what it let wait;
+/// and each is open exactly where they say so; where the host has said all, by what moved alone.
 pub fn servers_hold_what_moved()
     ensures { ServersHoldWhatMoved }
 {}

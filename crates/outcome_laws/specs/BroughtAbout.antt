@@ -89,6 +89,7 @@ BringsAbout ShelfFault one = ⊥
 BringsAbout ScriptEnded one = ⊥
 BringsAbout outcome one = is_piece one ≡ true
 
+-- One thing of the part brought the outcome about; it is not said that nothing of the kind stands ahead.
 pub record IsBroughtAbout {G : Type 0} (outcome : Outcome) (part : List (Occasion G)) : Type 0 where
   pub before : List (Occasion G)
   pub one : Occasion G
@@ -96,7 +97,8 @@ pub record IsBroughtAbout {G : Type 0} (outcome : Outcome) (part : List (Occasio
   pub part_is : part ≡ before ++ one ∷ after
   pub brings : BringsAbout outcome one
 
--- the fault of the shelf comes of what that answers; the end of the script is no outcome of a client
+-- The fault of the shelf comes of what that answers; the end of the script is no outcome of a client. Of each other outcome one thing of the part brought it about; it is
+-- not said that nothing of the kind stands ahead.
 abbrev pub HasCause : {G : Type 0} → Outcome → List (Occasion G) → Type 0
 HasCause ShelfFault part = Unit {0}
 HasCause ScriptEnded part = ⊥

@@ -4,8 +4,9 @@
 ghost use Rattle.outcome_laws.specs.BroughtAbout.{OutcomesAreBroughtAbout};
 ghost use Rattle.outcome_laws.specs.FirstCause.{OutcomesAreFirstCauses};
 
-/// The outcome of a push is the first cause since it began of all that happened to the client, as its own units have it: a link that ended or was not made, a channel that
-/// was closed, an SDU, an answer of the shelf, a firing or a cancel shows the one outcome that a table names, with its reason, or none.
+/// The outcome of a push is the first cause since it began of all that happened to the client: each thing shows one outcome, with its reason, or none, by a table over what
+/// the pure client knows at that moment (`push_model`, `Shown`), of what the PDUs of its units bring and of its shelf, timer, begins and cancels, which no unit tells. Why a
+/// channel closed is what the channel told.
 pub fn outcomes_are_first_causes()
     ensures { OutcomesAreFirstCauses }
 {}

@@ -19,7 +19,7 @@ use Rattle.staying_laws.specs.Stays.{FewNearMachines, AnswerWell}
 
 -- ---- what a host may be told
 
--- a machine closes for a limit by that of its channel alone
+-- a machine that meets its limit closes its channel as `RetryLimit`, never by a reason of its own
 abbrev pub IsNoLimit : ErtmReason → Type 0
 IsNoLimit machines.BadReqSeq = Unit {0}
 IsNoLimit machines.Srej = Unit {0}

@@ -37,7 +37,8 @@ pub fn hosts_live_by_units()
     ensures { HostsLiveByUnits }
 {}
 
-/// The channels of both are those that their own units say, each as far as it says there.
+/// The channels of both are those that their own units say, each as far as it says there; and each that its host has neither closed nor asked to end is
+/// open exactly where they say so; where the host has said all, by what moved alone, but for what it gave up.
 #[tactic(auto, using(crate::proofs::Holding::channels_are_seen))]
 pub fn channels_are_seen()
     ensures { ChannelsAreSeen }
