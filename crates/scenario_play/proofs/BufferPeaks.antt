@@ -18,7 +18,7 @@ use Rattle.radio_world.proofs.BufferPeaks.{buffer_peaks_are_seen, same_peak}
 use Rattle.bt_host.specs.NotedHosts.{noted_client_machine, noted_server_machine}
 use Rattle.scenario_play.specs.BufferPeaks.{AreBufferPeaks, BufferPeaksAreTold}
 use Rattle.scenario_play.specs.Peaks.{asked_client, asked_server, AreReached}
-use Rattle.scenario_play.proofs.Gained.{plays_keep}
+use Rattle.scenario_play.proofs.Gained.{accounts_kept}
 use Rattle.scenario_play.proofs.Plainness.{orderly}
 
 -- as the hosts count them: up to 65,535
@@ -66,5 +66,5 @@ buffer_peaks_are_told scenario shelf before after trace trace' outcomes peaks co
     let ran = played.finished.ran in
     let capped : AreCapped played.capture peaks = subst (λ (es : List Entry). AreCapped es peaks) (sym ran.capture_is)
     (with_last peaks ran.world.pushes (all_entries ran.happenings) ran.ends ran.last (reached_peaks scenario before ran.happenings peaks played.reached)) in
-    let keeps = (plays_keep.plays scenario shelf before after trace trace' outcomes peaks counts counts' played).accounts in
+    let keeps = accounts_kept scenario before played.capture ran in
     record { a = uncapped A scenario.acl_count played.capture peaks.buffers_a capped.a keeps.within_a; b = uncapped B scenario.acl_count played.capture peaks.buffers_b capped.b keeps.within_b }

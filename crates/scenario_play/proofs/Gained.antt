@@ -50,7 +50,8 @@ use Rattle.credit_laws.specs.request_laws.proofs.Told.{all_tell, none_longer}
 use Rattle.credit_laws.specs.request_laws.proofs.ObjectPipes.{are_piped}
 use Rattle.credit_laws.specs.request_laws.proofs.Paired.{paired_servers_serve}
 use Rattle.credit_laws.specs.request_laws.proofs.Summing.{both_ask}
-use Rattle.scenario_play.proofs.Causes.{causes_shown, losses_shown, peer_spared}
+use Rattle.parting_laws.specs.Parting.{FewWordsPartNone}
+use Rattle.scenario_play.proofs.Causes.{causes_shown, losses_shown, peer_spared, none_parted, none_parted_so_far}
 use Rattle.scenario_play.specs.Breaking.{IsBroken}
 use Rattle.scenario_play.specs.Gaining.{HaveAnswered, HaveGranted, HaveOffered, HoldsAtMost, KeepsAccounts, ServesAndGains, KeepsPlayed, KeepsBroken, GainsPlayed, GainsBroken, PlaysKeep, PlaysGain}
 use Rattle.scenario_play.specs.Playing.{IsPlayed}
@@ -63,7 +64,7 @@ window_kept : (scenario : Scenario) (content : Option Contents) (capture : List 
 window_kept scenario content capture side ran n own channel known alive =
     talks_hold.used scenario.settings side (talk_now side (take n capture)) own channel ((runs_hold windows-hold).throughout scenario content capture side ran n) known
 
-accounts_kept : (scenario : Scenario) (content : Option Contents) (capture : List Entry) → Ran scenario content capture → KeepsAccounts scenario capture
+pub accounts_kept : (scenario : Scenario) (content : Option Contents) (capture : List Entry) → Ran scenario content capture → KeepsAccounts scenario capture
 accounts_kept scenario content capture ran = record {
   within_a = buffers_kept scenario content capture A ran;
   within_b = buffers_kept scenario content capture B ran;
@@ -78,15 +79,16 @@ accounts_kept scenario content capture ran = record {
 
 -- ---- over either transport
 
-pub played_kept : (scenario : Scenario) (shelf : Option (List Object)) (before after : Option Contents) (trace trace' : Option (List ℕ)) (outcomes : List Outcome) (peaks : Peaks) (counts counts' : Counts) (played : IsPlayed scenario shelf before after trace trace' outcomes peaks counts counts')
+pub played_kept : FewWordsPartNone → (scenario : Scenario) (shelf : Option (List Object)) (before after : Option Contents) (trace trace' : Option (List ℕ)) (outcomes : List Outcome) (peaks : Peaks) (counts counts' : Counts) (played : IsPlayed scenario shelf before after trace trace' outcomes peaks counts counts')
     → KeepsPlayed scenario outcomes played.capture
-played_kept scenario shelf before after trace trace' outcomes peaks counts counts' played = record {
+played_kept law scenario shelf before after trace trace' outcomes peaks counts counts' played = record {
   accounts = accounts_kept scenario before played.capture played.finished.ran;
   all_ended = pushes_end scenario before played.capture played.finished.ran ((client_of scenario).outcome played.finished.ran.world.a.upper) played.ends;
   outcomes_are = played.outcomes_are;
   causes = causes_shown scenario shelf before after trace trace' outcomes peaks counts counts' played;
   drops = losses_shown scenario shelf before after trace trace' outcomes peaks counts counts' played;
   spares = peer_spared scenario shelf before after trace trace' outcomes peaks counts counts' played;
+  limits = none_parted law scenario shelf before after trace trace' outcomes peaks counts counts' played;
   outcomes_are_all = ap (λ (l : List Outcome). length l) played.outcomes_are ∙ (pushes_are_of_scenarios scenario before played.capture played.finished.ran).outcomes_are_all;
   obeys = air_obeyed scenario before played.capture played.finished;
 }
@@ -100,10 +102,11 @@ broken_kept scenario shelf before after trace trace' counts counts' broken =
       keeps = subst (λ (ws : List Word). EachAfter (KeepsTo (hosts_of scenario.settings) scenario.acl_length ws) [] capture) (sym broken.words_are) (air_kept scenario before capture broken.later broken.ran);
     }
 
-pub plays_keep : PlaysKeep
-plays_keep = record {
-  plays = λ scenario shelf before after trace trace' outcomes peaks counts counts' played. played_kept scenario shelf before after trace trace' outcomes peaks counts counts' played;
+pub plays_keep : FewWordsPartNone → PlaysKeep
+plays_keep law = record {
+  plays = λ scenario shelf before after trace trace' outcomes peaks counts counts' played. played_kept law scenario shelf before after trace trace' outcomes peaks counts counts' played;
   breaks = λ scenario shelf before after trace trace' counts counts' broken. broken_kept scenario shelf before after trace trace' counts counts' broken;
+  limits = λ scenario shelf before after trace trace' counts counts' broken few. none_parted_so_far law scenario shelf before after trace trace' counts counts' broken few;
 }
 
 -- ---- over L2CAP
@@ -164,9 +167,9 @@ have_offered scenario shelf before capture ran happened =
 
 -- ---- to its end
 
-plays : (scenario : Scenario) (shelf : Option (List Object)) (before : List Object) (after : Option Contents) (trace trace' : Option (List ℕ)) (outcomes : List Outcome) (peaks : Peaks) (counts counts' : Counts) (played : IsPlayed scenario shelf (holding before) after trace trace' outcomes peaks counts counts')
+plays : PlaysKeep → (scenario : Scenario) (shelf : Option (List Object)) (before : List Object) (after : Option Contents) (trace trace' : Option (List ℕ)) (outcomes : List Outcome) (peaks : Peaks) (counts counts' : Counts) (played : IsPlayed scenario shelf (holding before) after trace trace' outcomes peaks counts counts')
     → scenario.settings.transport ≡ L2cap → GainsPlayed both_ask scenario shelf before after outcomes played.capture played.finished counts counts'
-plays scenario shelf before after trace trace' outcomes peaks counts counts' played direct = record {
+plays keeps scenario shelf before after trace trace' outcomes peaks counts counts' played direct = record {
   kept = kept;
   told = held-take_turns both_ask scenario shelf (holding before) played.capture played.finished.ran (enough_held scenario shelf (holding before) played.finished.ran.happenings played.finished.ran.world played.enough);
   granted = λ never. have_granted scenario shelf before played.capture played.finished.ran (played.granted never);
@@ -190,7 +193,7 @@ plays scenario shelf before after trace trace' outcomes peaks counts counts' pla
 }
   where
     kept : KeepsPlayed scenario outcomes played.capture
-    kept = played_kept scenario shelf (holding before) after trace trace' outcomes peaks counts counts' played
+    kept = keeps.plays scenario shelf (holding before) after trace trace' outcomes peaks counts counts' played
 
     serves : HaveAnswered both_ask scenario before played.capture played.finished.ran → ServesAndGains both_ask scenario before played.capture played.finished.ran.world (stored_in after)
     serves have =
@@ -247,11 +250,11 @@ breaks scenario shelf before after trace trace' counts counts' broken direct = r
 
 -- ---- the law
 
-pub plays_gain : PlaysGain
-plays_gain = record {
+pub plays_gain : PlaysKeep → PlaysGain
+plays_gain keeps = record {
   asks = both_ask;
   plays = λ scenario shelf before after trace trace' outcomes peaks counts counts' played direct.
-      plays scenario shelf before after trace trace' outcomes peaks counts counts' played direct;
+      plays keeps scenario shelf before after trace trace' outcomes peaks counts counts' played direct;
   breaks = λ scenario shelf before after trace trace' counts counts' broken direct.
       breaks scenario shelf before after trace trace' counts counts' broken direct;
 }

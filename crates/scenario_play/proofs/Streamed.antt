@@ -1,7 +1,6 @@
 -- What a scenario comes to that was played over RFCOMM.
-use Rattle.std.proofs.Common.{◌≡◌, ℕ, List, [], ◌++◌, map, Option, refl, sym, ap, ◌∙◌}
-use Rattle.std.proofs.lemmas.Grind.{flat_map-append}
-use Rattle.std.proofs.lemmas.List.{append-nil, append_assoc}
+use Rattle.std.proofs.Common.{◌≡◌, ℕ, List, [], ◌++◌, Option, refl, sym, ap, ◌∙◌}
+use Rattle.std.proofs.lemmas.List.{append-nil}
 use Rattle.bt_base.specs.Objects.{Object, Contents}
 use Rattle.bt_base.specs.declared.settings.Transport.TheVariants.{Rfcomm}
 use Rattle.noting_laws.specs.obex_session.specs.Counting.{Counts}
@@ -9,10 +8,9 @@ use Rattle.push_script.specs.declared.scenario.Scenario.{Scenario}
 use Rattle.push_terms.specs.declared.outcome.Outcome.{Outcome}
 use Rattle.push_terms.specs.declared.peaks.Peaks.{Peaks}
 use Rattle.push_terms.specs.declared.word.Side.TheVariants.{B}
-use Rattle.push_terms.specs.declared.word.Word.{Word}
 use Rattle.capture.specs.Entries.{Entry}
 use Rattle.noting_laws.specs.push_laws.specs.Laws.{stored_in}
-use Rattle.noting_laws.specs.world_model.specs.Worlds.{Happening, words_in, all_entries, all_words}
+use Rattle.noting_laws.specs.world_model.specs.Worlds.{all_entries, all_words}
 use Rattle.noting_laws.specs.scenario_laws.specs.Captures.{Ran, Finished}
 use Rattle.noting_laws.specs.scenario_laws.specs.Gains.{holding}
 use Rattle.noting_laws.specs.pair_laws.specs.Keeping.{LosesNothing}
@@ -25,10 +23,12 @@ use Rattle.credit_laws.specs.request_laws.proofs.Summing.{both_ask}
 use Rattle.credit_laws.specs.request_laws.proofs.Together.{all_granted}
 use Rattle.credit_laws.specs.request_laws.proofs.Told.{none_longer, gives_octets}
 use Rattle.scenario_play.specs.Breaking.{IsBroken}
+use Rattle.scenario_play.specs.Gaining.{PlaysKeep}
 use Rattle.scenario_play.specs.Playing.{IsPlayed}
 use Rattle.scenario_play.specs.Streaming.{HaveStreamed, StreamsPlayed, StreamsBroken, PlaysStream}
 use Rattle.scenario_play.proofs.Alikeness.{enough_held}
-use Rattle.scenario_play.proofs.Gained.{played_kept, broken_kept, unless, run_so_far}
+use Rattle.scenario_play.proofs.Causes.{words_go_on}
+use Rattle.scenario_play.proofs.Gained.{broken_kept, unless, run_so_far}
 
 -- ---- the script
 
@@ -41,10 +41,7 @@ loses_nothing scenario before capture muxed finished =
 pub broke_gently : (scenario : Scenario) (shelf : Option (List Object)) (before after : Option Contents) (trace trace' : Option (List ℕ)) (counts counts' : Counts) (broken : IsBroken scenario shelf before after trace trace' counts counts') → scenario.settings.transport ≡ Rfcomm
     → LosesNothing (all_words broken.happenings)
 broke_gently scenario shelf before after trace trace' counts counts' broken muxed =
-    let first = all_words broken.happenings in
-    let more = all_words broken.more in
-    let on : all_words broken.ran.happenings ≡ first ++ more = ap (λ (hs : List Happening). all_words hs) broken.goes_on ∙ flat_map-append words_in broken.happenings broken.more in
-    scripts_lose_nothing scenario first (more ++ broken.later) muxed (broken.words_are ∙ ap (λ (ws : List Word). ws ++ broken.later) on ∙ append_assoc first more broken.later)
+    scripts_lose_nothing scenario (all_words broken.happenings) (all_words broken.more ++ broken.later) muxed (words_go_on scenario shelf before after trace trace' counts counts' broken)
 
 -- ---- the ports
 
@@ -59,14 +56,14 @@ have_streamed scenario shelf before capture ran gentle happened =
 
 -- ---- to its end
 
-plays : (scenario : Scenario) (shelf : Option (List Object)) (before : List Object) (after : Option Contents) (trace trace' : Option (List ℕ)) (outcomes : List Outcome) (peaks : Peaks) (counts counts' : Counts) (played : IsPlayed scenario shelf (holding before) after trace trace' outcomes peaks counts counts')
+plays : PlaysKeep → (scenario : Scenario) (shelf : Option (List Object)) (before : List Object) (after : Option Contents) (trace trace' : Option (List ℕ)) (outcomes : List Outcome) (peaks : Peaks) (counts counts' : Counts) (played : IsPlayed scenario shelf (holding before) after trace trace' outcomes peaks counts counts')
     → scenario.settings.transport ≡ Rfcomm → StreamsPlayed both_ask scenario shelf before after outcomes played.capture played.finished.ran counts counts'
-plays scenario shelf before after trace trace' outcomes peaks counts counts' played muxed =
+plays keeps scenario shelf before after trace trace' outcomes peaks counts counts' played muxed =
     let capture = played.capture in
     let ran = played.finished.ran in
     let gentle = loses_nothing scenario (holding before) capture muxed played.finished in
     record {
-      kept = played_kept scenario shelf (holding before) after trace trace' outcomes peaks counts counts' played;
+      kept = keeps.plays scenario shelf (holding before) after trace trace' outcomes peaks counts counts' played;
       told = held-keep_order both_ask scenario shelf (holding before) capture ran (enough_held scenario shelf (holding before) ran.happenings ran.world played.enough) gentle;
       answered = λ never. have_streamed scenario shelf before capture ran gentle (played.granted never);
       heard = λ have. hears_all scenario before capture ran muxed have.order have.answer;
@@ -91,11 +88,11 @@ breaks scenario shelf before after trace trace' counts counts' broken muxed =
       gained = λ have none. ap stored_in (unless broken.stored none) ∙ gains-carried scenario before past ran muxed have.order (hears_all scenario before past ran muxed have.order have.answer);
     }
 
-pub plays_stream : PlaysStream
-plays_stream = record {
+pub plays_stream : PlaysKeep → PlaysStream
+plays_stream keeps = record {
   asks = both_ask;
   plays = λ scenario shelf before after trace trace' outcomes peaks counts counts' played muxed.
-      plays scenario shelf before after trace trace' outcomes peaks counts counts' played muxed;
+      plays keeps scenario shelf before after trace trace' outcomes peaks counts counts' played muxed;
   breaks = λ scenario shelf before after trace trace' counts counts' broken muxed.
       breaks scenario shelf before after trace trace' counts counts' broken muxed;
 }

@@ -1,5 +1,5 @@
 -- What a scenario comes to that was played: over either transport, and over L2CAP with all that is still asked of its ports (this project's own).
-use Rattle.std.specs.Prelude.{ℕ, ◌≡◌, ◌≤◌, List, [], ◌++◌, length, Option, Some, None}
+use Rattle.std.specs.Prelude.{ℕ, ◌≡◌, ◌≤◌, ◌<◌, List, [], ◌++◌, length, Option, Some, None}
 use Rattle.std.specs.List.{AllByRecursion}
 use Rattle.bt_base.specs.Objects.{Object, Contents}
 use Rattle.bt_base.specs.declared.settings.Transport.TheVariants.{L2cap}
@@ -30,11 +30,13 @@ use Rattle.noting_laws.specs.scenario_laws.specs.OneLink.{HasOneLink}
 use Rattle.noting_laws.specs.scenario_laws.specs.Outcomes.{outcomes_of}
 use Rattle.noting_laws.specs.scenario_laws.specs.Parties.{party_of}
 use Rattle.noting_laws.specs.scenario_laws.specs.PushEnds.{AllHaveEnded}
+use Rattle.noting_laws.specs.pair_laws.specs.Costs.{adverse_in}
 use Rattle.noting_laws.specs.pair_laws.specs.InTurn.{PairsInTurn}
 use Rattle.noting_laws.specs.pair_laws.specs.Served.{HeldInTurn}
 use Rattle.drop_laws.specs.cause_laws.specs.FirstCauses.{CausesAreShown}
 use Rattle.drop_laws.specs.Dropped.{LossesAreDrops}
 use Rattle.blame_laws.specs.Blamed.{SparesPeer}
+use Rattle.parting_laws.specs.Parting.{PeersCloseNone}
 use Rattle.credit_laws.specs.request_laws.specs.AllSizes.{InboxGrants}
 use Rattle.credit_laws.specs.request_laws.specs.BothFed.{most_octets, GrantsAll}
 use Rattle.credit_laws.specs.request_laws.specs.Together.{PortsAnswer}
@@ -87,7 +89,8 @@ pub record ServesAndGains (asks : HostsAsk) (scenario : Scenario) (before : List
   pub gained : stored ≡ Some (before ++ objects_heard (party_of scenario.settings B) B capture)
 
 -- A scenario that was played to its end: its accounts, that each push which began has its end, an outcome for each object and what shows why it came, that none
--- blames its peer for what is never its fault, and that the air obeyed the script, whatever ports answer.
+-- blames its peer for what is never its fault, nor ends as closed by it while fewer words of the script are adverse than the hosts try, and that the air obeyed the
+-- script, whatever ports answer.
 pub record KeepsPlayed (scenario : Scenario) (outcomes : List Outcome) (capture : List Entry) : Type 0 where
   pub accounts : KeepsAccounts scenario capture
   pub all_ended : AllHaveEnded capture
@@ -96,6 +99,7 @@ pub record KeepsPlayed (scenario : Scenario) (outcomes : List Outcome) (capture 
   pub causes : CausesAreShown scenario.settings capture
   pub drops : LossesAreDrops capture
   pub spares : SparesPeer scenario.settings.transport capture
+  pub limits : adverse_in (words_of scenario.script) < scenario.settings.tries → PeersCloseNone capture
   pub obeys : Obeys (hosts_of scenario.settings) scenario.acl_length (words_of scenario.script) capture
 
 -- A scenario that broke off: its accounts, and each entry keeps to the script, whatever ports answer.
@@ -135,12 +139,14 @@ pub record GainsBroken (asks : HostsAsk) (scenario : Scenario) (shelf : Option (
 -- ---- the laws
 
 -- So it is of every scenario that was played, over either transport, whatever its script says and its ports answer: to its end, or as far as it
--- came.
+-- came; and as far as it came no push ended as closed by its peer either, while so few words are adverse.
 pub record PlaysKeep : Type 0 where
   pub plays : (scenario : Scenario) (shelf : Option (List Object)) (before after : Option Contents) (trace trace' : Option (List ℕ)) (outcomes : List Outcome) (peaks : Peaks) (counts counts' : Counts)
       (played : IsPlayed scenario shelf before after trace trace' outcomes peaks counts counts') → KeepsPlayed scenario outcomes played.capture
   pub breaks : (scenario : Scenario) (shelf : Option (List Object)) (before after : Option Contents) (trace trace' : Option (List ℕ)) (counts counts' : Counts)
       (broken : IsBroken scenario shelf before after trace trace' counts counts') → KeepsBroken scenario (all_entries broken.happenings ++ broken.next)
+  pub limits : (scenario : Scenario) (shelf : Option (List Object)) (before after : Option Contents) (trace trace' : Option (List ℕ)) (counts counts' : Counts)
+      (broken : IsBroken scenario shelf before after trace trace' counts counts') → adverse_in (words_of scenario.script) < scenario.settings.tries → PeersCloseNone (all_entries broken.happenings)
 
 -- So it is of every scenario that was played over L2CAP, whatever its script says: to its end, or as far as it came. Nothing is asked of both
 -- hosts.

@@ -8,6 +8,8 @@ pub use Rattle.drop_laws
 pub use Rattle.noting_laws.specs.host_laws
 pub use Rattle.noting_laws.specs.link_talk
 pub use Rattle.noting_laws.specs.obex_session
+pub use Rattle.noting_laws.specs.pair_laws
+pub use Rattle.parting_laws
 pub use Rattle.noting_laws.specs.push_laws
 pub use Rattle.noting_laws.specs.scenario_laws
 pub use Rattle.noting_laws.specs.world_model

@@ -37,25 +37,31 @@ pub fn wants_are_told()
 {}
 
 /// What is so of every scenario that was played, over L2CAP or over RFCOMM, to its end or as far as it came, over its capture alone and whatever
-/// ports answer: the buffers of both controllers at each moment, honest controllers, the pushes and their outcomes; at its end the windows
-/// are kept and the air obeyed the script, and as far as it came each entry keeps to the script.
+/// ports answer: the buffers of both controllers at each moment, honest controllers, the pushes and their outcomes, none as closed by the peer while fewer words of the script are adverse than
+/// the hosts try; at its end the windows are kept and the air obeyed the script, and as far as it came each entry keeps to the script.
 pub fn plays_keep()
     ensures { PlaysKeep }
-{}
+{
+    parting_laws::few_words_part_none();
+}
 
 /// What is so of every scenario that was played over L2CAP, to its end or as far as it came, over its capture alone: all that `plays_keep` says.
 /// Where the inbox grants all calls, as it does where no count of it rose, it gained exactly what the capture spells, of objects of any size. And where
 /// besides no object has more than 16,777,215 octets, host b serves in order, and so is all that `plays_end` and `plays_break_off` say.
 pub fn plays_gain()
     ensures { PlaysGain }
-{}
+{
+    plays_keep();
+}
 
 /// What is so of every scenario that was played over RFCOMM, to its end or as far as it came, over its capture alone: all that `plays_keep` says. And where
 /// the inbox grants all calls, as it does where no count of it rose, no request is ignored, and the inbox gained exactly what the capture spells, of objects
 /// of any size.
 pub fn plays_stream()
     ensures { PlaysStream }
-{}
+{
+    plays_keep();
+}
 
 /// Where the inbox of a played scenario never lacked memory, it gained the objects that the capture spells, in their order, but for as many at most as its
 /// count of faults rose by: over L2CAP or over RFCOMM, to the end or as far as it came.
