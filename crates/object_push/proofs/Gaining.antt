@@ -10,7 +10,6 @@ use Rattle.scenario_play.specs.scenario_laws.specs.Gains.{holding}
 use Rattle.scenario_play.specs.Breaking.{IsBroken}
 use Rattle.scenario_play.specs.Gaining.{PlaysGain}
 use Rattle.scenario_play.specs.Playing.{IsPlayed}
-use Rattle.scenario_play.proofs.Gained.{plays_gain}
 use Rattle.btpush_forms.specs.declared.status.Status.{Status}
 use Rattle.object_push.specs.Gaining.{ComesTo, ToItsEnd, Short, RunsGain}
 use Rattle.object_push.specs.Gains.{Gains}
@@ -45,5 +44,5 @@ comes_from law scenario before old new result held direct (RanShort fault is sto
     subst (λ (c : Option Contents). IsBroken scenario old.shelf.content c new.inbox.content old.trace.content new.trace.content (counts_in old.inbox) (counts_in new.inbox)) held broken in
     Short fault is stops over (law.breaks scenario old.shelf.content before new.inbox.content old.trace.content new.trace.content (counts_in old.inbox) (counts_in new.inbox) over direct) silent
 
-pub runs_gain : RunsGain
-runs_gain = record { asks = plays_gain.asks; gains = comes_from plays_gain }
+pub runs_gain : PlaysGain → RunsGain
+runs_gain law = record { asks = law.asks; gains = comes_from law }

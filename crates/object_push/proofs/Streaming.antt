@@ -7,7 +7,6 @@ use Rattle.scenario_play.specs.scenario_laws.specs.Gains.{holding}
 use Rattle.scenario_play.specs.Breaking.{IsBroken}
 use Rattle.scenario_play.specs.Playing.{IsPlayed}
 use Rattle.scenario_play.specs.Streaming.{PlaysStream}
-use Rattle.scenario_play.proofs.Streamed.{plays_stream}
 use Rattle.btpush_forms.specs.declared.status.Status.{Status}
 use Rattle.object_push.specs.Gains.{Gains}
 use Rattle.object_push.specs.Ports.{Ports, counts_in}
@@ -29,5 +28,5 @@ streams_from law scenario before old new result held muxed (RanShort fault is st
     subst (λ (c : Option Contents). IsBroken scenario old.shelf.content c new.inbox.content old.trace.content new.trace.content (counts_in old.inbox) (counts_in new.inbox)) held broken in
     record { broken = over; streams = law.breaks scenario old.shelf.content before new.inbox.content old.trace.content new.trace.content (counts_in old.inbox) (counts_in new.inbox) over muxed }
 
-pub runs_stream : RunsStream
-runs_stream = record { asks = plays_stream.asks; streams = streams_from plays_stream }
+pub runs_stream : PlaysStream → RunsStream
+runs_stream law = record { asks = law.asks; streams = streams_from law }

@@ -20,7 +20,7 @@ use Rattle.btpush_forms.specs.Refusing.{Refuses}
 use Rattle.object_push.specs.Ports.{Ports}
 use Rattle.object_push.specs.Pushing.{Pushes, NotTaken, Taken}
 use Rattle.object_push.specs.Running.{Runs}
-use Rattle.object_push.proofs.Telling.{runs_tell}
+use Rattle.object_push.specs.Told.{RunsTell}
 
 -- a text that is too long
 too_long : (text : List ℕ) → text_limit < length text → reading text ≡ Err (0, TooLong)
@@ -73,10 +73,10 @@ none_pending (Some held) pending told none = nothing held.pending (told ∙ none
     nothing (Some object) is = absurd cc
 
 -- a scenario is kept whole, and nothing behind it is left
-pub taken : (input text given : List ℕ) (left : Option (List ℕ)) (old new : Ports) (Untouched : Type 0) (scenario : Scenario) (result : Status)
+pub taken : RunsTell → (input text given : List ℕ) (left : Option (List ℕ)) (old new : Ports) (Untouched : Type 0) (scenario : Scenario) (result : Status)
     → text ≡ take kept_limit input → given ≡ text → left ≡ unread input → reading given ≡ Ok (script_of scenario) → IfSome old.inbox.content (λ held. held.pending ≡ None) → Runs scenario old new result → Pushes input left old new Untouched result
-taken input text given left old new Untouched scenario result e f l read none runs =
+taken law input text given left old new Untouched scenario result e f l read none runs =
     let whole : reading input ≡ Ok (script_of scenario) = sym (reading_kept input) ∙ ap (λ (t : List ℕ). reading t) (sym e ∙ sym f) ∙ read in
     let short : length input ≤ text_limit = short_read input (script_of scenario) whole in
     let nothing : left ≡ Some [] = l ∙ ap (λ (t : List ℕ). Some t) (drop_all reading_limit input (omega (arith, short))) in
-    Taken scenario nothing whole (runs_tell scenario old new result none (few_words input scenario whole) runs)
+    Taken scenario nothing whole (law scenario old new result none (few_words input scenario whole) runs)

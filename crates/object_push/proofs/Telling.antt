@@ -20,13 +20,13 @@ use Rattle.scenario_play.specs.Breaking as breaking
 use Rattle.scenario_play.specs.Breaking.{IsBroken, IsWanting}
 use Rattle.scenario_play.specs.Doing.{DoneAreStored}
 use Rattle.scenario_play.specs.Failing.{shelf_faults}
+use Rattle.scenario_play.specs.Gaining.{PlaysKeep}
 use Rattle.scenario_play.specs.Losing.{LeavesOutCounted, GainsLess}
 use Rattle.scenario_play.specs.Playing.{LackedNever, IsPlayed}
 use Rattle.scenario_play.specs.Pushed.{SpellsOfShelf}
 use Rattle.scenario_play.proofs.BufferPeaks.{buffer_peaks_are_told}
 use Rattle.scenario_play.proofs.Causes.{causes_so_far, losses_so_far, peer_spared_so_far}
 use Rattle.scenario_play.proofs.Doing.{plays_store_done}
-use Rattle.scenario_play.proofs.Gained.{plays_keep}
 use Rattle.scenario_play.proofs.Lost.{none_left_out, plays_gain_less}
 use Rattle.scenario_play.proofs.Pushed.{plays_spell_pushed}
 use Rattle.scenario_play.proofs.Services.{plays_keep_service}
@@ -112,12 +112,12 @@ module _ (scenario : Scenario) (old new : Ports) where
       → scenario.settings.transport ≡ L2cap → LackedNever (counts_in old.inbox) (counts_in new.inbox) → DoneAreStored scenario.settings stored new.inbox.content played.capture) (sym is)
       (λ played direct enough. plays_store_done.plays scenario shelf stored new.inbox.content old.trace.content new.trace.content outcomes peaks (counts_in old.inbox) (counts_in new.inbox) played direct enough))
 
-  ends_so : (outcomes : List Outcome) (kept : ℕ) (peaks : Peaks) (played : Played old.inbox.content outcomes peaks) → IfSome old.inbox.content (λ before. before.pending ≡ None) → Gains old.inbox.content kept new.inbox.content
+  ends_so : PlaysKeep → (outcomes : List Outcome) (kept : ℕ) (peaks : Peaks) (played : Played old.inbox.content outcomes peaks) → IfSome old.inbox.content (λ before. before.pending ≡ None) → Gains old.inbox.content kept new.inbox.content
       → HasRisenBy (shelf_faults outcomes) old.shelf.faults new.shelf.faults → EndsSo scenario old new outcomes kept peaks played.capture
-  ends_so outcomes kept peaks played none gains faults =
+  ends_so law outcomes kept peaks played none gains faults =
       record {
         captured = record { each = played.entries_are; written = played.written };
-        keeps = plays_keep.plays scenario old.shelf.content old.inbox.content new.inbox.content old.trace.content new.trace.content outcomes peaks (counts_in old.inbox) (counts_in new.inbox) played;
+        keeps = law.plays scenario old.shelf.content old.inbox.content new.inbox.content old.trace.content new.trace.content outcomes peaks (counts_in old.inbox) (counts_in new.inbox) played;
         pushed = has_pushed scenario old.shelf.content played.capture (λ shelf of. pushed_played old.shelf.content outcomes peaks shelf of played);
         done = has_done scenario old.shelf.content old.inbox.content new.inbox.content (counts_in old.inbox) (counts_in new.inbox) played.capture none (λ shelf stored of is direct enough. done_played old.shelf.content old.inbox.content outcomes peaks shelf stored of is played direct enough);
         gains = has_gained scenario old.inbox.content new.inbox.content kept (counts_in old.inbox) (counts_in new.inbox) played.capture none gains (less_played old.inbox.content outcomes peaks played);
@@ -162,15 +162,16 @@ module _ (scenario : Scenario) (old new : Ports) where
       → scenario.settings.transport ≡ L2cap → LackedNever (counts_in old.inbox) (counts_in new.inbox) → DoneAreStored scenario.settings stored new.inbox.content (all_entries broken.happenings)) (sym is)
       (λ broken direct enough. plays_store_done.breaks scenario shelf stored new.inbox.content old.trace.content new.trace.content (counts_in old.inbox) (counts_in new.inbox) broken direct enough))
 
-  stops_so : (broken : Broke old.inbox.content) → IfSome old.inbox.content (λ before. before.pending ≡ None) → Grows old.inbox.content new.inbox.content → StopsSo scenario old new (all_entries broken.happenings) broken.next
-  stops_so broken none (kept, gains) = record {
+  stops_so : PlaysKeep → (broken : Broke old.inbox.content) → IfSome old.inbox.content (λ before. before.pending ≡ None) → Grows old.inbox.content new.inbox.content → StopsSo scenario old new (all_entries broken.happenings) broken.next
+  stops_so law broken none (kept, gains) = record {
     few = broken.few;
     each = broken.entries_are;
     written = broken.written;
-    keeps = plays_keep.breaks scenario old.shelf.content old.inbox.content new.inbox.content old.trace.content new.trace.content (counts_in old.inbox) (counts_in new.inbox) broken;
+    keeps = law.breaks scenario old.shelf.content old.inbox.content new.inbox.content old.trace.content new.trace.content (counts_in old.inbox) (counts_in new.inbox) broken;
     causes = causes_so_far scenario old.shelf.content old.inbox.content new.inbox.content old.trace.content new.trace.content (counts_in old.inbox) (counts_in new.inbox) broken;
     drops = losses_so_far scenario old.shelf.content old.inbox.content new.inbox.content old.trace.content new.trace.content (counts_in old.inbox) (counts_in new.inbox) broken;
     spares = peer_spared_so_far scenario old.shelf.content old.inbox.content new.inbox.content old.trace.content new.trace.content (counts_in old.inbox) (counts_in new.inbox) broken;
+    limits = law.limits scenario old.shelf.content old.inbox.content new.inbox.content old.trace.content new.trace.content (counts_in old.inbox) (counts_in new.inbox) broken;
     pushed = has_pushed scenario old.shelf.content (all_entries broken.happenings) (λ shelf of. pushed_broken old.shelf.content shelf of broken);
     done = has_done scenario old.shelf.content old.inbox.content new.inbox.content (counts_in old.inbox) (counts_in new.inbox) (all_entries broken.happenings) none (λ shelf stored of is direct enough. done_broken old.shelf.content old.inbox.content shelf stored of is broken direct enough);
     gains = has_gained scenario old.inbox.content new.inbox.content kept (counts_in old.inbox) (counts_in new.inbox) (all_entries broken.happenings) none gains (less_broken old.inbox.content broken);
@@ -192,7 +193,7 @@ module _ (scenario : Scenario) (old new : Ports) where
   has_why few NoMemory (inl lacked) = TraceLacked lacked
   has_why few NoMemory (inr wants) = wanting few wants
 
-pub runs_tell : RunsTell
-runs_tell scenario old new result none few (RanToEnd outcomes kept peaks played gains faults reports) = ToTheEnd outcomes kept peaks played.capture (ends_so scenario old new outcomes kept peaks played none gains faults) reports
-runs_tell scenario old new result none few (RanShort fault is stops broken grows silent) =
-    NotToTheEnd fault (all_entries broken.happenings) broken.next is (has_why scenario old new few fault stops) (stops_so scenario old new broken none grows) silent
+pub runs_tell : PlaysKeep → RunsTell
+runs_tell law scenario old new result none few (RanToEnd outcomes kept peaks played gains faults reports) = ToTheEnd outcomes kept peaks played.capture (ends_so scenario old new law outcomes kept peaks played none gains faults) reports
+runs_tell law scenario old new result none few (RanShort fault is stops broken grows silent) =
+    NotToTheEnd fault (all_entries broken.happenings) broken.next is (has_why scenario old new few fault stops) (stops_so scenario old new law broken none grows) silent

@@ -7,6 +7,7 @@ ghost use Rattle.object_push.specs.Ports.{ports_of};
 ghost use Rattle.object_push.specs.Pushing.{IsShort, Pushes};
 ghost use Rattle.object_push.specs.Running.{Runs};
 
+use crate::laws::runs_tell;
 use crate::reporting::{refuse, report};
 use crate::running::play_on;
 use bt_base::{Inbox, Shelf, Sink, Source};
@@ -83,5 +84,6 @@ pub fn push<S: Source, K: Sink, T: Sink, F: Shelf, B: Inbox>(
         Err(ScriptFault::Refused(line, refusal)) => return refuse(line, refusal, sink),
         Err(ScriptFault::NoMemory) => return Status::NoMemory,
     };
+    runs_tell();
     run_scenario(alloc, &scenario, sink, trace, shelf, inbox)
 }

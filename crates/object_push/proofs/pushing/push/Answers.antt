@@ -18,7 +18,7 @@ pub returns-in-Err-NoMemory-scenario_of-clause-pushes : goal.returns-in-Err-NoMe
 returns-in-Err-NoMemory-scenario_of-clause-pushes g c = if_some _ (λ input h. NotRead reading_limit h.1 refl (refl, refl, refl) tt) c.in-Ok.ensures.gathers
 
 pub returns-clause-pushes : goal.returns-clause-pushes
-returns-clause-pushes g c = if_some _ (λ input h. taken input _ _ _ _ _ _ c.in-Ok-scenario_of.scenario _ h.0 c.deref.ensures.value h.1 c.in-Ok-scenario_of.ensures (none_pending _ _ (g.met.B.Inbox.told c.args.inbox.now) c.requires.pending) c.run_scenario.ensures.runs) c.in-Ok.ensures.gathers
+returns-clause-pushes g c = if_some _ (λ input h. taken c.runs_tell.ensures input _ _ _ _ _ _ c.in-Ok-scenario_of.scenario _ h.0 c.deref.ensures.value h.1 c.in-Ok-scenario_of.ensures (none_pending _ _ (g.met.B.Inbox.told c.args.inbox.now) c.requires.pending) c.run_scenario.ensures.runs) c.in-Ok.ensures.gathers
 
 pub returns-clause-finish : goal.returns-clause-finish
 returns-clause-finish g c ended = c.in-Ok.ensures.finish (omega (arith, short_read c.deref.result.now (script_of c.in-Ok-scenario_of.scenario) c.in-Ok-scenario_of.ensures, ap (λ (t : List ℕ). length t) c.deref.ensures.value))
