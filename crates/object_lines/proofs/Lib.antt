@@ -4,3 +4,4 @@ pub mod OneChannel
 pub mod Tallying
 pub mod Telling
 pub mod Mattering
+pub mod Heard

@@ -4,3 +4,5 @@ pub mod Alone
 pub mod Laws
 pub mod Tallies
 pub mod Matters
+pub mod Held
+pub mod Heard

@@ -4,7 +4,11 @@
 mod alone;
 pub mod laws;
 mod line;
+mod links;
+mod news;
 mod objects;
+mod piece;
+mod talk;
 mod tally;
 mod viewing;
 

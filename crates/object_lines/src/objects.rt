@@ -1,21 +1,26 @@
 //! The objects that the receiving host of a capture heard.
 
-ghost use Rattle.std.specs.Prelude.{◌≡◌, ◌++◌, List, map, IfOk, OnOk};
+ghost use Rattle.std.specs.Prelude.{◌≡◌, ◌++◌, ◌∷◌, [], List, Some, map, IfOk, IfSome, OnOk, option_map};
 ghost use Rattle.capture.specs.Entries.{Entry, IsCapture};
-ghost use Rattle.capture.specs.Lent.{plain_entries, plain_link};
-ghost use Rattle.link_talk.specs.Sayings.{talk};
+ghost use Rattle.capture.specs.Lent.{plain_entry, plain_move};
+ghost use Rattle.capture.specs.Moves.{move_of};
+ghost use Rattle.link_talk.specs.declared.party.Party.{Party as PlainParty};
 ghost use Rattle.link_talk.specs.ObjectsHeard.{objects};
 ghost use Rattle.link_talk.specs.Captures.{objects_heard};
+ghost use Rattle.push_terms.specs.declared.word.Side.TheVariants as sides;
 ghost use Rattle.object_lines.specs.Lines.{viewed, object_lines};
 ghost use Rattle.object_lines.specs.Tallies.{told, plain_told};
+ghost use Rattle.object_lines.specs.Held.{plain_talk, JoinsPdus};
+ghost use Rattle.object_lines.specs.Heard.{IsHeard};
 
 use crate::alone::objects_said;
 use crate::line::push_objects;
+use crate::links::{HeldLink, HeldLinks};
 use crate::tally::Told;
 use bt_base::NoMemory;
-use capture::readers::{Link, links};
-use capture::{CaptureFault, Entry as Happening, entries_of};
-use link_readers::{link_pdus, sayings_of};
+use bumpalo::Bump;
+use capture::readers::Move;
+use capture::{Entry as Happening, entry_of};
 use link_talk::Party;
 use push_terms::Side;
 use rfcomm_frames::Role;
@@ -42,32 +47,125 @@ fn append(objects: &mut Vec<Told>, mut more: Vec<Told>) -> Result<(), NoMemory>
     Ok(())
 }
 
-/// What is told of the objects of one link of a capture.
-fn objects_on(alloc: Global, party: &Party, link: &Link<'_>) -> Result<Vec<Told>, NoMemory>
-    ensures { IfOk result (λ found. map plain_told found.items ≡ map told (objects party.now (talk (plain_link link.now)))) }
-{
-    let pdus = link_pdus(alloc, link)?;
-    let said = sayings_of(alloc, &pdus)?;
-    objects_said(alloc, party, &said)
+/// What is told of the objects of a host, as the entries of its capture come: those of the links that ended, and its links.
+#[derive(Drop)]
+struct Hearer<'a> {
+    links: HeldLinks<'a>,
+    found: Vec<Told>,
 }
 
-/// What is told of the objects that the packets spell which a side heard, in the order of their last packets.
-#[tactic(auto, using(crate::proofs::Telling::all_told))]
-fn objects_heard(
-    alloc: Global,
-    party: &Party,
-    entries: &[Happening<'_>],
-    side: Side,
-) -> Result<Vec<Told>, NoMemory>
-    ensures { IfOk result (λ found. map plain_told found.items ≡ map told (objects_heard party.now side (plain_entries entries.now))) }
+/// The packet that moves at host b with an entry.
+fn move_of<'a>(entry: &Happening<'a>) -> Option<Move<'a>>
+    ensures { option_map plain_move result ≡ move_of sides.B (plain_entry entry.now) }
 {
-    let links = links(alloc, entries, side)?;
-    let mut found = Vec::new(alloc);
-    for link in &links {
-        let more = objects_on(alloc, party, link)?;
-        append(&mut found, more)?;
+    match *entry {
+        Happening::Moved {
+            side: Side::B,
+            flow,
+            unit,
+        } => Some(Move { flow, unit }),
+        _ => None,
     }
-    Ok(found)
+}
+
+impl<'a> Hearer<'a> {
+    fn new(alloc: Global) -> Hearer<'a>
+        ensures heard { (party : PlainParty) → IsHeard party [] result }
+        ensures joins { IfSome result.links.up JoinsPdus }
+    {
+        Hearer {
+            links: HeldLinks::new(),
+            found: Vec::new(alloc),
+        }
+    }
+
+    /// A link has ended.
+    fn end(&mut self, alloc: Global, party: &Party, link: &HeldLink<'a>) -> Result<(), NoMemory>
+        ensures told { OnOk result (map plain_told self.new.found.items ≡ map plain_told self.old.found.items ++ map told (objects party.now (plain_talk link.now.talk))) }
+        ensures links { OnOk result (self.new.links ≡ self.old.links) }
+    {
+        let more = objects_said(alloc, party, &link.talk.said)?;
+        append(&mut self.found, more)
+    }
+
+    /// One packet of the host more.
+    fn hear_move(
+        &mut self,
+        alloc: Global,
+        arena: &'a Bump,
+        party: &Party,
+        moved: &Move<'a>,
+    ) -> Result<(), NoMemory>
+        requires { IfSome self.old.links.up JoinsPdus }
+        ensures heard { OnOk result ((past : List Entry) (more : Entry) → Some (plain_move moved.now) ≡ move_of sides.B more → IsHeard party.now past self.old → IsHeard party.now (past ++ more ∷ []) self.new) }
+        ensures joins { OnOk result (IfSome self.new.links.up JoinsPdus) }
+    {
+        let ended = self.links.hear(alloc, arena, moved)?;
+        match ended {
+            None => Ok(()),
+            Some(link) => {
+                self.end(alloc, party, &link)?;
+                Ok(())
+            }
+        }
+    }
+
+    /// One entry more.
+    #[tactic(auto, using(crate::proofs::Heard::heard_same))]
+    fn hear(
+        &mut self,
+        alloc: Global,
+        arena: &'a Bump,
+        party: &Party,
+        entry: &Happening<'a>,
+    ) -> Result<(), NoMemory>
+        requires { IfSome self.old.links.up JoinsPdus }
+        ensures heard { OnOk result ((past : List Entry) → IsHeard party.now past self.old → IsHeard party.now (past ++ plain_entry entry.now ∷ []) self.new) }
+        ensures joins { OnOk result (IfSome self.new.links.up JoinsPdus) }
+    {
+        match move_of(entry) {
+            None => Ok(()),
+            Some(moved) => self.hear_move(alloc, arena, party, &moved),
+        }
+    }
+
+    /// The end: the objects of the link that is up are told of too.
+    fn finish(&mut self, alloc: Global, party: &Party) -> Result<(), NoMemory>
+        ensures { OnOk result ((past : List Entry) → IsHeard party.now past self.old → map plain_told self.new.found.items ≡ map told (objects_heard party.now sides.B past)) }
+    {
+        let up = self.links.up.take();
+        match up {
+            None => Ok(()),
+            Some(link) => {
+                self.end(alloc, party, &link)?;
+                Ok(())
+            }
+        }
+    }
+}
+
+/// What is told of the objects that the packets spell which host b heard in a capture, in the order of their last
+/// packets. Of octets that are no capture nothing is told.
+fn objects_heard<'a>(
+    alloc: Global,
+    arena: &'a Bump,
+    party: &Party,
+    octets: &'a [u8],
+) -> Result<Vec<Told>, NoMemory>
+    ensures { IfOk result (λ found. (entries : List Entry) → IsCapture octets.now entries → map plain_told found.items ≡ map told (objects_heard party.now sides.B entries)) }
+{
+    let mut hearer = Hearer::new(alloc);
+    let mut rest = octets;
+    while !rest.is_empty() {
+        let (entry, used) = match entry_of(rest) {
+            Ok(found) => found,
+            Err(_refusal) => return Ok(Vec::new(alloc)),
+        };
+        hearer.hear(alloc, arena, party, &entry)?;
+        rest = &rest[used..];
+    }
+    hearer.finish(alloc, party)?;
+    Ok(hearer.found)
 }
 
 /// The lines of the objects that host b heard in a capture, none where the octets are no capture.
@@ -75,13 +173,9 @@ fn objects_heard(
 pub(crate) fn object_lines(alloc: Global, octets: &[u8]) -> Result<Vec<u8>, NoMemory>
     ensures { (entries : List Entry) → IsCapture octets.now entries → IfOk result (λ text. text.items ≡ object_lines entries) }
 {
+    let arena = Bump::new(alloc);
+    let objects = objects_heard(alloc, &arena, &viewed(), octets)?;
     let mut text = Vec::new(alloc);
-    let entries = match entries_of(alloc, octets) {
-        Ok(entries) => entries,
-        Err(CaptureFault::Refused(_, _)) => return Ok(text),
-        Err(CaptureFault::NoMemory) => return Err(NoMemory),
-    };
-    let objects = objects_heard(alloc, &viewed(), &entries, Side::B)?;
     push_objects(&mut text, &objects)?;
     Ok(text)
 }
