@@ -4,7 +4,8 @@
     speed.py BTPUSH [LIMIT]
 
 The packets of a link are repeated up to a btsnoop file of LIMIT octets, 60 million where none is given,
-once with data of 1,000 octets and once with data of 20. They go over channels of all kinds: signalling,
+with data of 1,000 octets, and of a quarter of that where packets are small, as signals are, and all with
+data of 20 octets: tshark takes long for these. They go over channels of all kinds: signalling,
 service discovery, RFCOMM, one in enhanced retransmission mode that carries objects, and one of data; and once
 more for each kind alone. tshark and `decode --snoop` show that file, `decode` the same packets as a stream,
 and `decode --tagged` the same packets as a capture of host a, and then as one of host b, whose objects it
@@ -220,9 +221,10 @@ def main():
     btpush = os.path.realpath(sys.argv[1])
     limit = int(sys.argv[2]) if len(sys.argv) == 3 else 60_000_000
     for size in (1000, 20):
-        measure(btpush, "all kinds", list(KINDS.values()), size, limit)
+        most = limit if size == 1000 else limit // 4
+        measure(btpush, "all kinds", list(KINDS.values()), size, most)
         for name, kind in KINDS.items():
-            measure(btpush, name, [kind], size, limit)
+            measure(btpush, name, [kind], size, limit // 4 if name == "sig" else most)
 
 
 main()
