@@ -11,7 +11,7 @@ use Rattle.object_push.specs.push_terms.specs.declared.outcome.Outcome.{Outcome}
 use Rattle.object_push.specs.push_terms.specs.declared.outcome.Outcome.TheVariants.{Done, LinkLost, RetryLimit, Refused, NoService, ShelfFault, Cancelled, PeerClosed, PeerFault, ScriptEnded}
 use Rattle.push_script.specs.Reports.{push_line, push_lines}
 use Rattle.script_words.proofs.OutcomesWritten.{fault_text}
-use Rattle.push_script.proofs.Splitting.{differs, all_append}
+use Rattle.script_words.proofs.Splitting.{differs, all_append}
 use Rattle.object_push.specs.Running.{is_done}
 use Rattle.making.specs.Counting.{is_feed, tells_done, done_lines}
 use Rattle.making.specs.Outcomes.{done_count}
