@@ -15,8 +15,13 @@ pub mod PushLaws
 pub mod ExchangeLaws
 pub mod SuccessLaws
 pub mod PairStages
+pub mod PairTakes
+pub mod PairPuts
 pub mod PairReplies
 pub mod PairLaws
+pub mod OneNameLaws
+pub mod PairFronts
+pub mod ReadableLaws
 pub mod AskingLaws
 pub mod NameLaws
 pub mod WritingLaws

@@ -9,7 +9,7 @@ use Rattle.obex_headers.specs.Runs.{put_of, put_in, objects_from, heard}
 use Rattle.obex_session.specs.Past.{puts_heard}
 use Rattle.obex_session.specs.Laws.{without_fault, StoresWhatIsSpelled}
 
-within_maximum : (maximum maximum' : ℕ) (octets : List ℕ) → length octets ≤ maximum → length octets ≤ maximum' → packet_in Request maximum octets ≡ packet_in Request maximum' octets
+pub within_maximum : (maximum maximum' : ℕ) (octets : List ℕ) → length octets ≤ maximum → length octets ≤ maximum' → packet_in Request maximum octets ≡ packet_in Request maximum' octets
 unfolding packet_in front_at
 within_maximum maximum maximum' octets le le' = rw (le-ltb maximum (length octets) le) (rw (le-ltb maximum' (length octets) le') refl)
 

@@ -43,7 +43,7 @@ place-more : (parts : List (List ℕ)) (part : List ℕ) → place_behind (parts
 place-more [] part = refl
 place-more (first ∷ parts) part = refl
 
-all-more : {X : Type 0} (P : X → Type 0) (xs : List X) (x : X) → AllByRecursion P xs → P x → AllByRecursion P (xs ++ x ∷ [])
+pub all-more : {X : Type 0} (P : X → Type 0) (xs : List X) (x : X) → AllByRecursion P xs → P x → AllByRecursion P (xs ++ x ∷ [])
 all-more P [] x all last = (last, tt)
 all-more P (y ∷ xs) x all last = (all.0, all-more P xs x all.1 last)
 
@@ -63,7 +63,7 @@ headers-more ahead final part =
     let one = ap length (append-nil (header_octets (body_header final part))) in
     omega (arith, all, both, one)
 
-put_len : (final : Bool) (ahead : List PlainHeader) (part : List ℕ) → packet_len (put_packet final ahead part) ≡ 6 + length (headers_octets ahead) + length part
+pub put_len : (final : Bool) (ahead : List PlainHeader) (part : List ℕ) → packet_len (put_packet final ahead part) ≡ 6 + length (headers_octets ahead) + length part
 put_len final ahead part = let more = headers-more ahead final part in omega (arith, more)
 
 body_sound : (final : Bool) (part : List ℕ) → 3 + length part < 2 ^ 16 → IsHeader (body_header final part)

@@ -1,19 +1,24 @@
 -- Two sessions over a pipe of packets: what a server replies to a packet of each stage.
 use Rattle.std.proofs.Common.{get_or, Bool, true, false, cond, eqb, ◌≡◌, ℕ, ◌<◌, ◌≤◌, ◌&&◌, ◌||◌, ◌⊎◌, inl, inr, List, [], ◌∷◌, length, Option, Some, None, Result, Ok, Err, refl, sym, ap, subst, ◌∙◌, arith}
-use Rattle.std.proofs.lemmas.Bool.{eqb-true, cond-false}
+use Rattle.std.specs.Prelude.{not}
+use Rattle.std.specs.List.{list_any}
+use Rattle.std.proofs.lemmas.Bool.{eqb-true, cond-true, cond-false}
 use Rattle.bt_base.specs.declared.ports.PortFault.TheVariants as fault
 use Rattle.obex_headers.specs.declared.fault.ObexRefusal.{ObexRefusal}
 use Rattle.obex_headers.specs.declared.packet.Phase.TheVariants as phase
-use Rattle.obex_headers.specs.Packets.{PlainHeader, PlainPacket, bare, with_header}
+use Rattle.obex_headers.specs.Packets.{PlainHeader, PlainPacket, IsPacket, bare, with_header}
 use Rattle.obex_headers.specs.Reading.{◌>>=◌, headers_in, packet_in, front_at}
+use Rattle.obex_headers.proofs.PacketLaws.{packet_again}
 use Rattle.obex_session.specs.declared.asking.Request.{Request}
 use Rattle.obex_session.specs.declared.asking.Request.TheVariants.{Connect, FirstPut, Put, FinalPut}
+use Rattle.obex_session.specs.declared.client.Answered.{Answered}
 use Rattle.obex_session.specs.declared.client.Answered.TheVariants.{Go, Done, Refused}
 use Rattle.obex_session.specs.declared.codes.Code.{Code}
 use Rattle.obex_session.specs.declared.codes.Code.TheVariants as codes
 use Rattle.obex_session.specs.declared.course.Course.{Course}
-use Rattle.obex_session.specs.declared.course.Course.TheVariants.{Rests, Runs}
+use Rattle.obex_session.specs.declared.course.Course.TheVariants.{Rests, Ignores, Runs}
 use Rattle.obex_session.specs.declared.course.Progress.{Progress}
+use Rattle.obex_session.specs.declared.course.Progress.TheVariants.{Unnamed}
 use Rattle.obex_session.specs.declared.course.Verdict.{Verdict}
 use Rattle.obex_session.specs.declared.course.Verdict.TheVariants.{Open, Whole, Ended, PassedOver}
 use Rattle.obex_session.specs.declared.marks.Kind.{Kind}
@@ -24,19 +29,19 @@ use Rattle.obex_session.specs.declared.responding.Saying.TheVariants as saying
 use Rattle.obex_session.specs.Codes.{octet_of}
 use Rattle.obex_session.specs.Responses.{is_connect, connect_fields, single_header, response_octets, confirmation_octets}
 use Rattle.obex_session.specs.InboxCalls.{Answer, come_of}
-use Rattle.obex_session.specs.Marks.{marks_of, kind_of}
-use Rattle.obex_session.specs.Rules.{Ruling, ends, at_put_in, at_packet, other_response, progress_in}
-use Rattle.obex_session.specs.Turns.{enables, is_first_in, is_single_in, said_open, said_whole, course_after, said_after}
-use Rattle.obex_session.specs.Past.{Heard, stored_by}
-use Rattle.obex_session.specs.Serving.{kind_heard, verdict_or}
+use Rattle.obex_session.specs.Marks.{is_name, marks_of, kind_of}
+use Rattle.obex_session.specs.Rules.{Ruling, ends, aborts, at_put, at_put_in, at_packet, other_response, progress_in}
+use Rattle.obex_session.specs.Turns.{enables, is_first_in, is_single_in, said_open, said_whole, course_refused, course_after, said_after}
+use Rattle.obex_session.specs.Past.{Heard, Serving, stored_by}
+use Rattle.obex_session.specs.Serving.{kind_heard, verdict_or, heard_with}
 use Rattle.obex_session.specs.Asking.{Asking, phase_of, awaited_code, success_of, answer_to, after_read, after_answer}
 use Rattle.obex_session.specs.NextPut.{is_waiting}
 use Rattle.obex_session.specs.Exchanges.{answer_by_code, is_success_code, is_success, stores_one}
-use Rattle.obex_session.specs.Pairs.{Pair, sent_by, MeansWell}
+use Rattle.obex_session.specs.Pairs.{Pair, sent_by, leave_request, leave_packet, MeansWell}
 use Rattle.obex_session.proofs.ExchangeLaws.{responses_are_read}
 use Rattle.obex_session.proofs.SuccessLaws.{put_never_passes, none_stored}
 use Rattle.obex_session.proofs.RuledLaws.{IsOfPut, bad, put_in_of_put}
-use Rattle.obex_session.proofs.PairStages.{same_request, first_of, no_first, refused_well, request_of, IsPutOf, Agrees, Queued, streaming, Base, Stage, Replied, Streams, Stopped, Ends}
+use Rattle.obex_session.proofs.PairStages.{no_first, refused_well, request_of, Agrees, IsNext, Queued, Over, streaming, IsRefused, Refuses, leave_phase, leave_success, Base, Stage, Replied, Streams, Stopped, Mute}
 
 -- ---- what a server makes of a PUT
 
@@ -76,8 +81,7 @@ never_passes progress single (Err refusal) final e = absurd cc
 
 -- a pair whose server has heard a packet
 abbrev pub heard_by : Pair → List ℕ → List Heard → Saying → Course → List (List ℕ) → Pair
-heard_by a packet past said course rest = record {
-  client = a.client;
+heard_by a packet past said course rest = record a {
   server = record a.server { course = course };
   past = past;
   requests = rest;
@@ -119,7 +123,7 @@ refused_confirming a packet past request code course met refusal =
 
 -- no reply
 pub no_reply : (a : Pair) (packet : List ℕ) (past : List Heard) (request : Request) (course : Course) → Met a packet request → Stage (heard_by a packet past saying.Silence course [])
-no_reply a packet past request course met = Ends (ap is_waiting met.waits ∙ met.waiting) refl (λ r response rest w e. absurd (no_first response rest e))
+no_reply a packet past request course met = Mute (ap is_waiting met.waits ∙ met.waiting) refl refl
 
 -- ---- the first PUT
 
@@ -326,11 +330,11 @@ connect_heard a packet past answers base waits connect put facts =
     subst (λ (r : Ruling). Stage (heard_by a packet past (said_after a.server.offered Rests (kind_heard a.server packet) (verdict_or r.verdict (come_of r.calls answers))) (course_after a.server.offered Rests (kind_heard a.server packet) (verdict_or r.verdict (come_of r.calls answers))) []))
     (sym here.ruling) (connect_replied a packet past here.code base waits connect put here.fits none)
 
--- ---- a stream
+-- ---- PUTs behind the first
 
 pub record Head (maximum : ℕ) (final : Bool) (packet : List ℕ) (rest : List (List ℕ)) : Type 0 where
   pub ends : Bool
-  pub put : (single : Bool) × IsPutOf maximum packet ends single
+  pub put : IsNext maximum packet ends
   pub last : ends ≡ true → (rest ≡ []) × (final ≡ true)
   pub others : ((rest ≡ []) × (final ≡ true)) ⊎ Queued maximum final rest
 
@@ -339,62 +343,154 @@ head_queued maximum true packet [] queued = record { ends = true; put = queued; 
 head_queued maximum true packet (next ∷ rest) queued = record { ends = false; put = queued.0; last = λ e. absurd cc; others = inr queued.1 }
 head_queued maximum false packet rest queued = record { ends = false; put = queued.0; last = λ e. absurd cc; others = inr queued.1 }
 
--- a stream of a client, ahead of its server's reply
-pub record Flow (a : Pair) (packet : List ℕ) (rest : List (List ℕ)) (final : Bool) : Type 0 where
+over_ignores : (maximum : ℕ) (final : Bool) (course : Course) (rest : List (List ℕ)) → course ≡ Ignores → Queued maximum final rest → Over maximum final course rest
+over_ignores maximum true course rest e queued = inr (e, queued)
+over_ignores maximum false course rest e queued = (e, queued)
+
+over_none : (maximum : ℕ) (final : Bool) (course : Course) (rest : List (List ℕ)) → (rest ≡ []) × (final ≡ true) → Over maximum final course rest
+over_none maximum true course rest over = inl over.0
+over_none maximum false course rest over = absurd (let never : false ≡ true = over.1 in cc)
+
+-- behind the last nothing is under way
+over_behind : (maximum : ℕ) (ends final : Bool) (course : Course) (rest : List (List ℕ)) → (ends ≡ false → course ≡ Ignores) → (ends ≡ true → (rest ≡ []) × (final ≡ true)) → ((rest ≡ []) × (final ≡ true)) ⊎ Queued maximum final rest → Over maximum final course rest
+over_behind maximum true final course rest ignores last others = over_none maximum final course rest (last refl)
+over_behind maximum false final course rest ignores last (inl over) = over_none maximum final course rest over
+over_behind maximum false final course rest ignores last (inr queued) = over_ignores maximum final course rest (ignores refl) queued
+
+-- ---- a stream
+
+-- what a server says of a PUT of a stream, and its course then
+pub data Streamed (maximum : ℕ) (rest : List (List ℕ)) (final : Bool) (said : Saying) (course : Course) : Type 0 where
+  Flows : (progress : Progress) → said ≡ saying.Silence → course ≡ Runs progress true → ((rest ≡ []) × (final ≡ true)) ⊎ Queued maximum final rest → Streamed maximum rest final said course
+  Stops : (code : Code) → said ≡ saying.Response code → octet_of code < 256 → is_success_code code ≡ false → Over maximum final course rest → Streamed maximum rest final said course
+  Stores : said ≡ saying.Response codes.Success → rest ≡ [] → final ≡ true → Streamed maximum rest final said course
+
+refused_ignores : (before : Progress) (kind : Kind) (ends : Bool) (marks : Marks) → kind ≡ kinds.Put ends marks → ends ≡ false → course_refused (Runs before true) kind ≡ Ignores
+refused_ignores before kind ends marks k e = ap (course_refused (Runs before true)) k ∙ ap (λ (b : Bool). course_refused (Runs before true) (kinds.Put b marks)) e
+
+pub streamed : (offered : Bool) (maximum : ℕ) (packet : List ℕ) (rest : List (List ℕ)) (final : Bool) (before : Progress) (kind : Kind) (marks : Marks) (verdict : Verdict) (come : Answer) → (head : Head maximum final packet rest) → IsOfPut verdict → kind ≡ kinds.Put head.ends marks
+    → ((last : Bool) → verdict ≡ PassedOver last → ⊥) → (said_after offered (Runs before true) kind (verdict_or verdict come) ≡ saying.NoMemory → ⊥) → (is_success (said_after offered (Runs before true) kind (verdict_or verdict come)) ≡ true → head.ends ≡ true)
+    → Streamed maximum rest final (said_after offered (Runs before true) kind (verdict_or verdict come)) (course_after offered (Runs before true) kind (verdict_or verdict come))
+streamed offered maximum packet rest final before kind marks (Open progress) (Ok done) head is k passes memory last = Flows progress refl refl head.others
+streamed offered maximum packet rest final before kind marks Whole (Ok done) head is k passes memory last = let over = head.last (last refl) in Stores refl over.0 over.1
+streamed offered maximum packet rest final before kind marks (Ended code) (Ok done) head is k passes memory last =
+    Stops code refl is.3 is.0 (over_behind maximum head.ends final (course_refused (Runs before true) kind) rest (refused_ignores before kind head.ends marks k) head.last head.others)
+streamed offered maximum packet rest final before kind marks (PassedOver over) (Ok done) head is k passes memory last = absurd (passes over refl)
+streamed offered maximum packet rest final before kind marks verdict (Err fault.Failed) head is k passes memory last =
+    Stops codes.InternalError refl (omega arith) refl (over_behind maximum head.ends final (course_refused (Runs before true) kind) rest (refused_ignores before kind head.ends marks k) head.last head.others)
+streamed offered maximum packet rest final before kind marks verdict (Err fault.NoMemory) head is k passes memory last = absurd (memory refl)
+
+-- a client that streams
+pub record Flow (a : Pair) (final : Bool) : Type 0 where
   pub waits : a.client.awaited ≡ Some (streaming final)
   pub more : final ≡ false → ((place : ℕ) × (a.client.put ≡ Some place)) × (a.client.single ≡ true)
-  pub head : Head a.server.maximum final packet rest
   pub least : 7 ≤ a.client.maximum
 
-pub final_waits : (awaited : Option Request) (final : Bool) → awaited ≡ Some (streaming final) → final ≡ true → is_waiting awaited ≡ true
-final_waits awaited true w e = ap is_waiting w
-final_waits awaited false w e = absurd cc
+pub refuses_by : (packet : List ℕ) (own maximum : ℕ) (code : Code) → octet_of code < 256 → 7 ≤ maximum → is_connect packet ≡ false → is_success_code code ≡ false → Refuses maximum (response_octets packet own code)
+refuses_by packet own maximum code fits least plain refused = λ request at awaited.
+    (octet_of code, responses_are_read.answer_plain request packet own maximum code fits least plain at ∙ cond-false _ (success_of request) (Refused (octet_of code)) (ap (λ (n : ℕ). eqb (octet_of code) n) awaited ∙ refused))
 
-pub stream_goes : (a : Pair) (packet : List ℕ) (past : List Heard) (rest : List (List ℕ)) (final : Bool) (progress : Progress) → Flow a packet rest final → length (stored_by a.server.maximum past) ≡ 0 → ((rest ≡ []) × (final ≡ true)) ⊎ Queued a.server.maximum final rest
-    → Stage (heard_by a packet past saying.Silence (Runs progress true) rest)
-stream_goes a packet past rest final progress flow none (inl over) = Ends (final_waits a.client.awaited final flow.waits over.1) over.0 (λ r response others w e. absurd (no_first response others e))
-stream_goes a packet past rest final progress flow none (inr queued) = Streams final progress flow.waits flow.more queued refl refl none
+pub stream_stage : (a : Pair) (packet : List ℕ) (past : List Heard) (rest : List (List ℕ)) (final : Bool) (said : Saying) (course : Course) → Flow a final → is_connect packet ≡ false
+    → (is_success said ≡ false → length (stored_by a.server.maximum past) ≡ 0) → (is_success said ≡ true → length (stored_by a.server.maximum past) ≡ 1) → Streamed a.server.maximum rest final said course → Stage (heard_by a packet past said course rest)
+stream_stage a packet past rest true said course flow plain zero one (Flows progress s c (inl over)) = subst (λ (x : Saying). Stage (heard_by a packet past x course rest)) (sym s) (Mute (ap is_waiting flow.waits) over.0 refl)
+stream_stage a packet past rest false said course flow plain zero one (Flows progress s c (inl over)) = absurd (let never : false ≡ true = over.1 in cc)
+stream_stage a packet past rest final said course flow plain zero one (Flows progress s c (inr queued)) =
+    subst (λ (x : Saying). Stage (heard_by a packet past x course rest)) (sym s) (Streams final progress flow.waits flow.more queued refl c (zero (ap is_success s)))
+stream_stage a packet past rest final said course flow plain zero one (Stops code s fits refused over) =
+    subst (λ (x : Saying). Stage (heard_by a packet past x course rest)) (sym s)
+    (Stopped final (response_octets packet a.server.maximum code) flow.waits flow.more refl over (refuses_by packet a.server.maximum a.client.maximum code fits flow.least plain refused))
+stream_stage a packet past rest final said course flow plain zero one (Stores s over f) =
+    let waits : a.client.awaited ≡ Some FinalPut = flow.waits ∙ ap (λ (b : Bool). request_of (streaming b)) f in
+    let done_is : answer_to a.client.maximum FinalPut (response_octets packet a.server.maximum codes.Success) ≡ Done = responses_are_read.answer_plain FinalPut packet a.server.maximum a.client.maximum codes.Success (omega arith) flow.least plain refl in
+    subst (λ (x : Saying). Stage (heard_by a packet past x course rest)) (sym s)
+    (Replied FinalPut (response_octets packet a.server.maximum codes.Success) waits (ap is_waiting waits) over refl (subst (MeansWell (length (stored_by a.server.maximum past))) (sym done_is) (one (ap is_success s)))
+    (λ go. absurd (let bad_go : Done ≡ Go = sym done_is ∙ go in cc)))
 
-pub stream_phase : (final : Bool) → phase_of (streaming final) ≡ phase.Response
-stream_phase true = refl
-stream_phase false = refl
+-- ---- what is passed over
 
-pub stream_code : (final : Bool) → awaited_code (streaming final) ≡ 0xA0
-stream_code true = refl
-stream_code false = refl
+same_put : (e f : Bool) (m n : Marks) → kinds.Put e m ≡ kinds.Put f n → (e ≡ f) × (m ≡ n)
+same_put e f m n k = (cc, cc)
 
-pub stream_refused : (a : Pair) (packet : List ℕ) (past : List Heard) (rest : List (List ℕ)) (final : Bool) (code : Code) (course : Course) → Flow a packet rest final → octet_of code < 256 → is_success_code code ≡ false → Stage (heard_by a packet past (saying.Response code) course rest)
-stream_refused a packet past rest final code course flow fits refused =
-    Stopped final (response_octets packet a.server.maximum code) [] flow.waits flow.more refl
-    (λ later. (
-      octet_of code,
-      responses_are_read.answer_plain (streaming later) packet a.server.maximum a.client.maximum code fits flow.least flow.head.put.1.0 (stream_phase later)
-          ∙ cond-false _ (success_of (streaming later)) (Refused (octet_of code)) (ap (λ (n : ℕ). eqb (octet_of code) n) (stream_code later) ∙ refused),
-    ))
+passes_at : (put last : Bool) (packet : PlainPacket) (marks : Marks) → cond put (kinds.Put (eqb packet.code 0x82) (marks_of packet.headers)) (kinds.Other packet.code) ≡ kinds.Put last marks → marks.name ≡ false
+    → cond put (at_put_in Ignores packet) (ends (progress_in Ignores) (other_response packet.code)) ≡ record { calls = []; verdict = PassedOver last }
+passes_at true last packet marks k n =
+    let same = same_put (eqb packet.code 0x82) last (marks_of packet.headers) marks k in
+    let bare : list_any is_name packet.headers ≡ false = ap (λ (m : Marks). m.name) same.1 ∙ n in
+    cond-true (true && not (list_any is_name packet.headers)) (record { calls = []; verdict = PassedOver (eqb packet.code 0x82) }) (at_put Unnamed packet) (ap not bare)
+    ∙ ap (λ (b : Bool). record { calls = []; verdict = PassedOver b }) same.0
+passes_at false last packet marks k n = absurd cc
 
-pub stream_done : (a : Pair) (packet : List ℕ) (past : List Heard) (rest : List (List ℕ)) → a.client.awaited ≡ Some FinalPut → rest ≡ [] → is_connect packet ≡ false → 7 ≤ a.client.maximum → length (stored_by a.server.maximum past) ≡ 1
-    → Stage (heard_by a packet past (saying.Response codes.Success) Rests rest)
-stream_done a packet past rest waits over plain least one =
-    let done_is : answer_to a.client.maximum FinalPut (response_octets packet a.server.maximum codes.Success) ≡ Done = responses_are_read.answer_plain FinalPut packet a.server.maximum a.client.maximum codes.Success (omega arith) least plain refl in
-    Ends (ap is_waiting waits) over (λ r response others w e.
-    let r_is : FinalPut ≡ r = same_request FinalPut r (sym waits ∙ w) in
-    let s_is : response_octets packet a.server.maximum codes.Success ≡ response = first_of (response_octets packet a.server.maximum codes.Success) response [] others e in
-    let answer : answer_to a.client.maximum r response ≡ Done = ap (λ (x : List ℕ). answer_to a.client.maximum r x) (sym s_is) ∙ ap (λ (x : Request). answer_to a.client.maximum x (response_octets packet a.server.maximum codes.Success)) (sym r_is) ∙ done_is in
-    (subst (MeansWell (length (stored_by a.server.maximum past))) (sym answer) one, λ go. absurd (let bad_go : Done ≡ Go = sym answer ∙ go in cc)))
+passes : (read : Result PlainPacket ObexRefusal) (ends : Bool) (marks : Marks) → kind_of read ≡ kinds.Put ends marks → marks.name ≡ false → at_packet Ignores read ≡ record { calls = []; verdict = PassedOver ends }
+passes (Ok packet) ends marks k n = passes_at (eqb packet.code 0x02 || eqb packet.code 0x82) ends packet marks k n
+passes (Err refusal) ends marks k n = absurd cc
 
-pub stream_heard : (a : Pair) (packet : List ℕ) (past : List Heard) (rest : List (List ℕ)) (final : Bool) (before : Progress) (kind : Kind) (verdict : Verdict) (come : Answer) → (flow : Flow a packet rest final) → IsOfPut verdict → (kind ≡ kinds.Refused → verdict ≡ Whole → ⊥)
-    → ((kind ≡ kinds.Refused) ⊎ ((marks : Marks) × (kind ≡ kinds.Put flow.head.ends marks))) → ((last : Bool) → verdict ≡ PassedOver last → ⊥)
-    → (said_after a.server.offered (Runs before true) kind (verdict_or verdict come) ≡ saying.NoMemory → ⊥)
-    → length (stored_by a.server.maximum past) ≡ cond (stores_one kind (said_after a.server.offered (Runs before true) kind (verdict_or verdict come))) 1 0
-    → ((ends : Bool) (marks : Marks) → kind ≡ kinds.Put ends marks → is_success (said_after a.server.offered (Runs before true) kind (verdict_or verdict come)) ≡ true → ends ≡ true)
-    → Stage (heard_by a packet past (said_after a.server.offered (Runs before true) kind (verdict_or verdict come)) (course_after a.server.offered (Runs before true) kind (verdict_or verdict come)) rest)
-stream_heard a packet past rest final before kind (Open progress) (Ok done) flow is whole put passes memory n last = stream_goes a packet past rest final progress flow (zero_stored _ kind saying.Silence refl n) flow.head.others
-stream_heard a packet past rest final before kind Whole (Ok done) flow is whole (inl refused) passes memory n last = absurd (whole refused refl)
-stream_heard a packet past rest final before kind Whole (Ok done) flow is whole (inr put) passes memory n last =
-    let over = flow.head.last (last flow.head.ends put.0 put.1 refl) in
-    let one : length (stored_by a.server.maximum past) ≡ 1 = n ∙ ap (λ (k : Kind). cond (stores_one k (saying.Response codes.Success)) 1 0) put.1 in
-    stream_done a packet past rest (flow.waits ∙ ap (λ (b : Bool). request_of (streaming b)) over.1) over.0 flow.head.put.1.0 flow.least one
-stream_heard a packet past rest final before kind (Ended code) (Ok done) flow is whole put passes memory n last = stream_refused a packet past rest final code _ flow is.3 is.0
-stream_heard a packet past rest final before kind (PassedOver over) (Ok done) flow is whole put passes memory n last = absurd (passes over refl)
-stream_heard a packet past rest final before kind verdict (Err fault.Failed) flow is whole put passes memory n last = stream_refused a packet past rest final codes.InternalError _ flow (omega arith) refl
-stream_heard a packet past rest final before kind verdict (Err fault.NoMemory) flow is whole put passes memory n last = absurd (memory refl)
+pub record IsPassed (server : Serving) (packet : List ℕ) (answers : List Answer) (final : Bool) (rest : List (List ℕ)) : Type 0 where
+  pub silent : (heard_with server packet answers).saying ≡ saying.Silence
+  pub over : Over server.maximum final (heard_with server packet answers).session.course rest
+
+passed_by : (server : Serving) (packet : List ℕ) (answers : List Answer) (final : Bool) (rest : List (List ℕ)) → server.course ≡ Ignores → Queued server.maximum final (packet ∷ rest) → IsPassed server packet answers final rest
+passed_by server packet answers final rest course queued =
+    let head = head_queued server.maximum final packet rest queued in
+    let read = packet_in phase.Request server.maximum packet in
+    let kind = kind_of read in
+    let ruling = passes read head.ends head.put.0 head.put.2 head.put.3 in
+    let behind : (heard_with server packet answers).session.course ≡ cond head.ends Rests Ignores =
+    ap (λ (c : Course). course_after server.offered c kind (verdict_or (at_packet c read).verdict (come_of (at_packet c read).calls answers))) course ∙ ap (λ (r : Ruling). course_after server.offered Ignores kind (verdict_or r.verdict (come_of r.calls answers))) ruling in
+    record {
+      silent = ap (λ (c : Course). said_after server.offered c kind (verdict_or (at_packet c read).verdict (come_of (at_packet c read).calls answers))) course ∙ ap (λ (r : Ruling). said_after server.offered Ignores kind (verdict_or r.verdict (come_of r.calls answers))) ruling;
+      over = over_behind server.maximum head.ends final (heard_with server packet answers).session.course rest (λ e. behind ∙ ap (λ (b : Bool). cond b Rests Ignores) e) head.last head.others;
+    }
+
+pub passed_heard : (server : Serving) (packet : List ℕ) (answers : List Answer) (final : Bool) (rest : List (List ℕ)) → Over server.maximum final server.course (packet ∷ rest) → IsPassed server packet answers final rest
+passed_heard server packet answers true rest (inl none) = absurd (no_first packet rest (sym none))
+passed_heard server packet answers true rest (inr over) = passed_by server packet answers true rest over.0 over.1
+passed_heard server packet answers false rest over = passed_by server packet answers false rest over.0 over.1
+
+-- ---- ABORT and DISCONNECT
+
+never_true : false ≡ true → ⊥
+never_true e = cc
+
+leave_is_packet : (under_way : Bool) → IsPacket phase.Request (bare (cond under_way 0xFF 0x81) [])
+leave_is_packet true = record { fields = record { code_fits = omega arith; len = refl; version = λ no. absurd (never_true no); maximum = λ no. absurd (never_true no) }; headers = tt; len = omega arith }
+leave_is_packet false = record { fields = record { code_fits = omega arith; len = refl; version = λ no. absurd (never_true no); maximum = λ no. absurd (never_true no) }; headers = tt; len = omega arith }
+
+leave_within : (under_way : Bool) (maximum : ℕ) → 255 ≤ maximum → length (leave_packet under_way) ≤ maximum
+leave_within true maximum least = omega (arith, least)
+leave_within false maximum least = omega (arith, least)
+
+pub leave_plain : (under_way : Bool) → is_connect (leave_packet under_way) ≡ false
+leave_plain true = refl
+leave_plain false = refl
+
+-- it is answered, with whatever code
+abbrev IsAnswered : Saying → Type 0
+IsAnswered said = (said ≡ saying.NoMemory → ⊥) → (code : Code) × (said ≡ saying.Response code) × (octet_of code < 256)
+
+ended_said : (offered : Bool) (course : Course) (octet : ℕ) (come : Answer) → IsAnswered (said_after offered course (kinds.Other octet) (verdict_or (Ended codes.Success) come))
+ended_said offered course octet (Ok done) memory = (codes.Success, refl, omega arith)
+ended_said offered course octet (Err fault.Failed) memory = (codes.InternalError, refl, omega arith)
+ended_said offered course octet (Err fault.NoMemory) memory = absurd (memory refl)
+
+abbrev said_of : Serving → List Answer → Result PlainPacket ObexRefusal → Saying
+said_of server answers read = said_after server.offered server.course (kind_of read) (verdict_or (at_packet server.course read).verdict (come_of (at_packet server.course read).calls answers))
+
+leave_said : (server : Serving) (under_way : Bool) (answers : List Answer) → IsAnswered (said_of server answers (Ok (bare (cond under_way 0xFF 0x81) [])))
+leave_said server true answers = ended_said server.offered server.course 0xFF (come_of (aborts (progress_in server.course)) answers)
+leave_said server false answers = ended_said server.offered server.course 0x81 (come_of (aborts (progress_in server.course)) answers)
+
+pub leave_heard : (server : Serving) (under_way : Bool) (answers : List Answer) → 255 ≤ server.maximum → IsAnswered (heard_with server (leave_packet under_way) answers).saying
+leave_heard server under_way answers least =
+    let read = packet_again phase.Request server.maximum (leave_packet under_way) (bare (cond under_way 0xFF 0x81) []) (record { sound = leave_is_packet under_way; within = leave_within under_way server.maximum least; spelling = refl }) in
+    subst (λ (r : Result PlainPacket ObexRefusal). IsAnswered (said_of server answers r)) (sym read) (leave_said server under_way answers)
+
+go_or_refused : (matches : Bool) (code : ℕ) (answer : Answered) → answer ≡ cond matches Go (Refused code) → (answer ≡ Go) ⊎ IsRefused answer
+go_or_refused true code answer e = inl e
+go_or_refused false code answer e = inr (code, e)
+
+pub leave_answered : (under_way : Bool) (own maximum : ℕ) (code : Code) → octet_of code < 256 → 7 ≤ maximum →
+    (answer_to maximum (leave_request under_way) (response_octets (leave_packet under_way) own code) ≡ Go) ⊎ IsRefused (answer_to maximum (leave_request under_way) (response_octets (leave_packet under_way) own code))
+leave_answered under_way own maximum code fits least =
+    go_or_refused (eqb (octet_of code) (awaited_code (leave_request under_way))) (octet_of code) _
+    (responses_are_read.answer_plain (leave_request under_way) (leave_packet under_way) own maximum code fits least (leave_plain under_way) (leave_phase under_way)
+    ∙ ap (λ (x : Answered). cond (eqb (octet_of code) (awaited_code (leave_request under_way))) x (Refused (octet_of code))) (leave_success under_way))

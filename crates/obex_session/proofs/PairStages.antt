@@ -1,20 +1,20 @@
 -- Two sessions over a pipe of packets: the stages of a push, and what the client takes and puts in each.
-use Rattle.std.proofs.Common.{get_or, zero-add, Bool, true, false, cond, eqb, ◌≡◌, ℕ, ◌+◌, ◌<◌, ◌≤◌, ◌^◌, ◌||◌, ◌⊎◌, inl, inr, List, [], ◌∷◌, ◌++◌, length, take, Option, Some, None, Result, Ok, Err, refl, sym, ap, subst, ◌∙◌, arith}
-use Rattle.std.specs.Prelude.{is_err, is_none, min}
-use Rattle.std.proofs.lemmas.Bool.{cases_lt, le-ltb, lt-ltb, cond-true, cond-false}
+use Rattle.std.proofs.Common.{get_or, zero-add, ℕ, Bool, true, false, cond, eqb, ◌≡◌, ◌+◌, ◌<◌, ◌≤◌, ◌^◌, ◌||◌, ◌⊎◌, inl, inr, List, [], ◌∷◌, ◌++◌, length, Option, Some, None, Ok, Err, refl, sym, ap, subst, ◌∙◌, arith}
+use Rattle.std.specs.Prelude.{is_err}
+use Rattle.std.specs.List.{AllByRecursion}
+use Rattle.std.proofs.lemmas.Bool.{cases_lt, le-ltb, lt-ltb}
 use Rattle.std.proofs.lemmas.List.{length-append}
-use Rattle.obex_headers.specs.declared.fault.ObexRefusal.{ObexRefusal}
 use Rattle.obex_headers.specs.declared.fault.ObexRefusal.TheVariants.{AboveMaximum}
 use Rattle.obex_headers.specs.declared.packet.Phase.TheVariants as phase
-use Rattle.obex_headers.specs.Packets.{PlainHeader, PlainPacket, IsPacket, fields_len, packet_octets}
+use Rattle.obex_headers.specs.Packets.{PlainHeader, IsPacket, fields_len, packet_octets}
 use Rattle.obex_headers.specs.Reading.{packet_in, front_at}
 use Rattle.obex_headers.proofs.PacketLaws.{packet_again, length-packet}
 use Rattle.obex_session.specs.declared.asking.Request.{Request}
 use Rattle.obex_session.specs.declared.asking.Request.TheVariants.{Connect, FirstPut, Put, Stream, FinalPut, Abort, Disconnect}
 use Rattle.obex_session.specs.declared.client.Answered.{Answered}
-use Rattle.obex_session.specs.declared.client.Answered.TheVariants.{Go, Refused, Srmp}
+use Rattle.obex_session.specs.declared.client.Answered.TheVariants.{Go, Refused}
 use Rattle.obex_session.specs.declared.course.Course.{Course}
-use Rattle.obex_session.specs.declared.course.Course.TheVariants.{Rests, Runs}
+use Rattle.obex_session.specs.declared.course.Course.TheVariants.{Rests, Ignores, Runs}
 use Rattle.obex_session.specs.declared.course.Progress.{Progress}
 use Rattle.obex_session.specs.declared.marks.Kind.TheVariants as kinds
 use Rattle.obex_session.specs.declared.marks.Marks.{Marks}
@@ -24,15 +24,13 @@ use Rattle.obex_session.specs.Marks.{is_single, marks_of, kind_of}
 use Rattle.obex_session.specs.Turns.{course_after}
 use Rattle.obex_session.specs.Past.{Heard, Serving, StandsFor, stored_by}
 use Rattle.obex_session.specs.Serving.{kind_heard, ruling_on, verdict_or, heard_with}
-use Rattle.obex_session.specs.PutPackets.{units_in, head_of, body_header, put_packet, place_of}
-use Rattle.obex_session.specs.ObjectPuts.{place_behind}
-use Rattle.obex_headers.specs.Runs.{joined}
-use Rattle.obex_session.proofs.PutPacketLaws.{head_at}
-use Rattle.obex_session.proofs.ObjectLaws.{put_of}
-use Rattle.obex_session.specs.Asking.{Asking, phase_of, awaited_code, success_of, answer_by, answer_read, answer_to, after_by, after_read, after_answer}
-use Rattle.obex_session.specs.NextPut.{is_waiting, put_request, after_put, left_of, room_for}
+use Rattle.obex_session.specs.PutPackets.{body_header, put_packet}
+use Rattle.obex_session.proofs.StatingLaws.{States}
+use Rattle.obex_session.specs.Asking.{Asking, phase_of, awaited_code, success_of, answer_to, after_answer}
+use Rattle.obex_session.specs.NextPut.{is_waiting}
 use Rattle.obex_session.specs.Exchanges.{stores_one}
-use Rattle.obex_session.specs.Pairs.{Pair, Puts, Takes, MeansWell}
+use Rattle.obex_session.specs.Views.{is_stream}
+use Rattle.obex_session.specs.Pairs.{Pair, is_put_request, leave_request, leave_packet, MeansWell, IsExpected}
 use Rattle.obex_session.proofs.PastLaws.{after_packet, after_fault}
 use Rattle.obex_session.proofs.TurnLaws.{progress_behind}
 use Rattle.obex_session.proofs.SuccessLaws.{success_is_stored}
@@ -120,6 +118,10 @@ pub record Base (p : Pair) : Type 0 where
   pub client_least : 255 ≤ p.client.maximum
   pub server_least : 255 ≤ p.server.maximum
   pub server_most : p.server.maximum < 2 ^ 16
+  pub stated : AllByRecursion (States p.server.maximum) p.responses
+  pub limit_least : 255 ≤ p.client.limit
+  -- behind CONNECT no packet is longer than the server takes
+  pub bounded : (p.client.awaited ≡ Some Connect) ⊎ (p.client.limit ≤ p.server.maximum)
 
 -- the course agrees with what the client knows
 abbrev pub Agrees : Option ℕ → Bool → Course → Type 0
@@ -136,20 +138,36 @@ Suits FinalPut client server packet = (single : Bool) × IsPutOf server.maximum 
 Suits Abort client server packet = ⊥
 Suits Disconnect client server packet = ⊥
 
--- PUTs under way in single response mode, of which the last is final or none is
+-- a PUT behind the first
+abbrev pub IsNext : ℕ → List ℕ → Bool → Type 0
+IsNext maximum packet final = (marks : Marks) × (is_connect packet ≡ false) × (kind_of (packet_in phase.Request maximum packet) ≡ kinds.Put final marks) × (marks.name ≡ false)
+
+-- such PUTs under way, of which the last is final or none is
 abbrev pub Queued : ℕ → Bool → List (List ℕ) → Type 0
 Queued maximum false [] = Unit {0}
 Queued maximum true [] = ⊥
-Queued maximum false (packet ∷ rest) = ((single : Bool) × IsPutOf maximum packet false single) × Queued maximum false rest
-Queued maximum true (packet ∷ []) = (single : Bool) × IsPutOf maximum packet true single
-Queued maximum true (packet ∷ next ∷ rest) = ((single : Bool) × IsPutOf maximum packet false single) × Queued maximum true (next ∷ rest)
+Queued maximum false (packet ∷ rest) = IsNext maximum packet false × Queued maximum false rest
+Queued maximum true (packet ∷ []) = IsNext maximum packet true
+Queued maximum true (packet ∷ next ∷ rest) = IsNext maximum packet false × Queued maximum true (next ∷ rest)
+
+-- what is under way behind a refused one is passed over
+abbrev pub Over : ℕ → Bool → Course → List (List ℕ) → Type 0
+Over maximum true course packets = (packets ≡ []) ⊎ ((course ≡ Ignores) × Queued maximum true packets)
+Over maximum false course packets = (course ≡ Ignores) × Queued maximum false packets
+
+-- what is under way ahead of ABORT or DISCONNECT: that, or PUTs in single response mode
+abbrev pub Ahead : ℕ → Course → List (List ℕ) → Type 0
+Ahead maximum course packets = ((final : Bool) × Over maximum final course packets) ⊎ ((progress : Progress) × (course ≡ Runs progress true) × Queued maximum false packets)
 
 abbrev pub streaming : Bool → Request
 streaming final = cond final FinalPut Stream
 
--- a response that refuses, whatever of the stream awaits it
+abbrev pub IsRefused : Answered → Type 0
+IsRefused answer = (code : ℕ) × (answer ≡ Refused code)
+
+-- a response that refuses whatever of a stream awaits it, and ABORT and DISCONNECT
 abbrev pub Refuses : ℕ → List ℕ → Type 0
-Refuses maximum response = (final : Bool) → (code : ℕ) × (answer_to maximum (streaming final) response ≡ Refused code)
+Refuses maximum response = (request : Request) → phase_of request ≡ phase.Response → awaited_code request ≡ 0xA0 → IsRefused (answer_to maximum request response)
 
 pub data Stage (p : Pair) : Type 0 where
   -- a request waits to be heard
@@ -163,11 +181,53 @@ pub data Stage (p : Pair) : Type 0 where
   Streams : (final : Bool) (progress : Progress) → p.client.awaited ≡ Some (streaming final) → (final ≡ false → ((place : ℕ) × (p.client.put ≡ Some place)) × (p.client.single ≡ true)) → Queued p.server.maximum final p.requests → p.responses ≡ []
       → p.server.course ≡ Runs progress true → stored p.server p.past ≡ 0 → Stage p
   -- one of them was refused
-  Stopped : (final : Bool) (response : List ℕ) (rest : List (List ℕ)) → p.client.awaited ≡ Some (streaming final) → (final ≡ false → ((place : ℕ) × (p.client.put ≡ Some place)) × (p.client.single ≡ true)) → p.responses ≡ response ∷ rest
-      → Refuses p.client.maximum response → Stage p
-  -- the final one succeeded, or nothing more comes
-  Ends : is_waiting p.client.awaited ≡ true → p.requests ≡ [] → ((request : Request) (response : List ℕ) (rest : List (List ℕ)) → p.client.awaited ≡ Some request → p.responses ≡ response ∷ rest
-      → MeansWell (stored p.server p.past) (answer_to p.client.maximum request response) × (answer_to p.client.maximum request response ≡ Go → ⊥)) → Stage p
+  Stopped : (final : Bool) (response : List ℕ) → p.client.awaited ≡ Some (streaming final) → (final ≡ false → ((place : ℕ) × (p.client.put ≡ Some place)) × (p.client.single ≡ true)) → p.responses ≡ response ∷ []
+      → Over p.server.maximum final p.server.course p.requests → Refuses p.client.maximum response → Stage p
+  -- nothing more comes
+  Mute : is_waiting p.client.awaited ≡ true → p.requests ≡ [] → p.responses ≡ [] → Stage p
+  -- the push ended: no request waits,
+  Quits : (final : Bool) → p.ended ≡ true → p.client.awaited ≡ None → p.responses ≡ [] → Over p.server.maximum final p.server.course p.requests → Stage p
+  -- ABORT or DISCONNECT waits to be heard,
+  Parts : (under_way : Bool) (ahead : List (List ℕ)) → p.ended ≡ true → p.client.awaited ≡ Some (leave_request under_way) → p.responses ≡ [] → p.requests ≡ ahead ++ leave_packet under_way ∷ [] → Ahead p.server.maximum p.server.course ahead → Stage p
+  -- its response waits to be taken,
+  Parted : (under_way : Bool) (response : List ℕ) → p.ended ≡ true → p.client.awaited ≡ Some (leave_request under_way) → p.requests ≡ [] → p.responses ≡ response ∷ []
+      → (answer_to p.client.maximum (leave_request under_way) response ≡ Go) ⊎ IsRefused (answer_to p.client.maximum (leave_request under_way) response) → Stage p
+  -- or the refusal of a PUT stands ahead of it
+  Deaf : (under_way : Bool) (response : List ℕ) (rest : List (List ℕ)) → p.ended ≡ true → p.client.awaited ≡ Some (leave_request under_way) → p.responses ≡ response ∷ rest → Refuses p.client.maximum response → Stage p
+
+pub leave_waits : (under_way : Bool) → is_waiting (Some (leave_request under_way)) ≡ true
+leave_waits true = refl
+leave_waits false = refl
+
+pub leave_phase : (under_way : Bool) → phase_of (leave_request under_way) ≡ phase.Response
+leave_phase true = refl
+leave_phase false = refl
+
+pub leave_code : (under_way : Bool) → awaited_code (leave_request under_way) ≡ 0xA0
+leave_code true = refl
+leave_code false = refl
+
+pub leave_success : (under_way : Bool) → success_of (leave_request under_way) ≡ Go
+leave_success true = refl
+leave_success false = refl
+
+pub leave_no_put : (under_way : Bool) → is_put_request (leave_request under_way) ≡ false
+leave_no_put true = refl
+leave_no_put false = refl
+
+pub stream_phase : (final : Bool) → phase_of (streaming final) ≡ phase.Response
+stream_phase true = refl
+stream_phase false = refl
+
+pub stream_code : (final : Bool) → awaited_code (streaming final) ≡ 0xA0
+stream_code true = refl
+stream_code false = refl
+
+pub leave_refused : (under_way : Bool) (maximum : ℕ) (response : List ℕ) → Refuses maximum response → IsRefused (answer_to maximum (leave_request under_way) response)
+leave_refused under_way maximum response refuses = refuses (leave_request under_way) (leave_phase under_way) (leave_code under_way)
+
+pub stream_is_refused : (final : Bool) (maximum : ℕ) (response : List ℕ) → Refuses maximum response → IsRefused (answer_to maximum (streaming final) response)
+stream_is_refused final maximum response refuses = refuses (streaming final) (stream_phase final) (stream_code final)
 
 -- ---- what a stage says of the next response
 
@@ -183,188 +243,56 @@ no_first x xs e = cc
 pub refused_well : (stored : ℕ) (answer : Answered) (code : ℕ) → answer ≡ Refused code → MeansWell stored answer
 refused_well stored answer code e = subst (MeansWell stored) (sym e) tt
 
+go_well : (stored : ℕ) (answer : Answered) → (answer ≡ Go) ⊎ IsRefused answer → MeansWell stored answer
+go_well stored answer (inl go) = subst (MeansWell stored) (sym go) tt
+go_well stored answer (inr refused) = refused_well stored answer refused.0 refused.1
+
+waiting_no_stream : (awaited : Option Request) → is_waiting awaited ≡ true → is_stream awaited ≡ true → ⊥
+waiting_no_stream None w e = absurd cc
+waiting_no_stream (Some Connect) w e = absurd cc
+waiting_no_stream (Some FirstPut) w e = absurd cc
+waiting_no_stream (Some Put) w e = absurd cc
+waiting_no_stream (Some Stream) w e = absurd cc
+waiting_no_stream (Some FinalPut) w e = absurd cc
+waiting_no_stream (Some Abort) w e = absurd cc
+waiting_no_stream (Some Disconnect) w e = absurd cc
+
+-- what is known of the next response
+pub record Next (p : Pair) (response : List ℕ) : Type 0 where
+  pub request : Request
+  pub waits : p.client.awaited ≡ Some request
+  pub well : MeansWell (stored p.server p.past) (answer_to p.client.maximum request response)
+  pub in_time : is_stream p.client.awaited ≡ true → IsRefused (answer_to p.client.maximum request response)
+
+same_next : (p : Pair) (s response : List ℕ) (others rest : List (List ℕ)) → p.responses ≡ s ∷ others → p.responses ≡ response ∷ rest → Next p s → Next p response
+same_next p s response others rest answers e next = subst (Next p) (first_of s response others rest (sym answers ∙ e)) next
+
+parted_next : (p : Pair) (under_way : Bool) (s : List ℕ) → p.client.awaited ≡ Some (leave_request under_way) → (answer_to p.client.maximum (leave_request under_way) s ≡ Go) ⊎ IsRefused (answer_to p.client.maximum (leave_request under_way) s) → Next p s
+parted_next p under_way s waits answer = record {
+  request = leave_request under_way;
+  waits = waits;
+  well = go_well (stored p.server p.past) (answer_to p.client.maximum (leave_request under_way) s) answer;
+  in_time = λ streams. absurd (waiting_no_stream p.client.awaited (ap is_waiting waits ∙ leave_waits under_way) streams);
+}
+
+pub stage_next : (p : Pair) → Stage p → (response : List ℕ) (rest : List (List ℕ)) → p.responses ≡ response ∷ rest → Next p response
+stage_next p (Asked r packet waits asks answers suits none) response rest e = absurd (no_first response rest (sym answers ∙ e))
+stage_next p (Replied r s waits waiting asks answers means goes) response rest e = same_next p s response [] rest answers e (record { request = r; waits = waits; well = means; in_time = λ streams. absurd (waiting_no_stream p.client.awaited waiting streams) })
+stage_next p (Idle waits asks answers agrees none) response rest e = absurd (no_first response rest (sym answers ∙ e))
+stage_next p (Streams final progress waits more queued answers course none) response rest e = absurd (no_first response rest (sym answers ∙ e))
+stage_next p (Stopped final s waits more answers over refuses) response rest e =
+    let refused = stream_is_refused final p.client.maximum s refuses in
+    same_next p s response [] rest answers e (record { request = streaming final; waits = waits; well = refused_well (stored p.server p.past) (answer_to p.client.maximum (streaming final) s) refused.0 refused.1; in_time = λ streams. refused })
+stage_next p (Mute waiting asks answers) response rest e = absurd (no_first response rest (sym answers ∙ e))
+stage_next p (Quits final over waits answers passed) response rest e = absurd (no_first response rest (sym answers ∙ e))
+stage_next p (Parts under_way ahead over waits answers asks row) response rest e = absurd (no_first response rest (sym answers ∙ e))
+stage_next p (Parted under_way s over waits asks answers answer) response rest e = same_next p s response [] rest answers e (parted_next p under_way s waits answer)
+stage_next p (Deaf under_way s others over waits answers refuses) response rest e = same_next p s response others rest answers e (parted_next p under_way s waits (inr (leave_refused under_way p.client.maximum s refuses)))
+
 pub stage_says : (p : Pair) → Stage p → (request : Request) (response : List ℕ) (rest : List (List ℕ)) → p.client.awaited ≡ Some request → p.responses ≡ response ∷ rest → MeansWell (stored p.server p.past) (answer_to p.client.maximum request response)
-stage_says p (Asked r packet waits asks answers suits none) request response rest w e = absurd (no_first response rest (sym answers ∙ e))
-stage_says p (Replied r s waits waiting asks answers means goes) request response rest w e =
-    let r_is : r ≡ request = same_request r request (sym waits ∙ w) in
-    let s_is : s ≡ response = first_of s response [] rest (sym answers ∙ e) in
-    subst (λ (x : Request). MeansWell (stored p.server p.past) (answer_to p.client.maximum x response)) r_is (subst (λ (x : List ℕ). MeansWell (stored p.server p.past) (answer_to p.client.maximum r x)) s_is means)
-stage_says p (Idle waits asks answers agrees none) request response rest w e = absurd (no_first response rest (sym answers ∙ e))
-stage_says p (Streams final progress waits more queued answers course none) request response rest w e = absurd (no_first response rest (sym answers ∙ e))
-stage_says p (Stopped final s others waits more answers refuses) request response rest w e =
-    let r_is : streaming final ≡ request = same_request (streaming final) request (sym waits ∙ w) in
-    let s_is : s ≡ response = first_of s response others rest (sym answers ∙ e) in
-    let refusal = refuses final in
-    refused_well (stored p.server p.past) (answer_to p.client.maximum request response) refusal.0
-    (ap (λ (x : List ℕ). answer_to p.client.maximum request x) (sym s_is) ∙ ap (λ (x : Request). answer_to p.client.maximum x s) (sym r_is) ∙ refusal.1)
-stage_says p (Ends waiting asks says) request response rest w e = (says request response rest w e).0
+stage_says p stage request response rest w e =
+    let next = stage_next p stage response rest e in
+    subst (λ (r : Request). MeansWell (stored p.server p.past) (answer_to p.client.maximum r response)) (same_request next.request request (sym next.waits ∙ w)) next.well
 
--- ---- the client takes a response
-
-pub go_ends : (session : Asking) (request : Request) (parameters matches : Bool) (marks : Marks) (code : ℕ) (extra : List ℕ) → marks.parameters ≡ parameters → eqb code (awaited_code request) ≡ matches → answer_by request marks code ≡ Go → (after_by session request marks code extra).awaited ≡ None
-go_ends session request true matches marks code extra p m e = absurd (let bad : Srmp ≡ Go = sym (cond-true _ Srmp _ p) ∙ e in cc)
-go_ends session request false true marks code extra p m e = ap (λ (s : Asking). s.awaited) (cond-false _ session _ p ∙ cond-true _ _ _ m)
-go_ends session request false false marks code extra p m e = absurd (let bad : Refused code ≡ Go = sym (cond-false _ Srmp _ p ∙ cond-false _ (success_of request) (Refused code) m) ∙ e in cc)
-
-pub go_read : (session : Asking) (request : Request) (read : Result PlainPacket ObexRefusal) → answer_read request read ≡ Go → (after_read session request read).awaited ≡ None
-go_read session request (Ok packet) e = go_ends session request (marks_of packet.headers).parameters (eqb packet.code (awaited_code request)) (marks_of packet.headers) packet.code packet.extra refl refl e
-go_read session request (Err refusal) e = absurd cc
-
-pub keeps_at : (session : Asking) (request : Request) (parameters matches : Bool) (marks : Marks) (code : ℕ) (extra : List ℕ) → marks.parameters ≡ parameters → eqb code (awaited_code request) ≡ matches → (after_by session request marks code extra).maximum ≡ session.maximum
-keeps_at session request true matches marks code extra p m = ap (λ (s : Asking). s.maximum) (cond-true _ session _ p)
-keeps_at session request false true marks code extra p m = ap (λ (s : Asking). s.maximum) (cond-false _ session _ p ∙ cond-true _ _ _ m)
-keeps_at session request false false marks code extra p m = ap (λ (s : Asking). s.maximum) (cond-false _ session _ p ∙ cond-false _ _ _ m)
-
-pub keeps_read : (session : Asking) (request : Request) (read : Result PlainPacket ObexRefusal) → (after_read session request read).maximum ≡ session.maximum
-keeps_read session request (Ok packet) = keeps_at session request (marks_of packet.headers).parameters (eqb packet.code (awaited_code request)) (marks_of packet.headers) packet.code packet.extra refl refl
-keeps_read session request (Err refusal) = refl
-
-pub last_of : (x y : List ℕ) (ys : List (List ℕ)) → x ∷ [] ≡ y ∷ ys → ys ≡ []
-last_of x y ys e = cc
-
-pub takes_stage : (a b : Pair) → Stage a → Takes a b → Stage b
-takes_stage a b (Asked r packet waits asks answers suits none) t = absurd (no_first t.response t.rest (sym answers ∙ t.next_is))
-takes_stage a b (Replied r s waits waiting asks answers means goes) t =
-    let r_is : r ≡ t.request = same_request r t.request (sym waits ∙ t.waits) in
-    let s_is : s ≡ t.response = first_of s t.response [] t.rest (sym answers ∙ t.next_is) in
-    let none_left : t.rest ≡ [] = last_of s t.response t.rest (sym answers ∙ t.next_is) in
-    let here : answer_to a.client.maximum r s ≡ Go = ap (λ (x : Request). answer_to a.client.maximum x s) r_is ∙ ap (λ (x : List ℕ). answer_to a.client.maximum t.request x) s_is ∙ t.goes in
-    let on = goes here in
-    let client : after_answer a.client r s ≡ after_answer a.client t.request t.response = ap (λ (x : Request). after_answer a.client x s) r_is ∙ ap (λ (x : List ℕ). after_answer a.client t.request x) s_is in
-    subst Stage (sym t.rest_is) (Idle
-    (go_read a.client t.request (packet_in (phase_of t.request) a.client.maximum t.response) t.goes)
-    asks none_left
-    (subst (λ (c : Asking). Agrees c.put c.single a.server.course) client on.0)
-    on.1)
-takes_stage a b (Idle waits asks answers agrees none) t = absurd (no_first t.response t.rest (sym answers ∙ t.next_is))
-takes_stage a b (Streams final progress waits more queued answers course none) t = absurd (no_first t.response t.rest (sym answers ∙ t.next_is))
-takes_stage a b (Stopped final s others waits more answers refuses) t =
-    let r_is : streaming final ≡ t.request = same_request (streaming final) t.request (sym waits ∙ t.waits) in
-    let s_is : s ≡ t.response = first_of s t.response others t.rest (sym answers ∙ t.next_is) in
-    let refusal = refuses final in
-    let bad : Refused refusal.0 ≡ Go = sym refusal.1 ∙ ap (λ (x : Request). answer_to a.client.maximum x s) r_is ∙ ap (λ (x : List ℕ). answer_to a.client.maximum t.request x) s_is ∙ t.goes in
-    absurd cc
-takes_stage a b (Ends waiting asks says) t = absurd ((says t.request t.response t.rest t.waits t.next_is).1 t.goes)
-
-pub takes_base : (a b : Pair) → Base a → Takes a b → Base b
-takes_base a b base t =
-    let same = keeps_read a.client t.request (packet_in (phase_of t.request) a.client.maximum t.response) in
-    subst Base (sym t.rest_is) (record { stands = base.stands; client_least = subst (λ (n : ℕ). 255 ≤ n) (sym same) base.client_least; server_least = base.server_least; server_most = base.server_most })
-
--- ---- the client puts a packet
-
--- the packet, to whatever server
-pub record Written (maximum : ℕ) (client : Asking) (packet : List ℕ) (final : Bool) : Type 0 where
-  pub single : Bool
-  pub put : IsPutOf maximum packet final single
-  pub wanted : client.put ≡ None → single ≡ client.wanted
-
-pub queued_more : (maximum : ℕ) (final : Bool) (packets : List (List ℕ)) (packet : List ℕ) → Queued maximum false packets → ((single : Bool) × IsPutOf maximum packet final single) → Queued maximum final (packets ++ packet ∷ [])
-queued_more maximum true [] packet queued put = put
-queued_more maximum false [] packet queued put = (put, tt)
-queued_more maximum true (first ∷ []) packet queued put = (queued.0, put)
-queued_more maximum false (first ∷ []) packet queued put = (queued.0, (put, tt))
-queued_more maximum true (first ∷ next ∷ rest) packet queued put = (queued.0, queued_more maximum true (next ∷ rest) packet queued.1 put)
-queued_more maximum false (first ∷ next ∷ rest) packet queued put = (queued.0, queued_more maximum false (next ∷ rest) packet queued.1 put)
-
--- what is awaited behind a PUT
-pub put_waits : (session session' : Asking) (final : Bool) (n : ℕ) (put : Option ℕ) (single : Bool) → session.put ≡ put → session.single ≡ single → session' ≡ after_put session final n → session'.awaited ≡ Some (put_request (is_none put) final single)
-put_waits session session' final n put single p s e = ap (λ (x : Asking). x.awaited) e ∙ ap (λ (o : Option ℕ). request_of (put_request (is_none o) final session.single)) p ∙ ap (λ (b : Bool). request_of (put_request (is_none put) final b)) s
-
-pub put_place : (session session' : Asking) (n : ℕ) → session' ≡ after_put session false n → (place : ℕ) × (session'.put ≡ Some place)
-put_place session session' n e = (place_of session.put + n, ap (λ (x : Asking). x.put) e)
-
-pub put_single : (session session' : Asking) (n : ℕ) → session' ≡ after_put session false n → session'.single ≡ session.single
-put_single session session' n e = ap (λ (x : Asking). x.single) e
-
-pub put_wanted : (session session' : Asking) (final : Bool) (n : ℕ) → session' ≡ after_put session final n → session'.wanted ≡ session.wanted
-put_wanted session session' final n e = ap (λ (x : Asking). x.wanted) e
-
-pub not_waiting : (a : Bool) → a ≡ true → a ≡ false → ⊥
-not_waiting true e f = cc
-not_waiting false e f = cc
-
-pub marks_wanted : (wanted : Bool) (units : List ℕ) (size : ℕ) → (marks_of (head_of wanted units size)).single ≡ wanted
-marks_wanted true units size = refl
-marks_wanted false units size = refl
-
-pub first_wanted : (wanted : Bool) (units : List ℕ) (size : ℕ) (parts : List (List ℕ)) (put : Option ℕ) → put ≡ place_behind parts → put ≡ None → (marks_of (head_at (head_of wanted units size) parts)).single ≡ wanted
-first_wanted wanted units size [] put p none = marks_wanted wanted units size
-first_wanted wanted units size (part ∷ parts) put p none = absurd (let never_none : Some (length (joined (part ∷ parts))) ≡ None = sym p ∙ none in cc)
-
-pub written : (name : List ℕ) (size : ℕ) (a b : Pair) → length (units_in name) ≤ 100 → size < 2 ^ 32 → (p : Puts name size a b) → (maximum : ℕ) → Written maximum a.client (take p.count p.room') p.final
-written name size a b few small p maximum =
-    let one = put_of p.final name size p.limit p.said a.client b.client p.content p.room p.room' p.count few small p.most p.least p.own p.has p.puts in
-    let ahead = head_at (head_of a.client.wanted (units_in name) size) p.has.parts in
-    record {
-      single = (marks_of ahead).single;
-      put = subst (λ (packet : List ℕ). IsPutOf maximum packet p.final (marks_of ahead).single) (sym one.packet) (written_put p.final ahead one.part maximum one.sound);
-      wanted = λ none. first_wanted a.client.wanted (units_in name) size p.has.parts a.client.put p.has.place none;
-    }
-
-pub asked_waits : (request : Request) (client : Asking) (server : Serving) (packet : List ℕ) → Suits request client server packet → is_waiting (Some request) ≡ true
-asked_waits Connect client server packet suits = refl
-asked_waits FirstPut client server packet suits = refl
-asked_waits Put client server packet suits = refl
-asked_waits Stream client server packet suits = absurd suits
-asked_waits FinalPut client server packet suits = refl
-asked_waits Abort client server packet suits = absurd suits
-asked_waits Disconnect client server packet suits = absurd suits
-
--- a pair with one packet more under way
-abbrev pub put_to : Pair → Asking → List (List ℕ) → Pair
-put_to a client requests = record a { client = client; requests = requests }
-
--- the client put a packet of so many octets
-pub record IsPut (a : Pair) (client : Asking) (packet : List ℕ) (final : Bool) (n : ℕ) : Type 0 where
-  pub client_is : client ≡ after_put a.client final n
-  pub writing : Written a.server.maximum a.client packet final
-
-pub more_of : (a : Pair) (client : Asking) (packet : List ℕ) (final : Bool) (n : ℕ) → IsPut a client packet final n → a.client.single ≡ true → final ≡ false → ((place : ℕ) × (client.put ≡ Some place)) × (client.single ≡ true)
-more_of a client packet true n put single e = absurd cc
-more_of a client packet false n put single e = (put_place a.client client n put.client_is, put_single a.client client n put.client_is ∙ single)
-
-pub stream_request : (final : Bool) → put_request false final true ≡ streaming final
-stream_request true = refl
-stream_request false = refl
-
-pub idle_puts : (a : Pair) (client : Asking) (packet : List ℕ) (final : Bool) (n : ℕ) (put : Option ℕ) (single : Bool) → a.client.put ≡ put → a.client.single ≡ single → IsPut a client packet final n → a.responses ≡ [] → Agrees put single a.server.course → stored a.server a.past ≡ 0
-    → Stage (put_to a client (packet ∷ []))
-idle_puts a client packet true n None single p s one answers agrees none = Asked FinalPut packet (put_waits a.client client true n None single p s one.client_is) refl answers (one.writing.single, one.writing.put) none
-idle_puts a client packet false n None single p s one answers agrees none =
-    let wish : one.writing.single ≡ client.wanted = one.writing.wanted p ∙ sym (put_wanted a.client client false n one.client_is) in
-    Asked FirstPut packet (put_waits a.client client false n None single p s one.client_is) refl answers
-    (subst (IsPutOf a.server.maximum packet false) wish one.writing.put, agrees, put_place a.client client n one.client_is) none
-idle_puts a client packet true n (Some place) false p s one answers agrees none = Asked FinalPut packet (put_waits a.client client true n (Some place) false p s one.client_is) refl answers (one.writing.single, one.writing.put) none
-idle_puts a client packet false n (Some place) false p s one answers agrees none =
-    Asked Put packet (put_waits a.client client false n (Some place) false p s one.client_is) refl answers
-    (one.writing.single, one.writing.put, agrees, put_place a.client client n one.client_is, put_single a.client client n one.client_is ∙ s) none
-idle_puts a client packet final n (Some place) true p s one answers agrees none =
-    Streams final agrees.0 (put_waits a.client client final n (Some place) true p s one.client_is ∙ ap request_of (stream_request final)) (more_of a client packet final n one s)
-    (queued_more a.server.maximum final [] packet tt (one.writing.single, one.writing.put)) answers agrees.1 none
-
-pub puts_at : (a : Pair) (client : Asking) (packet : List ℕ) (final : Bool) (n : ℕ) → Stage a → is_waiting a.client.awaited ≡ false → IsPut a client packet final n → Stage (put_to a client (a.requests ++ packet ∷ []))
-puts_at a client packet final n (Asked r said waits asks answers suits none) free one = absurd (not_waiting (is_waiting a.client.awaited) (ap is_waiting waits ∙ asked_waits r a.client a.server said suits) free)
-puts_at a client packet final n (Replied r s waits waiting asks answers means goes) free one = absurd (not_waiting (is_waiting a.client.awaited) waiting free)
-puts_at a client packet final n (Idle waits asks answers agrees none) free one =
-    subst (λ (rs : List (List ℕ)). Stage (put_to a client (rs ++ packet ∷ []))) (sym asks) (idle_puts a client packet final n a.client.put a.client.single refl refl one answers agrees none)
-puts_at a client packet final n (Streams true progress waits more queued answers course none) free one = absurd (not_waiting (is_waiting a.client.awaited) (ap is_waiting waits) free)
-puts_at a client packet final n (Streams false progress waits more queued answers course none) free one =
-    let still = more refl in
-    Streams final progress (put_waits a.client client final n (Some still.0.0) true still.0.1 still.1 one.client_is ∙ ap request_of (stream_request final)) (more_of a client packet final n one still.1)
-    (queued_more a.server.maximum final a.requests packet queued (one.writing.single, one.writing.put)) answers course none
-puts_at a client packet final n (Stopped true s rest waits more answers refuses) free one = absurd (not_waiting (is_waiting a.client.awaited) (ap is_waiting waits) free)
-puts_at a client packet final n (Stopped false s rest waits more answers refuses) free one =
-    let still = more refl in
-    Stopped final s rest (put_waits a.client client final n (Some still.0.0) true still.0.1 still.1 one.client_is ∙ ap request_of (stream_request final)) (more_of a client packet final n one still.1) answers
-    (subst (λ (m : ℕ). Refuses m s) (sym (ap (λ (x : Asking). x.maximum) one.client_is)) refuses)
-puts_at a client packet final n (Ends waiting asks says) free one = absurd (not_waiting (is_waiting a.client.awaited) waiting free)
-
-pub puts_stage : (name : List ℕ) (size : ℕ) (a b : Pair) → length (units_in name) ≤ 100 → size < 2 ^ 32 → Stage a → Puts name size a b → Stage b
-puts_stage name size a b few small stage p =
-    subst Stage (sym p.rest_is) (puts_at a b.client (take p.count p.room') p.final (min (left_of a.client size) (room_for a.client name size p.limit)) stage p.puts.none_waits
-    (record { client_is = p.puts.session_is; writing = written name size a b few small p a.server.maximum }))
-
-pub puts_base : (name : List ℕ) (size : ℕ) (a b : Pair) → Base a → Puts name size a b → Base b
-puts_base name size a b base p =
-    subst Base (sym p.rest_is) (record { stands = base.stands; client_least = subst (λ (n : ℕ). 255 ≤ n) (sym (ap (λ (x : Asking). x.maximum) p.puts.session_is)) base.client_least; server_least = base.server_least; server_most = base.server_most })
+pub stage_awaits : (p : Pair) → Stage p → (response : List ℕ) (rest : List (List ℕ)) → p.responses ≡ response ∷ rest → IsExpected p.client response
+stage_awaits p stage response rest e = let next = stage_next p stage response rest e in record { request = next.request; waits = next.waits; in_time = next.in_time }

@@ -108,13 +108,13 @@ all_take P n [] all = nil_take n
 all_take P zero (x ∷ xs) all = tt
 all_take P (suc n) (x ∷ xs) all = (all.0, all_take P n xs all.1)
 
-nones_heard : (packets : List (List ℕ)) → AllByRecursion IsNoPut packets → Nones (heard packets)
+pub nones_heard : (packets : List (List ℕ)) → AllByRecursion IsNoPut packets → Nones (heard packets)
 nones_heard [] all = tt
 nones_heard (packet ∷ packets) all = (all.0, nones_heard packets all.1)
 
 -- ---- the packets of an object
 
-front_heard : (ahead : List PlainHeader) (parts : List (List ℕ)) → AllByRecursion (IsPacket Request) (front_packets ahead parts) → heard (map packet_octets (front_packets ahead parts)) ≡ puts (front_packets ahead parts)
+pub front_heard : (ahead : List PlainHeader) (parts : List (List ℕ)) → AllByRecursion (IsPacket Request) (front_packets ahead parts) → heard (map packet_octets (front_packets ahead parts)) ≡ puts (front_packets ahead parts)
 front_heard ahead [] sound = refl
 front_heard ahead (part ∷ parts) sound =
     ap (λ (p : Option PlainPacket). p ∷ heard (map packet_octets (front_packets [] parts))) (ap put_of (heard_again (put_packet false ahead part) sound.0))

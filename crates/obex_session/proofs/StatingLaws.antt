@@ -1,5 +1,5 @@
 -- What a server says states its own maximum, wherever it is read as a response to CONNECT.
-use Rattle.std.proofs.Common.{true, false, cond, Bool, ◌<◌, ◌≤◌, ◌^◌, ◌≡◌, ℕ, List, [], length, take, drop, Ok, sym, ap, ◌∙◌, arith}
+use Rattle.std.proofs.Common.{true, false, cond, Bool, ◌<◌, ◌≤◌, ◌^◌, ◌≡◌, ℕ, List, [], length, take, drop, Ok, refl, sym, ap, subst, ◌∙◌, arith}
 use Rattle.obex_headers.specs.declared.packet.Phase.TheVariants.{ConnectResponse}
 use Rattle.obex_headers.specs.Packets.{PlainPacket, maximum_of, bare, packet_octets}
 use Rattle.obex_headers.specs.Reading.{packet_in, front_at, headers_in}
@@ -19,6 +19,7 @@ States most octets = (maximum : ℕ) (packet : PlainPacket) → packet_in Connec
 record HasFields (octets : List ℕ) (packet : PlainPacket) : Type 0 where
   long : 7 ≤ length octets
   extra : packet.extra ≡ take 4 (drop 3 octets)
+  least : 255 ≤ maximum_of packet.extra
 
 fields_read : (maximum : ℕ) (octets : List ℕ) (packet : PlainPacket) → packet_in ConnectResponse maximum octets ≡ Ok packet → HasFields octets packet
 unfolding packet_in
@@ -26,7 +27,12 @@ fields_read maximum octets packet e =
     let front = bind_ok (front_at ConnectResponse maximum octets) _ packet e in
     let headers = bind_ok (headers_in front.0.1) _ packet front.2 in
     let read = front_takes ConnectResponse maximum octets front.0 front.1 in
-    record { long = read.long; extra = ap (λ (p : PlainPacket). p.extra) (sym (ok_is _ packet headers.2)) ∙ sym read.extra }
+    let same : packet.extra ≡ front.0.0 = ap (λ (p : PlainPacket). p.extra) (sym (ok_is _ packet headers.2)) in
+    record { long = read.long; extra = same ∙ sym read.extra; least = subst (λ (octets : List ℕ). 255 ≤ maximum_of octets) (sym same) (read.accepts.maximum refl) }
+
+-- and never less than each packet may have
+pub states_least : (maximum : ℕ) (octets : List ℕ) (packet : PlainPacket) → packet_in ConnectResponse maximum octets ≡ Ok packet → 255 ≤ maximum_of packet.extra
+states_least maximum octets packet e = (fields_read maximum octets packet e).least
 
 short_states : (most : ℕ) (octets : List ℕ) → length octets < 7 → States most octets
 short_states most octets short maximum packet e = let read = fields_read maximum octets packet e in let long = read.long in absurd (omega (arith, short, long))

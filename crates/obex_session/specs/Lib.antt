@@ -22,3 +22,4 @@ pub mod Tried
 pub mod Replied
 pub mod Modes
 pub mod Naming
+pub mod Readable

@@ -6,9 +6,10 @@ ghost use Rattle.obex_session.specs.Laws.{NoRuleFails, StoresWhatIsSpelled};
 ghost use Rattle.obex_session.specs.Modes.{RepliesKeepModes};
 ghost use Rattle.obex_session.specs.Naming.{NamesHaveUnits};
 ghost use Rattle.obex_session.specs.ObjectPuts.{PutsInOrder, SpellsTheObject};
-ghost use Rattle.obex_session.specs.Pairs.{PairsMeanWell};
+ghost use Rattle.obex_session.specs.Pairs.{PairsHearFronts, PairsMeanWell, ResponsesAreAwaited};
 ghost use Rattle.obex_session.specs.Pushes.{FrontsArePushed};
 ghost use Rattle.obex_session.specs.PutPackets.{SpellsWhatIsPut};
+ghost use Rattle.obex_session.specs.Readable.{RepliesAreRead};
 ghost use Rattle.obex_session.specs.Replied.{RepliesAreDue};
 ghost use Rattle.obex_session.specs.Tried.{InboxIsCalledAnew, InboxIsCalledInRuns};
 
@@ -59,6 +60,17 @@ pub fn pairs_mean_well()
     ensures { PairsMeanWell }
 {}
 
+/// No response comes to a client that awaits none, whenever it is cancelled, nor success to one that has more PUTs of its object to send.
+pub fn responses_are_awaited()
+    ensures { ResponsesAreAwaited }
+{}
+
+/// What the server heard is a front of what the client asked: CONNECT, PUTs of its object in order, and no PUT more. So the server stores that
+/// object once or nothing, and a client that is done has had it stored.
+pub fn pairs_hear_fronts()
+    ensures { PairsHearFronts }
+{}
+
 /// The calls that a session makes of its inbox, over any list of packets and whatever the inbox answers: each packet makes those
 /// of its place in its run, up to the first that fails. A Name begins the object, each body is appended, the final PUT commits it,
 /// and what ends a run without an object aborts what is under way, as the end of the link does. A packet at which a call failed
@@ -74,6 +86,12 @@ pub fn inbox_is_called_up_to_faults()
 /// offered that is the reply, octet for octet; where it is, a packet may be passed over in silence.
 pub fn replies_are_due()
     ensures { RepliesAreDue }
+{}
+
+/// What a session says to a packet, whatever that is and whatever the inbox answers, is nothing, or a response that a client can read which
+/// awaits one of its kind: to CONNECT where the packet begins as one, else to any other request.
+pub fn replies_are_read()
+    ensures { RepliesAreRead }
 {}
 
 /// So it is with single response mode, octet for octet: a run is in the mode where the session offers it and the first PUT of the run
