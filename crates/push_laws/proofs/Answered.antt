@@ -6,6 +6,8 @@ use Rattle.push_model.specs.obex_headers.specs.Packets.{PlainPacket, maximum_of}
 use Rattle.push_model.specs.obex_headers.specs.Reading.{◌>>=◌, headers_in, front_at, packet_in}
 use Rattle.push_model.specs.obex_headers.proofs.HeaderLaws.{bind_ok, ok_is}
 use Rattle.push_model.specs.obex_headers.proofs.PacketLaws.{front_takes}
+use Rattle.push_model.specs.obex_session.specs.declared.asking.Request.{Request}
+use Rattle.push_model.specs.obex_session.specs.declared.asking.Request.TheVariants as requests
 use Rattle.push_model.specs.obex_session.specs.declared.client.Answered.{Answered}
 use Rattle.push_model.specs.obex_session.specs.declared.client.Answered.TheVariants.{Go, Done, Refused, Bad, Srmp}
 use Rattle.push_model.specs.obex_session.specs.Asking.{Asking, phase_of, awaited_code, success_of, answer_read, limit_by, single_by, after_read}
@@ -77,6 +79,33 @@ goes_answered session octets =
     (record session { limit = limit_by r session.limit packet.extra; single = single_by r session.wanted session.single (marks_of packet.headers); awaited = None }) (record session { put = None; single = false; awaited = None })
     says.0 says.1 (record { put = refl; free = refl }))
     (λ refusal go. absurd (let f : Bad refusal ≡ Go = go in cc)) (inner (answer_read r (packet_in (phase_of r) session.maximum octets)) Go e))
+
+-- ---- where it is refused
+
+refused_tests : (own code : ℕ) (parameters matches : Bool) (success : Answered) (session going ended : Asking) → (success ≡ Refused code → ⊥) → ended.put ≡ None → (if parameters then Srmp else if matches then success else Refused own) ≡ Refused code
+    → (if parameters then session else if matches then going else ended).put ≡ None
+refused_tests own code true matches success session going ended other unput e = absurd (let f : Srmp ≡ Refused code = e in cc)
+refused_tests own code false true success session going ended other unput e = absurd (other e)
+refused_tests own code false false success session going ended other unput e = unput
+
+not_refused : (request : Request) (code : ℕ) → success_of request ≡ Refused code → ⊥
+not_refused requests.Connect code e = let f : Go ≡ Refused code = e in absurd cc
+not_refused requests.FirstPut code e = let f : Go ≡ Refused code = e in absurd cc
+not_refused requests.Put code e = let f : Go ≡ Refused code = e in absurd cc
+not_refused requests.Stream code e = let f : Go ≡ Refused code = e in absurd cc
+not_refused requests.FinalPut code e = let f : Done ≡ Refused code = e in absurd cc
+not_refused requests.Abort code e = let f : Go ≡ Refused code = e in absurd cc
+not_refused requests.Disconnect code e = let f : Go ≡ Refused code = e in absurd cc
+
+-- no object is under way then
+pub refused_answered : (session : Asking) (octets : List ℕ) (code : ℕ) → answer_at session.awaited session octets ≡ Some (Refused code) → (after_at session.awaited session octets).put ≡ None
+refused_answered session octets code =
+    of_option session.awaited (λ a. answer_at a session octets ≡ Some (Refused code) → (after_at a session octets).put ≡ None) (λ e. absurd (let f : None ≡ Some (Refused code) = e in cc))
+    (λ r e. of_result (packet_in (phase_of r) session.maximum octets) (λ read. answer_read r read ≡ Refused code → (after_read session r read).put ≡ None)
+    (λ packet is refused. refused_tests packet.code code (marks_of packet.headers).parameters (eqb packet.code (awaited_code r)) (success_of r) session
+    (record session { limit = limit_by r session.limit packet.extra; single = single_by r session.wanted session.single (marks_of packet.headers); awaited = None }) (record session { put = None; single = false; awaited = None })
+    (not_refused r code) refl refused)
+    (λ refusal refused. absurd (let f : Bad refusal ≡ Refused code = refused in cc)) (inner (answer_read r (packet_in (phase_of r) session.maximum octets)) (Refused code) e))
 
 -- behind the final PUT no response lets it go on
 pub final_ends : (session : Asking) (octets : List ℕ) → answer_at (Some (put_request false true false)) session octets ≡ Some Go → ⊥

@@ -18,7 +18,7 @@ use Rattle.push_model.specs.declared.course.Contact.TheVariants.{Unmet, Met, Lef
 use Rattle.push_model.specs.Client.{Client}
 use Rattle.push_model.specs.Steps.{Ask, Connect, Put, Abort, Disconnect, Close, Nothing, asks, put_count, is_last_put, put_octets, connect_octets, abort_octets, disconnect_octets, puts}
 use Rattle.push_laws.proofs.Talks.{talk_of}
-use Rattle.push_laws.proofs.Pushing.{Task, not_given_up, HasSent, NotDone, NotCancelled, connect_of, is_gone, Fixed, State, Fresh, Connecting, Putting, GivenUp, Gone, Stands, MayPutOn, ends_stands}
+use Rattle.push_laws.proofs.Pushing.{Task, not_given_up, HasSent, NotDone, NotGivenUp, connect_of, is_gone, Fixed, State, Fresh, Connecting, Putting, GivenUp, Gone, Stands, MayPutOn, ends_stands}
 use Rattle.push_laws.proofs.Pushing as state
 
 -- ---- what a client asks, and when
@@ -113,7 +113,7 @@ leaves w sent client met caused s = (fixed, Gone refl caused (by s.1))
     by (Fresh none was waits unput least other) = absurd (not_met client.contact was met)
     by (Connecting is was waits unput other) = absurd (not_met client.contact was met)
     by (Putting puts at is was wanted has place other any) = inr (record { puts = puts; gave_up = false; left = true; sent_is = more sent (connect_of w ∷ puts) (disconnect_octets ∷ []) is; puts_are = inr (at, wanted, has, other, λ up none. not_given_up up) })
-    by (state.Put puts is was whole waits unput other) = inr (record { puts = puts; gave_up = false; left = true; sent_is = more sent (connect_of w ∷ puts) (disconnect_octets ∷ []) is; puts_are = inl (whole, refl, other) })
+    by (state.Put puts is was whole waits unput other) = inr (record { puts = puts; gave_up = false; left = true; sent_is = more sent (connect_of w ∷ puts) (disconnect_octets ∷ []) is; puts_are = inl (whole, refl, λ e. other (inl e), λ e. other (inr e)) })
     by (GivenUp puts at is was wanted has given unput other any) = inr (record {
       puts = puts;
       gave_up = true;
@@ -154,6 +154,10 @@ front_is octets = take-append_seam octets (drop (length octets) [])
 not_ended : (cause : Option Outcome) (o : Outcome) → cause ≡ None → cause ≡ Some o → ⊥
 not_ended cause o a b = let f : None ≡ Some o = sym a ∙ b in cc
 
+kept : (cause : Option Outcome) → cause ≡ None → NotGivenUp cause
+kept cause free (inl cancelled) = not_ended cause outcomes.Cancelled free cancelled
+kept cause free (inr fault) = not_ended cause outcomes.ShelfFault free fault
+
 never_empty : (puts : List (List ℕ)) (octets : List ℕ) → puts ++ octets ∷ [] ≡ [] → ⊥
 never_empty [] octets e = absurd cc
 never_empty (first ∷ puts) octets e = absurd cc
@@ -166,7 +170,7 @@ put_state w sent puts client part true last still own f is met free has told =
     let whole = goes_on w puts client part true last still own f has told in
     state.Put (puts ++ octets ∷ []) (more sent (connect_of w ∷ puts) (octets ∷ []) is) met
     (subst (λ (b : Bool). IsWhole b client.name client.size (puts ++ octets ∷ []) w.content) f.wanted (subst (λ (x : List ℕ). IsWhole client.session.wanted client.name client.size (puts ++ x ∷ []) w.content) (front_is octets) whole))
-    (λ e. final_of client.session.put client.session.single) refl (not_ended client.cause outcomes.Cancelled free)
+    (λ e. final_of client.session.put client.session.single) refl (kept client.cause free)
   where
     final_of : (place : Option ℕ) (single : Bool) → Some (put_request (not (is_some place)) true single) ≡ Some (put_request false true false)
     final_of place single = refl

@@ -28,7 +28,7 @@ abbrev Late : Talk → Type 0
 Late t = ((t.cause ≡ None) × (t.session.awaited ≡ Some (put_request false true false))) ⊎ ((o : Outcome) × (t.cause ≡ Some o) × NotCancelled (Some o))
 
 free_late : (o : Outcome) (t : Talk) → is_reserved o ≡ false → NotCancelled (Some o)
-free_late o t free = (suits_any o (record t.session { awaited = Some (put_request false true false) }) free).late refl
+free_late o t free e = (suits_any o (record t.session { awaited = Some (put_request false true false) }) free).late refl (inl e)
 
 -- ---- a response
 

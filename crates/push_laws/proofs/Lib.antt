@@ -21,6 +21,9 @@ pub mod Answered
 pub mod Pushing
 pub mod Asking
 pub mod Sending
+pub mod GivenUp
+pub mod GivenUpNews
+pub mod GivenUpSteps
 pub mod Spelling
 pub mod Finals
 pub mod Late
@@ -68,6 +71,7 @@ pub mod Requesting
 pub mod Muxing
 pub mod Working
 pub mod Undirected
+pub mod OneUnderWay
 pub mod Exchanging
 pub mod Speaking
 pub mod Attending

@@ -19,7 +19,7 @@ use Rattle.push_model.specs.Causes.{cause_of_obex, unknown_parameters, unawaited
 use Rattle.push_model.specs.Client.{Client, ends, ends_by}
 use Rattle.push_model.specs.Responding.{met, takes, is_success, is_early, hears_answer, hears_response}
 use Rattle.push_model.specs.Steps.{abort_octets}
-use Rattle.push_laws.specs.Sending.{IsSent}
+use Rattle.push_laws.specs.Sending.{IsSent, IsGivenUp}
 use Rattle.push_laws.proofs.Answered.{After, same_session, after_answered, goes_answered, final_ends, connect_wide, put_wide, connect_not_done, put_not_done}
 use Rattle.push_laws.proofs.Talks.{Talk, talk_of, is_reserved, Kept}
 
@@ -42,6 +42,9 @@ NotDone cause = cause ≡ Some outcomes.Done → ⊥
 
 abbrev pub NotCancelled : Option Outcome → Type 0
 NotCancelled cause = cause ≡ Some outcomes.Cancelled → ⊥
+
+abbrev pub NotGivenUp : Option Outcome → Type 0
+NotGivenUp cause = IsGivenUp cause → ⊥
 
 abbrev pub is_gone : Contact → Bool
 is_gone Unmet = false
@@ -69,7 +72,7 @@ pub data State (w : Task) (sent : List (List ℕ)) (cause : Option Outcome) (con
   Connecting : sent ≡ connect_of w ∷ [] → contact ≡ Unmet → (cause ≡ None → (session.awaited ≡ (asks_connect session).awaited) × (255 ≤ session.limit)) → session.put ≡ None → NotDone cause → State w sent cause contact session name size
   Putting : (puts : List (List ℕ)) (at : Asking) → sent ≡ connect_of w ∷ puts → contact ≡ Met → at.wanted ≡ w.wanted → HasPut name size puts at w.content
       → (cause ≡ None → (session.put ≡ at.put) × (255 ≤ session.limit) × MayPutOn session) → NotDone cause → (is_some session.put ≡ true → puts ≡ [] → ⊥) → State w sent cause contact session name size
-  Put : (puts : List (List ℕ)) → sent ≡ connect_of w ∷ puts → contact ≡ Met → IsWhole w.wanted name size puts w.content → (cause ≡ None → session.awaited ≡ Some (put_request false true false)) → session.put ≡ None → NotCancelled cause
+  Put : (puts : List (List ℕ)) → sent ≡ connect_of w ∷ puts → contact ≡ Met → IsWhole w.wanted name size puts w.content → (cause ≡ None → session.awaited ≡ Some (put_request false true false)) → session.put ≡ None → NotGivenUp cause
       → State w sent cause contact session name size
   GivenUp : (puts : List (List ℕ)) (at : Asking) → sent ≡ connect_of w ∷ (puts ++ abort_octets ∷ []) → contact ≡ Met → at.wanted ≡ w.wanted → HasPut name size puts at w.content → is_some cause ≡ true → session.put ≡ None → NotDone cause → (puts ≡ [] → ⊥)
       → State w sent cause contact session name size
@@ -105,7 +108,7 @@ sent_of w sent t stands = by stands.1
       puts_are = inr (fresh 0 w.wanted, refl, puts_in_order.begins t.name t.size (fresh 0 w.wanted) w.content refl, other, λ up none. not_given_up up);
     })
     by (Putting puts at is met wanted has place other some) = inr (record { puts = puts; gave_up = false; left = false; sent_is = is ∙ ap (λ (xs : List (List ℕ)). connect_of w ∷ xs) (sym (append-nil puts)); puts_are = inr (at, wanted, has, other, λ up none. not_given_up up) })
-    by (Put puts is met whole waits unput other) = inr (record { puts = puts; gave_up = false; left = false; sent_is = is ∙ ap (λ (xs : List (List ℕ)). connect_of w ∷ xs) (sym (append-nil puts)); puts_are = inl (whole, refl, other) })
+    by (Put puts is met whole waits unput other) = inr (record { puts = puts; gave_up = false; left = false; sent_is = is ∙ ap (λ (xs : List (List ℕ)). connect_of w ∷ xs) (sym (append-nil puts)); puts_are = inl (whole, refl, λ e. other (inl e), λ e. other (inr e)) })
     by (GivenUp puts at is met wanted has caused unput other some) = inr (record { puts = puts; gave_up = true; left = false; sent_is = is; puts_are = inr (at, wanted, has, other, λ up. some) })
     by (Gone gone caused sent) = sent
 
@@ -118,10 +121,10 @@ never o e = cc
 abbrev pub IsEarly : Asking → Type 0
 IsEarly session = (session.awaited ≡ None) ⊎ ((session.awaited ≡ (asks_connect session).awaited) ⊎ MayPutOn session)
 
--- an outcome that suits what awaits its response: done behind the final PUT alone, and cancelled ahead of it
+-- an outcome that suits what awaits its response: done behind the final PUT alone, and given up ahead of it
 pub record Suits (o : Outcome) (session : Asking) : Type 0 where
   pub early : IsEarly session → NotDone (Some o)
-  pub late : session.awaited ≡ Some (put_request false true false) → NotCancelled (Some o)
+  pub late : session.awaited ≡ Some (put_request false true false) → NotGivenUp (Some o)
 
 not_some : is_some {T = Outcome} None ≡ true → ⊥
 not_some e = let f : false ≡ true = e in cc
@@ -180,23 +183,31 @@ reserved_of o a b = let f : false ≡ true = sym a ∙ b in cc
 inner : (a b : Outcome) → Some a ≡ Some b → a ≡ b
 inner a b e = cc
 
--- an outcome that is neither suits everywhere
+given_reserved : (o : Outcome) → IsGivenUp (Some o) → is_reserved o ≡ true
+given_reserved o (inl e) = ap is_reserved (inner o outcomes.Cancelled e)
+given_reserved o (inr e) = ap is_reserved (inner o outcomes.ShelfFault e)
+
+-- an outcome that is none of these suits everywhere
 pub suits_any : (o : Outcome) (session : Asking) → is_reserved o ≡ false → Suits o session
 suits_any o session free = record {
   early = λ early e. reserved_of o free (ap is_reserved (inner o outcomes.Done e));
-  late = λ late e. reserved_of o free (ap is_reserved (inner o outcomes.Cancelled e));
+  late = λ late given. reserved_of o free (given_reserved o given);
 }
 
-done_early : (session : Asking) (octets : List ℕ) → answer_at session.awaited session octets ≡ Some Done → IsEarly session → ⊥
+pub done_early : (session : Asking) (octets : List ℕ) → answer_at session.awaited session octets ≡ Some Done → IsEarly session → ⊥
 done_early session octets is (inl free) = let f : None ≡ Some Done = sym (ap (λ a. answer_at a session octets) free) ∙ is in cc
 done_early session octets is (inr (inl waits)) = connect_not_done session octets (sym (ap (λ a. answer_at a session octets) waits) ∙ is)
 done_early session octets is (inr (inr (inl free))) = let f : None ≡ Some Done = sym (ap (λ a. answer_at a session octets) free) ∙ is in cc
 done_early session octets is (inr (inr (inr waits))) = put_not_done waits.0 waits.1 session octets (sym (ap (λ a. answer_at a session octets) waits.2) ∙ is)
 
+done_kept : NotGivenUp (Some outcomes.Done)
+done_kept (inl e) = let f : outcomes.Done ≡ outcomes.Cancelled = inner outcomes.Done outcomes.Cancelled e in absurd cc
+done_kept (inr e) = let f : outcomes.Done ≡ outcomes.ShelfFault = inner outcomes.Done outcomes.ShelfFault e in absurd cc
+
 done_suits : (session : Asking) (octets : List ℕ) → answer_at session.awaited session octets ≡ Some Done → Suits outcomes.Done session
 done_suits session octets is = record {
   early = λ early e. done_early session octets is early;
-  late = λ late e. let f : outcomes.Done ≡ outcomes.Cancelled = inner outcomes.Done outcomes.Cancelled e in absurd cc;
+  late = λ late given. done_kept given;
 }
 
 -- ---- the push goes on
@@ -259,7 +270,7 @@ response_at w sent (Some answered) packet client is s =
     let heard : Client = record client { session = after_at client.session.awaited client.session packet } in
     either w sent (is_success answered && is_early client) (ends unawaited_response heard) (takes answered heard) (ends_behind w sent unawaited_response packet client (suits_any unawaited_response client.session refl) s) (takes_stands w sent answered packet client is s)
 
-hears_stands : (w : Task) (sent : List (List ℕ)) (packet : List ℕ) (client : Client) → Stands w sent (talk_of client) → Stands w sent (talk_of (hears_response packet client))
+pub hears_stands : (w : Task) (sent : List (List ℕ)) (packet : List ℕ) (client : Client) → Stands w sent (talk_of client) → Stands w sent (talk_of (hears_response packet client))
 hears_stands w sent packet client s = response_at w sent (answer_at client.session.awaited client.session packet) packet client refl s
 
 -- ---- all news

@@ -19,17 +19,17 @@ use Rattle.push_model.specs.declared.course.Contact.TheVariants.{Met, Closing}
 use Rattle.push_model.specs.declared.course.Point.TheVariants.{Due, Asked}
 use Rattle.push_model.specs.declared.course.Stage.{Stage}
 use Rattle.push_model.specs.declared.course.Stage.TheVariants.{Rest, Link, SearchChannel, Search, SearchEnd, Features, ObjectChannel, Object, ObjectEnd, LinkEnd, Over}
-use Rattle.push_model.specs.Client.{Client, ends, ends_by, is_rest, may_cancel, with_object}
+use Rattle.push_model.specs.Client.{Client, ends, ends_by, is_rest, may_cancel}
 use Rattle.push_model.specs.Events.{search_psm}
 use Rattle.push_model.specs.Laws.{Deed, Hears, Asks, Finishes, Cancels, done, all_done}
 use Rattle.push_model.specs.Payloads.{Octets}
 use Rattle.push_model.specs.Responding.{is_object}
 use Rattle.push_model.specs.Steps as steps
 use Rattle.push_model.specs.Steps.{Part, Stepped, Made, Ask, Connect, Put, Abort, Disconnect, Close, Nothing, next_ask, may_ask, put_count, puts_part, puts_from, puts, leaves_by, failing, puts_or_leaves, requests, sends_direct, asks_direct, steps_direct, filled, said_by, says, sends_muxed, takes_some, asks_muxed, goes_muxed, steps_muxed, steps_object, tells_end, steps_at, rests, sends_sdu}
-use Rattle.push_laws.specs.Sending.{packet_of, packet_asked, packets_behind, packets_muxed, packets_through, packets_by, packets_sent, sdus_of, Answers, AnswersTo, AllAnswer, SendsOnePush}
+use Rattle.push_laws.specs.Sending.{packet_of, packet_asked, packets_behind, packets_muxed, packets_through, packets_by, packets_sent, sdus_of, Answers, AnswersTo, AllAnswer}
 use Rattle.push_laws.proofs.Talks.{Talk, talk_of, object_of, news_keeps}
-use Rattle.push_laws.proofs.Pushing.{Task, HasSent, Fixed, Fresh, Gone, Stands, Suits, suits_any, is_gone, sent_of, ends_stands, kept}
-use Rattle.push_laws.proofs.Asking.{Told, whence, closes, connects, aborts, leaves, puts_stand, left_caused}
+use Rattle.push_laws.proofs.Pushing.{Task, Gone, Stands, Suits, is_gone, sent_of, ends_stands, kept}
+use Rattle.push_laws.proofs.Asking.{Told, whence, closes, connects, aborts, leaves, puts_stand, left_caused, no_wait}
 
 -- ---- a request
 
@@ -47,24 +47,34 @@ leaves_stand w sent Disconnect client parts is met caused s = leaves w sent clie
 leaves_stand w sent Close client parts is met caused s = leaves w sent client met caused s
 leaves_stand w sent Nothing client parts is met caused s = leaves w sent client met caused s
 
-same_contact : (cause : Option Outcome) (o : Outcome) (client : Client) → (ends_by cause o client).contact ≡ client.contact
+pub same_contact : (cause : Option Outcome) (o : Outcome) (client : Client) → (ends_by cause o client).contact ≡ client.contact
 same_contact None o client = refl
 same_contact (Some earlier) o client = refl
 
-has_ended : (cause : Option Outcome) (o : Outcome) (client : Client) → cause ≡ client.cause → is_some (ends_by cause o client).cause ≡ true
+pub has_ended : (cause : Option Outcome) (o : Outcome) (client : Client) → cause ≡ client.cause → is_some (ends_by cause o client).cause ≡ true
 has_ended None o client is = refl
 has_ended (Some earlier) o client is = ap is_some (sym is)
 
-failing_stands : (w : Task) (sent : List (List ℕ)) (client : Client) (parts : List Part) → client.contact ≡ Met → Stands w sent (talk_of client) → MadeStands w sent (failing client parts)
-failing_stands w sent client parts met s =
+same_outcome : (a b : Outcome) → Some a ≡ Some b → a ≡ b
+same_outcome a b is = cc
+
+-- the shelf fails where no response is awaited, so ahead of the final PUT
+fault_suits : (client : Client) → is_waiting client.session.awaited ≡ false → Suits outcomes.ShelfFault client.session
+fault_suits client still = record {
+  early = λ early e. let f : outcomes.ShelfFault ≡ outcomes.Done = same_outcome outcomes.ShelfFault outcomes.Done e in absurd cc;
+  late = λ late given. no_wait (is_waiting client.session.awaited) still (ap is_waiting late);
+}
+
+failing_stands : (w : Task) (sent : List (List ℕ)) (client : Client) (parts : List Part) → client.contact ≡ Met → is_waiting client.session.awaited ≡ false → Stands w sent (talk_of client) → MadeStands w sent (failing client parts)
+failing_stands w sent client parts met still s =
     let ended = ends outcomes.ShelfFault client in
     leaves_stand w sent (next_ask ended) ended parts refl (same_contact client.cause outcomes.ShelfFault client ∙ met) (has_ended client.cause outcomes.ShelfFault client refl)
-    (ends_stands w sent outcomes.ShelfFault client (λ e. suits_any outcomes.ShelfFault client.session refl) s)
+    (ends_stands w sent outcomes.ShelfFault client (λ e. fault_suits client still) s)
 
 part_stands : (w : Task) (sent : List (List ℕ)) (part : Part) (client : Client) (parts : List Part) → client.contact ≡ Met → client.cause ≡ None → is_waiting client.session.awaited ≡ false
     → ((octets : List ℕ) → part ≡ Ok octets → Told w.content client octets) → Stands w sent (talk_of client) → MadeStands w sent (puts_or_leaves (puts_part part client parts).outcome (puts_part part client parts))
 part_stands w sent (Ok part) client parts met free still told s = puts_stand w sent client part met free still (told part refl) s
-part_stands w sent (Err fault.Failed) client parts met free still told s = failing_stands w sent client parts met s
+part_stands w sent (Err fault.Failed) client parts met free still told s = failing_stands w sent client parts met still s
 part_stands w sent (Err fault.NoMemory) client parts met free still told s = nothing_more w sent (talk_of client) s
 
 same_octets : (part : Part) (a b : List ℕ) → part ≡ Ok a → part ≡ Ok b → a ≡ b
@@ -76,7 +86,7 @@ told_by w client (Err fault) parts answers octets e = absurd cc
 
 from_stands : (w : Task) (sent : List (List ℕ)) (client : Client) (parts : List Part) → client.contact ≡ Met → client.cause ≡ None → is_waiting client.session.awaited ≡ false → Answers w.content client parts → Stands w sent (talk_of client)
     → MadeStands w sent (puts_or_leaves (puts_from parts client).outcome (puts_from parts client))
-from_stands w sent client [] met free still answers s = failing_stands w sent client [] met s
+from_stands w sent client [] met free still answers s = failing_stands w sent client [] met still s
 from_stands w sent client (part ∷ parts) met free still answers s = part_stands w sent part client parts met free still (told_by w client part parts answers) s
 
 no_octets : (w : Task) (client : Client) (part : Part) → part ≡ Ok [] → put_count client ≡ 0 → (octets : List ℕ) → part ≡ Ok octets → Told w.content client octets
@@ -236,22 +246,22 @@ unfolding Steps
 steps_of w sent packets client parts after is said s =
     subst (λ (x : Stepped). Stands w (sent ++ packets_by (Asks parts) client) (talk_of x.client)) (sym is) (subst (λ (ps : List (List ℕ)). Stands w (sent ++ ps) (talk_of after.client)) (sym said) s)
 
-quiet_through : (t : Transport) (client : Client) (parts : List Part) (after : Stepped) → steps.steps client parts ≡ after → sdus_of after.step ≡ [] → (client.failed || client.given) ≡ true → packets_through t client parts ≡ []
+pub quiet_through : (t : Transport) (client : Client) (parts : List Part) (after : Stepped) → steps.steps client parts ≡ after → sdus_of after.step ≡ [] → (client.failed || client.given) ≡ true → packets_through t client parts ≡ []
 quiet_through L2cap client parts after is none held = ap (λ (x : Stepped). sdus_of x.step) is ∙ none
 quiet_through Rfcomm client parts after is none held = cond-true (client.failed || client.given) [] (packets_muxed client parts) held
 
-quiet_by : (test : Bool) (packets : List (List ℕ)) → packets ≡ [] → (if test then packets else []) ≡ []
+pub quiet_by : (test : Bool) (packets : List (List ℕ)) → packets ≡ [] → (if test then packets else []) ≡ []
 quiet_by true packets e = e
 quiet_by false packets e = refl
 
-or_left : (a b : Bool) → a ≡ true → (a || b) ≡ true
+pub or_left : (a b : Bool) → a ≡ true → (a || b) ≡ true
 or_left a b e = ap (λ (x : Bool). x || b) e
 
-or_right : (a b : Bool) → b ≡ true → (a || b) ≡ true
+pub or_right : (a b : Bool) → b ≡ true → (a || b) ≡ true
 or_right true b e = refl
 or_right false b e = e
 
-or_none : (a b : Bool) → a ≡ false → b ≡ false → (a || b) ≡ false
+pub or_none : (a b : Bool) → a ≡ false → b ≡ false → (a || b) ≡ false
 or_none a b x y = ap (λ (z : Bool). z || b) x ∙ y
 
 over_both : (w : Task) (sent : List (List ℕ)) (t : Transport) (client : Client) (parts : List Part) → steps.steps client parts ≡ steps_object t client parts → (client.failed || client.given) ≡ false → is_object client.stage ≡ true → t ≡ client.transport
@@ -265,7 +275,7 @@ over_both w sent Rfcomm client parts is free works t answers s =
     (cond-true (is_object client.stage) (packets_through client.transport client parts) [] works ∙ ap (λ (x : Transport). packets_through x client parts) (sym t) ∙ cond-false (client.failed || client.given) [] (packets_muxed client parts) free)
     (over_rfcomm w sent client parts answers s)
 
-freely : (client : Client) (parts : List Part) → client.failed ≡ false → client.given ≡ false → steps.steps client parts ≡ steps_at client.stage client parts
+pub freely : (client : Client) (parts : List Part) → client.failed ≡ false → client.given ≡ false → steps.steps client parts ≡ steps_at client.stage client parts
 freely client parts f g =
     let lacking : Stepped = record { client = client; step = steps.NoMemory; left = parts } in
     cond-false client.failed lacking (if client.given then rests client parts else steps_at client.stage client parts) f ∙ cond-false client.given (rests client parts) (steps_at client.stage client parts) g
@@ -289,7 +299,7 @@ steps_by w sent false false true client parts f g o answers s =
 
 -- ---- all deeds
 
-final_stays : (a b final : Bool) → final ≡ true → (a && (b && not final)) ≡ true → ⊥
+pub final_stays : (a b final : Bool) → final ≡ true → (a && (b && not final)) ≡ true → ⊥
 final_stays true true true f e = let g : false ≡ true = e in absurd cc
 final_stays true false true f e = let g : false ≡ true = e in absurd cc
 final_stays false b true f e = let g : false ≡ true = e in absurd cc
@@ -301,9 +311,6 @@ cancel_suits client may = record {
   early = λ early e. let f : outcomes.Cancelled ≡ outcomes.Done = same_outcome outcomes.Cancelled outcomes.Done e in absurd cc;
   late = λ late e. final_stays (not (is_rest client.stage)) (is_none client.cause) (is_final_put client.session.awaited) (ap is_final_put late) may;
 }
-  where
-    same_outcome : (a b : Outcome) → Some a ≡ Some b → a ≡ b
-    same_outcome a b is = cc
 
 cancels : (w : Task) (sent : List (List ℕ)) (may : Bool) (client : Client) → may ≡ may_cancel client → Stands w sent (talk_of client) → Stands w sent (talk_of (if may then ends outcomes.Cancelled client else client))
 cancels w sent true client is s = ends_stands w sent outcomes.Cancelled client (λ e. cancel_suits client (sym is)) s
@@ -321,17 +328,3 @@ all_stand w sent [] client answers s = nothing_more w sent (talk_of client) s
 all_stand w sent (deed ∷ deeds) client answers s =
     subst (λ (xs : List (List ℕ)). Stands w xs (talk_of (all_done deeds (done deed client)))) (append_assoc sent (packets_by deed client) (packets_sent deeds (done deed client)))
     (all_stand w (sent ++ packets_by deed client) deeds (done deed client) answers.1 (deed_stands w sent deed client answers.0 s))
-
--- ---- the law
-
-no_cause : (o : Outcome) → None ≡ Some o → ⊥
-no_cause o e = cc
-
-pub sends-one_push : SendsOnePush
-sends-one_push client name size content deeds may answers =
-    let w : Task = record { maximum = client.session.maximum; wanted = client.session.wanted; name = name; size = size; content = content } in
-    let begun = with_object name size client in
-    let fixed : Fixed w begun.session name size client.limit = record { maximum = refl; wanted = refl; name_is = refl; size_is = refl; short = may.short; small = may.small; least = may.least; most = may.most } in
-    let after = talk_of (all_done deeds begun) in
-    let stands = all_stand w [] deeds begun answers (fixed, Fresh refl refl refl refl (λ e. may.own) (λ e. no_cause outcomes.Done e)) in
-    subst (λ (n : ℕ). HasSent w name n after.cause (packets_sent deeds begun)) stands.0.size_is (subst (λ (n : List ℕ). HasSent w n after.size after.cause (packets_sent deeds begun)) stands.0.name_is (sent_of w (packets_sent deeds begun) after stands))

@@ -47,11 +47,11 @@ which L2cap Rfcomm = inr refl
 which Rfcomm L2cap = inr refl
 which Rfcomm Rfcomm = inl refl
 
-same_session : (t : Transport) (session : Serving) (sessions : Sessions) → session_of t (with_session t session sessions) ≡ session
+pub same_session : (t : Transport) (session : Serving) (sessions : Sessions) → session_of t (with_session t session sessions) ≡ session
 same_session L2cap session sessions = refl
 same_session Rfcomm session sessions = refl
 
-other_session : (t : Transport) (session : Serving) (sessions : Sessions) → session_of (other_of t) (with_session t session sessions) ≡ session_of (other_of t) sessions
+pub other_session : (t : Transport) (session : Serving) (sessions : Sessions) → session_of (other_of t) (with_session t session sessions) ≡ session_of (other_of t) sessions
 other_session L2cap session sessions = refl
 other_session Rfcomm session sessions = refl
 

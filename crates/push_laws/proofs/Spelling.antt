@@ -21,7 +21,7 @@ use Rattle.push_model.specs.Client.{with_object}
 use Rattle.push_model.specs.Laws.{all_done}
 use Rattle.push_model.specs.Steps.{connect_octets}
 use Rattle.push_laws.specs.Sending.{end_of, ArePuts, IsSent, packets_sent, SpellsOneObject, SpellsWhatIsPushed}
-use Rattle.push_laws.proofs.Sending.{sends-one_push}
+use Rattle.push_laws.proofs.GivenUpSteps.{sends-one_push}
 
 -- ---- packets that are no PUT
 
@@ -86,4 +86,4 @@ spells connect wanted name size objects object cause sent first fits there len (
 pub spells-what_is_pushed : SpellsWhatIsPushed
 spells-what_is_pushed client name size objects object deeds may fits there len answers =
     spells (connect_octets client.session) client.session.wanted name size objects object (all_done deeds (with_object name size client)).cause (packets_sent deeds (with_object name size client)) (no_put (connect_octets client.session) refl) fits there len
-    (sends-one_push client name size (Some objects) deeds may answers)
+    (sends-one_push client name size (Some objects) deeds may answers).0

@@ -12,7 +12,7 @@ use Rattle.link_talk.specs.ObjectsHeard.{spelled_within}
 use Rattle.push_model.specs.Client.{own_maximum}
 use Rattle.push_model.specs.Sessions.{other_of}
 use Rattle.push_laws.specs.Gains.{objects_over, objects_with, objects}
-use Rattle.push_laws.specs.Occurrences.{Occurrence, LinkDown}
+use Rattle.push_laws.specs.Occurrences.{Occurrence}
 use Rattle.push_laws.specs.Parties.{Push, server_side, ended_with, over_pushes}
 use Rattle.push_laws.specs.Readings.{packets_over}
 use Rattle.push_laws.specs.Spelled.{ArePushed, name_of, names_of}

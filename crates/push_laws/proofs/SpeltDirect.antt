@@ -1,18 +1,17 @@
 -- Over L2CAP what is spelled of each push is its object, once, or nothing.
-use Rattle.std.proofs.Common.{inl, inr, Bool, true, false, ◌||◌, ◌≡◌, ◌≤◌, ◌==◌, ℕ, List, [], ◌∷◌, ◌++◌, length, refl, sym, ap, subst, ◌∙◌, append-nil, append_assoc, ap₂, arith}
+use Rattle.std.proofs.Common.{inl, inr, Bool, true, false, ◌||◌, ◌≡◌, ◌≤◌, ◌==◌, ℕ, List, [], ◌∷◌, ◌++◌, refl, sym, ap, subst, ◌∙◌, append-nil, append_assoc, ap₂, arith}
 use Rattle.std.specs.List.{AllByRecursion, filter_map, flat_map, cons_option}
 use Rattle.std.proofs.lemmas.Bool.{cases_Bool, eqb-true}
 use Rattle.link_talk.specs.bt_base.specs.declared.settings.Settings.{Settings}
-use Rattle.link_talk.specs.bt_base.specs.declared.settings.Transport.TheVariants.{L2cap, Rfcomm}
+use Rattle.link_talk.specs.bt_base.specs.declared.settings.Transport.TheVariants.{L2cap}
 use Rattle.link_talk.specs.bt_base.specs.Objects.{Object}
 use Rattle.link_talk.specs.ObjectsHeard.{spelled_within}
 use Rattle.push_model.specs.Client.{Client, own_maximum}
 use Rattle.push_model.specs.Laws as deeds
 use Rattle.push_model.specs.Laws.{Deed}
 use Rattle.push_model.specs.Server.{object_psm, rfcomm_psm}
-use Rattle.push_laws.specs.Gains.{objects}
 use Rattle.push_laws.specs.Occurrences.{Occurrence, LinkDown}
-use Rattle.push_laws.specs.Parties.{Move, OfServer, OfClient, server_side, client_side, client_after, Pipes, no_pipes, sent_by, come_by, pipes_after, IsFrontOf, ComesOpen, StayPipes, Push, IsOffered, begun_of, ended_with, over_pushes}
+use Rattle.push_laws.specs.Parties.{Move, OfServer, OfClient, server_side, client_side, client_after, Pipes, no_pipes, sent_by, come_by, pipes_after, IsFrontOf, StayPipes, Push, IsOffered, begun_of, ended_with, over_pushes}
 use Rattle.push_laws.specs.Readings.{closes, since, passed_by, packets_over}
 use Rattle.push_laws.specs.Sending.{AllAnswer}
 use Rattle.push_laws.specs.Spelled.{ArePushed, IsOfShelf, IsOfShelfOrStill, name_by, name_of, names_of, PassesNone, PushesSpellOnce}

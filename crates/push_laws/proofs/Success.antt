@@ -317,7 +317,7 @@ news_done events.Timer client e =
 
 part_free : (outcome : Result (Unit {0}) PortFault) → NotDone (part_shows outcome)
 part_free (Ok done) = none
-part_free (Err fault.Failed) = not_reserved outcomes.ShelfFault refl
+part_free (Err fault.Failed) = λ e. let f : outcomes.ShelfFault ≡ outcomes.Done = same_outcome outcomes.ShelfFault outcomes.Done e in absurd cc
 part_free (Err fault.NoMemory) = none
 
 ask_free : (ask : Ask) (client : Client) (parts : List Part) → NotDone (ask_shows ask client parts)

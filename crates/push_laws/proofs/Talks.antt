@@ -44,7 +44,7 @@ pub record Talk : Type 0 where
 abbrev pub talk_of : Client → Talk
 talk_of client = record { transport = client.transport; cause = client.cause; contact = client.contact; session = client.session; name = client.name; size = client.size; limit = client.limit }
 
--- outcomes that no news say but a response, or a cancel
+-- outcomes that no news say but a response, a cancel or the shelf
 abbrev pub is_reserved : Outcome → Bool
 is_reserved outcomes.Done = true
 is_reserved outcomes.Cancelled = true
@@ -52,7 +52,7 @@ is_reserved outcomes.LinkLost = false
 is_reserved outcomes.RetryLimit = false
 is_reserved (outcomes.Refused code) = false
 is_reserved outcomes.NoService = false
-is_reserved outcomes.ShelfFault = false
+is_reserved outcomes.ShelfFault = true
 is_reserved outcomes.PeerClosed = false
 is_reserved (outcomes.PeerFault layer reason) = false
 is_reserved outcomes.ScriptEnded = false

@@ -31,7 +31,8 @@ abbrev pub new_over : Settings → List Object → Reacted
 new_over settings before = begun settings (Some (record { stored = before; pending = None }))
 
 -- From a new server on the inbox gains exactly the objects that the heard packets spell, in the order of their last packets:
--- where no call of the inbox fails, no request is ignored, and at most one transport has an object under way.
+-- where no call of the inbox fails, no request is ignored, and no Name comes over one transport while an object is under way over
+-- the other.
 abbrev pub GainsWhatIsHeard : Type 0
 GainsWhatIsHeard = (settings : Settings) (before : List Object) (occurrences : List Occurrence) → AllMayCome settings [] (new_over settings before) occurrences
     → stored_in (all_done occurrences (new_over settings before)).gift.content ≡ Some (before ++ objects settings occurrences)

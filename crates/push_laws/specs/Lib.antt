@@ -14,6 +14,7 @@ pub mod Sending
 pub mod Example
 pub mod Opening
 pub mod Turns
+pub mod OneUnderWay
 pub mod Success
 pub mod Exchanges
 pub mod Parties

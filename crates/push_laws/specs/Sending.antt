@@ -6,7 +6,7 @@ use Rattle.link_talk.specs.bt_base.specs.declared.settings.Transport.{Transport}
 use Rattle.link_talk.specs.bt_base.specs.declared.settings.Transport.TheVariants.{L2cap, Rfcomm}
 use Rattle.link_talk.specs.bt_base.specs.Objects.{Object, octets_of, HasAt}
 use Rattle.link_talk.specs.push_terms.specs.declared.outcome.Outcome.{Outcome}
-use Rattle.link_talk.specs.push_terms.specs.declared.outcome.Outcome.TheVariants.{Done, Cancelled}
+use Rattle.link_talk.specs.push_terms.specs.declared.outcome.Outcome.TheVariants.{Done, Cancelled, ShelfFault}
 use Rattle.push_model.specs.rfcomm_model.specs.Saying.{Said, next}
 use Rattle.push_model.specs.obex_headers.specs.Runs.{spelled}
 use Rattle.push_model.specs.obex_session.specs.Asking.{Asking}
@@ -98,11 +98,15 @@ AllAnswer content (deed ∷ deeds) client = AnswersTo content deed client × All
 abbrev pub end_of : Bool → Bool → List (List ℕ)
 end_of gave_up left = (if gave_up then abort_octets ∷ [] else []) ++ (if left then disconnect_octets ∷ [] else [])
 
--- Of the PUTs these were sent: all of the object, and then it is not given up and the push is not cancelled; or a front of
--- them, and then the push is not done, and it is given up behind a PUT alone.
+-- the object is given up: the push is cancelled, or the shelf fails
+abbrev pub IsGivenUp : Option Outcome → Type 0
+IsGivenUp cause = (cause ≡ Some Cancelled) ⊎ (cause ≡ Some ShelfFault)
+
+-- Of the PUTs these were sent: all of the object, and then it is not given up; or a front of them, and then the push is not
+-- done, and ABORT goes behind a PUT alone.
 abbrev pub ArePuts : Bool → List ℕ → ℕ → Option (List Object) → Option Outcome → List (List ℕ) → Bool → Type 0
 ArePuts wanted name size content cause puts gave_up =
-    (IsWhole wanted name size puts content × (gave_up ≡ false) × (cause ≡ Some Cancelled → ⊥)) ⊎ ((session : Asking) × (session.wanted ≡ wanted) × HasPut name size puts session content × (cause ≡ Some Done → ⊥) × (gave_up ≡ true → puts ≡ [] → ⊥))
+    (IsWhole wanted name size puts content × (gave_up ≡ false) × (cause ≡ Some Cancelled → ⊥) × (cause ≡ Some ShelfFault → ⊥)) ⊎ ((session : Asking) × (session.wanted ≡ wanted) × HasPut name size puts session content × (cause ≡ Some Done → ⊥) × (gave_up ≡ true → puts ≡ [] → ⊥))
 
 -- one CONNECT, the PUTs of the object or a front of them, ABORT and DISCONNECT
 pub record IsPush (connect : List ℕ) (wanted : Bool) (name : List ℕ) (size : ℕ) (content : Option (List Object)) (cause : Option Outcome) (sent : List (List ℕ)) : Type 0 where
@@ -111,6 +115,12 @@ pub record IsPush (connect : List ℕ) (wanted : Bool) (name : List ℕ) (size :
   pub left : Bool
   pub sent_is : sent ≡ connect ∷ (puts ++ end_of gave_up left)
   pub puts_are : ArePuts wanted name size content cause puts gave_up
+
+-- ABORT is sent where the object is given up, and for no other cause; and where it is given up behind a PUT, the client does
+-- not take leave without ABORT.
+pub record GivesUp (cause : Option Outcome) (puts : List (List ℕ)) (gave_up left : Bool) : Type 0 where
+  pub only : gave_up ≡ true → IsGivenUp cause
+  pub always : IsGivenUp cause → (puts ≡ [] → ⊥) → left ≡ true → gave_up ≡ true
 
 -- nothing was sent, or a push
 abbrev pub IsSent : List ℕ → Bool → List ℕ → ℕ → Option (List Object) → Option Outcome → List (List ℕ) → Type 0
@@ -126,10 +136,14 @@ pub record MayPush (client : Client) (name : List ℕ) (size : ℕ) : Type 0 whe
 
 -- From a begin to the next one a client sends nothing, or one CONNECT, the PUTs that spell its object or a front of them,
 -- ABORT and DISCONNECT, whatever it hears, and the body is what the shelf answered: where each answer of the shelf has as
--- many octets as it was asked for. Where all PUTs were sent, its outcome is not Cancelled; else it is not Done.
+-- many octets as it was asked for. Where all PUTs were sent, its outcome is neither Cancelled nor ShelfFault; else it is not
+-- Done. Whatever of it is read as PUTs, ABORT and DISCONNECT, ABORT stands where it is due.
 abbrev pub SendsOnePush : Type 0
 SendsOnePush = (client : Client) (name : List ℕ) (size : ℕ) (content : Option (List Object)) (deeds : List Deed) → MayPush client name size → AllAnswer content deeds (with_object name size client)
-    → IsSent (connect_octets client.session) client.session.wanted name size content (all_done deeds (with_object name size client)).cause (packets_sent deeds (with_object name size client))
+    → let cause = (all_done deeds (with_object name size client)).cause in
+    let sent = packets_sent deeds (with_object name size client) in
+    IsSent (connect_octets client.session) client.session.wanted name size content cause sent
+    × ((push : IsPush (connect_octets client.session) client.session.wanted name size content cause sent) → GivesUp cause push.puts push.gave_up push.left)
 
 -- ---- what a server makes of it
 

@@ -9,7 +9,8 @@ ghost use Rattle.push_laws.specs.Success.{DoneExactly};
 
 /// From a begin to the next one a client sends nothing, or one CONNECT, the PUTs that spell its object or a front of them,
 /// ABORT and DISCONNECT, over L2CAP and over RFCOMM, whatever it hears. The body is what the shelf answered, in one pass.
-/// Where all PUTs were sent, the outcome is never `cancelled`, and where they were not, it is never `done`.
+/// Where all PUTs were sent, the outcome is neither `cancelled` nor a fault of the shelf, and where they were not, it is never `done`.
+/// ABORT is sent for these two causes alone, and where one of them stopped the push behind a PUT, ahead of DISCONNECT.
 pub fn sends_one_push()
     ensures { SendsOnePush }
 {}

@@ -8,13 +8,14 @@ ghost use Rattle.push_laws.specs.Laws.{AnswersComeInTurn, CreditsAreRead, GainsA
 ghost use Rattle.push_laws.specs.Parties.{RequestsAreHeard, RequestsAreTaken, RequestsComeInTurn};
 ghost use Rattle.push_laws.specs.Searches.{MuxedClientsStay, NewClientsAreMuxed, PushedAreHeard, PushedAreTaken, TargetsAreServed};
 ghost use Rattle.push_laws.specs.Losing.{PushesGainLess, PushesGainAll, NothingIsLeftOut};
+ghost use Rattle.push_laws.specs.OneUnderWay.{NamesAbortTheOther, OneIsUnderWay};
 ghost use Rattle.push_laws.specs.OneName.{NamedOnceGainLess, NamedOnceTellEach, PushedGainLess, PushesTellEach};
 ghost use Rattle.push_laws.specs.Spelled.{PushesSpellOnce, PushedSpellOnce};
 ghost use Rattle.push_laws.specs.Turns.{NoRequestIsIgnored};
 
 /// From a new server on the inbox gains exactly the objects that the heard packets spell, over both transports and through
 /// every closing, in the order of their last packets. That is so where no call of the inbox fails, no request is ignored,
-/// and at most one transport has an object under way.
+/// and no Name comes over one transport while an object is under way over the other.
 pub fn gains_what_is_heard()
     ensures { GainsWhatIsHeard }
 {}
@@ -43,6 +44,14 @@ pub fn credits_are_read()
 /// and so does the end of the link.
 pub fn inbox_is_called_by_runs()
     ensures { InboxIsCalledByRuns }
+{}
+
+/// From a new server on at most one transport has an object under way, whatever comes and whatever the inbox answers. A Name over one
+/// transport first aborts the object that is under way over the other: where the inbox grants all calls, that is the first call that is
+/// made.
+pub fn one_is_under_way()
+    ensures single { OneIsUnderWay }
+    ensures aborted { NamesAbortTheOther }
 {}
 
 /// Over L2CAP each request is answered once, in order, but for those that are passed over in silence, and one response waits
