@@ -35,3 +35,4 @@ pub mod TryingLaws
 pub mod RepliedLaws
 pub mod PassingLaws
 pub mod UnitLaws
+pub mod AnySizeLaws

@@ -10,7 +10,7 @@ use Rattle.bt_base.specs.Objects.{Object, octets_of, HasAt}
 use Rattle.bt_base.specs.Octets.{be16}
 use Rattle.obex_headers.specs.declared.packet.Phase.TheVariants.{Request}
 use Rattle.obex_headers.specs.Packets.{Four, PlainHeader, PlainPacket, IsHeader, IsPacket, HasFields, text_octets, header_octets, headers_octets, packet_len, packet_octets}
-use Rattle.obex_headers.specs.Runs.{joined, spelled}
+use Rattle.obex_headers.specs.Runs.{joined, heard, spelled}
 use Rattle.obex_session.specs.declared.client.PutNext.{PutNext}
 use Rattle.obex_session.specs.declared.client.PutNext.TheVariants.{Packet, Wait, ShelfFault, NoMemory}
 use Rattle.obex_session.specs.Responses.{single_header}
@@ -18,8 +18,9 @@ use Rattle.obex_session.specs.PutPackets.{units_in, head_of, body_header, put_pa
 use Rattle.obex_session.specs.Asking.{Asking}
 use Rattle.obex_session.specs.NextPut.{left_of, room_for, after_put, PutsPacket, PutsNext}
 use Rattle.obex_session.specs.ObjectPuts.{front_packets, place_behind, Fronts, HasPut, IsWhole, GoesOnTo, PutsInOrder, SpellsTheObject}
+use Rattle.obex_session.specs.AnySize.{SpellsUnbounded, SpellsAnySize}
 use Rattle.obex_session.proofs.NameLaws.{is_text, length-octets}
-use Rattle.obex_session.proofs.PutPacketLaws.{head_at, parts_are, joined_last, spells}
+use Rattle.obex_session.proofs.PutPacketLaws.{head_at, parts_are, all_heard, joined_last, unbounded_of, spells}
 
 -- ---- one part more
 
@@ -230,13 +231,27 @@ puts_in_order = record {
   };
 }
 
-pub spells_the_object : SpellsTheObject
-spells_the_object wanted name size said objects object short fit most whole there len =
+-- the octets of all packets are the object's
+whole_octets : (wanted : Bool) (name : List ℕ) (size : ℕ) (said : List (List ℕ)) (objects : List Object) (object : List ℕ) (whole : IsWhole wanted name size said (Some objects)) → octets_of name objects ≡ Some object → length object ≡ size
+    → joined whole.parts ++ whole.last ≡ object
+whole_octets wanted name size said objects object whole there len =
     let octets = joined whole.parts ++ whole.last in
     let front : length object ≡ size → octets ≡ take (length octets) object = subst (λ (o : Option (List ℕ)). IfSome o (λ x. length x ≡ size → octets ≡ take (length octets) x)) there whole.fronts in
-    let all : octets ≡ object = front len ∙ ap (λ (n : ℕ). take n object) (whole.len ∙ sym len) ∙ take_whole object in
-    ap spelled whole.said_is ∙ spells wanted (units_in name) size whole.parts whole.last fit short (subst (λ (n : ℕ). n ≤ 16777215) (sym whole.len) most) whole.sound
-    ∙ ap (λ (o : List ℕ). record { name = units_in name; octets = o } ∷ []) all
+    front len ∙ ap (λ (n : ℕ). take n object) (whole.len ∙ sym len) ∙ take_whole object
   where
     take_whole : (xs : List ℕ) → take (length xs) xs ≡ xs
     take_whole xs = ap (take (length xs)) (sym (append-nil xs)) ∙ take_at xs [] (length xs) refl
+
+pub spells_the_object : SpellsTheObject
+spells_the_object wanted name size said objects object short fit most whole there len =
+    ap spelled whole.said_is ∙ spells wanted (units_in name) size whole.parts whole.last fit short (subst (λ (n : ℕ). n ≤ 16777215) (sym whole.len) most) whole.sound
+    ∙ ap (λ (o : List ℕ). record { name = units_in name; octets = o } ∷ []) (whole_octets wanted name size said objects object whole there len)
+
+pub spells_any_size : SpellsAnySize
+spells_any_size wanted name size said objects object short fit whole there len =
+    let run = object_packets wanted (units_in name) size whole.parts whole.last in
+    record {
+      run = run;
+      heard_as = ap heard whole.said_is ∙ all_heard (head_of wanted (units_in name) size) whole.parts whole.last whole.sound;
+      spelling = subst (λ (o : List ℕ). SpellsUnbounded run (record { name = units_in name; octets = o })) (whole_octets wanted name size said objects object whole there len) (unbounded_of wanted (units_in name) size whole.parts whole.last fit short);
+    }

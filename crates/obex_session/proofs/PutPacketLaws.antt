@@ -9,13 +9,15 @@ use Rattle.bt_base.specs.Objects.{Object}
 use Rattle.obex_headers.specs.declared.packet.Phase.TheVariants.{Request}
 use Rattle.obex_headers.specs.Packets.{Text, Four, PlainHeader, PlainPacket, IsPacket, text_octets, packet_octets, units_of}
 use Rattle.obex_headers.specs.Reading.{packet_in}
-use Rattle.obex_headers.specs.Runs.{put_of, heard, is_final, name_text, names, bodies, ahead_of_name, joined, run_headers, KeepsRules, SpellsObject, puts, Spelling, objects_from}
+use Rattle.obex_headers.specs.Runs.{put_of, heard, is_final, name_text, names, bodies, ahead_of_name, joined, run_headers, SpellsObject, puts, Spelling, objects_from}
 use Rattle.obex_headers.proofs.PacketLaws.{packet_again, length-packet}
 use Rattle.obex_headers.proofs.RunLaws.{stretches_spell}
 use Rattle.obex_headers.proofs.Texts.{units_again}
 use Rattle.obex_session.specs.Responses.{single_header}
 use Rattle.obex_session.specs.ObjectPuts.{front_packets}
+use Rattle.obex_session.specs.AnySize.{SpellsUnbounded}
 use Rattle.obex_session.specs.PutPackets.{head_of, body_header, put_packet, packets_from, object_packets, SpellsWhatIsPut}
+use Rattle.obex_session.proofs.AnySizeLaws.{with_bound}
 
 -- ---- each packet is heard as it was written
 
@@ -82,34 +84,29 @@ head_bodies false units size rest = refl
 head_ahead : (wanted : Bool) (units : List ℕ) (size : ℕ) (rest : List PlainHeader) → ahead_of_name (head_of wanted units size ++ rest) ≡ []
 head_ahead wanted units size rest = take_while-cons (λ header. is_none (name_text header)) (record { id = 0x01; value = Text (text_octets units) }) (record { id = 0xC3; value = Four size } ∷ (cond wanted (single_header ∷ []) [] ++ rest))
 
-pub spelling_of : (wanted : Bool) (units : List ℕ) (size : ℕ) (parts : List (List ℕ)) (last : List ℕ) → AllByRecursion (λ unit. unit < 2 ^ 16) units → length units ≤ 255 → length (joined parts ++ last) ≤ 16777215
-    → SpellsObject (object_packets wanted units size parts last) (record { name = units; octets = joined parts ++ last })
-spelling_of wanted units size parts last fit short bound =
+pub unbounded_of : (wanted : Bool) (units : List ℕ) (size : ℕ) (parts : List (List ℕ)) (last : List ℕ) → AllByRecursion (λ unit. unit < 2 ^ 16) units → length units ≤ 255
+    → SpellsUnbounded (object_packets wanted units size parts last) (record { name = units; octets = joined parts ++ last })
+unbounded_of wanted units size parts last fit short =
     let packets = object_packets wanted units size parts last in
     let headers = run_headers packets in
     let all : headers ≡ head_of wanted units size ++ body_headers parts last = headers_are (head_of wanted units size) parts last in
-    let name : names headers ≡ units ∷ [] =
-    ap names all ∙ head_names wanted units size (body_headers parts last) ∙ ap (λ (us : List (List ℕ)). units_of (text_octets units) ∷ us) (ap (map units_of) (no_names parts last)) ∙ ap (λ (us : List ℕ). us ∷ []) (units_again units fit) in
     let body : bodies headers ≡ parts ++ last ∷ [] = ap bodies all ∙ head_bodies wanted units size (body_headers parts last) ∙ bodies_are parts last in
-    let octets : joined (bodies headers) ≡ joined parts ++ last = ap joined body ∙ joined_last parts last in
-    let ahead : ahead_of_name headers ≡ [] = ap ahead_of_name all ∙ head_ahead wanted units size (body_headers parts last) in
-    let rules : KeepsRules headers = record {
-      one_name = subst (λ (ns : List (List ℕ)). length ns ≤ 1) (sym name) (omega arith);
-      short_name = subst (AllByRecursion (λ n. length n ≤ 255)) (sym name) (short, tt);
-      name_first = ap bodies ahead;
-      bounded = subst (λ (os : List ℕ). length os ≤ 16777215) (sym octets) bound;
-    } in
     record {
       front = front_packets (head_of wanted units size) parts;
       last = put_packet true (head_at (head_of wanted units size) parts) last;
       parts = parts_are (head_of wanted units size) parts last;
       not_final = none_final (head_of wanted units size) parts;
       final = refl;
-      rules = rules;
-      name = name;
+      name = ap names all ∙ head_names wanted units size (body_headers parts last) ∙ ap (λ (us : List (List ℕ)). units_of (text_octets units) ∷ us) (ap (map units_of) (no_names parts last)) ∙ ap (λ (us : List ℕ). us ∷ []) (units_again units fit);
+      short_name = short;
+      name_first = ap bodies (ap ahead_of_name all ∙ head_ahead wanted units size (body_headers parts last));
       has_body = subst (λ (bs : List (List ℕ)). 0 < length bs) (sym body) (some_parts parts last);
-      octets = sym octets;
+      octets = sym (ap joined body ∙ joined_last parts last);
     }
+
+pub spelling_of : (wanted : Bool) (units : List ℕ) (size : ℕ) (parts : List (List ℕ)) (last : List ℕ) → AllByRecursion (λ unit. unit < 2 ^ 16) units → length units ≤ 255 → length (joined parts ++ last) ≤ 16777215
+    → SpellsObject (object_packets wanted units size parts last) (record { name = units; octets = joined parts ++ last })
+spelling_of wanted units size parts last fit short bound = with_bound (object_packets wanted units size parts last) (record { name = units; octets = joined parts ++ last }) (unbounded_of wanted units size parts last fit short) bound
 
 pub spells : SpellsWhatIsPut
 spells wanted units size parts last fit short bound are =

@@ -23,3 +23,4 @@ pub mod Replied
 pub mod Modes
 pub mod Naming
 pub mod Readable
+pub mod AnySize

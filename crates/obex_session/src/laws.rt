@@ -1,6 +1,7 @@
 //! Laws of sessions and of what packets store, for every list of them. They speak of no call: the
 //! contracts of the calls tie these to the same definitions.
 
+ghost use Rattle.obex_session.specs.AnySize.{LeavesOnlyTheBound, SpellsAnySize};
 ghost use Rattle.obex_session.specs.Exchanges.{ResponsesAreRead, SuccessIsStored};
 ghost use Rattle.obex_session.specs.Laws.{NoRuleFails, StoresWhatIsSpelled};
 ghost use Rattle.obex_session.specs.Modes.{RepliesKeepModes};
@@ -105,4 +106,11 @@ pub fn replies_keep_modes()
 /// Each UTF-16 unit of a name that is a text stands in two octets, as the laws on what packets spell ask of it.
 pub fn names_have_units()
     ensures { NamesHaveUnits }
+{}
+
+/// All packets that a client's session puts of an object spell it whatever its size, the bound of 16,777,215 octets left aside; and
+/// where an object keeps the bound, PUTs that spell it so spell it by all the rules.
+pub fn any_size_is_spelled()
+    ensures spelled { SpellsAnySize }
+    ensures bounded { LeavesOnlyTheBound }
 {}
