@@ -1,3 +1,4 @@
+pub mod Codes
 pub mod Packets
 pub mod Reading
 pub mod Laws

@@ -2,8 +2,10 @@
 #![tactic(auto)]
 
 mod assembler;
+mod codes;
 mod fault;
 mod header;
+pub mod identifiers;
 pub mod laws;
 mod packet;
 mod reading;
@@ -13,6 +15,7 @@ mod walk;
 mod writing;
 
 pub use assembler::{Assembled, Assembler};
+pub use codes::{Code, is_put};
 pub use fault::ObexRefusal;
 pub use header::{Header, HeaderValue};
 pub use packet::{Packet, Phase, packet_of};

@@ -4,6 +4,7 @@ ghost use Rattle.std.specs.Prelude.{◌≡◌, ◌≤◌, ◌+◌, length, slice
 ghost use Rattle.obex_headers.specs.Packets.{PlainPacket, Spells, Shows, is_connect, is_setpath, fields_len};
 ghost use Rattle.obex_headers.specs.Reading.{Gives, GivesPacket, fields_in, behind_length, front_at, packet_in};
 
+use crate::codes::Code;
 use crate::fault::ObexRefusal;
 use crate::reading::judge_headers;
 use byteorder::{BigEndian, ByteOrder};
@@ -32,7 +33,7 @@ fn is_connect(phase: Phase, code: u8) -> bool
     ensures { result ≡ is_connect phase code }
 {
     match phase {
-        Phase::Request => code == 0x80,
+        Phase::Request => code == Code::Connect.octet(),
         Phase::Response => false,
         Phase::ConnectResponse => true,
     }
@@ -42,7 +43,7 @@ fn is_setpath(phase: Phase, code: u8) -> bool
     ensures { result ≡ is_setpath phase code }
 {
     match phase {
-        Phase::Request => code == 0x85,
+        Phase::Request => code == Code::SetPath.octet(),
         Phase::Response | Phase::ConnectResponse => false,
     }
 }

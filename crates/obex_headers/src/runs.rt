@@ -8,7 +8,9 @@ ghost use Rattle.obex_headers.specs.Packets.{PlainHeader, PlainPacket, IsHeader,
 ghost use Rattle.obex_headers.specs.Runs.{put_in, name_text, body_of, names, bodies, ahead_of_name, joined, is_final, is_long, spelled};
 ghost use Rattle.obex_headers.specs.Reader.{plain_headers, octets_of_all, object_seen, objects_seen, IsPut, SaysVerdict, Holds, Goes};
 
+use crate::codes::{Code, is_put};
 use crate::header::{Header, HeaderValue};
+use crate::identifiers::{BODY, END_OF_BODY, NAME};
 use crate::packet::{Packet, Phase, packet_of};
 use crate::text::name_units;
 use crate::walk::headers_of;
@@ -21,16 +23,6 @@ pub struct SpelledObject {
     pub name: Vec<u16>,
     pub octets: Vec<u8>,
 }
-
-const NAME: u8 = 0x01;
-
-const BODY: u8 = 0x48;
-
-const END_OF_BODY: u8 = 0x49;
-
-const PUT: u8 = 0x02;
-
-const FINAL_PUT: u8 = 0x82;
 
 const MOST_UNITS: usize = 255;
 
@@ -174,12 +166,6 @@ fn judge(alloc: Global, headers: &[Header<'_>], ends: bool) -> Result<Verdict, N
     Ok(Verdict::Whole(object))
 }
 
-fn is_put(code: u8) -> bool
-    ensures { result ≡ ((code == 0x02) || (code == 0x82)) }
-{
-    code == PUT || code == FINAL_PUT
-}
-
 /// The PUT that the octets are. There is none where they are another packet, or are refused.
 fn put(octets: &[u8]) -> Option<Packet<'_>>
     ensures { IsPut result (put_in octets.now) }
@@ -218,7 +204,7 @@ fn hear<'a>(
         return Ok(());
     };
     go_on(&packet, run)?;
-    match judge(alloc, run, packet.code == FINAL_PUT)? {
+    match judge(alloc, run, packet.code == Code::FinalPut.octet())? {
         Verdict::Open => Ok(()),
         Verdict::Refused => {
             run.clear();

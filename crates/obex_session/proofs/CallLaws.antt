@@ -7,13 +7,13 @@ use Rattle.std.proofs.lemmas.List.{map-append}
 use Rattle.std.proofs.lemmas.List.Elements.{filter_map-append}
 use Rattle.std.proofs.lemmas.Grind.{flat_map-append}
 use Rattle.bt_base.specs.Objects.{Object, Contents}
+use Rattle.obex_headers.specs.declared.codes.Code.TheVariants.{TooLarge}
 use Rattle.obex_headers.specs.declared.fault.ObexRefusal.{ObexRefusal}
 use Rattle.obex_headers.specs.declared.packet.Phase.TheVariants.{Request}
 use Rattle.obex_headers.specs.Reading.{packet_in}
 use Rattle.obex_headers.specs.Packets.{PlainHeader, PlainPacket, units_of}
 use Rattle.obex_headers.specs.Runs.{put_of, is_final, name_text, body_of, names, bodies, run_headers, breaks, lacks, KeepsRules, IsOpen, SpellsObject, EndsWithout, Stretch, Spelling, Broken, IsStretch, puts, stretch_packets, FallsInto}
 use Rattle.obex_headers.proofs.RunLaws.{keeps, kept, rules_front}
-use Rattle.obex_session.specs.declared.codes.Code.TheVariants.{TooLarge}
 use Rattle.obex_session.specs.declared.course.Course.{Course}
 use Rattle.obex_session.specs.declared.course.Progress.{Progress}
 use Rattle.obex_session.specs.declared.course.Progress.TheVariants.{Unnamed, Named, Filled}

@@ -1,12 +1,12 @@
 -- Responses that are read, and what success says.
 use Rattle.std.proofs.Common.{Bool, true, false, cond, ◌≡◌, ℕ, ◌<◌, ◌≤◌, ◌^◌, List, [], Ok, refl, sym, ap, subst, ◌∙◌, arith}
+use Rattle.obex_headers.specs.declared.codes.Code.{Code}
 use Rattle.obex_headers.specs.declared.packet.Phase.{Phase}
 use Rattle.obex_headers.specs.declared.packet.Phase.TheVariants.{Response, ConnectResponse}
+use Rattle.obex_headers.specs.Codes.{octet_of}
 use Rattle.obex_headers.specs.Packets.{IsPacket, bare, with_header, maximum_of, packet_octets}
 use Rattle.obex_headers.specs.Reading.{packet_in}
 use Rattle.obex_headers.proofs.PacketLaws.{packet_again}
-use Rattle.obex_session.specs.declared.codes.Code.{Code}
-use Rattle.obex_session.specs.Codes.{octet_of}
 use Rattle.obex_session.specs.Responses.{is_connect, connect_fields, single_header, response_octets, confirmation_octets}
 use Rattle.obex_session.specs.Asking.{answer_read}
 use Rattle.obex_session.specs.Exchanges.{ResponsesAreRead}

@@ -7,10 +7,11 @@ use Rattle.std.proofs.lemmas.Bool.{cond-true, cond-false, or_from}
 use Rattle.bt_base.specs.declared.ports.PortFault.{PortFault}
 use Rattle.bt_base.specs.declared.ports.PortFault.TheVariants.{Failed}
 use Rattle.bt_base.specs.Objects.{Object, Contents, aborted}
+use Rattle.obex_headers.specs.declared.codes.Code.TheVariants.{TooLarge}
 use Rattle.obex_headers.specs.declared.fault.ObexRefusal.{ObexRefusal}
+use Rattle.obex_headers.specs.Codes.{octet_of}
 use Rattle.obex_headers.specs.Packets.{PlainHeader, PlainPacket, bare, packet_octets, units_of}
 use Rattle.obex_headers.specs.Runs.{put_of, name_text, body_of, names, bodies, is_final, object_of}
-use Rattle.obex_session.specs.declared.codes.Code.TheVariants.{TooLarge}
 use Rattle.obex_session.specs.declared.course.Course.{Course}
 use Rattle.obex_session.specs.declared.course.Progress.{Progress}
 use Rattle.obex_session.specs.declared.course.Progress.TheVariants.{Unnamed, Named, Filled}
@@ -21,7 +22,6 @@ use Rattle.obex_session.specs.declared.responding.Saying.{Saying}
 use Rattle.obex_session.specs.declared.responding.Saying.TheVariants.{Response, Confirmation, Silence, NoMemory}
 use Rattle.obex_session.specs.declared.marks.Kind.{Kind}
 use Rattle.obex_session.specs.declared.marks.Kind.TheVariants.{Put, Other}
-use Rattle.obex_session.specs.Codes.{octet_of}
 use Rattle.obex_session.specs.Responses.{is_connect, connect_fields}
 use Rattle.obex_session.specs.InboxCalls.{InboxCall, Begin, Append, Abort, Answer, come_of, held_after, done_by, all_done}
 use Rattle.obex_session.specs.Marks.{is_name, marks_of, kind_of}

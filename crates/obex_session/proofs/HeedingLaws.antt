@@ -6,9 +6,9 @@ use Rattle.bt_base.specs.Counts.{HasCause}
 use Rattle.bt_base.specs.Objects.{Contents, aborted}
 use Rattle.bt_base.specs.declared.ports.PortFault.{PortFault}
 use Rattle.bt_base.specs.declared.ports.PortFault.TheVariants.{Failed, NoMemory}
+use Rattle.obex_headers.specs.declared.codes.Code.TheVariants.{TooLarge}
 use Rattle.obex_headers.specs.Packets.{PlainHeader, units_of}
 use Rattle.obex_headers.specs.Runs.{name_text, body_of}
-use Rattle.obex_session.specs.declared.codes.Code.TheVariants.{TooLarge}
 use Rattle.obex_session.specs.declared.course.Progress.{Progress}
 use Rattle.obex_session.specs.declared.course.Progress.TheVariants.{Unnamed, Named, Filled}
 use Rattle.obex_session.specs.declared.course.Verdict.{Verdict}

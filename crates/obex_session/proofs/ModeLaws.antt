@@ -3,17 +3,18 @@
 use Rattle.std.proofs.Common.{get_or, Bool, true, false, eqb, ltb, ◌≡◌, ℕ, ◌+◌, ◌<◌, ◌≤◌, ◌^◌, ◌&&◌, ◌||◌, ◌⊎◌, inl, inr, List, [], ◌∷◌, length, Option, Some, None, Result, Ok, Err, refl, sym, ap, subst, ◌∙◌, arith, if◌then◌else◌}
 use Rattle.std.specs.Prelude.{min}
 use Rattle.std.proofs.lemmas.Bool.{cases_lt, cond-false, cond_both, eqb-true, le-ltb}
+use Rattle.obex_headers.specs.declared.codes.Code.{Code}
+use Rattle.obex_headers.specs.declared.codes.Code.TheVariants as codes
 use Rattle.obex_headers.specs.declared.fault.ObexRefusal.{ObexRefusal}
 use Rattle.obex_headers.specs.declared.fault.ObexRefusal.TheVariants.{AboveMaximum}
 use Rattle.obex_headers.specs.declared.packet.Phase.TheVariants as phase
+use Rattle.obex_headers.specs.Codes.{octet_of}
 use Rattle.obex_headers.specs.Packets.{Four, PlainPacket, IsPacket, bare, maximum_of, packet_octets, units_of}
 use Rattle.obex_headers.specs.Reading.{packet_in}
 use Rattle.obex_headers.proofs.PacketLaws.{length-packet, packet_again}
 use Rattle.obex_session.specs.declared.asking.Request.{Request}
 use Rattle.obex_session.specs.declared.asking.Request.TheVariants.{Connect, FirstPut, Put, Stream, FinalPut, Abort, Disconnect}
 use Rattle.obex_session.specs.declared.client.Answered.TheVariants.{Go, Refused}
-use Rattle.obex_session.specs.declared.codes.Code.{Code}
-use Rattle.obex_session.specs.declared.codes.Code.TheVariants as codes
 use Rattle.obex_session.specs.declared.course.Course.{Course}
 use Rattle.obex_session.specs.declared.course.Course.TheVariants.{Rests, Ignores, Runs}
 use Rattle.obex_session.specs.declared.course.Progress.{Progress}
@@ -22,7 +23,6 @@ use Rattle.obex_session.specs.declared.course.Verdict.{Verdict}
 use Rattle.obex_session.specs.declared.course.Verdict.TheVariants.{Open, Whole, Ended, PassedOver}
 use Rattle.obex_session.specs.declared.marks.Kind.{Kind}
 use Rattle.obex_session.specs.declared.marks.Marks.{Marks}
-use Rattle.obex_session.specs.Codes.{octet_of}
 use Rattle.obex_session.specs.Responses.{is_connect, connect_fields, single_header, response_octets, confirmation_octets}
 use Rattle.obex_session.specs.InboxCalls.{InboxCall, Begin, Append, Answer, come_of}
 use Rattle.obex_session.specs.Marks.{marks_of}

@@ -3,9 +3,9 @@ use Rattle.std.proofs.Common.{Bool, true, false, cond, eqb, ◌≡◌, ℕ, ◌|
 use Rattle.std.specs.Prelude.{not, is_some}
 use Rattle.std.specs.List.{list_any}
 use Rattle.std.proofs.lemmas.Bool.{cond-true, cond-false, or_parts}
+use Rattle.obex_headers.specs.declared.codes.Code.TheVariants.{BadRequest}
 use Rattle.obex_headers.specs.Packets.{PlainHeader, PlainPacket}
 use Rattle.obex_headers.specs.Runs.{name_text, body_of, is_final}
-use Rattle.obex_session.specs.declared.codes.Code.TheVariants.{BadRequest}
 use Rattle.obex_session.specs.declared.course.Course.{Course}
 use Rattle.obex_session.specs.declared.course.Course.TheVariants.{Rests, Ignores, Runs}
 use Rattle.obex_session.specs.declared.course.Progress.TheVariants.{Unnamed, Named, Filled}

@@ -4,8 +4,11 @@ use Rattle.std.specs.Prelude.{not}
 use Rattle.std.specs.List.{list_any}
 use Rattle.std.proofs.lemmas.Bool.{eqb-true, cond-true, cond-false}
 use Rattle.bt_base.specs.declared.ports.PortFault.TheVariants as fault
+use Rattle.obex_headers.specs.declared.codes.Code.{Code}
+use Rattle.obex_headers.specs.declared.codes.Code.TheVariants as codes
 use Rattle.obex_headers.specs.declared.fault.ObexRefusal.{ObexRefusal}
 use Rattle.obex_headers.specs.declared.packet.Phase.TheVariants as phase
+use Rattle.obex_headers.specs.Codes.{octet_of}
 use Rattle.obex_headers.specs.Packets.{PlainHeader, PlainPacket, IsPacket, bare, with_header}
 use Rattle.obex_headers.specs.Reading.{◌>>=◌, headers_in, packet_in, front_at}
 use Rattle.obex_headers.proofs.PacketLaws.{packet_again}
@@ -13,8 +16,6 @@ use Rattle.obex_session.specs.declared.asking.Request.{Request}
 use Rattle.obex_session.specs.declared.asking.Request.TheVariants.{Connect, FirstPut, Put, FinalPut}
 use Rattle.obex_session.specs.declared.client.Answered.{Answered}
 use Rattle.obex_session.specs.declared.client.Answered.TheVariants.{Go, Done, Refused}
-use Rattle.obex_session.specs.declared.codes.Code.{Code}
-use Rattle.obex_session.specs.declared.codes.Code.TheVariants as codes
 use Rattle.obex_session.specs.declared.course.Course.{Course}
 use Rattle.obex_session.specs.declared.course.Course.TheVariants.{Rests, Ignores, Runs}
 use Rattle.obex_session.specs.declared.course.Progress.{Progress}
@@ -26,7 +27,6 @@ use Rattle.obex_session.specs.declared.marks.Kind.TheVariants as kinds
 use Rattle.obex_session.specs.declared.marks.Marks.{Marks}
 use Rattle.obex_session.specs.declared.responding.Saying.{Saying}
 use Rattle.obex_session.specs.declared.responding.Saying.TheVariants as saying
-use Rattle.obex_session.specs.Codes.{octet_of}
 use Rattle.obex_session.specs.Responses.{is_connect, connect_fields, single_header, response_octets, confirmation_octets}
 use Rattle.obex_session.specs.InboxCalls.{Answer, come_of}
 use Rattle.obex_session.specs.Marks.{is_name, marks_of, kind_of}

@@ -5,13 +5,14 @@ use Rattle.std.specs.List.{list_any}
 use Rattle.std.proofs.lemmas.Bool.{cases_Bool, cond-true, cond-false, or_from, or_right, ne_eqb}
 use Rattle.bt_base.specs.Objects.{Object, Contents}
 use Rattle.bt_base.specs.declared.ports.PortFault.TheVariants as fault
+use Rattle.obex_headers.specs.declared.codes.Code.TheVariants as code
 use Rattle.obex_headers.specs.declared.fault.ObexRefusal.{ObexRefusal}
 use Rattle.obex_headers.specs.declared.packet.Phase.TheVariants.{Request}
+use Rattle.obex_headers.specs.Codes.{octet_of}
 use Rattle.obex_headers.specs.Packets.{PlainHeader, PlainPacket}
 use Rattle.obex_headers.specs.Reading.{packet_in}
 use Rattle.obex_headers.specs.Runs.{name_text, names, bodies, run_headers, breaks, lacks, is_final, put_of, KeepsRules}
 use Rattle.obex_headers.proofs.RunLaws.{keeps, kept}
-use Rattle.obex_session.specs.declared.codes.Code.TheVariants as code
 use Rattle.obex_session.specs.declared.course.Course.{Course}
 use Rattle.obex_session.specs.declared.course.Course.TheVariants.{Rests, Ignores, Runs}
 use Rattle.obex_session.specs.declared.course.Progress.{Progress}
@@ -19,7 +20,6 @@ use Rattle.obex_session.specs.declared.course.Verdict.{Verdict}
 use Rattle.obex_session.specs.declared.course.Verdict.TheVariants.{Open, Whole, Ended, PassedOver}
 use Rattle.obex_session.specs.declared.marks.Kind.{Kind}
 use Rattle.obex_session.specs.declared.marks.Kind.TheVariants as kinds
-use Rattle.obex_session.specs.Codes.{octet_of}
 use Rattle.obex_session.specs.InboxCalls.{InboxCall, Answer, come_of, left_by}
 use Rattle.obex_session.specs.Marks.{is_name, marks_of, kind_of}
 use Rattle.obex_session.specs.Modes.{in_mode, begins, mode_reply, reply_by, reply_due, unless_short, put_passing, passing_by, passing_behind, is_of_none, run_past, AllKeepModes, RepliesKeepModes}

@@ -7,14 +7,14 @@ use Rattle.std.proofs.lemmas.Bool.{cases_Bool, or_parts, or_from, or_left, or_ri
 use Rattle.std.proofs.lemmas.List.{append-nil, map-append}
 use Rattle.std.proofs.lemmas.Grind.{flat_map-append}
 use Rattle.bt_base.specs.Objects.{Object, Contents, aborted, committed}
+use Rattle.obex_headers.specs.declared.codes.Code.{Code}
+use Rattle.obex_headers.specs.declared.codes.Code.TheVariants.{BadRequest}
 use Rattle.obex_headers.specs.declared.fault.ObexRefusal.{ObexRefusal}
 use Rattle.obex_headers.specs.declared.packet.Phase.TheVariants.{Request}
 use Rattle.obex_headers.specs.Packets.{PlainHeader, PlainPacket}
 use Rattle.obex_headers.specs.Reading.{packet_in}
 use Rattle.obex_headers.specs.Runs.{put_of, is_final, names, bodies, run_headers, KeepsRules, breaks, lacks, object_of, objects_from}
 use Rattle.obex_headers.proofs.RunLaws.{keeps, kept, ends_without, step_refused, step_final, step_open}
-use Rattle.obex_session.specs.declared.codes.Code.{Code}
-use Rattle.obex_session.specs.declared.codes.Code.TheVariants.{BadRequest}
 use Rattle.obex_session.specs.declared.course.Course.{Course}
 use Rattle.obex_session.specs.declared.course.Course.TheVariants.{Rests, Ignores, Runs}
 use Rattle.obex_session.specs.declared.course.Progress.{Progress}

@@ -3,15 +3,16 @@ use Rattle.std.proofs.Common.{Bool, true, false, cond, eqb, ◌≡◌, ℕ, ◌<
 use Rattle.std.specs.Prelude.{IfSome}
 use Rattle.std.proofs.lemmas.Bool.{false_from_ne_true}
 use Rattle.bt_base.specs.declared.ports.PortFault.TheVariants as fault
+use Rattle.obex_headers.specs.declared.codes.Code.{Code}
+use Rattle.obex_headers.specs.declared.codes.Code.TheVariants as codes
 use Rattle.obex_headers.specs.declared.fault.ObexRefusal.{ObexRefusal}
 use Rattle.obex_headers.specs.declared.packet.Phase.TheVariants as phase
+use Rattle.obex_headers.specs.Codes.{octet_of}
 use Rattle.obex_headers.specs.Packets.{PlainPacket}
 use Rattle.obex_headers.specs.Reading.{packet_in}
 use Rattle.obex_session.specs.declared.asking.Request.{Request}
 use Rattle.obex_session.specs.declared.asking.Request.TheVariants.{Connect, FirstPut, Put, Stream, FinalPut, Abort, Disconnect}
 use Rattle.obex_session.specs.declared.client.Answered.TheVariants.{Refused}
-use Rattle.obex_session.specs.declared.codes.Code.{Code}
-use Rattle.obex_session.specs.declared.codes.Code.TheVariants as codes
 use Rattle.obex_session.specs.declared.course.Course.{Course}
 use Rattle.obex_session.specs.declared.course.Course.TheVariants.{Rests, Ignores, Runs}
 use Rattle.obex_session.specs.declared.course.Verdict.{Verdict}
@@ -22,7 +23,6 @@ use Rattle.obex_session.specs.declared.marks.Marks.{Marks}
 use Rattle.obex_session.specs.declared.responding.Saying.{Saying}
 use Rattle.obex_session.specs.declared.responding.Saying.TheVariants as saying
 use Rattle.obex_session.specs.Asking.{Asking, phase_of, awaited_code, success_of, answer_to}
-use Rattle.obex_session.specs.Codes.{octet_of}
 use Rattle.obex_session.specs.Exchanges.{stores_one}
 use Rattle.obex_session.specs.InboxCalls.{Answer, come_of}
 use Rattle.obex_session.specs.Marks.{kind_of}

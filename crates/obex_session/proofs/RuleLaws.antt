@@ -8,10 +8,10 @@ use Rattle.std.proofs.lemmas.List.Elements.{filter_map-append}
 use Rattle.std.proofs.lemmas.List.Sums.{take_while-cons}
 use Rattle.std.proofs.lemmas.Grind.{flat_map-append}
 use Rattle.bt_base.specs.Objects.{Object, Contents}
+use Rattle.obex_headers.specs.declared.codes.Code.TheVariants.{TooLarge, BadRequest}
 use Rattle.obex_headers.specs.Packets.{PlainValue, Text, Octets, One, Four, PlainHeader, units_of}
 use Rattle.obex_headers.specs.Runs.{text_in, octets_in, name_text, body_of, names, bodies, ahead_of_name, joined, KeepsRules}
 use Rattle.obex_headers.proofs.RunLaws.{rules_front}
-use Rattle.obex_session.specs.declared.codes.Code.TheVariants.{TooLarge, BadRequest}
 use Rattle.obex_session.specs.declared.course.Progress.{Progress}
 use Rattle.obex_session.specs.declared.course.Progress.TheVariants.{Unnamed, Named, Filled}
 use Rattle.obex_session.specs.declared.course.Verdict.{Verdict}

@@ -2,19 +2,19 @@
 use Rattle.std.proofs.Common.{Bool, true, false, cond, eqb, ltb, ◌||◌, ◌&&◌, ◌≡◌, ℕ, ◌+◌, List, [], ◌∷◌, length, Option, Some, None, Result, Ok, Err, refl, ◌<◌, arith}
 use Rattle.std.specs.Prelude.{not}
 use Rattle.std.specs.List.{list_any}
+use Rattle.obex_headers.specs.declared.codes.Code.{Code}
+use Rattle.obex_headers.specs.declared.codes.Code.TheVariants.{Success, BadRequest, TooLarge, InternalError, NotImplemented}
 use Rattle.obex_headers.specs.declared.fault.ObexRefusal.{ObexRefusal}
 use Rattle.obex_headers.specs.declared.packet.Phase.TheVariants.{Request}
+use Rattle.obex_headers.specs.Codes.{octet_of}
 use Rattle.obex_headers.specs.Packets.{PlainHeader, PlainPacket, units_of}
 use Rattle.obex_headers.specs.Reading.{packet_in}
 use Rattle.obex_headers.specs.Runs.{name_text, body_of, is_final}
-use Rattle.obex_session.specs.declared.codes.Code.{Code}
-use Rattle.obex_session.specs.declared.codes.Code.TheVariants.{Success, BadRequest, TooLarge, InternalError, NotImplemented}
 use Rattle.obex_session.specs.declared.course.Course.{Course}
 use Rattle.obex_session.specs.declared.course.Progress.{Progress}
 use Rattle.obex_session.specs.declared.course.Progress.TheVariants.{Unnamed, Named, Filled}
 use Rattle.obex_session.specs.declared.course.Verdict.{Verdict}
 use Rattle.obex_session.specs.declared.course.Verdict.TheVariants.{Open, Whole, Ended, PassedOver}
-use Rattle.obex_session.specs.Codes.{octet_of}
 use Rattle.obex_session.specs.InboxCalls.{InboxCall, Append}
 use Rattle.obex_session.specs.Marks.{is_name}
 use Rattle.obex_session.specs.Rules.{Ruling, opens, ends, at_parts, at_header, then_on, after_headers, finished, at_put, at_put_in, at_packet, other_response, progress_in, is_ignoring}

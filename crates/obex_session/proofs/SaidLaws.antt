@@ -1,10 +1,10 @@
 -- What a server says is a packet by its length, if it is anything.
 use Rattle.std.proofs.Common.{inl, inr, ◌⊎◌, ◌+◌, ◌*◌, ◌≤◌, ◌≡◌, ℕ, Bool, true, false, cond, List, [], length, arith, refl}
 use Rattle.std.specs.Prelude.{slice_index}
+use Rattle.obex_headers.specs.Codes.{octet_of}
 use Rattle.obex_headers.specs.Packets.{bare, packet_octets}
 use Rattle.obex_session.specs.declared.responding.Saying.{Saying}
 use Rattle.obex_session.specs.declared.responding.Saying.TheVariants.{Response, Confirmation, Silence, NoMemory}
-use Rattle.obex_session.specs.Codes.{octet_of}
 use Rattle.obex_session.specs.Responses.{is_connect, connect_fields}
 use Rattle.obex_session.specs.Views.{octets_said}
 

@@ -1,13 +1,13 @@
 -- What a server says states its own maximum, wherever it is read as a response to CONNECT.
 use Rattle.std.proofs.Common.{true, false, cond, Bool, ◌<◌, ◌≤◌, ◌^◌, ◌≡◌, ℕ, List, [], length, take, drop, Ok, refl, sym, ap, subst, ◌∙◌, arith}
 use Rattle.obex_headers.specs.declared.packet.Phase.TheVariants.{ConnectResponse}
+use Rattle.obex_headers.specs.Codes.{octet_of}
 use Rattle.obex_headers.specs.Packets.{PlainPacket, maximum_of, bare, packet_octets}
 use Rattle.obex_headers.specs.Reading.{packet_in, front_at, headers_in}
 use Rattle.obex_headers.proofs.HeaderLaws.{bind_ok, ok_is}
 use Rattle.obex_headers.proofs.PacketLaws.{front_takes}
 use Rattle.obex_session.specs.declared.responding.Saying.{Saying}
 use Rattle.obex_session.specs.declared.responding.Saying.TheVariants.{Response, Confirmation, Silence, NoMemory}
-use Rattle.obex_session.specs.Codes.{octet_of}
 use Rattle.obex_session.specs.Responses.{is_connect, connect_fields}
 use Rattle.obex_session.specs.Views.{octets_said}
 

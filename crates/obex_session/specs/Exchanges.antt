@@ -1,19 +1,19 @@
 -- Laws of an exchange: a request that a server's session hears, and the response that a client's session takes.
 use Rattle.std.specs.Prelude.{◌≡◌, ℕ, ◌<◌, ◌≤◌, ◌^◌, ◌++◌, ◌==◌, Bool, true, false, List, [], ◌∷◌, length, Ok, is_err, if◌then◌else◌}
 use Rattle.bt_base.specs.Objects.{Object}
+use Rattle.obex_headers.specs.declared.codes.Code.{Code}
 use Rattle.obex_headers.specs.declared.packet.Phase.TheVariants.{Response, ConnectResponse}
+use Rattle.obex_headers.specs.Codes.{octet_of}
 use Rattle.obex_headers.specs.Packets.{bare, with_header}
 use Rattle.obex_headers.specs.Reading.{packet_in}
 use Rattle.obex_session.specs.declared.asking.Request.{Request}
 use Rattle.obex_session.specs.declared.client.Answered.{Answered}
 use Rattle.obex_session.specs.declared.client.Answered.TheVariants.{Refused}
-use Rattle.obex_session.specs.declared.codes.Code.{Code}
 use Rattle.obex_session.specs.declared.marks.Kind.{Kind}
 use Rattle.obex_session.specs.declared.marks.Kind.TheVariants as kinds
 use Rattle.obex_session.specs.declared.marks.Marks.{Marks}
 use Rattle.obex_session.specs.declared.responding.Saying.{Saying}
 use Rattle.obex_session.specs.declared.responding.Saying.TheVariants as saying
-use Rattle.obex_session.specs.Codes.{octet_of}
 use Rattle.obex_session.specs.Responses.{is_connect, connect_fields, single_header, response_octets, confirmation_octets}
 use Rattle.obex_session.specs.InboxCalls.{Answer, come_of}
 use Rattle.obex_session.specs.Rules.{progress_in}

@@ -1,8 +1,8 @@
 -- Laws of what packets store, for every list of them.
 use Rattle.std.specs.Prelude.{◌≡◌, ℕ, ◌≤◌, false, List, length, map}
 use Rattle.std.specs.List.{AllByRecursion}
+use Rattle.obex_headers.specs.declared.codes.Code.TheVariants.{InternalError}
 use Rattle.obex_headers.specs.Runs.{spelled}
-use Rattle.obex_session.specs.declared.codes.Code.TheVariants.{InternalError}
 use Rattle.obex_session.specs.declared.course.Verdict.TheVariants.{Ended}
 use Rattle.obex_session.specs.Past.{Heard, Serving, stored_by}
 use Rattle.obex_session.specs.Serving.{ruling_on}

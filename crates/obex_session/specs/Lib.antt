@@ -1,4 +1,3 @@
-pub mod Codes
 pub mod Responses
 pub mod InboxCalls
 pub mod Counting

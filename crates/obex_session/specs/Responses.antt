@@ -2,9 +2,9 @@
 -- Object Exchange Profile 2.1, 4.6, for single response mode).
 use Rattle.std.specs.Prelude.{ℕ, Bool, ◌==◌, if◌then◌else◌, List, [], ◌∷◌, slice_index}
 use Rattle.bt_base.specs.Octets.{be16}
+use Rattle.obex_headers.specs.declared.codes.Code.{Code}
+use Rattle.obex_headers.specs.Codes.{octet_of}
 use Rattle.obex_headers.specs.Packets.{One, PlainHeader, bare, with_header, packet_octets}
-use Rattle.obex_session.specs.declared.codes.Code.{Code}
-use Rattle.obex_session.specs.Codes.{octet_of}
 
 -- the octets begin as a CONNECT does
 abbrev pub is_connect : List ℕ → Bool

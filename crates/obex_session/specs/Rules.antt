@@ -1,11 +1,11 @@
 -- What a server does with each packet (IrOBEX 1.5, 3.4; Object Push Profile 1.2, 4.3). Which code answers what breaks
 -- a rule, and the bounds on a Name and on an object, are this project's own.
 use Rattle.std.specs.Prelude.{ℕ, ◌+◌, ◌==◌, ◌||◌, ◌&&◌, not, Bool, true, false, List, [], ◌∷◌, ◌++◌, length, nat_lt, Option, Some, None, Result, Ok, Err, if◌then◌else◌}
+use Rattle.obex_headers.specs.declared.codes.Code.{Code}
+use Rattle.obex_headers.specs.declared.codes.Code.TheVariants.{Success, BadRequest, TooLarge, NotImplemented}
 use Rattle.obex_headers.specs.declared.fault.ObexRefusal.{ObexRefusal}
 use Rattle.obex_headers.specs.Packets.{PlainHeader, PlainPacket, units_of}
 use Rattle.obex_headers.specs.Runs.{name_text, body_of, is_final}
-use Rattle.obex_session.specs.declared.codes.Code.{Code}
-use Rattle.obex_session.specs.declared.codes.Code.TheVariants.{Success, BadRequest, TooLarge, NotImplemented}
 use Rattle.obex_session.specs.declared.course.Progress.{Progress}
 use Rattle.obex_session.specs.declared.course.Progress.TheVariants.{Unnamed, Named, Filled}
 use Rattle.obex_session.specs.declared.course.Course.{Course}

@@ -3,7 +3,7 @@
 use Rattle.std.specs.Prelude.{◌&&◌, not, Bool, true, false, Result, Ok, Err, if◌then◌else◌}
 use Rattle.bt_base.specs.declared.ports.PortFault.{PortFault}
 use Rattle.bt_base.specs.declared.ports.PortFault.TheVariants as fault
-use Rattle.obex_session.specs.declared.codes.Code.TheVariants as code
+use Rattle.obex_headers.specs.declared.codes.Code.TheVariants as code
 use Rattle.obex_session.specs.declared.course.Course.{Course}
 use Rattle.obex_session.specs.declared.course.Course.TheVariants.{Rests, Ignores, Runs}
 use Rattle.obex_session.specs.declared.course.Verdict.{Verdict}

@@ -6,10 +6,9 @@ ghost use Rattle.obex_session.specs.Asking.{phase_of, awaited_code, success_of, 
 ghost use Rattle.obex_session.specs.NextPut.{is_waiting, put_request};
 
 use crate::client::Answered;
-use crate::codes::Code;
 use crate::marks::Marks;
 use byteorder::{BigEndian, ByteOrder};
-use obex_headers::{Packet, Phase};
+use obex_headers::{Code, Packet, Phase};
 
 /// A request that has no response yet.
 #[derive(Clone, Copy, Debug)]

@@ -12,12 +12,11 @@ ghost use Rattle.obex_session.specs.declared.asking.Request.TheVariants.{Connect
 mod looking;
 
 use crate::asking::{Request, is_waiting, limit_by};
-use crate::codes::Code;
 use crate::marks::{Marks, marks_of};
 use crate::put_writing::write_put;
 use crate::responding::connect_fields;
 use bt_base::{PortFault, Shelf};
-use obex_headers::{ObexRefusal, Packet, packet_of, start_packet};
+use obex_headers::{Code, ObexRefusal, Packet, packet_of, start_packet};
 use std::marker::Model;
 
 /// What a response says of the request that waited for it.

@@ -4,9 +4,9 @@ ghost use Rattle.std.specs.Prelude.{◌≡◌, if◌then◌else◌};
 ghost use Rattle.obex_session.specs.Rules.{is_under_way, progress_in, is_ignoring};
 ghost use Rattle.obex_session.specs.Turns.{is_single_in, is_first_in, is_followed, enables, course_refused, without_object, course_after};
 
-use crate::codes::Code;
 use crate::marks::Kind;
 use bt_base::PortFault;
+use obex_headers::Code;
 
 /// What stands of the object that the PUT packets of a run spell so far.
 #[derive(Clone, Copy, Debug)]

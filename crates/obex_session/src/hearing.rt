@@ -12,12 +12,11 @@ ghost use Rattle.obex_session.specs.Serving.{has_name};
 ghost use Rattle.obex_session.specs.declared.course.Progress.TheVariants.{Unnamed};
 ghost use Rattle.obex_session.specs.declared.course.Verdict.TheVariants.{PassedOver, Ended, Open};
 
-use crate::codes::Code;
 use crate::course::{Course, Progress, Verdict};
 use crate::marks::{Kind, kind_of};
 use crate::putting::{end, on_put};
 use bt_base::{Inbox, PortFault};
-use obex_headers::{Packet, Phase, packet_of};
+use obex_headers::{Code, Packet, Phase, packet_of};
 
 /// What came of a packet.
 #[derive(Debug, Drop)]

@@ -5,7 +5,6 @@
 
 mod asking;
 mod client;
-mod codes;
 mod course;
 mod hearing;
 pub mod laws;
@@ -17,5 +16,4 @@ mod responding;
 mod server;
 
 pub use client::{Answered, ClientSession, PutNext};
-pub use codes::Code;
 pub use server::{Reply, ServerSession};

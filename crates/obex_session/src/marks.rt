@@ -5,10 +5,10 @@ ghost use Rattle.std.specs.List.{AllByRecursion};
 ghost use Rattle.obex_headers.specs.Packets.{PlainHeader, PlainPacket, IsHeader, headers_octets, plain_header, Shows};
 ghost use Rattle.obex_session.specs.Marks.{is_name, is_body, is_single, is_parameters, marks_of, kind_of};
 
-use crate::codes::{
-    BODY, Code, ENABLED, END_OF_BODY, NAME, SINGLE_RESPONSE, SINGLE_RESPONSE_PARAMETERS,
+use obex_headers::identifiers::{
+    BODY, ENABLED, END_OF_BODY, NAME, SINGLE_RESPONSE, SINGLE_RESPONSE_PARAMETERS,
 };
-use obex_headers::{Header, HeaderValue, Packet, headers_of};
+use obex_headers::{Code, Header, HeaderValue, Packet, headers_of, is_put};
 
 /// Which headers a packet has.
 #[derive(Clone, Copy, Debug)]
@@ -90,13 +90,6 @@ pub(crate) fn marks_of(packet: &Packet<'_>) -> Marks
         marks = marks.with(&header);
     }
     marks
-}
-
-/// Whether the code is that of a PUT.
-fn is_put(code: u8) -> bool
-    ensures { result ≡ ((code == 0x02) || (code == 0x82)) }
-{
-    code == Code::Put.octet() || code == Code::FinalPut.octet()
 }
 
 /// What a packet is to a server.

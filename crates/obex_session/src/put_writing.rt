@@ -7,11 +7,11 @@ ghost use Rattle.obex_headers.specs.Packets.{Text, Four, IsText, PlainHeader, pa
 ghost use Rattle.obex_session.specs.Responses.{single_header};
 ghost use Rattle.obex_session.specs.PutPackets.{Reaches, WritesPut, ahead_of, ahead_with, head_with, place_of, room_in, units_in};
 
-use crate::codes::{BODY, Code, END_OF_BODY, LENGTH, NAME};
 use crate::naming::name_text;
 use crate::responding::add_single;
 use bt_base::{PortFault, Shelf};
-use obex_headers::{Header, HeaderValue, add_header, add_placed, start_packet};
+use obex_headers::identifiers::{BODY, END_OF_BODY, LENGTH, NAME};
+use obex_headers::{Code, Header, HeaderValue, add_header, add_placed, start_packet};
 
 /// Starts a PUT, without headers.
 pub(crate) fn start_put(is_final: bool, into: &mut [u8]) -> usize

@@ -6,10 +6,10 @@ ghost use Rattle.obex_headers.specs.Packets.{PlainHeader, IsHeader, IsText, unit
 ghost use Rattle.obex_session.specs.Hearing.{Heeds, is_pending_after};
 ghost use Rattle.obex_session.specs.Rules.{is_under_way, ends, at_name, at_body, at_header, after_headers, then_at, finished, opens};
 
-use crate::codes::{BODY, Code, END_OF_BODY, NAME};
 use crate::course::{Progress, Verdict};
 use bt_base::{Inbox, PortFault};
-use obex_headers::{Header, HeaderValue, Packet, headers_of, name_units};
+use obex_headers::identifiers::{BODY, END_OF_BODY, NAME};
+use obex_headers::{Code, Header, HeaderValue, Packet, headers_of, name_units};
 
 /// The greatest length of a Name, in UTF-16 units.
 const MOST_UNITS: usize = 255;

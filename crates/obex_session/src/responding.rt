@@ -6,12 +6,12 @@ ghost use Rattle.obex_session.specs.Responses.{connect_fields, is_connect, singl
 ghost use Rattle.obex_session.specs.Serving.{Says};
 ghost use Rattle.obex_session.specs.Turns.{said_open, said_whole, said_after};
 
-use crate::codes::{Code, ENABLED, SINGLE_RESPONSE};
 use crate::course::{Course, Verdict};
 use crate::marks::Kind;
 use crate::server::Reply;
 use bt_base::PortFault;
-use obex_headers::{Header, HeaderValue, add_header, start_packet};
+use obex_headers::identifiers::{ENABLED, SINGLE_RESPONSE};
+use obex_headers::{Code, Header, HeaderValue, add_header, start_packet};
 
 /// What a server says of a packet.
 #[derive(Clone, Copy, Debug)]

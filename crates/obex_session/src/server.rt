@@ -9,12 +9,12 @@ ghost use Rattle.obex_session.specs.Serving.{Hears, LetsGo, CountsShortages, IsU
 
 mod looking;
 
-use crate::codes::Code;
 use crate::course::Course;
 use crate::hearing::hear;
 use crate::putting::end;
 use crate::responding::{said_after, say};
 use bt_base::{Inbox, NoMemory, PortFault};
+use obex_headers::Code;
 use std::marker::Model;
 
 /// What a server answers a packet.

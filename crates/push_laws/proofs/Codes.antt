@@ -1,11 +1,11 @@
 -- The code of a response is the one that is due.
 use Rattle.std.proofs.Common.{◌||◌, Bool, true, false, cond, eqb, ◌≡◌, ℕ, List, Some, None, Result, Ok, Err, refl, ap, subst, sym}
 use Rattle.std.specs.Prelude.{slice_index, IfSome}
+use Rattle.push_model.specs.obex_headers.specs.declared.codes.Code.TheVariants.{Success, NotImplemented}
 use Rattle.push_model.specs.obex_headers.specs.declared.fault.ObexRefusal.{ObexRefusal}
 use Rattle.push_model.specs.obex_headers.specs.declared.packet.Phase.TheVariants.{Request}
 use Rattle.push_model.specs.obex_headers.specs.Packets.{PlainPacket}
 use Rattle.push_model.specs.obex_headers.specs.Reading.{packet_in}
-use Rattle.push_model.specs.obex_session.specs.declared.codes.Code.TheVariants.{Success, NotImplemented}
 use Rattle.push_model.specs.obex_session.specs.InboxCalls.{Answer, come_of}
 use Rattle.push_model.specs.obex_session.specs.Past.{Serving}
 use Rattle.push_model.specs.obex_session.specs.Rules.{ends, at_put_in, at_packet, progress_in}

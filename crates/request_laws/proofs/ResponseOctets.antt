@@ -5,17 +5,17 @@ use Rattle.std.specs.List.{list_any}
 use Rattle.pair_laws.specs.bt_base.specs.declared.ports.PortFault.TheVariants as fault
 use Rattle.pair_laws.specs.bt_base.specs.declared.settings.Transport.{Transport}
 use Rattle.pair_laws.specs.bt_base.specs.Octets.{IsOctets}
+use Rattle.pair_laws.specs.obex_headers.specs.declared.codes.Code.{Code}
+use Rattle.pair_laws.specs.obex_headers.specs.declared.codes.Code.TheVariants.{Success, BadRequest, TooLarge, NotImplemented, Continue, InternalError}
 use Rattle.pair_laws.specs.obex_headers.specs.declared.fault.ObexRefusal.{ObexRefusal}
 use Rattle.pair_laws.specs.obex_headers.specs.declared.packet.Phase.TheVariants.{Request}
+use Rattle.pair_laws.specs.obex_headers.specs.Codes.{octet_of}
 use Rattle.pair_laws.specs.obex_headers.specs.Packets.{PlainHeader, PlainPacket, bare, with_header, units_of}
 use Rattle.pair_laws.specs.obex_headers.specs.Reading.{packet_in}
 use Rattle.pair_laws.specs.obex_headers.specs.Runs.{name_text, body_of, is_final}
-use Rattle.pair_laws.specs.obex_session.specs.declared.codes.Code.{Code}
-use Rattle.pair_laws.specs.obex_session.specs.declared.codes.Code.TheVariants.{Success, BadRequest, TooLarge, NotImplemented, Continue, InternalError}
 use Rattle.pair_laws.specs.obex_session.specs.declared.course.Course.{Course}
 use Rattle.pair_laws.specs.obex_session.specs.declared.course.Progress.{Progress}
 use Rattle.pair_laws.specs.obex_session.specs.declared.course.Progress.TheVariants.{Unnamed, Named, Filled}
-use Rattle.pair_laws.specs.obex_session.specs.Codes.{octet_of}
 use Rattle.pair_laws.specs.obex_session.specs.InboxCalls.{InboxCall, Begin, Append, Answer, come_of}
 use Rattle.pair_laws.specs.obex_session.specs.Marks.{is_name}
 use Rattle.pair_laws.specs.obex_session.specs.Past.{Serving}

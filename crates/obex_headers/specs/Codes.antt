@@ -1,7 +1,7 @@
 -- The codes of requests and responses (IrOBEX 1.5, 3.3 and 3.2.1).
 use Rattle.std.specs.Prelude.{ℕ, ◌==◌, if◌then◌else◌}
-use Rattle.obex_session.specs.declared.codes.Code.{Code}
-use Rattle.obex_session.specs.declared.codes.Code.TheVariants.{Connect, Disconnect, Put, FinalPut, Get, FinalGet, SetPath, Abort, Continue, Success, BadRequest, TooLarge, InternalError, NotImplemented, Other}
+use Rattle.obex_headers.specs.declared.codes.Code.{Code}
+use Rattle.obex_headers.specs.declared.codes.Code.TheVariants.{Connect, Disconnect, Put, FinalPut, Get, FinalGet, SetPath, Abort, Continue, Success, BadRequest, TooLarge, InternalError, NotImplemented, Other}
 
 abbrev pub octet_of : Code → ℕ
 octet_of Connect = 0x80

@@ -1,7 +1,7 @@
-//! Codes of requests and responses, and identifiers of headers (IrOBEX 1.5, 2.1, 3.2.1 and 3.3).
+//! Codes of requests and responses (IrOBEX 1.5, 3.2.1 and 3.3).
 
-ghost use Rattle.std.specs.Prelude.{◌≡◌};
-ghost use Rattle.obex_session.specs.Codes.{octet_of, code_of};
+ghost use Rattle.std.specs.Prelude.{◌≡◌, ◌==◌, ◌||◌};
+ghost use Rattle.obex_headers.specs.Codes.{octet_of, code_of};
 
 /// The code of a packet. `Other` has the octets that stand for none of the others.
 #[derive(Clone, Copy, Debug, PartialEq, Eq)]
@@ -87,23 +87,9 @@ impl Code {
     }
 }
 
-/// The name of an object.
-pub(crate) const NAME: u8 = 0x01;
-
-/// How many octets an object has.
-pub(crate) const LENGTH: u8 = 0xC3;
-
-/// Octets of an object, with more to come.
-pub(crate) const BODY: u8 = 0x48;
-
-/// The last octets of an object.
-pub(crate) const END_OF_BODY: u8 = 0x49;
-
-/// Single response mode (Generic Object Exchange Profile 2.1, 4.6).
-pub(crate) const SINGLE_RESPONSE: u8 = 0x97;
-
-/// Parameters of single response mode.
-pub(crate) const SINGLE_RESPONSE_PARAMETERS: u8 = 0x98;
-
-/// The value of the header that enables single response mode.
-pub(crate) const ENABLED: u8 = 0x01;
+/// Whether the code is that of a PUT, final or not.
+pub fn is_put(code: u8) -> bool
+    ensures { result ≡ ((code == 0x02) || (code == 0x82)) }
+{
+    code == Code::Put.octet() || code == Code::FinalPut.octet()
+}
