@@ -11,7 +11,6 @@ use Rattle.ertm_frames.proofs.Spelled.{one-answer}
 use Rattle.ertm_frames.proofs.WorkedOut.{answer-is_worked_out}
 use Rattle.std.proofs.lemmas.List.{length-map}
 use Rattle.capture.specs.declared.flow.Flow.{Flow}
-use Rattle.capture.specs.declared.flow.Flow.TheVariants.{Out, Into}
 use Rattle.capture.specs.Pdus.{same_flow}
 use Rattle.ertm_frames.specs.Joining.{Begun, Misplaced, joint, At, joined_by, ended_by, ended}
 use Rattle.ertm_frames.proofs.Longest.{ended-stopped}
@@ -52,18 +51,6 @@ passed_way flow most one raw is = ap (λ b. frames_in most (cons_option (cond b 
 
 passed_other : (flow : Flow) (most : ℕ) (one : LentCarriage) (raw : List LentCarriage) → same_flow flow one.flow ≡ false → left_of flow most (one ∷ raw) ≡ left_of flow most raw
 passed_other flow most one raw is = ap (λ b. frames_in most (cons_option (cond b (Some one.pdu.now) None) (pdus_of flow (plain_carriages raw)))) is
-
-pub same_is : (flow way : Flow) → way ≡ flow → same_flow flow way ≡ true
-same_is Out Out is = refl
-same_is Into Into is = refl
-same_is Out Into is = cc
-same_is Into Out is = cc
-
-pub other_is : (flow way : Flow) → (way ≡ flow → ⊥) → same_flow flow way ≡ false
-other_is Out Out is = absurd (is refl)
-other_is Into Into is = absurd (is refl)
-other_is Out Into is = refl
-other_is Into Out is = refl
 
 pub picked_turn : (most : ℕ) (flow : Flow) (raw : List LentCarriage) (i : ℕ) (d : LentCarriage) (found after : List LentSegment) (all : List Segment) → i < length raw
     → same_flow flow (get_or raw i d).flow ≡ true

@@ -1,6 +1,4 @@
 pub use Rattle.l2cap_config
 pub use Rattle.talk_laws
 pub mod Lent
-pub mod Spans
 pub mod Frames
-pub mod Lending

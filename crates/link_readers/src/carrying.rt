@@ -1,20 +1,32 @@
 //! The PDUs on a channel.
 
-ghost use Rattle.std.specs.Prelude.{◌≡◌, ◌++◌, ◌==◌, ◌&&◌, OnOk, IfOk, find, map};
-ghost use Rattle.capture.specs.Histories.{given_by};
-ghost use Rattle.link_readers.specs.Spans.{counts_for};
-ghost use Rattle.link_talk.specs.Carriages.{endpoint, is_held, is_open, is_heard, takes, taker, is_on, carried, carried_by, stretch, passages, has_own, entry_mode, mode_of};
+ghost use Rattle.std.specs.Prelude.{◌≡◌, ◌++◌, ◌==◌, ◌&&◌, OnOk, IfOk, find, map, slice_index};
+ghost use Rattle.talk_laws.specs.acl_fragments.specs.Pieces.{channel_of};
+ghost use Rattle.link_talk.specs.Carriages.{endpoint, is_held, is_open, is_heard, takes, taker, is_on, carried_by, stretch, has_own, entry_mode, mode_of};
 ghost use Rattle.link_readers.specs.Lent.{plain_saying, plain_sayings, plain_entry, plain_entries, plain_carriage};
 
 use crate::entries::Entry;
 use crate::reading::{Reading, reading_of};
-use crate::sayings::channel_of;
 use crate::{Carriage, Saying};
 use bt_base::NoMemory;
 use capture::Flow;
 use l2cap_config::Mode;
 use link_talk::Channel;
 use std::alloc::Global;
+
+/// An octet, or 0 behind the end.
+fn octet_at(octets: &[u8], place: usize) -> u8
+    ensures { result ≡ slice_index octets.now place }
+{
+    octets.get(place).copied().unwrap_or(0)
+}
+
+/// The channel identifier of a PDU (Core 5.1, Volume 3 Part A, 3.1).
+pub fn channel_of(pdu: &[u8]) -> u16
+    ensures { result ≡ channel_of pdu.now }
+{
+    u16::from(octet_at(pdu, 2)) + 256 * u16::from(octet_at(pdu, 3))
+}
 
 /// The endpoint that a PDU names which goes over a channel.
 fn endpoint(flow: Flow, channel: &Channel) -> u16
@@ -36,29 +48,13 @@ fn counts(flow: Flow, entry: &Entry) -> bool
     }
 }
 
-/// Which PDUs are asked for: those of the stretch of a channel, or all that pass until it has ended.
-#[derive(Clone, Copy, Debug)]
-pub(crate) enum Span {
-    Heard,
-    Passed,
-}
-
-fn counts_for(span: Span, flow: Flow, entry: &Entry) -> bool
-    ensures { result ≡ counts_for span flow (plain_entry entry.now) }
-{
-    match span {
-        Span::Heard => counts(flow, entry),
-        Span::Passed => entry.setup.is_set() && entry.is_there(),
-    }
-}
-
 /// Whether a PDU goes over a channel, of those that are there.
-fn goes_over(span: Span, channel: &Channel, flow: Flow, pdu: &[u8], entries: &[Entry]) -> bool
-    ensures { result ≡ is_on channel.now (taker (counts_for span) flow pdu.now (plain_entries entries.now)) }
+fn goes_over(channel: &Channel, flow: Flow, pdu: &[u8], entries: &[Entry]) -> bool
+    ensures { result ≡ is_on channel.now (taker is_heard flow pdu.now (plain_entries entries.now)) }
 {
     let identifier = channel_of(pdu);
     for entry in entries {
-        if counts_for(span, flow, entry) && endpoint(flow, &entry.channel) == identifier {
+        if counts(flow, entry) && endpoint(flow, &entry.channel) == identifier {
             return entry.channel.own == channel.own;
         }
     }
@@ -68,37 +64,18 @@ fn goes_over(span: Span, channel: &Channel, flow: Flow, pdu: &[u8], entries: &[E
 /// Adds a PDU that goes over a channel.
 fn push_carried<'a>(
     found: &mut Vec<Carriage<'a>>,
-    span: Span,
     channel: &Channel,
     entries: &[Entry],
     saying: &Saying<'a>,
 ) -> Result<(), NoMemory>
-    ensures { OnOk result (map plain_carriage found.new.items ≡ map plain_carriage found.old.items ++ carried_by (counts_for span) channel.now (plain_entries entries.now) (plain_saying saying.now)) }
+    ensures { OnOk result (map plain_carriage found.new.items ≡ map plain_carriage found.old.items ++ carried_by is_heard channel.now (plain_entries entries.now) (plain_saying saying.now)) }
 {
     if let Saying::Carried(flow, pdu) = *saying {
-        if goes_over(span, channel, flow, pdu, entries) {
+        if goes_over(channel, flow, pdu, entries) {
             found.push(Carriage { flow, pdu })?;
         }
     }
     Ok(())
-}
-
-/// What goes over a channel, both ways, in order.
-fn carried<'a>(
-    alloc: Global,
-    span: Span,
-    channel: &Channel,
-    said: &[Saying<'a>],
-) -> Result<Vec<Carriage<'a>>, NoMemory>
-    ensures { IfOk result (λ found. map plain_carriage found.items ≡ given_by (carried (counts_for span) channel.now) (plain_sayings said.now)) }
-{
-    let mut held = Reading::new(alloc);
-    let mut found = Vec::new(alloc);
-    for saying in said {
-        push_carried(&mut found, span, channel, &held.entries, saying)?;
-        held.hear(alloc, saying)?;
-    }
-    Ok(found)
 }
 
 /// What a channel carries from its opening until its host closes it, both ways, in order
@@ -110,19 +87,13 @@ pub fn stretch<'a>(
 ) -> Result<Vec<Carriage<'a>>, NoMemory>
     ensures { IfOk result (λ found. map plain_carriage found.items ≡ stretch channel.now (plain_sayings said.now)) }
 {
-    carried(alloc, Span::Heard, channel, said)
-}
-
-/// The frames on a channel until it has ended for its host, both ways, in order (Core 5.1, Volume 3 Part
-/// A, 8.3 and 8.6). `NoMemory` is answered for want of memory alone.
-pub fn passages<'a>(
-    alloc: Global,
-    channel: &Channel,
-    said: &[Saying<'a>],
-) -> Result<Vec<Carriage<'a>>, NoMemory>
-    ensures { IfOk result (λ found. map plain_carriage found.items ≡ passages channel.now (plain_sayings said.now)) }
-{
-    carried(alloc, Span::Passed, channel, said)
+    let mut held = Reading::new(alloc);
+    let mut found = Vec::new(alloc);
+    for saying in said {
+        push_carried(&mut found, channel, &held.entries, saying)?;
+        held.hear(alloc, saying)?;
+    }
+    Ok(found)
 }
 
 /// The mode of the entry of a channel.

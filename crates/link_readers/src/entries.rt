@@ -3,7 +3,7 @@
 ghost use Rattle.std.specs.Prelude.{◌≡◌, ◌++◌, ◌∷◌, [], ◌==◌, ◌&&◌, ◌||◌, OnOk, IfOk, Some, None, fold, map, option_map, option_to_list};
 ghost use Rattle.std.specs.List.{list_any};
 ghost use Rattle.link_talk.specs.Setups.{mode_in, mode_numbered, no_setup, is_set, with_wish, with_answer, with_success, setup_after, term, is_enhanced, agreed_mode};
-ghost use Rattle.link_talk.specs.Channels.{word, life_after, is_alive, is_there, waits_for_end, fresh, entry_after, is_owner, with_fresh, made_by, entries_after};
+ghost use Rattle.link_talk.specs.Channels.{word, life_after, is_alive, is_there, fresh, entry_after, is_owner, with_fresh, made_by, entries_after};
 ghost use Rattle.link_readers.specs.Lent.{plain_part, plain_meaning, plain_setup, plain_entry, plain_entries};
 
 use crate::meaning::{Meaning, Part};
@@ -185,13 +185,6 @@ impl Entry {
         ensures { result ≡ is_there self.now.life }
     {
         matches!(self.life, Life::Alive | Life::Leaving)
-    }
-
-    /// Whether its host waits for the answer to its request for the end.
-    pub fn waits_for_end(&self) -> bool
-        ensures { result ≡ waits_for_end self.now.life }
-    {
-        matches!(self.life, Life::Leaving | Life::Crossed)
     }
 
     fn is_owner(&self, channel: &Channel) -> bool

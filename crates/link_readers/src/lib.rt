@@ -4,27 +4,23 @@
 mod carrying;
 mod entries;
 mod joining;
-mod lending;
 mod meaning;
 mod multiplexing;
 mod objects;
 mod packing;
 mod reading;
-mod sayings;
 mod sdus;
 mod sensing;
 
 use capture::Flow;
-pub use carrying::{mode_of, passages, stretch};
+pub use carrying::{channel_of, mode_of, stretch};
 pub use entries::{Entry, Setup};
 use l2cap_signal::{Signal, SignalRefusal};
-pub use lending::{LinkPdu, link_pdus};
 pub use meaning::Requests;
-pub use objects::{channel_objects, link_objects, objects_heard, spelled_within};
-pub use packing::{packets, packets_heard, packets_spoken};
+pub use objects::link_objects;
+pub use packing::packets_heard;
 pub use reading::{Reading, reading_of};
-pub use sayings::sayings_of;
-pub use sdus::{sdus_of, sdus_spoken};
+pub use sdus::sdus_of;
 
 /// A request that a host waits for no longer, without a word to its peer.
 #[derive(Clone, Copy, Debug)]

@@ -3,7 +3,7 @@
 ghost use Rattle.std.specs.Prelude.{◌≡◌, ◌==◌, ◌&&◌, ◌||◌, ◌++◌, ◌≤◌, Some, OnOk, IfOk, MatchOption, length, map, option_map, take, drop};
 ghost use Rattle.rfcomm_frames.specs.Frames.{plain};
 ghost use Rattle.rfcomm_frames.specs.Connections.{dlc_after, is_left};
-ghost use Rattle.rfcomm_frames.specs.Multiplexing.{passing, carries_on, is_over, connections_after, is_role, is_data};
+ghost use Rattle.rfcomm_frames.specs.Multiplexing.{passing, carries_on, connections_after, is_role, is_data};
 ghost use Rattle.rfcomm_frames.specs.Ending.{no_course, course_after, is_closed_by, is_last};
 ghost use Rattle.rfcomm_frames.specs.UserChannel.{user_octets};
 ghost use Rattle.rfcomm_frames.specs.ObexPackets.{IsPacket, HasNoPacket, obex_packets};
@@ -87,13 +87,6 @@ pub(crate) fn is_data(dlci: u8, way: Role, framed: &Framed<'_>) -> bool
 }
 
 impl Connections {
-    /// Whether one of the two was closed.
-    pub(crate) fn are_over(&self) -> bool
-        ensures { result ≡ is_over (plain_connections self.now) }
-    {
-        matches!(self.user, Dlc::Ended) || matches!(self.control, Dlc::Ended)
-    }
-
     pub(crate) fn carries_on(&self) -> bool
         ensures { result ≡ carries_on (plain_connections self.now) }
     {

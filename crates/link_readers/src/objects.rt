@@ -1,29 +1,20 @@
 //! The objects that the packets of a link spell.
 
 ghost use Rattle.std.specs.Prelude.{◌≡◌, ◌++◌, ◌∷◌, [], ◌<◌, ◌≤◌, OnOk, IfOk, map, drop, length};
-ghost use Rattle.std.specs.List.{flat_map};
-ghost use Rattle.capture.specs.Lent.{plain_entries as plain_moves, plain_link};
 ghost use Rattle.obex_headers.specs.Reader.{octets_of_all, objects_seen};
 ghost use Rattle.link_talk.specs.Channels.{Entry as PlainEntry, reading};
-ghost use Rattle.link_talk.specs.Sayings.{talk};
 ghost use Rattle.link_talk.specs.Gains.{beyond};
 ghost use Rattle.link_talk.specs.ObjectsHeard.{spelled_within, channel_objects, objects_between, objects};
-ghost use Rattle.link_talk.specs.Captures.{objects_heard};
 ghost use Rattle.link_readers.specs.Lent.{plain_sayings, plain_entries};
 ghost use Rattle.link_talk.specs.Shortening.{shortened};
 
 use crate::Saying;
 use crate::entries::Entry;
-use crate::lending::link_pdus;
 use crate::packing::packets_heard;
 use crate::reading::reading_of;
-use crate::sayings::sayings_of;
 use bt_base::NoMemory;
-use capture::Entry as Happening;
-use capture::readers::{Link, links};
 use link_talk::{Channel, Party};
 use obex_headers::runs::{SpelledObject, objects_in};
-use push_terms::Side;
 use std::alloc::Global;
 
 /// Packets, each that is too long without its octets, so that it is refused.
@@ -43,7 +34,7 @@ fn shortened(alloc: Global, most: u16, packets: &[Vec<u8>]) -> Result<Vec<Vec<u8
 
 /// The objects that packets spell for a receiver of packets of at most so many octets, in the order
 /// of their last packets (IrOBEX 1.5, 3.4.3). `NoMemory` is answered for want of memory alone.
-pub fn spelled_within(
+fn spelled_within(
     alloc: Global,
     most: u16,
     packets: &[Vec<u8>],
@@ -57,7 +48,7 @@ pub fn spelled_within(
 
 /// The objects that the packets spell which a host heard on a channel. `NoMemory` is answered for
 /// want of memory alone.
-pub fn channel_objects(
+fn channel_objects(
     alloc: Global,
     party: &Party,
     channel: &Channel,
@@ -138,34 +129,6 @@ pub fn link_objects(
     for i in 0..said.len() {
         let held = reading_of(alloc, &said[..i])?;
         let more = gained_on(alloc, party, &held.entries, &said[..i], &said[..i + 1])?;
-        append(&mut found, more)?;
-    }
-    Ok(found)
-}
-
-/// The objects of one link of a capture.
-fn objects_on(alloc: Global, party: &Party, link: &Link<'_>) -> Result<Vec<SpelledObject>, NoMemory>
-    ensures { IfOk result (λ found. objects_seen found.items ≡ objects party.now (talk (plain_link link.now))) }
-{
-    let pdus = link_pdus(alloc, link)?;
-    let said = sayings_of(alloc, &pdus)?;
-    link_objects(alloc, party, &said)
-}
-
-/// The objects that the packets spell which a side heard in a finished capture, in the order of
-/// their last packets. `NoMemory` is answered for want of memory alone.
-pub fn objects_heard(
-    alloc: Global,
-    party: &Party,
-    entries: &[Happening<'_>],
-    side: Side,
-) -> Result<Vec<SpelledObject>, NoMemory>
-    ensures { IfOk result (λ found. objects_seen found.items ≡ objects_heard party.now side (plain_moves entries.now)) }
-{
-    let links = links(alloc, entries, side)?;
-    let mut found = Vec::new(alloc);
-    for link in &links {
-        let more = objects_on(alloc, party, link)?;
         append(&mut found, more)?;
     }
     Ok(found)

@@ -100,7 +100,7 @@ fn push_all(
 }
 
 /// Adds what stands behind so many SDUs.
-pub(crate) fn push_beyond(
+fn push_beyond(
     alloc: Global,
     found: &mut Vec<Spoken>,
     flow: Flow,
@@ -158,7 +158,7 @@ fn basic_sdus(alloc: Global, carriages: &[Carriage<'_>]) -> Result<Vec<Spoken>, 
 
 /// The SDUs that a host sent and heard on a channel, in their order. `NoMemory` is answered for want
 /// of memory alone.
-pub fn sdus_spoken(
+pub(crate) fn sdus_spoken(
     alloc: Global,
     party: &Party,
     channel: &Channel,
