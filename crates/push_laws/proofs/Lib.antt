@@ -93,3 +93,6 @@ pub mod Among
 pub mod SpeltOnce
 pub mod Spelt
 pub mod SpeltDirect
+pub mod FaultyResponses
+pub mod Blaming
+pub mod Blamed

@@ -34,14 +34,15 @@ use Rattle.push_model.specs.Causes.{cause_of_link, cause_of_page, cause_of_close
 use Rattle.push_model.specs.Client.{Client, ends, is_direct, may_cancel}
 use Rattle.push_model.specs.Events as events
 use Rattle.push_model.specs.Events.{search_psm}
-use Rattle.push_model.specs.Laws.{Deed, Hears, Asks, Finishes, Cancels, done, all_done}
+use Rattle.push_model.specs.Laws.{Deed, Hears, Asks, Finishes, Cancels, all_done}
 use Rattle.push_model.specs.Responding.{takes, hears_answer, hears_response, is_success, is_early, is_left, is_object}
-use Rattle.push_model.specs.Shown.{first_of, watched, closed_shows, opened_shows, way_of, found_shows, says, answer_shows, response_shows, front_shows, stream_shows, up_shows, object_shows, outside_shows, sdu_shows, news_show, part_shows, ask_shows, said_shows, step_shows, shows, first_shown}
+use Rattle.push_model.specs.Shown.{first_of, watched, closed_shows, opened_shows, way_of, found_shows, says, answer_shows, response_shows, front_shows, stream_shows, up_shows, object_shows, outside_shows, sdu_shows, news_show, part_shows, ask_shows, said_shows, step_shows, shows}
 use Rattle.push_model.specs.Steps as steps
 use Rattle.push_model.specs.Steps.{Part, Ask, puts, takes_some, filled, next_ask, may_ask}
 use Rattle.push_model.specs.Streams.{Front, Whole, Partial, Broken, front_of}
-use Rattle.push_model.proofs.ShownLaws.{outcomes_are_shown}
-use Rattle.push_laws.specs.Success.{IsSuccess, AnswersFinalPut, Brings, IsToldSuccess, TellsSuccess, HearsSuccess, SuccessIsHeard, DoneExactly}
+use Rattle.push_model.specs.ShownFirst.{IsEndedBy}
+use Rattle.push_model.proofs.ShownFirstLaws.{outcomes_end_exactly}
+use Rattle.push_laws.specs.Success.{IsSuccess, AnswersFinalPut, Brings, IsToldSuccess, TellsSuccess, HearsSuccess, SuccessIsHeard, IsDoneExactly, DoneExactly}
 use Rattle.push_laws.proofs.Answered.{final_ends, goes_answered}
 use Rattle.push_laws.proofs.Talks.{is_reserved, AreFree, link_free, close_free, query_free}
 
@@ -369,28 +370,15 @@ success_shows Cancels client h = absurd h
 
 -- ---- the law
 
-only_heard : (deeds : List Deed) (client : Client) → client.cause ≡ None → (all_done deeds client).cause ≡ Some outcomes.Done → SuccessIsHeard deeds client
-only_heard [] client start e = absurd (none (sym start ∙ e))
-only_heard (deed ∷ deeds) client start e = by (shows deed client) refl (λ still. only_heard deeds (done deed client) still e)
-  where
-    behind : SuccessIsHeard deeds (done deed client) → SuccessIsHeard (deed ∷ deeds) client
-    behind s = record { before = deed ∷ s.before; deed = s.deed; after = s.after; parts = ap (λ (ds : List Deed). deed ∷ ds) s.parts; first = s.first; heard = s.heard }
+only_heard : (deeds : List Deed) (client : Client) → IsEndedBy outcomes.Done deeds client → SuccessIsHeard deeds client
+only_heard deeds client s = record { before = s.before; deed = s.deed; after = s.after; parts = s.parts; first = s.first; heard = shows_done s.deed (all_done s.before client) s.shown }
 
-    by : (shown : Option Outcome) → shows deed client ≡ shown → ((done deed client).cause ≡ None → SuccessIsHeard deeds (done deed client)) → SuccessIsHeard (deed ∷ deeds) client
-    by None is more = behind (more (outcomes_are_shown (deed ∷ []) client start ∙ ap (λ (o : Option Outcome). first_of o None) is))
-    by (Some o) is more =
-        let shown : Some o ≡ Some outcomes.Done = sym (outcomes_are_shown (deed ∷ deeds) client start ∙ ap (λ (x : Option Outcome). first_of x (first_shown deeds (done deed client))) is) ∙ e in
-        record { before = []; deed = deed; after = deeds; parts = refl; first = start; heard = shows_done deed client (is ∙ shown) }
+always_done : (deeds : List Deed) (client : Client) → SuccessIsHeard deeds client → IsEndedBy outcomes.Done deeds client
+always_done deeds client s = record { before = s.before; deed = s.deed; after = s.after; parts = s.parts; first = s.first; shown = success_shows s.deed (all_done s.before client) s.heard }
 
-done_behind : (before rest : List Deed) (client : Client) → all_done (before ++ rest) client ≡ all_done rest (all_done before client)
-done_behind [] rest client = refl
-done_behind (deed ∷ before) rest client = done_behind before rest (done deed client)
-
-always_done : (deeds : List Deed) (client : Client) → SuccessIsHeard deeds client → (all_done deeds client).cause ≡ Some outcomes.Done
-always_done deeds client s =
-    let at : Client = all_done s.before client in
-    ap (λ (ds : List Deed). (all_done ds client).cause) s.parts ∙ ap (λ (c : Client). c.cause) (done_behind s.before (s.deed ∷ s.after) client)
-    ∙ outcomes_are_shown (s.deed ∷ s.after) at s.first ∙ ap (λ (o : Option Outcome). first_of o (first_shown s.after (done s.deed at))) (success_shows s.deed at s.heard)
+ends_done : (deeds : List Deed) (client : Client) → client.cause ≡ None → IsDoneExactly deeds client
+ends_done deeds client start =
+    let ends = outcomes_end_exactly deeds client outcomes.Done start in record { only = λ e. only_heard deeds client (ends.0 e); always = λ s. ends.1 (always_done deeds client s) }
 
 pub done-exactly : DoneExactly
-done-exactly = record { done = λ deeds client start. record { only = only_heard deeds client start; always = always_done deeds client }; final = final_ends }
+done-exactly = record { done = ends_done; final = final_ends }

@@ -1,3 +1,4 @@
+pub use Rattle.ertm_model
 pub use Rattle.link_talk
 pub use Rattle.push_model
 pub use Rattle.rfcomm_laws
@@ -25,3 +26,4 @@ pub mod Cancelling
 pub mod Losing
 pub mod OneName
 pub mod Spelled
+pub mod Blames

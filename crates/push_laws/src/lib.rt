@@ -4,3 +4,4 @@
 
 pub mod client_laws;
 pub mod laws;
+pub mod peer_laws;

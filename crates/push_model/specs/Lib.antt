@@ -20,3 +20,4 @@ pub mod Events
 pub mod Steps
 pub mod Laws
 pub mod Shown
+pub mod ShownFirst

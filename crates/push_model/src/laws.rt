@@ -2,6 +2,7 @@
 
 ghost use Rattle.push_model.specs.Laws.{AsksForOneLink, FirstCausesStay};
 ghost use Rattle.push_model.specs.Shown.{OutcomesAreShown};
+ghost use Rattle.push_model.specs.ShownFirst.{OutcomesEndExactly};
 ghost use Rattle.push_model.specs.Streams.{FrontsAreRight};
 
 /// The first cause of a push stays, whatever comes and whatever is asked of the client afterwards.
@@ -24,4 +25,10 @@ pub fn fronts_are_right()
 /// it: the link's end, a channel's, a reply, a response, the timer, the shelf or the cancel, each by a table.
 pub fn outcomes_are_shown()
     ensures { OutcomesAreShown }
+{}
+
+/// From where a push has no cause it has an outcome exactly where one thing that is told to its client or asked of it shows that,
+/// and nothing before it showed any.
+pub fn outcomes_end_exactly()
+    ensures { OutcomesEndExactly }
 {}
