@@ -1,6 +1,7 @@
 //! The PDUs on a channel.
 
 ghost use Rattle.std.specs.Prelude.{◌≡◌, ◌++◌, ◌==◌, ◌&&◌, OnOk, IfOk, find, map, slice_index};
+ghost use Rattle.capture.specs.Histories.{given_by};
 ghost use Rattle.talk_laws.specs.acl_fragments.specs.Pieces.{channel_of};
 ghost use Rattle.link_talk.specs.Carriages.{endpoint, is_held, is_open, is_heard, takes, taker, is_on, carried_by, stretch, has_own, entry_mode, mode_of};
 ghost use Rattle.link_readers.specs.Lent.{plain_saying, plain_sayings, plain_entry, plain_entries, plain_carriage};

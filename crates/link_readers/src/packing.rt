@@ -1,8 +1,9 @@
 //! The OBEX packets on a channel.
 
-ghost use Rattle.std.specs.Prelude.{◌≡◌, IfOk, map};
+ghost use Rattle.std.specs.Prelude.{◌≡◌, ◌++◌, OnOk, IfOk, map};
 ghost use Rattle.obex_headers.specs.Reader.{octets_of_all};
-ghost use Rattle.link_talk.specs.Packets.{packets_heard};
+ghost use Rattle.capture.specs.Histories.{given_by};
+ghost use Rattle.link_talk.specs.Packets.{OverRfcomm, carrier, packet_with, packets_spoken, packets, packets_heard};
 ghost use Rattle.link_talk.specs.Sdus.{spoken_one_way};
 ghost use Rattle.link_readers.specs.Lent.{plain_sayings, plain_spoken};
 

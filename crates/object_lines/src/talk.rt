@@ -1,6 +1,7 @@
 //! The talk of a link, as it is said.
 
-ghost use Rattle.std.specs.Prelude.{◌≡◌, [], OnOk, map, fold};
+ghost use Rattle.std.specs.Prelude.{◌≡◌, [], OnOk, map, fold, slice_index};
+ghost use Rattle.acl_fragments.specs.Pieces.{channel_of};
 ghost use Rattle.l2cap_signal.specs.Reading.{answers};
 ghost use Rattle.link_talk.specs.Sayings.{Command as Says, said_by};
 ghost use Rattle.link_readers.specs.Lent.{plain_saying};
@@ -10,7 +11,7 @@ ghost use Rattle.object_lines.specs.Held.{plain_talk};
 use bt_base::NoMemory;
 use capture::Flow;
 use l2cap_signal::signals_of;
-use link_readers::{Saying, channel_of};
+use link_readers::Saying;
 use std::alloc::Global;
 
 /// The channel of signalling commands.
@@ -20,6 +21,20 @@ const SIGNALLING: u16 = 0x0001;
 #[derive(Debug, Drop)]
 pub(crate) struct Talk<'a> {
     pub(crate) said: Vec<Saying<'a>>,
+}
+
+/// An octet, or 0 behind the end.
+fn octet_at(octets: &[u8], place: usize) -> u8
+    ensures { result ≡ slice_index octets.now place }
+{
+    octets.get(place).copied().unwrap_or(0)
+}
+
+/// The channel identifier of a PDU.
+fn channel_of(pdu: &[u8]) -> u16
+    ensures { result ≡ channel_of pdu.now }
+{
+    u16::from(octet_at(pdu, 2)) + 256 * u16::from(octet_at(pdu, 3))
 }
 
 impl<'a> Talk<'a> {
