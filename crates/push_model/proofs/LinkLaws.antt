@@ -1,5 +1,5 @@
 -- A push asks for one link.
-use Rattle.std.proofs.Common.{ap, ◌≤◌, arith, ◌≡◌, ℕ, zero, suc, ◌+◌, ◌-◌, ◌++◌, ◌==◌, length, drop, Bool, true, false, not, ◌&&◌, ◌||◌, nat_lt, nat_le, min, List, [], ◌∷◌, Option, Some, None, is_some, Result, Ok, Err, refl, if◌then◌else◌}
+use Rattle.std.proofs.Common.{ap, ◌≤◌, arith, ◌≡◌, ℕ, zero, suc, ◌+◌, ◌-◌, ◌++◌, ◌==◌, length, drop, Bool, true, false, not, ◌&&◌, ◌||◌, nat_lt, min, List, [], ◌∷◌, Option, Some, None, is_some, Result, Ok, Err, refl, if◌then◌else◌}
 use Rattle.bt_base.specs.declared.ports.PortFault.{PortFault}
 use Rattle.bt_base.specs.declared.ports.PortFault.TheVariants as fault
 use Rattle.bt_base.specs.declared.settings.Transport.{Transport}

@@ -1,6 +1,6 @@
 -- A server of Object Push: the service records, and for each transport a session; over RFCOMM a multiplexer and the
 -- stream of packets that it brings (this project's own).
-use Rattle.std.specs.Prelude.{ℕ, ◌==◌, ◌*◌, ◌-◌, min, ◌&&◌, not, Bool, true, false, List, [], ◌++◌, length, drop, Option, Some, None, is_some, if◌then◌else◌}
+use Rattle.std.specs.Prelude.{ℕ, ◌==◌, ◌*◌, ◌-◌, min, ◌&&◌, not, Bool, true, false, List, [], ◌++◌, length, Option, Some, None, is_some, if◌then◌else◌}
 use Rattle.bt_base.specs.declared.settings.Serves.{Serves}
 use Rattle.bt_base.specs.declared.settings.Settings.{Settings}
 use Rattle.bt_base.specs.declared.settings.Transport.{Transport}
