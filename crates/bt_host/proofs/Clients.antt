@@ -1,6 +1,6 @@
 -- The calls of a client as those of its profile.
-use Rattle.std.proofs.Common.{arith, ◌≡◌, ◌∙◌, ◌-◌, ◌≤◌, ◌==◌, ◌&&◌, ◌||◌, not, ℕ, zero, suc, Bool, true, false, List, [], ◌∷◌, ◌++◌, length, refl, sym, ap, subst, true≢false, if◌then◌else◌, map, inl, inr}
-use Rattle.std.specs.Prelude.{Option, Some, None, is_some, Result, Ok, Err, IsTrue, IfSome}
+use Rattle.std.proofs.Common.{arith, ◌≡◌, ◌∙◌, ◌-◌, ◌≤◌, ◌==◌, ◌&&◌, ◌||◌, not, ℕ, Bool, true, false, List, [], ◌∷◌, ◌++◌, length, refl, sym, ap, subst, true≢false, if◌then◌else◌, map, inl, inr}
+use Rattle.std.specs.Prelude.{Option, Some, None, is_some, Result, Ok, Err}
 use Rattle.std.specs.List.{AllByRecursion}
 use Rattle.bt_base.specs.Objects.{Object}
 use Rattle.shelf_model.specs.obex_session.specs.Counting.{HasRisenBy}
@@ -41,11 +41,10 @@ use Rattle.push_client.specs.Ending as push
 use Rattle.push_client.specs.Pushing.{gone, payload_in, step_of, wants_memory}
 use Rattle.push_client.specs.Putting.{AreAnswers, IsAnswer, Comes}
 use Rattle.push_client.specs.declared.step.Step.{Step}
-use Rattle.push_client.specs.declared.step.Step.TheVariants as step
 use Rattle.shelf_model.specs.host_model.specs.Circumstances.{Circumstance, Excerpt, Part, parts_in}
 use Rattle.shelf_model.specs.host_model.specs.Clients as model
 use Rattle.shelf_model.specs.host_model.specs.Clients.{ClientProfile, client_profile, after_end}
-use Rattle.shelf_model.specs.host_model.specs.Endpoints.{Endpoint, endpoint_of, takes_sdu}
+use Rattle.shelf_model.specs.host_model.specs.Endpoints.{endpoint_of, takes_sdu}
 use Rattle.shelf_model.specs.host_model.specs.Pdus.{sdu_of}
 use Rattle.shelf_model.specs.host_model.specs.Profiles.{Stride}
 use Rattle.shelf_model.specs.host_model.specs.Shelves.{measured, bare_part, fitting, unused}

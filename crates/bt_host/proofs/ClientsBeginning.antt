@@ -12,7 +12,7 @@ use Rattle.shelf_model.specs.obex_session.specs.Counting.{HasRisenBy}
 use Rattle.shelf_model.specs.obex_session.specs.PutPackets.{units_in}
 use Rattle.shelf_model.specs.obex_session.proofs.CountingLaws.{rises_none, rises_once}
 use Rattle.push_terms.specs.declared.outcome.Outcome.{Outcome}
-use Rattle.push_model.specs.declared.course.Point.TheVariants.{Due, Asked}
+use Rattle.push_model.specs.declared.course.Point.TheVariants.{Asked}
 use Rattle.push_model.specs.declared.course.Stage.{Stage}
 use Rattle.push_model.specs.declared.course.Stage.TheVariants.{Rest, Link, SearchChannel, Search, SearchEnd, Features, ObjectChannel, Object as Carries, ObjectEnd, LinkEnd, Over}
 use Rattle.push_model.specs.Client.{Client, begins, begun_by, with_object, is_rest, is_idle}
@@ -24,7 +24,7 @@ use Rattle.push_client.specs.Pushing.{gone, payload_in, step_of, Begins}
 use Rattle.push_client.specs.Putting.{Comes}
 use Rattle.push_client.specs.declared.step.Step.{Step}
 use Rattle.shelf_model.specs.world_model.specs.Machines.{Opening}
-use Rattle.shelf_model.specs.host_model.specs.Circumstances.{Circumstance, Excerpt, Size, parts_in}
+use Rattle.shelf_model.specs.host_model.specs.Circumstances.{Excerpt, Size, parts_in}
 use Rattle.shelf_model.specs.host_model.specs.Clients as model
 use Rattle.shelf_model.specs.host_model.specs.Clients.{ClientProfile, calls, after_call}
 use Rattle.shelf_model.specs.host_model.specs.Shelves.{name_for, size_if, is_short}

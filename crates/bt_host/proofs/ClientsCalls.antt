@@ -1,10 +1,9 @@
 -- The calls of the end of a client, by what its parts did.
-use Rattle.std.proofs.Common.{◌≡◌, ◌∙◌, ◌≤◌, ◌==◌, ◌&&◌, not, ℕ, Bool, true, false, List, [], ◌∷◌, ◌++◌, length, refl, sym, ap, subst, true≢false, if◌then◌else◌, take, filter}
+use Rattle.std.proofs.Common.{◌≡◌, ◌∙◌, ◌≤◌, not, ℕ, Bool, true, false, List, [], ◌∷◌, length, refl, sym, ap, subst, if◌then◌else◌, take, filter}
 use Rattle.std.proofs.lemmas.Bool.{false≢true}
 use Rattle.std.specs.Prelude.{Option, Some, None, IfSome, find, option_map}
 use Rattle.std.specs.Option.{IsSome}
 use Rattle.std.specs.List.{AllByRecursion}
-use Rattle.bt_base.specs.Counts.{HasRisen}
 use Rattle.bt_base.specs.Numbers.{IsCid}
 use Rattle.bt_base.specs.Objects.{Object}
 use Rattle.bt_base.specs.Octets.{IsOctets}
@@ -14,7 +13,7 @@ use Rattle.channel_model.specs.Calls.{sends}
 use Rattle.l2cap_channels.specs.Machine.{Machine, with_channels}
 use Rattle.l2cap_channels.specs.Sending.{takes}
 use Rattle.shelf_model.specs.obex_session.specs.PutPackets.{units_in}
-use Rattle.push_model.specs.Client.{Client, cancelled, is_idle}
+use Rattle.push_model.specs.Client.{Client, cancelled}
 use Rattle.push_model.specs.Payloads.{Payload, IsSaid}
 use Rattle.push_model.specs.Steps as course
 use Rattle.push_model.specs.Steps.{steps, stepped}
@@ -27,10 +26,9 @@ use Rattle.shelf_model.specs.world_model.specs.Machines.{Cancelled, Opening}
 use Rattle.shelf_model.specs.host_model.specs.Clients as model
 use Rattle.shelf_model.specs.host_model.specs.Clients.{ClientProfile, client_profile, calls}
 use Rattle.shelf_model.specs.host_model.specs.Endpoints.{Endpoint, is_of, endpoint_of, with_endpoint, takes_sdu}
-use Rattle.shelf_model.specs.host_model.specs.Pdus.{sdu_of}
 use Rattle.shelf_model.specs.host_model.proofs.Single.{only_sdu}
 use Rattle.bt_host.specs.Calls.{Does}
-use Rattle.bt_host.specs.Pushing.{pushing, HasCid, Pushes, IsDue}
+use Rattle.bt_host.specs.Pushing.{HasCid, Pushes, IsDue}
 use Rattle.bt_host.specs.PushingLaws.{Answers}
 use Rattle.bt_host.specs.Shelving.{told_shelved, shelf_profile, shelved_by}
 use Rattle.bt_host.proofs.Clients.{ended_is, StepsTo, step_does, step_sound}

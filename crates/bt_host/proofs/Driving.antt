@@ -1,10 +1,10 @@
 -- Steps of a profile, until it waits.
-use Rattle.std.proofs.Common.{◌≡◌, ◌∙◌, ◌⊎◌, inl, inr, ℕ, zero, suc, ◌-◌, ◌<◌, Bool, true, false, is_some, List, [], ◌++◌, refl, sym, ap, true≢false, arith, if◌then◌else◌}
+use Rattle.std.proofs.Common.{◌≡◌, ◌∙◌, ◌⊎◌, inl, inr, ℕ, zero, suc, ◌-◌, ◌<◌, Bool, true, false, is_some, List, refl, sym, ap, true≢false, arith, if◌then◌else◌}
 use Rattle.channel_model.specs.Value.{Channels}
 use Rattle.channel_model.specs.Giving.{next_given}
 use Rattle.shelf_model.specs.host_model.specs.Circumstances.{Circumstance}
-use Rattle.shelf_model.specs.host_model.specs.Profiles.{Stride, Profile}
-use Rattle.shelf_model.specs.host_model.specs.Hosts.{Host, settles, strides, drives, goes_by, goes_on}
+use Rattle.shelf_model.specs.host_model.specs.Profiles.{Profile}
+use Rattle.shelf_model.specs.host_model.specs.Hosts.{Host, settles, drives, goes_by}
 use Rattle.bt_host.specs.Calls.{Does, JoinAnswers}
 use Rattle.bt_host.specs.Uppers.{Strode, strode}
 use Rattle.bt_host.proofs.Calling.{does_none, does_then, does_map, does_from}

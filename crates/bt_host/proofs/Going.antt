@@ -1,6 +1,6 @@
 -- What the half of a host above its line does, by what its channels and its end do.
-use Rattle.std.proofs.Common.{◌≡◌, ◌∙◌, ◌⊎◌, inl, inr, ℕ, ◌-◌, ◌<◌, Bool, true, false, is_some, List, [], ◌∷◌, ◌++◌, drop, refl, sym, ap, subst, if◌then◌else◌}
-use Rattle.std.specs.Prelude.{Option, Some, None, slice_get}
+use Rattle.std.proofs.Common.{◌≡◌, ◌∙◌, ◌⊎◌, ℕ, ◌-◌, ◌<◌, Bool, true, false, is_some, List, [], ◌∷◌, drop, refl, sym, ap, subst, if◌then◌else◌}
+use Rattle.std.specs.Prelude.{Some, None, slice_get}
 use Rattle.bt_base.specs.declared.settings.Settings.{Settings}
 use Rattle.channel_model.specs.declared.event.ChannelEvent.{ChannelEvent}
 use Rattle.channel_model.specs.Value.{Channels}
@@ -8,10 +8,10 @@ use Rattle.channel_model.specs.Calls.{next_event, after_event}
 use Rattle.channel_model.specs.Giving.{next_given}
 use Rattle.l2cap_channels.specs.Machine.{Machine, with_channels}
 use Rattle.shelf_model.specs.host_model.specs.Circumstances.{Circumstance}
-use Rattle.shelf_model.specs.host_model.specs.Profiles.{Stride, Profile}
-use Rattle.shelf_model.specs.host_model.specs.Hosts.{Host, tells_events, drives}
+use Rattle.shelf_model.specs.host_model.specs.Profiles.{Profile}
+use Rattle.shelf_model.specs.host_model.specs.Hosts.{tells_events, drives}
 use Rattle.bt_host.specs.Calls.{Does, JoinAnswers}
-use Rattle.bt_host.specs.Uppers.{Upward, asking, Strode, strode}
+use Rattle.bt_host.specs.Uppers.{Upward, asking, strode}
 use Rattle.bt_host.proofs.Calling.{does_none}
 use Rattle.bt_host.proofs.Telling.{host_at, none_told, tells_then, strides_then}
 use Rattle.bt_host.proofs.Driving.{driven_now, driven_on}

@@ -1,11 +1,10 @@
 -- What the half of a host above its line hears, by what its channels and its end hear.
-use Rattle.std.proofs.Common.{◌≡◌, ◌∙◌, ℕ, ◌^◌, Bool, List, [], ◌++◌, refl, sym, ap, subst}
+use Rattle.std.proofs.Common.{◌≡◌, ◌∙◌, ℕ, ◌^◌, Bool, List, [], sym, ap, subst}
 use Rattle.bt_base.specs.declared.settings.Settings.{Settings}
 use Rattle.shelf_model.specs.acl_fragments.specs.Pieces.{channel_of}
 use Rattle.channel_model.specs.Value.{Channels}
 use Rattle.channel_model.specs.Policies.{Policy, policy}
 use Rattle.channel_model.specs.Calls.{link_up, link_down}
-use Rattle.channel_model.specs.Carrying.{Up as Handed}
 use Rattle.channel_model.specs.Hearing as channels
 use Rattle.channel_model.specs.Timing.{timed_out}
 use Rattle.l2cap_channels.specs.Machine.{Machine, policy_of, with_channels}

@@ -17,11 +17,11 @@ use Rattle.bt_host.specs.declared.feed_refusal.FeedRefusal.{FeedRefusal}
 use Rattle.bt_host.specs.declared.feed_refusal.FeedRefusal.TheVariants.{Transport, CommandFailed, BadBuffers, NoMemory}
 use Rattle.bt_host.specs.Refusals.{refusal_in}
 use Rattle.bt_host.specs.Calls.{JoinAnswers}
-use Rattle.bt_host.specs.Stacks.{Stacked, Moment, GoesOn, HearsNews, IsResting}
+use Rattle.bt_host.specs.Stacks.{Stacked, GoesOn, HearsNews, IsResting}
 use Rattle.bt_host.specs.Shells.{Shelled, settings_of, moment_of, ComesToRest, Reads}
 use Rattle.bt_host.specs.Playing.{playing, IsPlayed}
 use Rattle.bt_host.proofs.Striving.{Pages}
-use Rattle.bt_host.proofs.Playing.{AllSeen, goes_as, told_as, fed_as, refused_as}
+use Rattle.bt_host.proofs.Playing.{goes_as, told_as, fed_as, refused_as}
 
 -- two things of a call that went well make a third
 pub both_ok : {X F Y Z W : Type 0} (result : Result X F) → OnOk result Y → OnOk result Z → (Y → Z → W) → OnOk result W

@@ -1,24 +1,22 @@
 -- A host in code reacts as its station does, and hears what its octets tell.
-use Rattle.std.proofs.Common.{◌≡◌, ◌≢◌, ◌∙◌, ℕ, Bool, true, false, List, [], ◌∷◌, ◌++◌, Option, Some, None, Result, Ok, Err, refl, sym, ap, subst, append_assoc, if◌then◌else◌}
+use Rattle.std.proofs.Common.{◌≡◌, ◌≢◌, ◌∙◌, ℕ, Bool, true, false, List, [], ◌∷◌, ◌++◌, Option, Some, None, refl, sym, ap, subst, append_assoc, if◌then◌else◌}
 use Rattle.std.specs.List.{AllByRecursion}
 use Rattle.std.proofs.lemmas.List.{append-nil}
 use Rattle.h4_framing.specs.Packets.{Packet, Command, Acl, Sync, Event, spelling, spellings, IsPacket}
 use Rattle.h4_framing.specs.Stream.{IsUnfinished, GoesWrong}
 use Rattle.h4_framing.specs.Framing.{Framing}
-use Rattle.h4_framing.specs.declared.refusal.H4Refusal.{H4Refusal}
 use Rattle.h4_framing.proofs.SpellingLemmas.{one_spelling}
 use Rattle.h4_framing.proofs.ReadingLemmas.{no_wrong_nothing}
 use Rattle.h4_framing.proofs.ExtentLemmas.{wrong_more, packet_right}
-use Rattle.shelf_model.specs.acl_fragments.specs.Pieces.{Piece, starts}
+use Rattle.shelf_model.specs.acl_fragments.specs.Pieces.{starts}
 use Rattle.shelf_model.specs.acl_fragments.specs.Answers as joined
 use Rattle.bt_base.specs.declared.settings.Settings.{Settings}
 use Rattle.push_terms.specs.declared.word.Side.{Side}
-use Rattle.radio_world.specs.radio_model.specs.Controllers.{answer_packet, piece_packet}
 use Rattle.host_link.specs.Lines.{Line}
 use Rattle.host_link.specs.Hearing.{PlainNews, fault_of, news_of, heard}
-use Rattle.shelf_model.specs.world_model.specs.Machines.{LinkEvent, Up, Down, News, Linked, Heard, Upper}
-use Rattle.shelf_model.specs.world_model.specs.Stations.{Station, Effort, longest_pdu, is_handle, whole_in, gives, holds, hears_each, upper_told, event_in, hears_answer, hears_piece, told}
-use Rattle.shelf_model.specs.station_laws.specs.Coming.{news_of_link, news_of_pdus, pdus_by}
+use Rattle.shelf_model.specs.world_model.specs.Machines.{LinkEvent, Up, Down, News, Upper}
+use Rattle.shelf_model.specs.world_model.specs.Stations.{Station, longest_pdu, is_handle, whole_in, gives, holds, hears_each, upper_told, event_in, hears_answer, hears_piece, told}
+use Rattle.shelf_model.specs.station_laws.specs.Coming.{news_of_link, news_of_pdus}
 use Rattle.shelf_model.specs.station_laws.proofs.Answering.{answers_are_heard}
 use Rattle.shelf_model.specs.station_laws.proofs.Hearing.{pieces_are_heard}
 use Rattle.shelf_model.specs.host_model.specs.Circumstances.{Circumstance}
@@ -27,7 +25,7 @@ use Rattle.shelf_model.specs.host_model.specs.Hosts.{Host, hear}
 use Rattle.shelf_model.specs.host_model.specs.Settings.{SetHost, set_to, with_settings}
 use Rattle.radio_world.specs.Hosts.{Asking, answering, Coming, Part, Told, coming_packet, hears_coming, MayBeHeard, MakesEfforts}
 use Rattle.radio_world.specs.Hosts as world
-use Rattle.line_laws.specs.Seeing.{seen, IsSeen, MaySend}
+use Rattle.line_laws.specs.Seeing.{seen, IsSeen}
 use Rattle.line_laws.proofs.Seeing.{seen_station}
 use Rattle.line_laws.proofs.Coming.{heard_is_seen, taken_is_seen}
 use Rattle.bt_host.specs.declared.feed_refusal.FeedRefusal.{FeedRefusal}

@@ -1,7 +1,7 @@
 -- What a host does, one thing after the other.
-use Rattle.std.proofs.Common.{◌≡◌, ◌∙◌, ◌⊎◌, inl, inr, ◌≤◌, ◌+◌, ◌-◌, ◌&&◌, ◌==◌, not, nat_lt, ℕ, zero, suc, Bool, true, false, is_some, is_none, List, [], ◌∷◌, ◌++◌, length, take, drop, refl, sym, ap, subst, true≢false, append_assoc, arith, tests, if◌then◌else◌}
+use Rattle.std.proofs.Common.{◌≡◌, ◌∙◌, ◌+◌, ◌&&◌, ◌==◌, not, nat_lt, ℕ, zero, suc, Bool, true, false, is_some, is_none, List, [], ◌∷◌, ◌++◌, length, take, drop, refl, sym, ap, subst, true≢false, append_assoc, arith, tests, if◌then◌else◌}
 use Rattle.std.specs.Prelude.{Option, Some, None}
-use Rattle.shelf_model.specs.acl_fragments.specs.Pieces.{Piece, channel_of, pdu_length, starts}
+use Rattle.shelf_model.specs.acl_fragments.specs.Pieces.{Piece, pdu_length, starts}
 use Rattle.shelf_model.specs.acl_fragments.specs.Answers as joined
 use Rattle.h4_framing.specs.Packets.{Packet, Command, Acl, Sync, Event}
 use Rattle.shelf_model.specs.hci_packets.specs.Events.{PlainEvent, ConnectionComplete, ConnectionRequest, DisconnectionComplete, CommandComplete, CommandStatus, CompletedPackets, Other}
@@ -10,7 +10,7 @@ use Rattle.host_link.specs.Calling.{may_end}
 use Rattle.host_link.specs.EventReading.{event_in}
 use Rattle.host_link.specs.Lines.{Line, longest_pdu}
 use Rattle.host_link.specs.PuttingOut.{can_take_pdu, take_pdu, put_pieces, put_command, connecting, leaving, is_waiting}
-use Rattle.host_link.specs.Hearing.{PlainNews, Nothing, LinkUp, LinkFailed, LinkDown, Pdu, news_of, heard, piece_on, piece_news, joined_news, event_news, connection_news, disconnection_news, ends_link}
+use Rattle.host_link.specs.Hearing.{PlainNews, news_of, heard, piece_on, piece_news, joined_news, event_news, ends_link}
 use Rattle.shelf_model.specs.host_model.specs.Circumstances.{Circumstance}
 use Rattle.shelf_model.specs.host_model.specs.Profiles.{Profile}
 use Rattle.shelf_model.specs.world_model.specs.Machines.{News}

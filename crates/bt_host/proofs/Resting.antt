@@ -2,11 +2,10 @@
 use Rattle.std.proofs.Common.{◌≡◌, ◌∙◌, ◌⊎◌, inl, inr, ◌≤◌, ◌<◌, ◌+◌, ◌&&◌, ◌||◌, ◌==◌, not, nat_lt, ℕ, Bool, true, false, is_some, is_none, List, [], ◌∷◌, ◌++◌, length, drop, refl, sym, ap, subst, true≢false, length-append, arith, tests, if◌then◌else◌}
 use Rattle.std.specs.Prelude.{Option, Some, None}
 use Rattle.std.specs.List.{list_any}
-use Rattle.std.proofs.lemmas.Bool.{cases_Bool}
 use Rattle.shelf_model.specs.acl_fragments.specs.Pieces.{Piece}
 use Rattle.host_link.specs.declared.host_command.HostCommand.{HostCommand}
 use Rattle.host_link.specs.declared.host_command.HostCommand.TheVariants.{CreateConnection, Disconnect}
-use Rattle.host_link.specs.HostCommands.{command_packet, asks, opcode}
+use Rattle.host_link.specs.HostCommands.{asks}
 use Rattle.host_link.specs.Calling.{may_end, ends}
 use Rattle.host_link.specs.CommandFlows.{Flow, with_command, first_of, next_command}
 use Rattle.host_link.specs.Lines.{Line}

@@ -1,15 +1,14 @@
 -- What the half of a host above its line says.
-use Rattle.std.proofs.Common.{◌≡◌, ◌∙◌, ◌≤◌, ◌<◌, ◌-◌, ◌&&◌, nat_lt, ℕ, suc, Bool, true, false, List, [], ◌∷◌, ◌++◌, length, refl, sym, ap, subst, true≢false, arith, tests, if◌then◌else◌}
+use Rattle.std.proofs.Common.{◌≡◌, ◌∙◌, ◌≤◌, ◌-◌, ◌&&◌, nat_lt, ℕ, suc, Bool, true, false, List, [], ◌∷◌, ◌++◌, length, refl, sym, ap, subst, true≢false, arith, tests, if◌then◌else◌}
 use Rattle.std.specs.Prelude.{Option, Some, None, take, drop}
 use Rattle.bt_base.specs.Octets.{IsOctets}
 use Rattle.bt_base.specs.declared.settings.Settings.{Settings}
-use Rattle.channel_model.specs.Value.{Channels}
 use Rattle.channel_model.specs.Giving.{Given, IsPdu, next_given, after_given}
-use Rattle.l2cap_channels.specs.Machine.{Machine, with_channels}
+use Rattle.l2cap_channels.specs.Machine.{Machine}
 use Rattle.shelf_model.specs.host_model.specs.Circumstances.{Circumstance}
-use Rattle.shelf_model.specs.host_model.specs.Pdus.{pdu_of, is_frame}
+use Rattle.shelf_model.specs.host_model.specs.Pdus.{is_frame}
 use Rattle.shelf_model.specs.host_model.specs.Profiles.{Profile}
-use Rattle.shelf_model.specs.host_model.specs.Hosts.{Host, drives, steps_behind, with_channels as on_channels, says_frame, after_said, says as say_given, next}
+use Rattle.shelf_model.specs.host_model.specs.Hosts.{Host, drives, steps_behind, with_channels as on_channels, says_frame, after_said, says as say_given}
 use Rattle.shelf_model.specs.host_model.proofs.Single.{only_pdu, pdu_is_frame}
 use Rattle.bt_host.specs.Calls.{Does}
 use Rattle.bt_host.specs.Uppers.{Upward, asking, says, GivesInto, SaysInto}

@@ -1,6 +1,6 @@
 -- The calls of a server as those of its profile.
-use Rattle.std.proofs.Common.{◌≡◌, ◌∙◌, ◌≤◌, ◌==◌, ◌&&◌, nat_lt, not, ℕ, Bool, true, false, List, [], ◌∷◌, ◌++◌, length, refl, sym, ap, subst, true≢false, arith, tests, if◌then◌else◌, map, inl, inr}
-use Rattle.std.specs.Prelude.{Option, Some, None, min}
+use Rattle.std.proofs.Common.{◌≡◌, ◌∙◌, ◌==◌, ◌&&◌, nat_lt, not, ℕ, Bool, true, false, List, [], ◌∷◌, ◌++◌, length, refl, sym, ap, subst, arith, tests, if◌then◌else◌, map, inl, inr}
+use Rattle.std.specs.Prelude.{Option, Some, None}
 use Rattle.std.specs.List.{AllByRecursion}
 use Rattle.std.proofs.lemmas.Bool.{cases_Bool, eqb-true}
 use Rattle.std.proofs.lemmas.List.{append-nil}
@@ -40,7 +40,7 @@ use Rattle.shelf_model.specs.host_model.specs.Servers as model
 use Rattle.shelf_model.specs.host_model.proofs.Single.{only_sdu}
 use Rattle.l2cap_channels.specs.Machine.{Machine, with_channels}
 use Rattle.l2cap_channels.specs.Sending.{takes}
-use Rattle.bt_host.specs.Calls.{Does, JoinAnswers}
+use Rattle.bt_host.specs.Calls.{Does}
 use Rattle.bt_host.specs.Serving.{Served, serving, profile_of, Works, Asks}
 use Rattle.bt_host.specs.ServingLaws.{joins}
 use Rattle.bt_host.proofs.Calling.{does_none, does_to}

@@ -1,8 +1,8 @@
 -- What a profile is told, one thing after the other.
-use Rattle.std.proofs.Common.{◌≡◌, ◌∙◌, ℕ, Bool, List, [], ◌∷◌, ◌++◌, refl, sym, ap}
+use Rattle.std.proofs.Common.{◌≡◌, ◌∙◌, ℕ, Bool, List, [], ◌∷◌, sym, ap}
 use Rattle.channel_model.specs.declared.event.ChannelEvent.{ChannelEvent}
 use Rattle.channel_model.specs.Value.{Channels}
-use Rattle.channel_model.specs.Carrying.{Up, Nothing, Received}
+use Rattle.channel_model.specs.Carrying.{Up}
 use Rattle.l2cap_channels.specs.declared.up.Up.{Up as Kept}
 use Rattle.l2cap_channels.specs.declared.up.Up.TheVariants as kept
 use Rattle.l2cap_channels.specs.Arriving.{plain_up}
@@ -10,7 +10,7 @@ use Rattle.shelf_model.specs.host_model.specs.Circumstances.{Circumstance}
 use Rattle.shelf_model.specs.host_model.specs.Profiles.{Stride, Profile}
 use Rattle.shelf_model.specs.host_model.specs.Hosts.{Host, tells_each, tells_events, handed}
 use Rattle.bt_host.specs.Calls.{Does, JoinAnswers}
-use Rattle.bt_host.specs.Uppers.{Strode, strode}
+use Rattle.bt_host.specs.Uppers.{strode}
 use Rattle.bt_host.proofs.Calling.{does_then, does_map, does_from}
 
 abbrev pub host_at : {S : Type 0} → Channels → (List Circumstance → S) → ℕ → List Circumstance → Host S

@@ -1,5 +1,5 @@
 -- A host in code (this project's own).
-use Rattle.std.specs.Prelude.{ℕ, ◌≡◌, List, Option, None, Result, Ok, Err, MatchOption}
+use Rattle.std.specs.Prelude.{ℕ, ◌≡◌, List, Option, Result, Ok, Err, MatchOption}
 use Rattle.h4_framing.specs.Framing.{Framing}
 use Rattle.h4_framing.specs.Packets.{Packet}
 use Rattle.shelf_model.specs.host_model.specs.Circumstances.{Circumstance}

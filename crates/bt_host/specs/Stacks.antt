@@ -1,8 +1,7 @@
 -- A host in code without its framer: its line, and what stands above (this project's own).
-use Rattle.std.specs.Prelude.{ℕ, ◌≡◌, ◌⊎◌, ◌<◌, ◌||◌, ◌&&◌, Bool, true, false, List, [], ◌∷◌, ◌++◌, length, is_some, Option, Some, None, Result, Ok, Err}
+use Rattle.std.specs.Prelude.{ℕ, ◌≡◌, ◌⊎◌, ◌<◌, ◌||◌, ◌&&◌, Bool, true, false, List, [], ◌∷◌, ◌++◌, length, is_some, Some, None, Result, Ok, Err}
 use Rattle.std.specs.List.{list_any}
 use Rattle.h4_framing.specs.Packets.{Packet}
-use Rattle.host_link.specs.declared.news.ControllerFault.{ControllerFault}
 use Rattle.host_link.specs.Lines.{Line}
 use Rattle.host_link.specs.Calling.{may_end}
 use Rattle.host_link.specs.HostCommands.{asks}

@@ -1,5 +1,5 @@
 -- A host that has done all that it can has stopped, once all that it put out was taken.
-use Rattle.std.proofs.Common.{◌≡◌, ◌∙◌, ◌<◌, ◌&&◌, not, nat_lt, Bool, true, false, ℕ, zero, suc, List, [], ◌∷◌, ◌++◌, length, map, is_some, Option, Some, None, refl, sym, ap, true≢false, arith, tests, length-append, inl, inr, if◌then◌else◌}
+use Rattle.std.proofs.Common.{◌≡◌, ◌∙◌, ◌<◌, ◌&&◌, not, nat_lt, Bool, true, false, ℕ, zero, suc, [], ◌∷◌, ◌++◌, length, map, is_some, Option, Some, None, refl, sym, ap, true≢false, arith, tests, length-append, inl, inr, if◌then◌else◌}
 use Rattle.std.proofs.lemmas.Bool.{cases_lt}
 use Rattle.bt_base.specs.declared.settings.Settings.{Settings}
 use Rattle.channel_model.specs.Giving.{Given, next_given}
@@ -10,7 +10,6 @@ use Rattle.host_link.specs.Lines.{Line}
 use Rattle.shelf_model.specs.world_model.specs.Stations.{IsStopped}
 use Rattle.shelf_model.specs.station_laws.specs.Seen.{order_of, AreFew}
 use Rattle.shelf_model.specs.station_laws.proofs.Waiting.{waits}
-use Rattle.shelf_model.specs.host_model.specs.Circumstances.{Circumstance}
 use Rattle.shelf_model.specs.host_model.specs.Profiles.{Profile}
 use Rattle.shelf_model.specs.host_model.specs.Hosts.{Host, has_more, next, says}
 use Rattle.shelf_model.specs.host_model.specs.Settings.{set_to, said_with, with_settings}

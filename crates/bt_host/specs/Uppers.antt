@@ -1,14 +1,13 @@
 -- The half of a host above its line, in code: its channels and its end (this project's own).
-use Rattle.std.specs.Prelude.{ℕ, ◌≡◌, ◌≤◌, ◌&&◌, nat_lt, Bool, List, [], ◌++◌, length, drop, is_some, Option, Some, None}
+use Rattle.std.specs.Prelude.{ℕ, ◌≡◌, ◌&&◌, nat_lt, Bool, List, [], ◌++◌, length, drop, is_some, Option, Some, None}
 use Rattle.shelf_model.specs.acl_fragments.specs.Pieces.{channel_of}
-use Rattle.channel_model.specs.Value.{Channels}
 use Rattle.channel_model.specs.Giving.{Given, IsPdu, next_given, after_given}
 use Rattle.l2cap_channels.specs.Machine.{Machine, with_channels}
 use Rattle.host_link.specs.Hearing.{PlainNews, Nothing, LinkUp, LinkFailed, LinkDown, Pdu}
 use Rattle.shelf_model.specs.world_model.specs.Machines.{News, Linked, Up, Down, Failed, Heard, Opening}
 use Rattle.bt_host.specs.Calls.{Does}
 use Rattle.shelf_model.specs.host_model.specs.Circumstances.{Circumstance}
-use Rattle.shelf_model.specs.host_model.specs.Profiles.{Stride, Profile}
+use Rattle.shelf_model.specs.host_model.specs.Profiles.{Profile}
 use Rattle.shelf_model.specs.host_model.specs.Hosts.{Host, hear, next, strides}
 
 -- the channels, with the settings of the host; its end; and how many PDUs it may say until it hears something

@@ -1,6 +1,6 @@
 //! A host without its framer.
 
-ghost use Rattle.std.specs.Prelude.{◌≡◌, ◌<◌, ◌≤◌, ℕ, false, true, List, [], drop, length, OnOk, OnErr};
+ghost use Rattle.std.specs.Prelude.{◌≡◌, ◌<◌, ◌≤◌, ℕ, false, true, List, [], drop, length, vec_len, OnOk, OnErr};
 ghost use Rattle.h4_framing.specs.Packets.{packet};
 ghost use Rattle.l2cap_channels.specs.Machine.{with_channels};
 ghost use Rattle.shelf_model.specs.world_model.specs.Machines.{TimerFired};
@@ -54,14 +54,14 @@ impl<E> Model for Stack<E> {
 fn say_into<P, E: End<P>>(
     link: &mut HostLink,
     upper: &mut Upper<E>,
-    room: &mut [u8],
+    room: &mut Vec<u8>,
     port: &mut P,
 ) -> Result<(), NoMemory>
     requires sound { E.is_sound upper.old.end port.old }
     requires told { upper.old.machine.channels.events ≡ [] }
     requires may { can_take_pdu link.old ≡ true }
     requires says { says upper.old ≡ true }
-    requires room { length room.old ≡ 32775 }
+    requires room { vec_len room.old ≡ 32775 }
     ensures goes { OnOk result ((paged : List ℕ) → GoesOn (E.profile upper.old.machine.settings) E.answers E.pushing (record { stack = record { line = link.old; upper = upper.old; paged = paged }; port = port.old }) (record { stack = record { line = link.new; upper = upper.new; paged = paged }; port = port.new })) }
     ensures pieces { OnOk result (can_put_piece link.new ≡ false) }
     ensures machine { upper.new.machine ≡ with_channels upper.old.machine upper.new.machine.channels }
@@ -69,9 +69,10 @@ fn say_into<P, E: End<P>>(
     ensures fewer { OnOk result (upper.new.may_say < upper.old.may_say) }
     ensures sound { OnOk result (E.is_sound upper.new.end port.new) }
     ensures lacked { OnErr result (E.lacked port.old port.new) }
+    ensures room { vec_len room.new ≡ 32775 }
 {
     let size = upper.say(room, port)?;
-    link.take_pdu(&room[..size]);
+    link.exchange_pdu(room, size);
     Ok(())
 }
 

@@ -1,10 +1,10 @@
 -- The pieces that are left of a PDU.
-use Rattle.std.proofs.Common.{◌≡◌, ◌≢◌, ℕ, zero, suc, ◌+◌, ◌-◌, ◌≤◌, ◌<◌, ◌==◌, min, List, [], ◌∷◌, length, take, drop, refl, sym, ap, ◌∙◌, length-drop, arith}
-use Rattle.std.proofs.lemmas.Bool.{ne_eqb, cases_lt}
+use Rattle.std.proofs.Common.{◌≡◌, ℕ, zero, suc, ◌+◌, ◌≤◌, ◌<◌, ◌==◌, min, List, [], ◌∷◌, length, take, drop, refl, sym, ap, ◌∙◌, length-drop, arith}
+use Rattle.std.proofs.lemmas.Bool.{ne_eqb}
 use Rattle.std.proofs.lemmas.List.{drop-drop}
-use Rattle.std.proofs.Common.{inl, inr, true, false}
+use Rattle.std.proofs.Common.{false}
 use Rattle.hci_packets.specs.declared.acl.Boundary.{Boundary}
-use Rattle.hci_packets.specs.declared.acl.Boundary.TheVariants.{First, Continuing}
+use Rattle.hci_packets.specs.declared.acl.Boundary.TheVariants.{Continuing}
 use Rattle.acl_fragments.specs.Pieces.{Piece}
 use Rattle.acl_fragments.specs.Cuts.{cut, first_pieces}
 use Rattle.acl_fragments.proofs.Cutting.{next_piece}

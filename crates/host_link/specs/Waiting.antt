@@ -1,5 +1,5 @@
 -- A PDU that is put out, as the pieces that its ACL packets will carry (Core 5.1, Volume 2 Part E, 5.4.2).
-use Rattle.std.specs.Prelude.{ℕ, zero, suc, ◌≤◌, List, length, drop}
+use Rattle.std.specs.Prelude.{◌≡◌, ℕ, zero, suc, ◌≤◌, List, length, drop}
 use Rattle.hci_packets.specs.declared.acl.Boundary.{Boundary}
 use Rattle.hci_packets.specs.declared.acl.Boundary.TheVariants.{First, Continuing}
 use Rattle.acl_fragments.specs.Pieces.{Piece}
@@ -19,12 +19,14 @@ boundary_after (suc gone) = Continuing
 abbrev pub waiting_of : (size gone : ℕ) → List ℕ → Waiting
 waiting_of size gone pdu = record { size = size; pieces = cut size (boundary_after gone) (drop gone pdu) }
 
--- the longest PDU that is put out: as long as its length field can say
+-- the longest PDU that is put out: a basic frame of 32,771 octets carries the longest SDU, and a frame of an enhanced channel has at
+-- most four octets more
 abbrev pub longest_put : ℕ
-longest_put = 65539
+longest_put = 32775
 
--- memory is reserved for the longest PDU
-pub record IsOutbox (size gone : ℕ) (pdu : List ℕ) (room : ℕ) : Type 0 where
+-- the PDU stands at the front of a buffer for the longest one
+pub record IsOutbox (size gone end : ℕ) (buffer : List ℕ) : Type 0 where
   pub some : 1 ≤ size
-  pub within : gone ≤ length pdu
-  pub reserved : longest_put ≤ room
+  pub within : gone ≤ end
+  pub whole : length buffer ≡ longest_put
+  pub fits : end ≤ longest_put

@@ -53,14 +53,14 @@ impl Model for HostLink {
 }
 
 impl HostLink {
-    ghost use Rattle.std.specs.Prelude.{◌≡◌, ◌≤◌, ◌<◌, true, [], length, drop, IfOk};
+    ghost use Rattle.std.specs.Prelude.{◌≡◌, ◌≤◌, ◌<◌, true, [], length, take, drop, vec_len, IfOk};
     ghost use Rattle.host_link.specs.Lines.{IsSound, fresh};
     ghost use Rattle.host_link.specs.PuttingOut.{connecting, leaving, can_take_pdu, take_pdu, is_waiting, started};
     ghost use Rattle.host_link.specs.Waiting.{longest_put};
     ghost use Rattle.host_link.specs.Stands.{Stands, Says, StandsStill};
 
     /// A host whose first command stands in `out`, where the others wait behind it. It reserves
-    /// `out`, 66,562 octets, what joins PDUs, 32,775 octets, and the PDU that is put out, 65,539
+    /// `out`, 66,562 octets, what joins PDUs, 32,775 octets, and the PDU that is put out, 32,775
     /// octets. `NoMemory` where these cannot be had; no other call takes memory.
     pub fn new(alloc: Global, role: Role) -> Result<HostLink, NoMemory>
         ensures line { IfOk result (λ host. host ≡ started role) }
@@ -121,7 +121,7 @@ impl HostLink {
     /// Takes a PDU, and puts its pieces out as long as there is a buffer and room for the next; the
     /// others wait. It takes no memory.
     ///
-    /// It needs that a PDU may be taken, and that this one has at most 65,539 octets.
+    /// It needs that a PDU may be taken, and that this one has at most 32,775 octets.
     pub fn take_pdu(&mut self, pdu: &[u8])
         requires may { can_take_pdu self.old ≡ true }
         requires short { length pdu.now ≤ longest_put }
@@ -130,6 +130,23 @@ impl HostLink {
         ensures sound { IsSound self.new }
     {
         self.outbox.take(pdu);
+        self.put_pieces();
+    }
+
+    /// Takes the first `end` octets of a buffer as a PDU, as [`HostLink::take_pdu`] does, without a copy of them: the buffer
+    /// changes places with that of the PDU before.
+    ///
+    /// It needs that a PDU may be taken, a buffer of 32,775 octets, and `end` within it.
+    pub fn exchange_pdu(&mut self, buffer: &mut Vec<u8>, end: usize)
+        requires may { can_take_pdu self.old ≡ true }
+        requires whole { vec_len buffer.old ≡ longest_put }
+        requires end { end ≤ longest_put }
+        ensures line { self.new ≡ take_pdu (take end buffer.old.items) self.old }
+        ensures whole { vec_len buffer.new ≡ longest_put }
+        ensures history { Says self.old self.new }
+        ensures sound { IsSound self.new }
+    {
+        self.outbox.exchange(buffer, end);
         self.put_pieces();
     }
 

@@ -1,6 +1,6 @@
 //! The PDU that is put out.
 
-ghost use Rattle.std.specs.Prelude.{◌≡◌, ◌≢◌, ◌≤◌, ◌==◌, ◌∷◌, [], drop, length, vec_capacity, IfOk, IfSome, IfNone};
+ghost use Rattle.std.specs.Prelude.{◌≡◌, ◌≢◌, ◌≤◌, ◌==◌, ◌∷◌, [], drop, take, length, vec_len, IfOk, IfSome, IfNone};
 ghost use Rattle.hci_packets.specs.declared.acl.Boundary.TheVariants.{First};
 ghost use Rattle.acl_fragments.specs.Cuts.{cut};
 ghost use Rattle.host_link.specs.Waiting.{boundary_after, longest_put};
@@ -9,32 +9,36 @@ use bt_base::NoMemory;
 use hci_packets::Boundary;
 use std::alloc::Global;
 use std::marker::Model;
+use std::mem;
 
 /// The fewest octets that an ACL packet carries (Core 5.1, Volume 2 Part E, 7.4.5).
 const LEAST_SIZE: u16 = 27;
 
-/// How many octets the longest PDU has.
-const LONGEST_PUT: usize = 65_539;
+/// How many octets the longest PDU has: an SDU of 32,767 octets in a basic frame, and a frame of an enhanced channel has fewer.
+const LONGEST_PUT: usize = 32_775;
 
 /// The PDU that is put out, piece by piece. A clause sees how many octets an ACL packet carries at
 /// most, and the pieces that are left.
 #[derive(Drop)]
 pub struct Outbox {
     size: u16,
-    pdu: Vec<u8>,
+    /// The PDU stands at its front.
+    buffer: Vec<u8>,
     /// How many octets of the PDU are gone.
     gone: usize,
+    /// How many octets the PDU has.
+    end: usize,
 }
 
 impl Model for Outbox {
-    ghost use Rattle.std.specs.Prelude.{vec_capacity};
+    ghost use Rattle.std.specs.Prelude.{take};
     ghost use Rattle.host_link.specs.Waiting.{Waiting, waiting_of, IsOutbox};
 
     ghost Value = { Waiting };
 
-    ghost view = { λ outbox. waiting_of outbox.size outbox.gone outbox.pdu.items };
+    ghost view = { λ outbox. waiting_of outbox.size outbox.gone (take outbox.end outbox.buffer.items) };
 
-    ghost invariant = { λ outbox. IsOutbox outbox.size outbox.gone outbox.pdu.items (vec_capacity outbox.pdu) };
+    ghost invariant = { λ outbox. IsOutbox outbox.size outbox.gone outbox.end outbox.buffer.items };
 }
 
 /// Where the next piece of a PDU stands, of which so many octets are gone.
@@ -48,14 +52,15 @@ fn boundary_after(gone: usize) -> Boundary
     }
 }
 
-/// Puts octets in the place of those that were there. It needs room for them.
-fn fill(buffer: &mut Vec<u8>, octets: &[u8])
-    requires { length octets.now ≤ vec_capacity buffer.old }
-    ensures items { buffer.new.items ≡ octets.now }
-    ensures capacity { vec_capacity buffer.old ≤ vec_capacity buffer.new }
+/// What is left of the PDU at the front of a buffer, of which so many octets are gone.
+fn left_of(buffer: &[u8], gone: usize, end: usize) -> &[u8]
+    requires gone { gone ≤ end }
+    requires end { end ≤ length buffer.now }
+    ensures { result.now ≡ drop gone (take end buffer.now) }
 {
-    buffer.clear();
-    let _room_was_reserved = buffer.extend_from_slice(octets);
+    let (pdu, _behind) = buffer.split_at(end);
+    let (_gone, left) = pdu.split_at(gone);
+    left
 }
 
 impl Outbox {
@@ -66,8 +71,9 @@ impl Outbox {
     {
         Ok(Outbox {
             size: LEAST_SIZE,
-            pdu: Vec::with_capacity(alloc, LONGEST_PUT)?,
+            buffer: vec![in alloc; 0; LONGEST_PUT]?,
             gone: 0,
+            end: 0,
         })
     }
 
@@ -84,25 +90,40 @@ impl Outbox {
     pub fn clear(&mut self)
         ensures { self.new ≡ record { size = self.old.size; pieces = [] } }
     {
-        self.pdu.clear();
         self.gone = 0;
+        self.end = 0;
     }
 
-    /// Lets a PDU wait in the place of what was there. It takes no memory.
+    /// Lets a PDU wait in the place of what was there: its octets are copied.
     pub fn take(&mut self, pdu: &[u8])
         requires { length pdu.now ≤ longest_put }
         ensures { self.new ≡ record { size = self.old.size; pieces = cut self.old.size First pdu.now } }
     {
-        fill(&mut self.pdu, pdu);
+        let (front, _behind) = self.buffer.split_at_mut(pdu.len());
+        front.copy_from_slice(pdu);
         self.gone = 0;
+        self.end = pdu.len();
+    }
+
+    /// Lets the first `end` octets of a buffer wait in the place of what was there, as a PDU. No octet is copied: the buffers
+    /// change places.
+    pub fn exchange(&mut self, buffer: &mut Vec<u8>, end: usize)
+        requires whole { vec_len buffer.old ≡ longest_put }
+        requires end { end ≤ longest_put }
+        ensures waits { self.new ≡ record { size = self.old.size; pieces = cut self.old.size First (take end buffer.old.items) } }
+        ensures whole { vec_len buffer.new ≡ longest_put }
+    {
+        mem::swap(&mut self.buffer, buffer);
+        self.gone = 0;
+        self.end = end;
     }
 
     /// Whether nothing waits.
     pub fn is_over(&self) -> bool
         ensures { result ≡ (length self.now.pieces == 0) }
     {
-        let (_gone, rest) = self.pdu.split_at(self.gone);
-        rest.is_empty()
+        let left = left_of(&self.buffer, self.gone, self.end);
+        left.is_empty()
     }
 
     /// The piece that comes next, none where nothing waits.
@@ -111,12 +132,12 @@ impl Outbox {
         ensures none { IfNone result (self.now.pieces ≡ []) }
         ensures short { IfSome result (λ piece. length piece.1.now ≤ self.now.size) }
     {
-        let (_gone, rest) = self.pdu.split_at(self.gone);
-        if rest.is_empty() {
+        let left = left_of(&self.buffer, self.gone, self.end);
+        if left.is_empty() {
             return None;
         }
-        let size = rest.len().min(usize::from(self.size));
-        Some((boundary_after(self.gone), &rest[..size]))
+        let size = left.len().min(usize::from(self.size));
+        Some((boundary_after(self.gone), &left[..size]))
     }
 
     /// Takes the next piece away. It needs one.
@@ -124,8 +145,8 @@ impl Outbox {
         requires { self.old.pieces ≢ [] }
         ensures { self.new ≡ record { size = self.old.size; pieces = drop 1 self.old.pieces } }
     {
-        let (_gone, rest) = self.pdu.split_at(self.gone);
-        let size = rest.len().min(usize::from(self.size));
+        let left = left_of(&self.buffer, self.gone, self.end);
+        let size = left.len().min(usize::from(self.size));
         self.gone += size;
     }
 }

@@ -1,6 +1,6 @@
 use Rattle.std.proofs.Common.{rules}
 use Rattle.bt_host.specs.PushingLaws.{joins}
-use Rattle.bt_host.proofs.ClientsBeginning.{opening, calls_none}
+use Rattle.bt_host.proofs.ClientsBeginning.{calls_none}
 use Rattle.bt_host.proofs.ClientsCalls.{begun_does}
 use Rattle.bt_host.proofs.client_end.ClientEnd.begin.Goals as goal
 

@@ -1,4 +1,4 @@
-use Rattle.push_model.specs.Events.{hears_news, LinkDown, LinkFailed}
+use Rattle.push_model.specs.Events.{hears_news, LinkDown}
 use Rattle.bt_host.proofs.ClientsCalls.{lost_is}
 use Rattle.bt_host.proofs.client_end.ClientEnd.hear_down.Goals as goal
 

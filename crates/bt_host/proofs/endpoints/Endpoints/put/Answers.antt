@@ -1,4 +1,4 @@
-use Rattle.std.proofs.Common.{rules, not, ◌==◌, ◌∙◌, ◌∷◌, ap, take}
+use Rattle.std.proofs.Common.{rules, not, ◌==◌, ◌∙◌, ◌∷◌, ap}
 use Rattle.arrayvec.proofs.ArrayVecLemmas.{filter-from_retain}
 use Rattle.bt_host.specs.EndpointLists.{endpoints_of}
 use Rattle.bt_host.proofs.Keeping.{put_first}

@@ -1,4 +1,4 @@
-use Rattle.std.proofs.Common.{◌≡◌, ◌∙◌, ◌≤◌, refl, sym, ap, subst, length, arith}
+use Rattle.std.proofs.Common.{◌∙◌, ap, arith}
 use Rattle.push_terms.specs.declared.word.Side.TheVariants.{A}
 use Rattle.shelf_model.specs.host_model.specs.Clients.{ClientProfile}
 use Rattle.bt_host.specs.Noting.{Noted}

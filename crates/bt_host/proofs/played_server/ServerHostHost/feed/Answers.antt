@@ -1,4 +1,4 @@
-use Rattle.std.proofs.Common.{◌≡◌, ◌∙◌, sym, subst}
+use Rattle.std.proofs.Common.{◌∙◌, sym, subst}
 use Rattle.push_terms.specs.declared.word.Side.TheVariants.{B}
 use Rattle.radio_world.specs.Hosts as world
 use Rattle.bt_host.specs.Serving.{Served, Works, Asks, Lacks}

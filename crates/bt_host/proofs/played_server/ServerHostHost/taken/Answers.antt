@@ -1,4 +1,4 @@
-use Rattle.std.proofs.Common.{◌≡◌, ◌∙◌, ◌≤◌, refl, sym, ap, subst, length, arith}
+use Rattle.std.proofs.Common.{◌∙◌, ap, arith}
 use Rattle.push_terms.specs.declared.word.Side.TheVariants.{B}
 use Rattle.bt_host.specs.Serving.{Asks, Served}
 use Rattle.bt_host.specs.Noting.{Noted}

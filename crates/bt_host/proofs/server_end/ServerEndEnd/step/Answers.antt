@@ -1,4 +1,4 @@
-use Rattle.std.proofs.Common.{rules, sym, ◌∙◌, ap}
+use Rattle.std.proofs.Common.{rules, sym}
 use Rattle.bt_host.proofs.Servers.{unplaced_does, waits_does, submits_does, lent_works, stepped_works}
 use Rattle.bt_host.proofs.server_end.ServerEndEnd.step.Goals as goal
 

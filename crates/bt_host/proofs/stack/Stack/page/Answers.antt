@@ -1,4 +1,4 @@
-use Rattle.std.proofs.Common.{rules, ap, is_some, sym, ◌∙◌}
+use Rattle.std.proofs.Common.{rules, ap}
 use Rattle.bt_host.specs.Stacks.{Stacked, standing}
 use Rattle.bt_host.proofs.Reacting.{reacts_none, paged_reacts, reacts_by}
 use Rattle.bt_host.proofs.stack.Stack.page.Goals as goal

@@ -1,5 +1,3 @@
-use Rattle.std.proofs.Common.{ap, subst}
-use Rattle.bt_host.specs.Stacks.{Stacked}
 use Rattle.bt_host.proofs.Reacting.{viewed_reacts}
 use Rattle.bt_host.proofs.stack.Stack.say.Goals as goal
 

@@ -1,5 +1,4 @@
 use Rattle.std.proofs.Common.{inl, inr, rules}
-use Rattle.bt_host.proofs.Calling.{on_err_anyhow}
 use Rattle.bt_host.proofs.Going.{drive_rests, drive_once, drive_more}
 use Rattle.bt_host.proofs.upper.Upper.+drive_by.Goals as goal
 

@@ -1,6 +1,6 @@
 use Rattle.std.proofs.Common.{sym, ◌∙◌}
 use Rattle.bt_host.proofs.Calling.{on_err_anyhow}
-use Rattle.bt_host.proofs.Going.{tell_none, tell_more}
+use Rattle.bt_host.proofs.Going.{tell_more}
 use Rattle.bt_host.proofs.upper.Upper.+tell_events.Goals as goal
 
 pub returns-in_err-tell_events-clause-lacked : goal.returns-in_err-tell_events-clause-lacked

@@ -1,8 +1,7 @@
 use Rattle.std.proofs.Common.{ap, ◌∙◌}
 use Rattle.l2cap_channels.specs.Machine.{Machine}
-use Rattle.shelf_model.specs.world_model.specs.Machines.{Linked, Up, Down, Failed, Heard, TimerFired}
+use Rattle.shelf_model.specs.world_model.specs.Machines.{TimerFired}
 use Rattle.bt_host.specs.Uppers.{Upward}
-use Rattle.bt_host.proofs.Calling.{on_err_anyhow}
 use Rattle.bt_host.proofs.Hearings.{hears_then, firing_heard}
 use Rattle.bt_host.proofs.upper.Upper.fire.Goals as goal
 

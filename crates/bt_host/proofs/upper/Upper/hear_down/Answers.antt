@@ -1,6 +1,6 @@
 use Rattle.std.proofs.Common.{ap, ◌∙◌}
 use Rattle.l2cap_channels.specs.Machine.{Machine}
-use Rattle.shelf_model.specs.world_model.specs.Machines.{Linked, Up, Down, Failed, Heard, TimerFired}
+use Rattle.shelf_model.specs.world_model.specs.Machines.{Linked, Down}
 use Rattle.bt_host.specs.Uppers.{Upward}
 use Rattle.bt_host.proofs.Calling.{on_err_anyhow}
 use Rattle.bt_host.proofs.Hearings.{hears_then, down_heard}

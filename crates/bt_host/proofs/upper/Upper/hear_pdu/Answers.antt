@@ -1,8 +1,7 @@
 use Rattle.std.proofs.Common.{ap, ◌∙◌}
 use Rattle.l2cap_channels.specs.Machine.{Machine}
-use Rattle.shelf_model.specs.world_model.specs.Machines.{Linked, Up, Down, Failed, Heard, TimerFired}
+use Rattle.shelf_model.specs.world_model.specs.Machines.{Heard}
 use Rattle.bt_host.specs.Uppers.{Upward}
-use Rattle.bt_host.proofs.Calling.{on_err_anyhow}
 use Rattle.bt_host.proofs.Hearings.{hears_then, pdu_heard}
 use Rattle.bt_host.proofs.upper.Upper.hear_pdu.Goals as goal
 

@@ -1,8 +1,6 @@
-use Rattle.std.proofs.Common.{ap, ◌∙◌}
+use Rattle.std.proofs.Common.{ap}
 use Rattle.l2cap_channels.specs.Machine.{Machine}
-use Rattle.shelf_model.specs.world_model.specs.Machines.{Linked, Up, Down, Failed, Heard, TimerFired}
-use Rattle.bt_host.specs.Uppers.{Upward}
-use Rattle.bt_host.proofs.Calling.{on_err_anyhow}
+use Rattle.shelf_model.specs.world_model.specs.Machines.{Linked, Up}
 use Rattle.bt_host.proofs.Hearings.{hears_then, up_heard}
 use Rattle.bt_host.proofs.upper.Upper.hear_up.Goals as goal
 
