@@ -5,3 +5,6 @@ pub mod Tallying
 pub mod Telling
 pub mod Mattering
 pub mod Heard
+pub mod Earing
+pub mod Packeting
+pub mod Listened

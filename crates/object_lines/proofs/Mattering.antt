@@ -1,12 +1,18 @@
 -- What matters of what is held of a channel leads on by itself, and tells of the same objects.
-use Rattle.std.proofs.Common.{◌≡◌, ℕ, Bool, true, false, cond, List, [], ◌∷◌, ◌++◌, map, fold, Option, refl, sym, ap, ◌∙◌, append_assoc, append-nil}
+use Rattle.std.proofs.Common.{◌≡◌, ℕ, ◌+◌, ◌%◌, Bool, true, false, cond, List, [], ◌∷◌, ◌++◌, length, eqb, map, fold, Option, Some, None, refl, sym, ap, ◌∙◌, append_assoc, append-nil, arith}
 use Rattle.std.proofs.lemmas.List.{map-append}
 use Rattle.std.proofs.lemmas.List.Elements.{filter_map-append}
 use Rattle.std.proofs.lemmas.List.Sums.{fold-append}
 use Rattle.bt_base.specs.Objects.{Object}
 use Rattle.capture.specs.declared.flow.Flow.{Flow}
 use Rattle.capture.specs.declared.flow.Flow.TheVariants.{Out, Into}
+use Rattle.ertm_frames.specs.Frames.{PlainFrame, information, supervisory}
+use Rattle.ertm_frames.specs.Reading.{frame_in}
+use Rattle.ertm_frames.specs.Segments.{Segment}
+use Rattle.ertm_frames.specs.Joining.{joined, ended}
 use Rattle.link_readers.specs.l2cap_config.specs.declared.wish.Mode.{Mode}
+use Rattle.link_readers.specs.l2cap_config.specs.declared.wish.Mode.TheVariants.{Basic, Enhanced}
+use Rattle.link_talk.specs.Picks.{pick_in}
 use Rattle.obex_headers.specs.Packets.{PlainPacket}
 use Rattle.obex_headers.specs.Runs.{run_headers, objects_from}
 use Rattle.rfcomm_frames.specs.ObexPackets.{obex_packets}
@@ -18,17 +24,56 @@ use Rattle.link_talk.specs.Carriages.{Carriage, is_heard, is_on, taker}
 use Rattle.link_talk.specs.Sdus.{Spoken, spoken_as, spoken_way, spoken_one_way}
 use Rattle.link_talk.specs.Packets.{Carrier, OverL2cap, OverRfcomm, OverNothing, carrier}
 use Rattle.link_talk.specs.ObjectsHeard.{put_within}
-use Rattle.link_readers.specs.talk_laws.specs.Sdus.{Ears, nothing_heard, ears_after, sdus_with, spoken_now, spoken_from}
+use Rattle.link_readers.specs.talk_laws.specs.Sdus.{Ear, Ears, nothing_heard, segment_of, ear_after, ears_after, sdus_with, spoken_now, spoken_from}
 use Rattle.link_readers.specs.talk_laws.specs.Packets.{Streams, no_streams, stream_with, streams_after, packets_now, packets_from}
 use Rattle.link_readers.specs.talk_laws.specs.Spelling.{run_with, Hearing, hearing_with, objects_told}
 use Rattle.link_readers.specs.talk_laws.specs.Waits.{mode_held}
 use Rattle.object_lines.specs.Tallies.{told, Tally, tally_of, tally_after, told_by, told_from}
-use Rattle.object_lines.specs.Matters.{Matter, puts_of, without_out, sdu_after, sdus_told, matter_after, told_now, matter_passing, told_passing, matter_step, matter_told, matter_by, matter, MattersLead}
+use Rattle.object_lines.specs.Matters.{Matter, short_ear, short_ears, ears_with, puts_of, without_out, sdu_after, sdus_told, heard_with, told_with, matter_after, told_now, matter_passing, told_passing, matter_step, matter_told, matter_by, matter, MattersLead}
 use Rattle.object_lines.proofs.Tallying.{runs_tallied, tolds_are}
+
+-- ---- numbers modulo 64
+
+mod_mod : (n : ℕ) → n % 64 % 64 ≡ n % 64
+mod_mod n = omega arith
+
+mod_more : (n k : ℕ) → (n + k) % 64 ≡ (n % 64 + k) % 64
+mod_more n k = omega arith
+
+pub short_picks : (n : ℕ) (frame : Option PlainFrame) → pick_in n frame ≡ pick_in (n % 64) frame
+short_picks n None = refl
+short_picks n (Some (information tx final req sar total octets)) = ap (λ m. cond (eqb tx m) (record { sar = sar; total = total; octets = octets } ∷ []) []) (sym (mod_mod n))
+short_picks n (Some (supervisory kind poll final req)) = refl
+
+ear_shortens : (most : ℕ) (ear : Ear) (pdu : List ℕ) → short_ear (ear_after most ear pdu) ≡ short_ear (ear_after most (short_ear ear) pdu)
+ear_shortens most ear pdu =
+    ap (λ next. record { next = next; joining = joined ear.joining (segment_of most ear pdu) }) (mod_more ear.next (length (segment_of most ear pdu)))
+    ∙ ap (λ (segments : List Segment). record { next = (ear.next % 64 + length segments) % 64; joining = joined ear.joining segments }) (short_picks ear.next (frame_in most pdu))
+
+sdus_shorten : (most : ℕ) (mode : Mode) (ear : Ear) (pdu : List ℕ) → sdus_with most mode ear pdu ≡ sdus_with most mode (short_ear ear) pdu
+sdus_shorten most Basic ear pdu = refl
+sdus_shorten most Enhanced ear pdu = ap (ended ear.joining) (short_picks ear.next (frame_in most pdu))
+
+ears_shorten : (party : Party) (ears : Ears) (flow : Flow) (pdu : List ℕ) → let c : Carriage = record { flow = flow; pdu = pdu } in short_ears (ears_after party ears c) ≡ ears_with party (short_ears ears) c
+ears_shorten party ears Out pdu = ap (λ (ear : Ear). let now : Ears = record { out_ = ear; into = short_ear ears.into } in now) (ear_shortens 65535 ears.out_ pdu)
+ears_shorten party ears Into pdu = ap (λ (ear : Ear). let now : Ears = record { out_ = short_ear ears.out_; into = ear } in now) (ear_shortens party.frame ears.into pdu)
+
+spoken_shorten : (party : Party) (mode : Mode) (ears : Ears) (flow : Flow) (pdu : List ℕ) → let c : Carriage = record { flow = flow; pdu = pdu } in spoken_now party mode ears c ≡ spoken_now party mode (short_ears ears) c
+spoken_shorten party mode ears Out pdu = ap (map (spoken_as Out)) (sdus_shorten 65535 mode ears.out_ pdu)
+spoken_shorten party mode ears Into pdu = ap (map (spoken_as Into)) (sdus_shorten party.frame mode ears.into pdu)
+
+-- one ear hears, and the other stays
+pub out_ears : (party : Party) (ears : Ears) (ear : Ear) (flow : Flow) (pdu : List ℕ) → flow ≡ Out → ear ≡ short_ear (ear_after 65535 ears.out_ pdu) → (let now : Ears = record { out_ = ear; into = ears.into } in now) ≡ ears_with party ears (record { flow = flow; pdu = pdu })
+out_ears party ears ear Out pdu is hears = ap (λ (one : Ear). let now : Ears = record { out_ = one; into = ears.into } in now) hears
+out_ears party ears ear Into pdu is hears = cc
+
+pub into_ears : (party : Party) (ears : Ears) (ear : Ear) (flow : Flow) (pdu : List ℕ) → flow ≡ Into → ear ≡ short_ear (ear_after party.frame ears.into pdu) → (let now : Ears = record { out_ = ears.out_; into = ear } in now) ≡ ears_with party ears (record { flow = flow; pdu = pdu })
+into_ears party ears ear Into pdu is hears = ap (λ (one : Ear). let now : Ears = record { out_ = ears.out_; into = one } in now) hears
+into_ears party ears ear Out pdu is hears = cc
 
 -- ---- packets
 
-told_both : (t : Tally) (xs ys : List (Option PlainPacket)) → told_from t (xs ++ ys) ≡ told_from t xs ++ told_from (fold tally_after t xs) ys
+pub told_both : (t : Tally) (xs ys : List (Option PlainPacket)) → told_from t (xs ++ ys) ≡ told_from t xs ++ told_from (fold tally_after t xs) ys
 told_both t [] ys = refl
 told_both t (x ∷ xs) ys =
     ap (λ ts. told_by t x ++ ts) (told_both (tally_after t x) xs ys) ∙ sym (append_assoc (told_by t x) (told_from (tally_after t x) xs) (told_from (fold tally_after (tally_after t x) xs) ys))
@@ -36,7 +81,7 @@ told_both t (x ∷ xs) ys =
 puts_both : (party : Party) (xs ys : List Spoken) → puts_of party (xs ++ ys) ≡ puts_of party xs ++ puts_of party ys
 puts_both party xs ys = ap (map (put_within party.packet)) (filter_map-append (spoken_way Into) xs ys) ∙ map-append (put_within party.packet) (spoken_one_way Into xs) (spoken_one_way Into ys)
 
-none_out : (party : Party) (xs : List (List ℕ)) → puts_of party (map (spoken_as Out) xs) ≡ []
+pub none_out : (party : Party) (xs : List (List ℕ)) → puts_of party (map (spoken_as Out) xs) ≡ []
 none_out party [] = refl
 none_out party (x ∷ xs) = none_out party xs
 
@@ -115,22 +160,28 @@ objects_by party over mode h carried = objects_from h.run (puts_of party (packet
 one_l2cap : (party : Party) (mode : Mode) (h : Hearing) (flow : Flow) (pdu : List ℕ) → let c : Carriage = record { flow = flow; pdu = pdu } in matter_by OverL2cap (hearing_by party OverL2cap mode h (c ∷ [])) ≡ matter_after party OverL2cap mode (matter_by OverL2cap h) c
 one_l2cap party mode h Out pdu =
     let xs = sdus_with 65535 mode h.ears.out_ pdu in
-    ap (λ sdus. matter_with (record h.ears { out_ = nothing_heard }) no_streams (tally_of (run_headers (fold run_with h.run (puts_of party (packets_from party OverL2cap h.streams sdus)))))) (append-nil (map (spoken_as Out) xs))
-    ∙ ap (λ ps. matter_with (record h.ears { out_ = nothing_heard }) no_streams (tally_of (run_headers (fold run_with h.run ps)))) (out_l2cap party h.streams xs)
+    ap (λ sdus. matter_with (record (short_ears h.ears) { out_ = nothing_heard }) no_streams (tally_of (run_headers (fold run_with h.run (puts_of party (packets_from party OverL2cap h.streams sdus)))))) (append-nil (map (spoken_as Out) xs))
+    ∙ ap (λ ps. matter_with (record (short_ears h.ears) { out_ = nothing_heard }) no_streams (tally_of (run_headers (fold run_with h.run ps)))) (out_l2cap party h.streams xs)
 one_l2cap party mode h Into pdu =
     let c : Carriage = record { flow = Into; pdu = pdu } in
     let sdus = spoken_now party mode h.ears c in
-    let ears = record (ears_after party h.ears c) { out_ = nothing_heard } in
+    let before : Ears = record (short_ears h.ears) { out_ = nothing_heard } in
+    let ears : Ears = record (short_ears (ears_after party h.ears c)) { out_ = nothing_heard } in
+    let tally = tally_of (run_headers h.run) in
     ap (λ ss. matter_with ears no_streams (tally_of (run_headers (fold run_with h.run (puts_of party (packets_from party OverL2cap h.streams ss)))))) (append-nil sdus)
     ∙ ap (matter_with ears no_streams) (runs_tallied h.run (puts_of party (packets_from party OverL2cap h.streams sdus)))
-    ∙ sym (over_l2cap party ears h.streams no_streams (tally_of (run_headers h.run)) sdus)
+    ∙ sym (over_l2cap party ears h.streams no_streams tally sdus)
+    ∙ ap (λ (ear : Ear). let now : Ears = record { out_ = nothing_heard; into = ear } in fold (sdu_after party OverL2cap) (matter_with now no_streams tally) sdus) (ear_shortens party.frame h.ears.into pdu)
+    ∙ ap (λ xs. fold (sdu_after party OverL2cap) (matter_with (ears_with party before c) no_streams tally) (map (spoken_as Into) xs)) (sdus_shorten party.frame mode h.ears.into pdu)
 
 one_rfcomm : (party : Party) (mode : Mode) (h : Hearing) (c : Carriage) → matter_by OverRfcomm (hearing_by party OverRfcomm mode h (c ∷ [])) ≡ matter_after party OverRfcomm mode (matter_by OverRfcomm h) c
 one_rfcomm party mode h c =
     let sdus = spoken_now party mode h.ears c in
-    ap (λ ss. matter_with (ears_after party h.ears c) (without_out (fold (streams_after party) h.streams ss)) (tally_of (run_headers (fold run_with h.run (puts_of party (packets_from party OverRfcomm h.streams ss)))))) (append-nil sdus)
-    ∙ ap (matter_with (ears_after party h.ears c) (without_out (fold (streams_after party) h.streams sdus))) (runs_tallied h.run (puts_of party (packets_from party OverRfcomm h.streams sdus)))
-    ∙ sym (over_rfcomm party (ears_after party h.ears c) h.streams (tally_of (run_headers h.run)) sdus)
+    ap (λ ss. matter_with (short_ears (ears_after party h.ears c)) (without_out (fold (streams_after party) h.streams ss)) (tally_of (run_headers (fold run_with h.run (puts_of party (packets_from party OverRfcomm h.streams ss)))))) (append-nil sdus)
+    ∙ ap (matter_with (short_ears (ears_after party h.ears c)) (without_out (fold (streams_after party) h.streams sdus))) (runs_tallied h.run (puts_of party (packets_from party OverRfcomm h.streams sdus)))
+    ∙ sym (over_rfcomm party (short_ears (ears_after party h.ears c)) h.streams (tally_of (run_headers h.run)) sdus)
+    ∙ ap (λ ears. fold (sdu_after party OverRfcomm) (matter_with ears (without_out h.streams) (tally_of (run_headers h.run))) sdus) (ears_shorten party h.ears c.flow c.pdu)
+    ∙ ap (fold (sdu_after party OverRfcomm) (matter_with (ears_with party (short_ears h.ears) c) (without_out h.streams) (tally_of (run_headers h.run)))) (spoken_shorten party mode h.ears c.flow c.pdu)
 
 one_more : (party : Party) (over : Carrier) (mode : Mode) (h : Hearing) (c : Carriage) → matter_by over (hearing_by party over mode h (c ∷ [])) ≡ matter_after party over mode (matter_by over h) c
 one_more party OverL2cap mode h c = one_l2cap party mode h c.flow c.pdu
@@ -147,7 +198,8 @@ tell_l2cap party mode h Into pdu =
     let sdus = spoken_now party mode h.ears c in
     ap (λ ss. map told (objects_from h.run (puts_of party (packets_from party OverL2cap h.streams ss)))) (append-nil sdus)
     ∙ tolds_are h.run (puts_of party (packets_from party OverL2cap h.streams sdus))
-    ∙ sym (told_l2cap party (record h.ears { out_ = nothing_heard }) h.streams no_streams (tally_of (run_headers h.run)) sdus)
+    ∙ sym (told_l2cap party (record (short_ears h.ears) { out_ = nothing_heard }) h.streams no_streams (tally_of (run_headers h.run)) sdus)
+    ∙ ap (λ xs. sdus_told party OverL2cap (matter_with (record (short_ears h.ears) { out_ = nothing_heard }) no_streams (tally_of (run_headers h.run))) (map (spoken_as Into) xs)) (sdus_shorten party.frame mode h.ears.into pdu)
 
 tell_one : (party : Party) (over : Carrier) (mode : Mode) (h : Hearing) (c : Carriage) → map told (objects_by party over mode h (c ∷ [])) ≡ told_now party over mode (matter_by over h) c
 tell_one party OverL2cap mode h c = tell_l2cap party mode h c.flow c.pdu
@@ -155,7 +207,8 @@ tell_one party OverRfcomm mode h c =
     let sdus = spoken_now party mode h.ears c in
     ap (λ ss. map told (objects_from h.run (puts_of party (packets_from party OverRfcomm h.streams ss)))) (append-nil sdus)
     ∙ tolds_are h.run (puts_of party (packets_from party OverRfcomm h.streams sdus))
-    ∙ sym (told_rfcomm party h.ears h.streams (tally_of (run_headers h.run)) sdus)
+    ∙ sym (told_rfcomm party (short_ears h.ears) h.streams (tally_of (run_headers h.run)) sdus)
+    ∙ ap (sdus_told party OverRfcomm (matter_with (short_ears h.ears) (without_out h.streams) (tally_of (run_headers h.run)))) (spoken_shorten party mode h.ears c.flow c.pdu)
 tell_one party OverNothing mode h c = ap (λ ps. map told (objects_from h.run (puts_of party ps))) (no_packets party h.streams (spoken_from party mode h.ears (c ∷ [])))
 
 -- ---- a saying
@@ -187,3 +240,23 @@ matter_tells party channel held h (GaveUp forgone) = refl
 
 pub matters-lead : MattersLead
 matters-lead = record { leads = matter_leads; tells = matter_tells }
+
+-- ---- by the protocol of a channel
+
+pub packet_after : (party : Party) (psm : ℕ) (mode : Mode) (m : Matter) (flow : Flow) (pdu : List ℕ) → psm ≡ 4097 → flow ≡ Into
+    → heard_with party OverL2cap mode m (record { flow = Into; pdu = pdu }) ≡ matter_after party (carrier psm) mode m (record { flow = flow; pdu = pdu })
+packet_after party psm mode m flow pdu psm_is flow_is =
+    ap (λ (n : ℕ). let c : Carriage = record { flow = Into; pdu = pdu } in matter_after party (carrier n) mode m c) (sym psm_is)
+    ∙ ap (λ (way : Flow). let c : Carriage = record { flow = way; pdu = pdu } in matter_after party (carrier psm) mode m c) (sym flow_is)
+
+pub packet_told : (party : Party) (psm : ℕ) (mode : Mode) (m : Matter) (flow : Flow) (pdu : List ℕ) → psm ≡ 4097 → flow ≡ Into
+    → told_with party OverL2cap mode m (record { flow = Into; pdu = pdu }) ≡ told_now party (carrier psm) mode m (record { flow = flow; pdu = pdu })
+packet_told party psm mode m flow pdu psm_is flow_is =
+    ap (λ (n : ℕ). let c : Carriage = record { flow = Into; pdu = pdu } in told_now party (carrier n) mode m c) (sym psm_is)
+    ∙ ap (λ (way : Flow). let c : Carriage = record { flow = way; pdu = pdu } in told_now party (carrier psm) mode m c) (sym flow_is)
+
+pub frame_after : (party : Party) (psm : ℕ) (mode : Mode) (m : Matter) (c : Carriage) → psm ≡ 3 → heard_with party OverRfcomm mode m c ≡ matter_after party (carrier psm) mode m c
+frame_after party psm mode m c is = ap (λ (n : ℕ). matter_after party (carrier n) mode m c) (sym is)
+
+pub frame_told : (party : Party) (psm : ℕ) (mode : Mode) (m : Matter) (c : Carriage) → psm ≡ 3 → told_with party OverRfcomm mode m c ≡ told_now party (carrier psm) mode m c
+frame_told party psm mode m c is = ap (λ (n : ℕ). told_now party (carrier n) mode m c) (sym is)

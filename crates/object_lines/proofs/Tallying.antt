@@ -313,20 +313,6 @@ tolds_are run (Some put ∷ puts) =
     ∙ ap (λ t. told_as (is_final put) t ++ map told (objects_from (run_with run (Some put)) puts)) (headers_more run put)
     ∙ ap (λ ts. told_by (tally_of (run_headers run)) (Some put) ++ ts) (tolds_are (run_with run (Some put)) puts ∙ ap (λ t. told_from t puts) (run_tallied run (Some put)))
 
--- ---- all packets
-
-pub told_whole : (most : ℕ) (packets : List (List ℕ)) → map told (spelled_within most packets) ≡ told_from no_tally (map (put_within most) packets)
-told_whole most packets = tolds_are [] (map (put_within most) packets)
-
-pub told_end : (most : ℕ) (packets : List (Vec ℕ)) (i : ℕ) (found : List Told) (tally : Tally) → length packets ≤ i
-    → found ++ told_from tally (map (put_within most) (octets_of_all (drop i packets))) ≡ told_from no_tally (map (put_within most) (octets_of_all packets))
-    → found ≡ map told (spelled_within most (octets_of_all packets))
-told_end most packets i found tally past so_far =
-    sym (append-nil found)
-    ∙ ap (λ (ps : List (Vec ℕ)). found ++ told_from tally (map (put_within most) (octets_of_all ps))) (sym (drop_all i packets past))
-    ∙ so_far
-    ∙ sym (told_whole most (octets_of_all packets))
-
 -- ---- what is told of objects
 
 pub lines_are_told : (objects : List Object) → told_lines (map told objects) ≡ lines_of objects

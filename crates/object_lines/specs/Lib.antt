@@ -6,3 +6,6 @@ pub mod Tallies
 pub mod Matters
 pub mod Held
 pub mod Heard
+pub mod Ears
+pub mod Streams
+pub mod Matter

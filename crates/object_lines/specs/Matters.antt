@@ -1,6 +1,6 @@
 -- What matters of what is held of a channel: what its objects are told by (Core 5.1, Volume 3 Part A, 3.3, 7.3 and 8.4;
 -- RFCOMM 1.2, 5; IrOBEX 1.5, 3.4.3).
-use Rattle.std.specs.Prelude.{◌≡◌, Option, Bool, true, false, if◌then◌else◌, List, [], ◌∷◌, ◌++◌, map, fold}
+use Rattle.std.specs.Prelude.{◌≡◌, ◌%◌, Option, Bool, true, false, if◌then◌else◌, List, [], ◌∷◌, ◌++◌, map, fold, find}
 use Rattle.std.specs.List.{flat_map}
 use Rattle.capture.specs.declared.flow.Flow.{Flow}
 use Rattle.capture.specs.declared.flow.Flow.TheVariants.{Out, Into}
@@ -10,15 +10,14 @@ use Rattle.obex_headers.specs.Runs.{run_headers}
 use Rattle.link_talk.specs.declared.channel.Channel.{Channel}
 use Rattle.link_talk.specs.declared.party.Party.{Party}
 use Rattle.link_talk.specs.Sayings.{Saying}
-use Rattle.link_talk.specs.Channels.{Reading}
-use Rattle.link_talk.specs.Carriages.{Carriage, is_heard, carried_by}
-use Rattle.link_talk.specs.Sdus.{Spoken, spoken_one_way}
+use Rattle.link_talk.specs.Channels.{Entry, Reading}
+use Rattle.link_talk.specs.Carriages.{Carriage, is_heard, carried_by, has_own, entry_mode}
+use Rattle.link_talk.specs.Sdus.{longest, Spoken, spoken_one_way}
 use Rattle.link_talk.specs.Packets.{Carrier, OverL2cap, OverRfcomm, OverNothing, carrier}
 use Rattle.link_talk.specs.ObjectsHeard.{put_within}
-use Rattle.link_readers.specs.talk_laws.specs.Sdus.{Ears, no_ears, nothing_heard, ears_after, spoken_now}
+use Rattle.link_readers.specs.talk_laws.specs.Sdus.{Ear, Ears, no_ears, nothing_heard, ear_after, ear_of, with_ear, spoken_now}
 use Rattle.link_readers.specs.talk_laws.specs.Packets.{Streams, no_streams, streams_after, packets_now}
 use Rattle.link_readers.specs.talk_laws.specs.Spelling.{Hearing, hearing_with, objects_told}
-use Rattle.link_readers.specs.talk_laws.specs.Waits.{mode_held}
 use Rattle.link_readers.specs.talk_laws.specs.LinkPass.{KeptChannel, LinkPass, held_by, ChannelStep, pass_after}
 use Rattle.object_lines.specs.Tallies.{Told, told, Tally, no_tally, tally_of, tally_after, told_from}
 
@@ -31,6 +30,16 @@ pub record Matter : Type 0 where
 
 abbrev pub no_matter : Matter
 no_matter = record { ears = no_ears; streams = no_streams; tally = no_tally }
+
+-- frames are numbered modulo 64, and more of a number does not count
+abbrev pub short_ear : Ear → Ear
+short_ear ear = record { next = ear.next % 64; joining = ear.joining }
+
+abbrev pub short_ears : Ears → Ears
+short_ears ears = record { out_ = short_ear ears.out_; into = short_ear ears.into }
+
+abbrev pub ears_with : Party → Ears → Carriage → Ears
+ears_with party ears carriage = with_ear carriage.flow ears (short_ear (ear_after (longest party carriage.flow) (ear_of carriage.flow ears) carriage.pdu))
 
 -- the PUTs that packets are for the receiver
 abbrev pub puts_of : Party → List Spoken → List (Option PlainPacket)
@@ -68,7 +77,7 @@ sdus_told party over matter (sdu ∷ sdus) = sdu_told party over matter sdu ++ s
 -- what goes on with the SDUs that are whole with it
 abbrev pub heard_with : Party → Carrier → Mode → Matter → Carriage → Matter
 heard_with party over mode matter carriage =
-    fold (sdu_after party over) (record matter { ears = ears_after party matter.ears carriage }) (spoken_now party mode matter.ears carriage)
+    fold (sdu_after party over) (record matter { ears = ears_with party matter.ears carriage }) (spoken_now party mode matter.ears carriage)
 
 abbrev pub told_with : Party → Carrier → Mode → Matter → Carriage → List Told
 told_with party over mode matter carriage = sdus_told party over matter (spoken_now party mode matter.ears carriage)
@@ -96,11 +105,17 @@ told_passing party over mode matter [] = []
 told_passing party over mode matter (carriage ∷ carried) =
     told_now party over mode matter carriage ++ told_passing party over mode (matter_after party over mode matter carriage) carried
 
+abbrev pub step_among : Party → Channel → List Entry → Matter → Saying → Matter
+step_among party channel entries matter saying = matter_passing party (carrier channel.psm) (entry_mode (find (has_own channel) entries)) matter (carried_by is_heard channel entries saying)
+
+abbrev pub told_among : Party → Channel → List Entry → Matter → Saying → List Told
+told_among party channel entries matter saying = told_passing party (carrier channel.psm) (entry_mode (find (has_own channel) entries)) matter (carried_by is_heard channel entries saying)
+
 abbrev pub matter_step : Party → ChannelStep Matter
-matter_step party channel held matter saying = matter_passing party (carrier channel.psm) (mode_held channel held) matter (carried_by is_heard channel held.entries saying)
+matter_step party channel held matter saying = step_among party channel held.entries matter saying
 
 abbrev pub matter_told : Party → Channel → Reading → Matter → Saying → List Told
-matter_told party channel held matter saying = told_passing party (carrier channel.psm) (mode_held channel held) matter (carried_by is_heard channel held.entries saying)
+matter_told party channel held matter saying = told_among party channel held.entries matter saying
 
 -- a saying more on a link
 abbrev pub matter_pass : Party → LinkPass Matter → Saying → LinkPass Matter
@@ -112,8 +127,8 @@ pass_told party pass saying = flat_map (λ (one : KeptChannel Matter). matter_to
 -- ---- what matters of what is held of a whole channel
 
 abbrev pub matter_by : Carrier → Hearing → Matter
-matter_by OverL2cap hearing = record { ears = record hearing.ears { out_ = nothing_heard }; streams = no_streams; tally = tally_of (run_headers hearing.run) }
-matter_by OverRfcomm hearing = record { ears = hearing.ears; streams = without_out hearing.streams; tally = tally_of (run_headers hearing.run) }
+matter_by OverL2cap hearing = record { ears = record (short_ears hearing.ears) { out_ = nothing_heard }; streams = no_streams; tally = tally_of (run_headers hearing.run) }
+matter_by OverRfcomm hearing = record { ears = short_ears hearing.ears; streams = without_out hearing.streams; tally = tally_of (run_headers hearing.run) }
 matter_by OverNothing hearing = no_matter
 
 abbrev pub matter : Channel → Hearing → Matter

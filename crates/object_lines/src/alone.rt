@@ -2,19 +2,15 @@
 //! anew at each saying; here each channel is read once or twice.
 
 ghost use Rattle.std.specs.Prelude.{◌≡◌, find, map, IfOk, IfSome, IsTrue, MatchOption, Some, None};
-ghost use Rattle.obex_headers.specs.Reader.{octets_of_all};
-ghost use Rattle.link_talk.specs.Packets.{packets_heard};
 ghost use Rattle.link_talk.specs.ObjectsHeard.{channel_objects, objects};
 ghost use Rattle.link_readers.specs.Lent.{plain_sayings, plain_entry, plain_entries};
 ghost use Rattle.object_lines.specs.Tallies.{told, plain_told};
 ghost use Rattle.object_lines.specs.Alone.{has_endpoint, AreSilent, IsSole};
 
-use crate::tally::{Told, told_all, told_within};
+use crate::listening::objects_heard_on;
+use crate::tally::{Told, told_all};
 use bt_base::NoMemory;
-use capture::Flow;
-use link_readers::{
-    Entry, Saying, link_objects, mode_of, packets_heard, reading_of, sdus_of, stretch,
-};
+use link_readers::{Entry, Saying, link_objects, reading_of};
 use link_talk::{Channel, Party};
 use std::alloc::Global;
 
@@ -23,22 +19,6 @@ const OBJECT_PUSH: u16 = 0x1001;
 
 /// The PSM of RFCOMM.
 const RFCOMM: u16 = 0x0003;
-
-/// The packets that a host heard on a channel of Object Push.
-fn packets_on(
-    alloc: Global,
-    party: &Party,
-    channel: &Channel,
-    said: &[Saying<'_>],
-) -> Result<Vec<Vec<u8>>, NoMemory>
-    requires { channel.now.psm ≡ 4097 }
-    ensures { IfOk result (λ found. octets_of_all found.items ≡ packets_heard party.now channel.now (plain_sayings said.now)) }
-{
-    let mode = mode_of(alloc, channel, said)?;
-    let carriages = stretch(alloc, channel, said)?;
-    let packets = sdus_of(alloc, party, mode, Flow::Into, &carriages)?;
-    Ok(packets)
-}
 
 /// What is told of the objects that the packets spell which a host heard on a channel.
 fn objects_on(
@@ -49,15 +29,8 @@ fn objects_on(
 ) -> Result<Vec<Told>, NoMemory>
     ensures { IfOk result (λ found. map plain_told found.items ≡ map told (channel_objects party.now channel.now (plain_sayings said.now))) }
 {
-    if channel.psm == OBJECT_PUSH {
-        let packets = packets_on(alloc, party, channel, said)?;
-        let found = told_within(alloc, party.packet, &packets)?;
-        return Ok(found);
-    }
-    if channel.psm == RFCOMM {
-        let packets = packets_heard(alloc, party, channel, said)?;
-        let found = told_within(alloc, party.packet, &packets)?;
-        return Ok(found);
+    if channel.psm == OBJECT_PUSH || channel.psm == RFCOMM {
+        return objects_heard_on(alloc, party, channel, said);
     }
     Ok(Vec::new(alloc))
 }

@@ -2,12 +2,18 @@
 #![tactic(auto)]
 
 mod alone;
+mod course;
+mod ears;
 pub mod laws;
 mod line;
 mod links;
+mod listening;
+mod matter;
 mod news;
 mod objects;
 mod piece;
+mod segments;
+mod streams;
 mod talk;
 mod tally;
 mod viewing;

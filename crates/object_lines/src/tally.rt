@@ -4,8 +4,8 @@ ghost use Rattle.std.specs.Prelude.{◌≡◌, ◌==◌, ◌||◌, ◌++◌, Lis
 ghost use Rattle.std.specs.List.{AllByRecursion};
 ghost use Rattle.obex_headers.specs.Packets.{PlainHeader, PlainPacket, IsHeader, IsText, units_of, headers_octets, plain_header, Shows};
 ghost use Rattle.obex_headers.specs.Runs.{name_text, body_of, is_long};
-ghost use Rattle.obex_headers.specs.Reader.{IsPut, octets_of_all, objects_seen};
-ghost use Rattle.link_talk.specs.ObjectsHeard.{put_within, spelled_within};
+ghost use Rattle.obex_headers.specs.Reader.{IsPut, objects_seen};
+ghost use Rattle.link_talk.specs.ObjectsHeard.{put_within};
 ghost use Rattle.object_lines.specs.Tallies.{told, no_tally, with_name, with_body, tally_header, is_broken, is_lacking, tally_after, told_of, left_of, told_as, told_by, plain_told, plain_tally};
 
 use bt_base::NoMemory;
@@ -36,7 +36,7 @@ pub(crate) struct Told {
 
 /// What is held of the PUTs of an object that is not whole.
 #[derive(Debug, Drop)]
-struct Tally {
+pub(crate) struct Tally {
     name: Vec<u16>,
     named: bool,
     again: bool,
@@ -95,7 +95,7 @@ fn put(octets: &[u8], most: u16) -> Option<Packet<'_>>
 }
 
 impl Tally {
-    fn new(alloc: Global) -> Tally
+    pub(crate) fn new(alloc: Global) -> Tally
         ensures { plain_tally result ≡ no_tally }
     {
         Tally {
@@ -196,7 +196,7 @@ impl Tally {
     }
 
     /// One packet more: a PUT goes on, and any other ends what there was.
-    fn hear(
+    pub(crate) fn hear(
         &mut self,
         alloc: Global,
         found: &mut Vec<Told>,
@@ -224,23 +224,6 @@ pub(crate) fn told_all(alloc: Global, objects: &[SpelledObject]) -> Result<Vec<T
         let name = Vec::from_slice(alloc, &object.name)?;
         let size = object.octets.len();
         found.push(Told { name, size })?;
-    }
-    Ok(found)
-}
-
-/// What is told of the objects that packets spell for a receiver of packets of at most so many octets, in the order of
-/// their last packets. Each packet is looked at once.
-pub(crate) fn told_within(
-    alloc: Global,
-    most: u16,
-    packets: &[Vec<u8>],
-) -> Result<Vec<Told>, NoMemory>
-    ensures { IfOk result (λ found. map plain_told found.items ≡ map told (spelled_within most (octets_of_all packets.now))) }
-{
-    let mut found = Vec::new(alloc);
-    let mut tally = Tally::new(alloc);
-    for packet in packets {
-        tally.hear(alloc, &mut found, most, packet)?;
     }
     Ok(found)
 }

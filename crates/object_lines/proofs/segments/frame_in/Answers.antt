@@ -1,0 +1,10 @@
+use Rattle.std.proofs.Common.{Ok, Err, arith}
+use Rattle.ertm_frames.specs.Frames.{plain}
+use Rattle.object_lines.proofs.Earing.{frame_is}
+use Rattle.object_lines.proofs.segments.frame_in.Goals as goal
+
+pub returns-in-Ok : goal.returns-in-Ok
+returns-in-Ok c = frame_is c.args.most c.args.pdu.now (Ok (plain c.in-Ok.frame)) (λ i. omega (arith, c.type_inv.pdu i)) c.in-Ok.ensures
+
+pub returns-in-Err : goal.returns-in-Err
+returns-in-Err c = frame_is c.args.most c.args.pdu.now (Err c.in-Err.field-0) (λ i. omega (arith, c.type_inv.pdu i)) c.in-Err.ensures
