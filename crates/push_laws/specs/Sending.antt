@@ -116,8 +116,8 @@ pub record IsPush (connect : List ℕ) (wanted : Bool) (name : List ℕ) (size :
   pub sent_is : sent ≡ connect ∷ (puts ++ end_of gave_up left)
   pub puts_are : ArePuts wanted name size content cause puts gave_up
 
--- ABORT is sent where the object is given up, and for no other cause; and where it is given up behind a PUT, the client does
--- not take leave without ABORT.
+-- ABORT is sent of an object that is given up, and of no other; and where one is given up behind a PUT, the client does not
+-- take leave without ABORT.
 pub record GivesUp (cause : Option Outcome) (puts : List (List ℕ)) (gave_up left : Bool) : Type 0 where
   pub only : gave_up ≡ true → IsGivenUp cause
   pub always : IsGivenUp cause → (puts ≡ [] → ⊥) → left ≡ true → gave_up ≡ true
