@@ -186,3 +186,28 @@ module _ (near far : Policy) (side : Side) where
       by goes (inr (one, list, now)) =
           let later : Stays S front (one ∷ rest_of (past ++ turn ∷ []) turns) = subst (λ l. Stays S front (l ++ rest_of (past ++ turn ∷ []) turns)) list so_now in
           goes (front ++ one ∷ []) now (later.0.1, subst (λ l. S (host l)) (sym (append_assoc front (one ∷ []) (rest_of (past ++ turn ∷ []) turns))) later.1)
+
+  -- and back: what leads from each moment of the link to the next does so at each moment of what happened to the host
+  pub each-happened : (Q : Run → Run → Type 0) → (past turns : List Turn) (front : List Occurrence) → run_at past ≡ host front → EachAfter (λ p turn. Q (run_at p) (end_at side (pair_after (pair_of near far p) turn)).run) past turns
+      → EachAfter (λ f one. Q (host f) (host (f ++ one ∷ []))) front (rest_of past turns)
+  each-happened Q past [] front is all = tt
+  each-happened Q past (turn ∷ turns) front is (now, later) = subst (EachAfter P front) (sym it.rest_is) (by (λ next at. each-happened Q (past ++ turn ∷ []) turns next at later) it.how)
+    where
+      it : Turned past turn turns front
+      it = turn_by past turn turns front is
+
+      P : List Occurrence → Occurrence → Type 0
+      P f one = Q (host f) (host (f ++ one ∷ []))
+
+      rest : List Occurrence
+      rest = rest_of (past ++ turn ∷ []) turns
+
+      then : run_at (past ++ turn ∷ []) ≡ (end_at side (pair_after (pair_of near far past) turn)).run
+      then = ap (λ (p : Pair). (end_at side p).run) (fold-append pair_after (new_pair near far) past (turn ∷ []))
+
+      by : ((next : List Occurrence) → run_at (past ++ turn ∷ []) ≡ host next → EachAfter P next rest)
+          → ((it.more ≡ []) × (run_at (past ++ turn ∷ []) ≡ host front)) ⊎ ((one : Occurrence) × (it.more ≡ one ∷ []) × (run_at (past ++ turn ∷ []) ≡ host (front ++ one ∷ []))) → EachAfter P front (it.more ++ rest)
+      by goes (inl (none, at)) = subst (λ (l : List Occurrence). EachAfter P front (l ++ rest)) (sym none) (goes front at)
+      by goes (inr (one, list, at)) =
+          let here : Q (host front) (host (front ++ one ∷ [])) = subst (λ (r : Run). Q r (host (front ++ one ∷ []))) is (subst (Q (run_at past)) (sym then ∙ at) now) in
+          subst (λ (l : List Occurrence). EachAfter P front (l ++ rest)) (sym list) (here, goes (front ++ one ∷ []) at)

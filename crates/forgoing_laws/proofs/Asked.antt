@@ -25,6 +25,7 @@ use Rattle.channel_laws.specs.channel_model.specs.Policies.{Policy}
 use Rattle.channel_laws.specs.channel_model.specs.Timing.{times_held, times_end, times_features}
 use Rattle.channel_laws.specs.channel_model.specs.Value.{Request, Own, Unasked, Asking, Granted, Carrier, Plain, Retransmitting, Stage, Requested, Connected, Leaving, Closing, Crossed, Held, Channels}
 use Rattle.channel_laws.specs.channel_model.proofs.Lookups.{own_of, found-has}
+use Rattle.channel_laws.specs.Awaited.{asks_for_end}
 use Rattle.channel_laws.specs.OwnTalk.{spoken, command_with, command_if, exchanged, newest, said_of, asked_between}
 use Rattle.channel_laws.specs.Runs.{Occurrence, Comes, Connects, AsksFeatures, Disconnects, Sends, Gives, Fires, Tells, forgone_at, forgone_between, given_up, features_given_up, said_again, said_on_firing, said_by_features, said_by_carrier, said_as, said_in, value_after, run_of}
 use Rattle.channel_laws.specs.Signals.{StandsIn}
@@ -265,26 +266,43 @@ converses policy = record {
   single = λ past v more is known. goes_on policy past (said_in policy more v) v (value_after policy more v) (wait_single policy more v is);
 }
 
--- so where its options wait, and its end does not, it did not ask for that
-pub asked-waits : (policy : Policy) (list : List Occurrence) (own peer : ℕ) (request : Request) → HasAskedEnd own peer (run_of policy list).said → request_of (errands.Configuration own) (run_of policy list).value ≡ Some request
-    → request_of (errands.Disconnection own) (run_of policy list).value ≡ None → ⊥
-asked-waits policy list own peer request asked waits none = by (held_at own w) (read_at own (reading (run_of policy list).said).entries) ((all-sound policy list).core.reads own) waits none left
+-- so its channel of that endpoint, if there is one still, is one whose end it asks for
+pub asked-left : (policy : Policy) (list : List Occurrence) (own peer : ℕ) (held : Held) → HasAskedEnd own peer (run_of policy list).said → held_at own (run_of policy list).value ≡ Some held → asks_for_end held.stage ≡ true
+asked-left policy list own peer held asked at = by held.stage refl (read_at own entries) (subst (λ (found : Option Held). Reads policy found (read_at own entries)) at ((all-sound policy list).core.reads own)) left
   where
-    w : Channels
-    w = (run_of policy list).value
+    entries : List Entry
+    entries = (reading (run_of policy list).said).entries
 
-    left : HoldsAt IsLeft (read_at own (reading (run_of policy list).said).entries)
+    left : HoldsAt IsLeft (read_at own entries)
     left = conversed policy (λ v. Unit {0}) Left (converses policy) (λ o p is. elim is.1 [ ]) list own peer asked
 
-    alike : (held : Held) (stage : Stage) (found : Option Entry) → ReadsBy policy held (peer_of stage) found → (stage ≡ held.stage) → for_options stage ≡ Some request → for_end stage ≡ None → HoldsAt IsLeft found → ⊥
-    alike held (Requested r) found reads same has no_end gone = cc
-    alike held (Connected p setup) None reads same has no_end gone = reads
-    alike held (Connected p setup) (Some entry) reads same has no_end gone =
-        let alive : is_alive entry.life ≡ true = ap is_alive reads.0.life_is ∙ ap (λ s. is_alive (life_of s)) (sym same) in let never : true ≡ false = sym alive ∙ gone in cc
-    alike held (Leaving p setup r) found reads same has no_end gone = cc
-    alike held (Closing p r checked) found reads same has no_end gone = cc
-    alike held (Crossed p r) found reads same has no_end gone = cc
+    by : (stage : Stage) → held.stage ≡ stage → (read : Option Entry) → ReadsBy policy held (peer_of held.stage) read → HoldsAt IsLeft read → asks_for_end held.stage ≡ true
+    by (Requested r) same read reads gone = called read (subst (λ s. ReadsBy policy held (peer_of s) read) same reads) gone
+      where
+        called : (read : Option Entry) → ReadsBy policy held None read → HoldsAt IsLeft read → asks_for_end held.stage ≡ true
+        called None reads gone = elim gone [ ]
+        called (Some entry) reads gone = elim reads [ ]
+    by (Connected p setup) same None reads gone = elim gone [ ]
+    by (Connected p setup) same (Some entry) reads gone =
+        let there = subst (λ s. ReadsBy policy held (peer_of s) (Some entry)) same reads in
+        let alive : is_alive entry.life ≡ true = ap is_alive there.0.life_is ∙ ap (λ s. is_alive (life_of s)) same in
+        let never : true ≡ false = sym alive ∙ gone in cc
+    by (Leaving p setup r) same read reads gone = ap asks_for_end same
+    by (Closing p r checked) same read reads gone = ap asks_for_end same
+    by (Crossed p r) same read reads gone = ap asks_for_end same
 
-    by : (found : Option Held) (read : Option Entry) → Reads policy found read → request_at for_options found ≡ Some request → request_at for_end found ≡ None → HoldsAt IsLeft read → ⊥
-    by None read reads has no_end gone = cc
-    by (Some held) read reads has no_end gone = alike held held.stage read reads refl has no_end gone
+-- and where its options wait, and its end does not, it did not ask for that
+pub asked-waits : (policy : Policy) (list : List Occurrence) (own peer : ℕ) (request : Request) → HasAskedEnd own peer (run_of policy list).said → request_of (errands.Configuration own) (run_of policy list).value ≡ Some request
+    → request_of (errands.Disconnection own) (run_of policy list).value ≡ None → ⊥
+asked-waits policy list own peer request asked waits none = by (held_at own (run_of policy list).value) refl waits none
+  where
+    staged : (stage : Stage) → asks_for_end stage ≡ true → for_options stage ≡ Some request → for_end stage ≡ None → ⊥
+    staged (Requested r) ends has no_end = cc
+    staged (Connected p setup) ends has no_end = cc
+    staged (Leaving p setup r) ends has no_end = cc
+    staged (Closing p r checked) ends has no_end = cc
+    staged (Crossed p r) ends has no_end = cc
+
+    by : (found : Option Held) → held_at own (run_of policy list).value ≡ found → request_at for_options found ≡ Some request → request_at for_end found ≡ None → ⊥
+    by None at has no_end = cc
+    by (Some held) at has no_end = staged held.stage (asked-left policy list own peer held asked at) has no_end

@@ -5,3 +5,4 @@ pub use Rattle.timely_laws
 pub use Rattle.told_laws
 pub mod Upsets
 pub mod GoesOn
+pub mod Spares

@@ -2,6 +2,7 @@
 #![tactic(auto)]
 
 ghost use Rattle.limit_laws.specs.GoesOn.{FewWordsAnswerWell, FewWordsGoOn, FewWordsTellMildly, LinksAreOrderly};
+ghost use Rattle.limit_laws.specs.Spares.{FewWordsLimitNone};
 ghost use Rattle.limit_laws.specs.Upsets.{MachinesOutlastWords, UpsetsCostWords};
 
 /// On each link of a run at most so many turns upset as words of the run are adverse: those that lose, repeat, change or cut a frame, and those that fire a timer.
@@ -67,4 +68,17 @@ pub fn few_words_tell_mildly()
     channel_laws::laws::names_are_apart();
     host_laws::laws::clients_ask_in_order();
     told_laws::few_turns_tell_mildly();
+}
+
+/// And on each link, at each moment, host a is told of no limit that was met on a channel for whose end it did not ask, nor on one that was open in basic mode: so of none but on an enhanced channel that
+/// it leaves, and on one that it left before it was open.
+pub fn few_words_limit_none()
+    ensures { FewWordsLimitNone }
+{
+    links_are_orderly();
+    few_words_answer_well();
+    channel_laws::laws::connections_are_met();
+    channel_laws::laws::names_are_apart();
+    host_laws::laws::clients_ask_in_order();
+    told_laws::few_turns_limit_none();
 }

@@ -67,10 +67,6 @@ pub out_ears : (party : Party) (ears : Ears) (ear : Ear) (flow : Flow) (pdu : Li
 out_ears party ears ear Out pdu is hears = ap (λ (one : Ear). let now : Ears = record { out_ = one; into = ears.into } in now) hears
 out_ears party ears ear Into pdu is hears = cc
 
-pub into_ears : (party : Party) (ears : Ears) (ear : Ear) (flow : Flow) (pdu : List ℕ) → flow ≡ Into → ear ≡ short_ear (ear_after party.frame ears.into pdu) → (let now : Ears = record { out_ = ears.out_; into = ear } in now) ≡ ears_with party ears (record { flow = flow; pdu = pdu })
-into_ears party ears ear Into pdu is hears = ap (λ (one : Ear). let now : Ears = record { out_ = ears.out_; into = one } in now) hears
-into_ears party ears ear Out pdu is hears = cc
-
 -- ---- packets
 
 pub told_both : (t : Tally) (xs ys : List (Option PlainPacket)) → told_from t (xs ++ ys) ≡ told_from t xs ++ told_from (fold tally_after t xs) ys
@@ -249,14 +245,5 @@ packet_after party psm mode m flow pdu psm_is flow_is =
     ap (λ (n : ℕ). let c : Carriage = record { flow = Into; pdu = pdu } in matter_after party (carrier n) mode m c) (sym psm_is)
     ∙ ap (λ (way : Flow). let c : Carriage = record { flow = way; pdu = pdu } in matter_after party (carrier psm) mode m c) (sym flow_is)
 
-pub packet_told : (party : Party) (psm : ℕ) (mode : Mode) (m : Matter) (flow : Flow) (pdu : List ℕ) → psm ≡ 4097 → flow ≡ Into
-    → told_with party OverL2cap mode m (record { flow = Into; pdu = pdu }) ≡ told_now party (carrier psm) mode m (record { flow = flow; pdu = pdu })
-packet_told party psm mode m flow pdu psm_is flow_is =
-    ap (λ (n : ℕ). let c : Carriage = record { flow = Into; pdu = pdu } in told_now party (carrier n) mode m c) (sym psm_is)
-    ∙ ap (λ (way : Flow). let c : Carriage = record { flow = way; pdu = pdu } in told_now party (carrier psm) mode m c) (sym flow_is)
-
 pub frame_after : (party : Party) (psm : ℕ) (mode : Mode) (m : Matter) (c : Carriage) → psm ≡ 3 → heard_with party OverRfcomm mode m c ≡ matter_after party (carrier psm) mode m c
 frame_after party psm mode m c is = ap (λ (n : ℕ). matter_after party (carrier n) mode m c) (sym is)
-
-pub frame_told : (party : Party) (psm : ℕ) (mode : Mode) (m : Matter) (c : Carriage) → psm ≡ 3 → told_with party OverRfcomm mode m c ≡ told_now party (carrier psm) mode m c
-frame_told party psm mode m c is = ap (λ (n : ℕ). told_now party (carrier n) mode m c) (sym is)

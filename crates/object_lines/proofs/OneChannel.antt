@@ -28,54 +28,6 @@ use Rattle.link_readers.specs.talk_laws.specs.LinkObjects.{PlacedObject, placed_
 use Rattle.link_readers.specs.talk_laws.proofs.LinkObjects.{objects-fall_to_channels}
 use Rattle.object_lines.specs.Alone.{has_endpoint, IsSilent, AreSilent, IsSole}
 
--- ---- the SDUs that come in
-
-same_way : (list : List (List ℕ)) → spoken_one_way Into (map (spoken_as Into) list) ≡ list
-same_way [] = refl
-same_way (octets ∷ list) = ap (λ xs. octets ∷ xs) (same_way list)
-
-other_way : (list : List (List ℕ)) → spoken_one_way Into (map (spoken_as Out) list) ≡ []
-other_way [] = refl
-other_way (octets ∷ list) = other_way list
-
-abbrev came : Party → Mode → List Carriage → List (List ℕ)
-came party mode past = sdus_by party.frame mode (pdus_of Into past)
-
-comes : (party : Party) (mode : Mode) (past : List Carriage) (flow : Flow) (pdu : List ℕ)
-    → came party mode past ++ spoken_one_way Into (spoken_now party mode (ears_so_far party past) (record { flow = flow; pdu = pdu })) ≡ came party mode (past ++ record { flow = flow; pdu = pdu } ∷ [])
-comes party mode past Into pdu =
-    ap (λ xs. came party mode past ++ xs) (same_way (sdus_with party.frame mode (ear_of Into (ears_so_far party past)) pdu))
-    ∙ ap (λ ear. came party mode past ++ sdus_with party.frame mode ear pdu) (sdus-look_back.ways party Into past)
-    ∙ sym (sdus-grow.one_way party.frame mode (pdus_of Into past) pdu)
-    ∙ ap (sdus_by party.frame mode) (sym (filter_map-append (one_way Into) past (record { flow = Into; pdu = pdu } ∷ [])))
-comes party mode past Out pdu =
-    ap (λ xs. came party mode past ++ xs) (other_way (sdus_with 65535 mode (ear_of Out (ears_so_far party past)) pdu))
-    ∙ append-nil (came party mode past)
-    ∙ ap (sdus_by party.frame mode) (sym (append-nil (pdus_of Into past)))
-    ∙ ap (sdus_by party.frame mode) (sym (filter_map-append (one_way Into) past (record { flow = Out; pdu = pdu } ∷ [])))
-
-abbrev HeardIs : Party → Mode → List Carriage → Type 0
-HeardIs party mode past = spoken_one_way Into (given_by (spoken_with party mode) past) ≡ came party mode past
-
-heard_more : (party : Party) (mode : Mode) (past : List Carriage) (more : Carriage) → HeardIs party mode past → HeardIs party mode (past ++ more ∷ [])
-heard_more party mode past more held =
-    let now = spoken_now party mode (ears_so_far party past) more in
-    ap (spoken_one_way Into) (sdus-grow.both_ways party mode past more)
-    ∙ filter_map-append (spoken_way Into) (given_by (spoken_with party mode) past) now
-    ∙ ap (λ xs. xs ++ spoken_one_way Into now) held
-    ∙ comes party mode past more.flow more.pdu
-
-none_heard : (party : Party) (mode : Mode) → HeardIs party mode []
-none_heard party Mode.Basic = refl
-none_heard party Mode.Enhanced = refl
-
-heard_is : (party : Party) (mode : Mode) (carriages : List Carriage) → HeardIs party mode carriages
-heard_is party mode carriages = from_end (HeardIs party mode) (none_heard party mode) (heard_more party mode) carriages
-
--- over L2CAP each SDU that comes in is a packet
-pub packets_are : (party : Party) (channel : Channel) (said : List Saying) → channel.psm ≡ 4097 → sdus_of party (mode_of channel said) Into (stretch channel said) ≡ packets_heard party channel said
-packets_are party channel said is = sym (heard_is party (mode_of channel said) (stretch channel said)) ∙ ap (spoken_one_way Into) (over_l2cap party channel.psm (spoken party channel said) is)
-
 -- other protocols than the two carry no packets
 pub no_objects : (party : Party) (channel : Channel) (said : List Saying) → (channel.psm ≡ 4097 → ⊥) → (channel.psm ≡ 3 → ⊥) → [] ≡ channel_objects party channel said
 no_objects party channel said first second = ap (λ sdus. spelled_within party.packet (spoken_one_way Into sdus)) (over_nothing party channel.psm (spoken party channel said) first second)

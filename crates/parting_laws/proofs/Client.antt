@@ -1,39 +1,28 @@
 -- A client that is told of no channel which its peer closed has that outcome by the end of its link alone: no link is there then.
-use Rattle.std.proofs.Common.{◌≡◌, ℕ, List, [], ◌∷◌, ◌++◌, length, Bool, true, false, not, ◌&&◌, ◌||◌, eqb, cond, if◌then◌else◌, Option, Some, None, Result, Ok, Err, refl, sym, ap, subst, ◌∙◌}
-use Rattle.std.specs.Prelude.{nat_lt, is_none}
+use Rattle.std.proofs.Common.{◌≡◌, ℕ, List, [], ◌∷◌, ◌++◌, Bool, true, false, not, ◌&&◌, ◌||◌, eqb, cond, if◌then◌else◌, Option, Some, None, Result, Ok, Err, refl, sym, ap, subst, ◌∙◌}
 use Rattle.std.specs.List.{AllByRecursion}
 use Rattle.cause_laws.specs.bt_base.specs.declared.ports.PortFault.{PortFault}
 use Rattle.cause_laws.specs.bt_base.specs.declared.ports.PortFault.TheVariants as fault
 use Rattle.cause_laws.specs.bt_base.specs.declared.settings.Settings.{Settings}
-use Rattle.cause_laws.specs.bt_base.specs.declared.settings.Transport.{Transport}
-use Rattle.cause_laws.specs.bt_base.specs.declared.settings.Transport.TheVariants.{L2cap, Rfcomm}
 use Rattle.cause_laws.specs.push_terms.specs.declared.outcome.Outcome.{Outcome}
-use Rattle.cause_laws.specs.push_terms.specs.declared.outcome.Outcome.TheVariants.{RetryLimit, NoService, ShelfFault, Cancelled as PushCancelled, PeerClosed, PeerFault}
+use Rattle.cause_laws.specs.push_terms.specs.declared.outcome.Outcome.TheVariants.{RetryLimit, ShelfFault, Cancelled as PushCancelled, PeerClosed, PeerFault}
 use Rattle.cause_laws.specs.channel_model.specs.declared.event.ChannelEvent.{ChannelEvent}
 use Rattle.cause_laws.specs.channel_model.specs.declared.event.ChannelEvent.TheVariants as channels
 use Rattle.cause_laws.specs.channel_model.specs.declared.event.CloseReason.{CloseReason}
 use Rattle.cause_laws.specs.channel_model.specs.declared.event.CloseReason.TheVariants as reasons
 use Rattle.cause_laws.specs.channel_model.specs.Calls.{peer_mtu, waits}
 use Rattle.cause_laws.specs.channel_model.specs.Value.{Channels}
-use Rattle.cause_laws.specs.rfcomm_model.specs.Hearing as mux
-use Rattle.cause_laws.specs.sdp_client.specs.declared.reason.Found.{Found}
-use Rattle.cause_laws.specs.sdp_client.specs.declared.reason.Found.TheVariants as found
-use Rattle.cause_laws.specs.sdp_client.specs.declared.reason.QueryReason.{QueryReason}
-use Rattle.cause_laws.specs.sdp_client.specs.declared.reason.QueryReason.TheVariants.{BadReply, ErrorCode, WrongTransaction, TooLong}
 use Rattle.cause_laws.specs.sdp_client.specs.Asking.{is_due}
-use Rattle.cause_laws.specs.sdp_client.specs.Hearing.{found_at}
 use Rattle.cause_laws.specs.push_model.specs.declared.closing.CloseCause.{CloseCause}
 use Rattle.cause_laws.specs.push_model.specs.declared.closing.CloseCause.TheVariants as closing
-use Rattle.cause_laws.specs.push_model.specs.declared.course.Point.TheVariants.{Due, Asked}
 use Rattle.cause_laws.specs.push_model.specs.declared.course.Stage.{Stage}
 use Rattle.cause_laws.specs.push_model.specs.declared.course.Stage.TheVariants.{Rest, Link, SearchChannel, Search, SearchEnd, Features, ObjectChannel, Object, ObjectEnd, LinkEnd, Over}
-use Rattle.cause_laws.specs.push_model.specs.Causes.{cause_of_page, cause_of_close, cause_of_link, cause_of_query, cause_of_mux, small_channel}
-use Rattle.cause_laws.specs.push_model.specs.Client.{Client, is_direct, begins, begun_by, cancelled, may_cancel, in_order, at_once, ends, ends_by}
+use Rattle.cause_laws.specs.push_model.specs.Causes.{cause_of_page, cause_of_close, cause_of_link}
+use Rattle.cause_laws.specs.push_model.specs.Client.{Client, begins, begun_by, cancelled, may_cancel, in_order, at_once, ends, ends_by}
 use Rattle.cause_laws.specs.push_model.specs.Events as events
 use Rattle.cause_laws.specs.push_model.specs.Events.{is_linked, is_paging, over_by, search_psm}
 use Rattle.cause_laws.specs.push_model.specs.Laws.{Deed, Hears, Asks, Finishes, Cancels, done}
-use Rattle.cause_laws.specs.push_model.specs.Responding.{is_left}
-use Rattle.cause_laws.specs.push_model.specs.Shown.{way_of, found_shows, watched, closed_shows, opened_shows, response_shows, stream_shows, up_shows, object_shows, outside_shows, sdu_shows, shows}
+use Rattle.cause_laws.specs.push_model.specs.Shown.{watched, closed_shows, opened_shows, sdu_shows, shows}
 use Rattle.cause_laws.specs.push_model.specs.Steps.{Step, Wait, MakeLink, AskFeatures, OpenChannel, SendSdu, CloseChannel, BreakLink, Ended, NoMemory, Part, Stepped, tells_end, rests, steps_at, steps}
 use Rattle.cause_laws.specs.push_model.proofs.CauseLaws.{first_causes_stay}
 use Rattle.cause_laws.specs.world_model.specs.Machines.{Up, Down, News, Linked, Failed, Heard, TimerFired, Cancelled, Opening}
@@ -43,8 +32,9 @@ use Rattle.cause_laws.specs.host_model.specs.Shelves.{size_for, name_for}
 use Rattle.cause_laws.specs.host_laws.specs.Feeds.{Feed, Gifts, Learns, Receives, Happens, Sent, Steps, fed, all_fed}
 use Rattle.cause_laws.specs.host_laws.specs.Pushing.{Affair, Begins, Does, client_behind, end_asked, then_ends, link_asked, then_calls, news_pushed, opened_pushed, closed_pushed, event_pushed, sent_pushed, step_pushed, pushed_with, pushed_from}
 use Rattle.cause_laws.specs.host_laws.proofs.Pushing.{all_pushed}
-use Rattle.cause_laws.proofs.Clients.{is_responded, is_shelf, Within, within_more, either, response_responds, stream_responds, asks_within, Came, came_by}
+use Rattle.cause_laws.proofs.Clients.{is_shelf, Within, within_more, either, asks_within, Came, came_by}
 use Rattle.parting_laws.specs.Parting.{is_closed_by_peer}
+use Rattle.parting_laws.proofs.Shown.{is_else, opened_else, sdu_else}
 use Rattle.parting_laws.proofs.Tidings.{FeedSo}
 
 -- ---- events
@@ -243,63 +233,9 @@ parts_link reason client parted = by (is_linked client.stage)
 
 -- ---- what it hears
 
-responded_other : (outcome : Outcome) → is_responded outcome ≡ true → is_other outcome ≡ true
-responded_other PeerClosed is = cc
-responded_other outcome is = refl
-
-opened_other : (stage : Stage) (psm mtu : ℕ) (client : Client) → Within is_other (opened_shows stage psm mtu client)
-opened_other Rest psm mtu client = tt
-opened_other (Link point) psm mtu client = tt
-opened_other (SearchChannel point) psm mtu client = tt
-opened_other Search psm mtu client = tt
-opened_other (SearchEnd point) psm mtu client = tt
-opened_other (Features point) psm mtu client = tt
-opened_other (ObjectChannel Due) psm mtu client = tt
-opened_other (ObjectChannel Asked) psm mtu client = either is_other (eqb psm client.psm && (is_direct client.transport && nat_lt mtu 255)) (Some small_channel) None refl tt
-opened_other Object psm mtu client = tt
-opened_other (ObjectEnd point) psm mtu client = tt
-opened_other (LinkEnd point) psm mtu client = tt
-opened_other Over psm mtu client = tt
-
-query_other : (reason : QueryReason) → Within is_other (cause_of_query reason)
-query_other BadReply = refl
-query_other (ErrorCode code) = refl
-query_other WrongTransaction = tt
-query_other TooLong = refl
-
-found_other : (transport : Transport) (what : Found) → Within is_other (found_shows transport what)
-found_other transport found.More = tt
-found_other transport (found.Service target) = either is_other (is_none (way_of transport target)) (Some NoService) None refl tt
-found_other transport found.NoService = refl
-found_other transport (found.Refused reason) = query_other reason
-
-up_other : (news : mux.Up) (client : Client) → Within is_other (up_shows news client)
-up_other mux.nothing client = tt
-up_other mux.opened client = tt
-up_other (mux.bytes octets) client =
-    within_more is_responded is_other responded_other (stream_shows (length (client.held ++ octets)) (client.held ++ octets) client) (stream_responds (length (client.held ++ octets)) (client.held ++ octets) client)
-up_other (mux.closed reason) client = either is_other (is_left client.contact reason) None (Some (cause_of_mux reason)) tt refl
-
-object_other : (transport : Transport) (sdu : List ℕ) (client : Client) → Within is_other (object_shows transport sdu client)
-object_other L2cap sdu client = within_more is_responded is_other responded_other (response_shows sdu client) (response_responds sdu client)
-object_other Rfcomm sdu client = up_other (mux.up sdu client.mux) (record client { mux = mux.hears sdu client.mux })
-
-outside_other : (transport : Transport) → Within is_other (outside_shows transport)
-outside_other L2cap = refl
-outside_other Rfcomm = tt
-
-sdu_other : (stage : Stage) (psm : ℕ) (sdu : List ℕ) (client : Client) → Within is_other (sdu_shows stage psm sdu client)
-sdu_other Rest psm sdu client = tt
-sdu_other (Link point) psm sdu client = tt
-sdu_other (SearchChannel point) psm sdu client = tt
-sdu_other Search psm sdu client = either is_other (eqb psm search_psm) (found_shows client.transport (found_at client.query sdu)) None (found_other client.transport (found_at client.query sdu)) tt
-sdu_other (SearchEnd point) psm sdu client = tt
-sdu_other (Features point) psm sdu client = tt
-sdu_other (ObjectChannel point) psm sdu client = either is_other (eqb psm client.psm) (outside_shows client.transport) None (outside_other client.transport) tt
-sdu_other Object psm sdu client = either is_other (eqb psm client.psm) (object_shows client.transport sdu client) None (object_other client.transport sdu client) tt
-sdu_other (ObjectEnd point) psm sdu client = either is_other (eqb psm client.psm) (outside_shows client.transport) None (outside_other client.transport) tt
-sdu_other (LinkEnd point) psm sdu client = tt
-sdu_other Over psm sdu client = tt
+else_other : (outcome : Outcome) → is_else outcome ≡ true → is_other outcome ≡ true
+else_other PeerClosed is = cc
+else_other outcome is = refl
 
 deed_parted : (deed : Deed) (client : Client) → Keeps deed → IsParted client → IsParted (done deed client)
 deed_parted deed client keeps parted = by client.cause refl deed keeps
@@ -308,9 +244,9 @@ deed_parted deed client keeps parted = by client.cause refl deed keeps
     fresh (Hears (events.LinkDown reason)) so none = parts_link reason client parted
     fresh (Hears events.LinkUp) so none = comes (Hears events.LinkUp) client none tt
     fresh (Hears (events.LinkFailed status)) so none = comes (Hears (events.LinkFailed status)) client none (either is_other (is_paging client.stage) (Some (cause_of_page status)) None refl tt)
-    fresh (Hears (events.ChannelOpen psm mtu)) so none = comes (Hears (events.ChannelOpen psm mtu)) client none (opened_other client.stage psm mtu client)
+    fresh (Hears (events.ChannelOpen psm mtu)) so none = comes (Hears (events.ChannelOpen psm mtu)) client none (within_more is_else is_other else_other (opened_shows client.stage psm mtu client) (opened_else client.stage psm mtu client))
     fresh (Hears (events.ChannelClosed psm cause)) so none = comes (Hears (events.ChannelClosed psm cause)) client none (closed_other psm cause (watched client.stage client) so)
-    fresh (Hears (events.Sdu psm sdu)) so none = comes (Hears (events.Sdu psm sdu)) client none (sdu_other client.stage psm sdu client)
+    fresh (Hears (events.Sdu psm sdu)) so none = comes (Hears (events.Sdu psm sdu)) client none (within_more is_else is_other else_other (sdu_shows client.stage psm sdu client) (sdu_else client.stage psm sdu client))
     fresh (Hears events.FeaturesTold) so none = comes (Hears events.FeaturesTold) client none tt
     fresh (Hears events.FeaturesLost) so none = comes (Hears events.FeaturesLost) client none (either is_other (events.is_asking_features client.stage) (Some RetryLimit) None refl tt)
     fresh (Hears events.Timer) so none = comes (Hears events.Timer) client none (either is_other ((events.armed client && not (client.given || is_due client.query)) && (eqb client.left 0)) (Some RetryLimit) None refl tt)

@@ -1,5 +1,11 @@
 mod Tidings
+mod Shown
+mod Deeds
+mod Plain
+mod Limiting
+mod Weaving
 mod Server
 mod Client
 mod Radio
 mod Runs
+mod Limits

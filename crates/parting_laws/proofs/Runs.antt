@@ -141,10 +141,10 @@ not_lame false new goes well = refl
 
 -- ---- what both hosts ask of their channels
 
-both_step : (settings : Settings) → AsksAsItSteps settings (both_ask.clients settings)
+pub both_step : (settings : Settings) → AsksAsItSteps settings (both_ask.clients settings)
 both_step settings v pushing = let one = steps pushing.client (fitted pushing) in clients-call settings v pushing ∙ asked_is one.step v (record pushing { client = one.client; parts = unused one.left pushing.parts })
 
-within_both : BothSendWithin both_ask
+pub within_both : BothSendWithin both_ask
 within_both = record { clients = clients_within; servers = servers_within }
 
 -- ---- a moment of a run

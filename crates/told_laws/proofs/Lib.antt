@@ -1,3 +1,4 @@
 pub mod Events
 pub mod Timed
 pub mod Turning
+pub mod Limits

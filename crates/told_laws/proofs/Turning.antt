@@ -121,10 +121,10 @@ module _ (These : ℕ → Type 0) (Guarded : Type 0) where
   unsaid end' one coming none guarded identifier own peer stands = none guarded identifier own peer (stands-right _ end'.run.said (said_in end'.policy one end'.run.value) stands)
 
   -- the machine of the channel withstands what comes first and what is damaged, and the timer finds no limit
-  record Stands (happening : Happening) (end' : End) : Type 0 where
-    front : (pdu : List ℕ) (behind : List (List ℕ)) → end'.coming ≡ pdu ∷ behind → Withstands These Guarded pdu end'.run.value
-    damage : (other : List ℕ) → IsSeen end'.coming other → (pdu : List ℕ) (behind : List (List ℕ)) → end'.coming ≡ pdu ∷ behind → Withstands These Guarded other end'.run.value
-    timer : happening ≡ Acts Fires → AllMild These Guarded end'.run.value → AllMild These Guarded (value_after end'.policy Fires end'.run.value)
+  pub record Stands (happening : Happening) (end' : End) : Type 0 where
+    pub front : (pdu : List ℕ) (behind : List (List ℕ)) → end'.coming ≡ pdu ∷ behind → Withstands These Guarded pdu end'.run.value
+    pub damage : (other : List ℕ) → IsSeen end'.coming other → (pdu : List ℕ) (behind : List (List ℕ)) → end'.coming ≡ pdu ∷ behind → Withstands These Guarded other end'.run.value
+    pub timer : happening ≡ Acts Fires → AllMild These Guarded end'.run.value → AllMild These Guarded (value_after end'.policy Fires end'.run.value)
 
   alone_told : (end' : End) (one : Occurrence) → is_alone one ≡ true → (one ≡ Fires → AllMild These Guarded end'.run.value → AllMild These Guarded (value_after end'.policy Fires end'.run.value)) → AllMild These Guarded end'.run.value → AllMild These Guarded (value_after end'.policy one end'.run.value)
   alone_told end' (Comes pdu) alone timer all = cc
@@ -136,48 +136,76 @@ module _ (These : ℕ → Type 0) (Guarded : Type 0) where
   alone_told end' Fires alone timer all = timer refl all
   alone_told end' Tells alone timer all = rest_waits end'.run.value all
 
-  near_told : (pair : Pair) (happening : Happening) → Stands happening pair.near → IsRead happening pair.near → IsCarried happening pair.near → AllByRecursion IsSingle pair.near.coming → (Guarded → AnswersNoEnd (happens_near happening pair).near.run.said)
-      → Told pair.near.run → Told (happens_near happening pair).near.run
-  near_told pair (Acts one) stands read passes single none told = by (is_alone one) refl
+  -- what goes on with each thing that happens to it, where what waits stays mild
+  abbrev pub GoesOn : (Run → Type 0) → Type 0
+  GoesOn K = (end' : End) (one : Occurrence) → K end'.run → (AllMild These Guarded end'.run.value → AllMild These Guarded (value_after end'.policy one end'.run.value)) → K (occurs one end').run
+
+  pub near_goes : (K : Run → Type 0) → GoesOn K → (pair : Pair) (happening : Happening) → Stands happening pair.near → IsRead happening pair.near → IsCarried happening pair.near → AllByRecursion IsSingle pair.near.coming → (Guarded → AnswersNoEnd (happens_near happening pair).near.run.said)
+      → K pair.near.run → K (happens_near happening pair).near.run
+  near_goes K goes pair (Acts one) stands read passes single none told = by (is_alone one) refl
     where
-      by : (alone : Bool) → is_alone one ≡ alone → Told (cond alone (with_near (occurs one pair.near) pair) pair).near.run
-      by true alone = occurs_told pair.near one told (alone_told pair.near one alone (λ fires. stands.timer (ap Acts fires)))
+      by : (alone : Bool) → is_alone one ≡ alone → K (cond alone (with_near (occurs one pair.near) pair) pair).near.run
+      by true alone = goes pair.near one told (alone_told pair.near one alone (λ fires. stands.timer (ap Acts fires)))
       by false alone = told
-  near_told pair (Puts pdu) stands read passes single none told = by (next_given pair.near.run.value)
+  near_goes K goes pair (Puts pdu) stands read passes single none told = by (next_given pair.near.run.value)
     where
-      by : (given : Option Given) → Told (puts given pdu pair).near.run
+      by : (given : Option Given) → K (puts given pdu pair).near.run
       by None = told
-      by (Some given) = occurs_told pair.near (Gives pdu) told (alone_mildly These Guarded pair.near.policy (Gives pdu) pair.near.run.value (λ e. cc) (λ pdu e. cc) (λ e. cc))
-  near_told pair Takes stands read passes single none told = by pair.near.coming refl none
+      by (Some given) = goes pair.near (Gives pdu) told (alone_mildly These Guarded pair.near.policy (Gives pdu) pair.near.run.value (λ e. cc) (λ pdu e. cc) (λ e. cc))
+  near_goes K goes pair Takes stands read passes single none told = by pair.near.coming refl none
     where
-      by : (coming : List (List ℕ)) → pair.near.coming ≡ coming → (Guarded → AnswersNoEnd (takes_first coming pair.near).run.said) → Told (takes_first coming pair.near).run
+      by : (coming : List (List ℕ)) → pair.near.coming ≡ coming → (Guarded → AnswersNoEnd (takes_first coming pair.near).run.said) → K (takes_first coming pair.near).run
       by [] is so = told
       by (pdu ∷ coming) is so =
           let each : AllByRecursion IsSingle (pdu ∷ coming) = subst (AllByRecursion IsSingle) is single in
-          occurs_told (let_go coming pair.near) (Comes pdu) told (comes_mildly These Guarded pair.near.policy pair.near.run.value pdu each.0 (stands.front pdu coming is) (unsaid pair.near (Comes pdu) coming so))
-  near_told pair Repeats stands read passes single none told = by pair.near.coming refl none
+          goes (let_go coming pair.near) (Comes pdu) told (comes_mildly These Guarded pair.near.policy pair.near.run.value pdu each.0 (stands.front pdu coming is) (unsaid pair.near (Comes pdu) coming so))
+  near_goes K goes pair Repeats stands read passes single none told = by pair.near.coming refl none
     where
-      by : (coming : List (List ℕ)) → pair.near.coming ≡ coming → (Guarded → AnswersNoEnd (repeats_first coming pair.near).run.said) → Told (repeats_first coming pair.near).run
+      by : (coming : List (List ℕ)) → pair.near.coming ≡ coming → (Guarded → AnswersNoEnd (repeats_first coming pair.near).run.said) → K (repeats_first coming pair.near).run
       by [] is so = told
       by (pdu ∷ coming) is so =
           let each : AllByRecursion IsSingle (pdu ∷ coming) = subst (AllByRecursion IsSingle) is single in
-          occurs_told pair.near (Comes pdu) told (comes_mildly These Guarded pair.near.policy pair.near.run.value pdu each.0 (stands.front pdu coming is) (unsaid pair.near (Comes pdu) pair.near.coming so))
-  near_told pair Loses stands read passes single none told = by pair.near.coming
+          goes pair.near (Comes pdu) told (comes_mildly These Guarded pair.near.policy pair.near.run.value pdu each.0 (stands.front pdu coming is) (unsaid pair.near (Comes pdu) pair.near.coming so))
+  near_goes K goes pair Loses stands read passes single none told = by pair.near.coming
     where
-      by : (coming : List (List ℕ)) → Told (loses_first coming pair.near).run
+      by : (coming : List (List ℕ)) → K (loses_first coming pair.near).run
       by [] = told
       by (pdu ∷ coming) = told
-  near_told pair (Damages other) stands read passes single none told = by pair.near.coming refl none
+  near_goes K goes pair (Damages other) stands read passes single none told = by pair.near.coming refl none
     where
-      by : (coming : List (List ℕ)) → pair.near.coming ≡ coming → (Guarded → AnswersNoEnd (damages_first other coming pair.near).run.said) → Told (damages_first other coming pair.near).run
+      by : (coming : List (List ℕ)) → pair.near.coming ≡ coming → (Guarded → AnswersNoEnd (damages_first other coming pair.near).run.said) → K (damages_first other coming pair.near).run
       by [] is so = told
       by (pdu ∷ coming) is so = checked (has_fcs (channel_of pdu) pair.near.run.value) so
         where
-          checked : (b : Bool) → (Guarded → AnswersNoEnd (cond b (occurs (Comes other) (let_go coming pair.near)) (let_go coming pair.near)).run.said) → Told (cond b (occurs (Comes other) (let_go coming pair.near)) (let_go coming pair.near)).run
+          checked : (b : Bool) → (Guarded → AnswersNoEnd (cond b (occurs (Comes other) (let_go coming pair.near)) (let_go coming pair.near)).run.said) → K (cond b (occurs (Comes other) (let_go coming pair.near)) (let_go coming pair.near)).run
           checked true now =
-              occurs_told (let_go coming pair.near) (Comes other) told
+              goes (let_go coming pair.near) (Comes other) told
               (comes_mildly These Guarded pair.near.policy pair.near.run.value other (λ signals. let never : true ≡ false = sym signals ∙ read in absurd cc) (stands.damage other passes pdu coming is) (unsaid pair.near (Comes other) coming now))
           checked false now = told
+
+  near_told : (pair : Pair) (happening : Happening) → Stands happening pair.near → IsRead happening pair.near → IsCarried happening pair.near → AllByRecursion IsSingle pair.near.coming → (Guarded → AnswersNoEnd (happens_near happening pair).near.run.said)
+      → Told pair.near.run → Told (happens_near happening pair).near.run
+  near_told = near_goes Told occurs_told
+
+-- ---- two hosts, at each moment
+
+-- the hosts ask in order, and answer requests for options with success; few turns upset, and the near one's requests for channels are responded to
+pub record Few (near far : Policy) (turns : List Turn) : Type 0 where
+  pub orderly : AreOrderly near far turns
+  pub machines : FewNearMachines near far turns
+  pub answers : AnswerWell near far turns
+  pub calls : (own : ℕ) → AreMet (errands.Connection own) Near near far turns
+
+pub few_ahead : (near far : Policy) (past later : List Turn) → Few near far (past ++ later) → Few near far past
+few_ahead near far past later few = record {
+  orderly = orderly_ahead near far past later few.orderly;
+  machines = λ psm. let most = few.machines psm in let less = upsets-ahead (new_pair near far) past later in omega (arith, less, most);
+  answers = record {
+    near_answers = λ identifier peer flags result options stands. few.answers.near_answers identifier peer flags result options (said_ahead near far Near past later _ stands);
+    far_answers = λ identifier peer flags result options stands. few.answers.far_answers identifier peer flags result options (said_ahead near far Far past later _ stands);
+  };
+  calls = λ own. met-ahead near far past later Near (errands.Connection own) (few.calls own);
+}
 
 -- ---- two hosts, and a channel of the near one
 
@@ -187,21 +215,12 @@ module _ (near far : Policy) (can : (psm : ℕ) → CanStateBoth near far psm) (
 
   -- it remains at the far one, where so it is
   record Well (turns : List Turn) : Type 0 where
-    orderly : AreOrderly near far turns
-    machines : FewNearMachines near far turns
-    answers : AnswerWell near far turns
-    calls : AreMet (errands.Connection mine) Near near far turns
+    few : Few near far turns
     stays : So → Remains mine (pair_of near far turns).far.run.said
 
   well_ahead : (past later : List Turn) → Well (past ++ later) → Well past
   well_ahead past later well = record {
-    orderly = orderly_ahead near far past later well.orderly;
-    machines = λ psm. let most = well.machines psm in let less = upsets-ahead (new_pair near far) past later in omega (arith, less, most);
-    answers = record {
-      near_answers = λ identifier peer flags result options stands. well.answers.near_answers identifier peer flags result options (said_ahead near far Near past later _ stands);
-      far_answers = λ identifier peer flags result options stands. well.answers.far_answers identifier peer flags result options (said_ahead near far Far past later _ stands);
-    };
-    calls = met-ahead near far past later Near (errands.Connection mine) well.calls;
+    few = few_ahead near far past later well.few;
     stays = λ so. record {
       unanswered = λ identifier peer answered. (well.stays so).unanswered identifier peer (said_ahead near far Far past later _ answered);
       not_forgone = λ peer gave. (well.stays so).not_forgone peer (said_ahead near far Far past later _ gave);
@@ -209,11 +228,11 @@ module _ (near far : Policy) (can : (psm : ℕ) → CanStateBoth near far psm) (
   }
 
   goes : (turns : List Turn) → Well turns → GoOn near far turns
-  goes turns well = go near far turns can well.orderly well.machines well.answers
+  goes turns well = go near far turns can well.few.orderly well.few.machines well.few.answers
 
   unanswered : (turns : List Turn) → Well turns → AnswersNoEnd (pair_of near far turns).near.run.said
   unanswered turns well identifier own peer answered =
-      let asked = asked_for near far turns well.orderly.read Near identifier own peer answered in (goes turns well).lasts.no_end asked.0 peer own asked.1
+      let asked = asked_for near far turns well.few.orderly.read Near identifier own peer answered in (goes turns well).lasts.no_end asked.0 peer own asked.1
 
   record Holds (past : List Turn) : Type 0 where
     told : Told This (Unit {0}) (pair_of near far past).near.run
@@ -233,7 +252,7 @@ module _ (near far : Policy) (can : (psm : ℕ) → CanStateBoth near far psm) (
     before = well_ahead past (turn ∷ []) well
 
     o : AreOrderly near far past
-    o = before.orderly
+    o = before.few.orderly
 
     on : GoOn near far past
     on = goes past before
@@ -244,38 +263,38 @@ module _ (near far : Policy) (can : (psm : ℕ) → CanStateBoth near far psm) (
     there : So → (channel : Channel) → HaveChannel near far past channel → channel.own ≡ mine → IsThere channel.peer pair.far.run.value
     there so channel have same = far-there asked_for near far past o.read on.lasts.no_end channel have on.lasts (subst (λ n. Remains n pair.far.run.said) (sym same) (before.stays so))
 
-    few : disturbances (new_pair near far) after < near.tries
-    few = let less = calm (new_pair near far) after in let most = well.orderly.few_near in omega (arith, less, most)
+    fewer : disturbances (new_pair near far) after < near.tries
+    fewer = let less = calm (new_pair near far) after in let most = well.few.orderly.few_near in omega (arith, less, most)
 
     unspent : (errand : Errand) → AreMet errand Near near far past → happening ≡ Acts Fires → (request : Request) → request_of errand pair.near.run.value ≡ Some request → request.given < near.tries
-    unspent errand met fires request is = unspent-at heeded near far past turn o.fair o.read Near errand met fires near.tries few request is
+    unspent errand met fires request is = unspent-at heeded near far past turn o.fair o.read Near errand met fires near.tries fewer request is
 
     lone : Distinct own_of pair.near.run.value.held
     lone = let (list, is) = (each-end_runs near far past).0 in subst (λ (r : Run). Distinct own_of r.value.held) (sym is) (all-sound near list).core.lone
 
     lasts : happening ≡ Acts Fires → So → (setup : Setup) → setup_on (held_at mine pair.near.run.value) ≡ Some setup → IsUnspent near.tries setup.own setup.carrier
     lasts fires so =
-        withstands-timer near far past o.fair o.read o.carried paid can before.machines mine (there so) (unspent (errands.Configuration mine) (options near far past o.read o.room Near o.near_rise mine (before.stays so)) fires)
+        withstands-timer near far past o.fair o.read o.carried paid can before.few.machines mine (there so) (unspent (errands.Configuration mine) (options near far past o.read o.room Near o.near_rise mine (before.stays so)) fires)
 
     timer : happening ≡ Acts Fires → AllMild This (Unit {0}) pair.near.run.value → AllMild This (Unit {0}) (value_after pair.near.policy Fires pair.near.run.value)
     timer fires all =
         subst (λ (p : Policy). AllMild This (Unit {0}) (value_after p Fires pair.near.run.value)) (sym (end-policy near far past Near))
-        (times_mildly near.tries (let most = o.few_near in omega (arith, most)) mine So (Unit {0}) pair.near.run.value lone (λ so. (close near far past can o before.machines before.answers).kept mine (before.stays so)) (lasts fires)
-        (λ so. unspent (errands.Connection mine) before.calls fires) (λ own. unspent (errands.Disconnection own) (on.ends own) fires) (λ guarded. features_unspent features near far past turn o fires near.tries few) all)
+        (times_mildly near.tries (let most = o.few_near in omega (arith, most)) mine So (Unit {0}) pair.near.run.value lone (λ so. (close near far past can o before.few.machines before.few.answers).kept mine (before.stays so)) (lasts fires)
+        (λ so. unspent (errands.Connection mine) (before.few.calls mine) fires) (λ own. unspent (errands.Disconnection own) (on.ends own) fires) (λ guarded. features_unspent features near far past turn o fires near.tries fewer) all)
 
     stands : Stands This (Unit {0}) happening pair.near
     stands = record {
-      front = λ pdu behind coming_is this setup m found carrier taken. withstands-front near far past o.fair o.read o.carried paid can before.machines mine (there this.1) pdu behind coming_is this.0 setup m found carrier;
+      front = λ pdu behind coming_is this setup m found carrier taken. withstands-front near far past o.fair o.read o.carried paid can before.few.machines mine (there this.1) pdu behind coming_is this.0 setup m found carrier;
       damage = λ other seen pdu behind coming_is this setup m found carrier taken.
-          withstands-damage near far past o.fair o.read o.carried paid can before.machines mine (there this.1) other (subst (λ c. IsSeen c other) coming_is seen).1 this.0 setup m found carrier taken;
+          withstands-damage near far past o.fair o.read o.carried paid can before.few.machines mine (there this.1) other (subst (λ c. IsSeen c other) coming_is seen).1 this.0 setup m found carrier taken;
       timer = timer;
     }
 
     now_read : IsRead happening (end_at side pair)
-    now_read = (each_behind (λ front one. IsRead one.happening (end_at one.side (pair_of near far front))) [] past (turn ∷ []) well.orderly.read).0
+    now_read = (each_behind (λ front one. IsRead one.happening (end_at one.side (pair_of near far front))) [] past (turn ∷ []) well.few.orderly.read).0
 
     now_carried : IsCarried happening (end_at side pair)
-    now_carried = (each_behind (λ front one. IsCarried one.happening (end_at one.side (pair_of near far front))) [] past (turn ∷ []) well.orderly.carried).0
+    now_carried = (each_behind (λ front one. IsCarried one.happening (end_at one.side (pair_of near far front))) [] past (turn ∷ []) well.few.orderly.carried).0
 
   turn_holds : (past : List Turn) (side : Side) (happening : Happening) → Well (past ++ record { side = side; happening = happening } ∷ []) → Holds past → Holds (past ++ record { side = side; happening = happening } ∷ [])
   turn_holds past Near happening well holds = record {
@@ -405,7 +424,7 @@ few-turns_tell_mildly features heeded asked_for options calm paid close go near 
     these own = Remains own (pair_of near far turns).far.run.said
 
     well : (own : ℕ) (So : Type 0) → (So → these own) → Well near far can features heeded asked_for options calm paid close go own So turns
-    well own So stays = record { orderly = orderly; machines = machines; answers = answers; calls = calls own; stays = stays }
+    well own So stays = record { few = record { orderly = orderly; machines = machines; answers = answers; calls = calls }; stays = stays }
 
     -- at each moment
     lasts : (past later : List Turn) → turns ≡ past ++ later → Lasts (pair_of near far past).far.run

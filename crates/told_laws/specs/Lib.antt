@@ -1,2 +1,3 @@
 pub use Rattle.staying_laws
 pub mod Told
+pub mod Limits
