@@ -6,5 +6,6 @@ pub mod Telling
 pub mod Mattering
 pub mod Heard
 pub mod Earing
+pub mod Splitting
 pub mod Packeting
 pub mod Listened
