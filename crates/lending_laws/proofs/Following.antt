@@ -1,6 +1,6 @@
 -- A host in code that goes as another one goes, which is given what its port answers with each thing that it hears: what comes to the one is a run of
 -- the other over units.
-use Rattle.std.proofs.Common.{◌≡◌, ℕ, false, List, [], ◌∷◌, ◌++◌, map, drop, Option, Some, None, refl, sym, ap, ap₂, subst, ◌∙◌, append_assoc}
+use Rattle.std.proofs.Common.{◌≡◌, ℕ, false, List, [], ◌∷◌, ◌++◌, map, drop, Some, None, refl, sym, ap, ap₂, subst, ◌∙◌, append_assoc}
 use Rattle.std.specs.List.{AllByRecursion}
 use Rattle.std.proofs.lemmas.List.{append-nil, map-append}
 use Rattle.std.proofs.lemmas.List.Concat.{flat_map-append}
@@ -8,7 +8,7 @@ use Rattle.call_laws.specs.unit_laws.specs.scenario_laws.specs.h4_framing.specs.
 use Rattle.call_laws.specs.unit_laws.specs.scenario_laws.specs.h4_framing.proofs.FaultLemmas.{spellings_append}
 use Rattle.call_laws.specs.unit_laws.specs.scenario_laws.specs.h4_framing.proofs.ReadingLemmas.{all_append}
 use Rattle.call_laws.specs.bt_host.specs.capture.specs.Moves.{Move}
-use Rattle.call_laws.specs.bt_host.specs.host_link.specs.Hearing.{PlainNews, Nothing, LinkUp, LinkFailed, LinkDown, Pdu, fault_of, news_of, heard}
+use Rattle.call_laws.specs.bt_host.specs.host_link.specs.Hearing.{PlainNews, Nothing, LinkUp, LinkFailed, LinkDown, Pdu, fault_of, news_of}
 use Rattle.call_laws.specs.bt_host.specs.host_link.specs.Lines.{Line, fresh}
 use Rattle.call_laws.specs.bt_host.specs.host_link.specs.PuttingOut.{put_pieces, started}
 use Rattle.call_laws.specs.bt_host.specs.host_link.specs.Stands.{into, out_of}
@@ -18,9 +18,9 @@ use Rattle.call_laws.specs.bt_host.specs.host_model.specs.Circumstances.{Circums
 use Rattle.call_laws.specs.bt_host.specs.host_model.specs.Hosts.{Host, hear, next, has_more}
 use Rattle.call_laws.specs.bt_host.specs.host_model.specs.Profiles.{Profile}
 use Rattle.call_laws.specs.bt_host.specs.Refusals.{acl_limit}
-use Rattle.call_laws.specs.bt_host.specs.Stacks.{Stacked, Standing, Moment, Reacts, Deed, Putting, Saying, Ending, Paging, Commanding, DoesDeed, DoesAll, standing, after_packet, with_host}
+use Rattle.call_laws.specs.bt_host.specs.Stacks.{Stacked, Standing, Moment, Deed, Putting, Saying, Ending, Paging, Commanding, DoesDeed, DoesAll, standing, after_packet, with_host}
 use Rattle.call_laws.specs.bt_host.specs.Uppers.{asking, told_of, hears_told}
-use Rattle.call_laws.specs.unit_laws.specs.Units.{Lined, starting, Occasion, Comes, Learns as Hits, Waits, units_of, units, IsOwnNews, Runs, HasSaidAll, IsToldInTurn, ComesInTurn, hears_line}
+use Rattle.call_laws.specs.unit_laws.specs.Units.{Lined, starting, Occasion, Learns as Hits, Waits, units_of, units, IsOwnNews, Runs, HasSaidAll, IsToldInTurn, ComesInTurn, hears_line}
 use Rattle.call_laws.specs.unit_laws.specs.Laws.{IsUntimed, FiresNone}
 use Rattle.call_laws.specs.unit_laws.specs.Calls.{IsWritable, GoesBy, SaysInOctets, CallsGo}
 use Rattle.call_laws.specs.unit_laws.proofs.Doing.{runs_then, goes_none, calls_are_runs}

@@ -1,16 +1,12 @@
 -- The channels of a server in code are those that their units say.
-use Rattle.std.proofs.Common.{◌≡◌, ◌⊎◌, ℕ, true, false, List, [], Option, Some, None, inl, inr, refl, sym, ap, subst, ◌∙◌}
-use Rattle.std.specs.List.{AllByRecursion}
+use Rattle.std.proofs.Common.{◌≡◌, ℕ, true, List, [], Option, Some, None, inl, inr, refl, sym, ap, subst, ◌∙◌}
 use Rattle.call_laws.specs.bt_host.specs.bt_base.specs.Objects.{Contents}
 use Rattle.call_laws.specs.bt_host.specs.bt_base.specs.declared.settings.Settings.{Settings}
-use Rattle.call_laws.specs.bt_host.specs.push_terms.specs.declared.word.Side.{Side}
 use Rattle.call_laws.specs.bt_host.specs.push_terms.specs.declared.word.Side.TheVariants as sides
-use Rattle.call_laws.specs.bt_host.specs.capture.specs.Entries.{Entry}
 use Rattle.call_laws.specs.bt_host.specs.capture.specs.Links.{Link, link_up}
 use Rattle.call_laws.specs.unit_laws.specs.scenario_laws.specs.link_talk.specs.declared.party.Party.{Party}
 use Rattle.call_laws.specs.bt_host.specs.channel_model.specs.Policies.{Policy, policy}
 use Rattle.call_laws.specs.bt_host.specs.channel_model.specs.Value.{Channels}
-use Rattle.call_laws.specs.bt_host.specs.host_link.specs.declared.role.Role.{Role}
 use Rattle.call_laws.specs.bt_host.specs.host_link.specs.declared.role.Role.TheVariants.{Server}
 use Rattle.call_laws.specs.bt_host.specs.host_model.specs.Circumstances.{Circumstance, answers_in}
 use Rattle.call_laws.specs.bt_host.specs.host_model.specs.Hosts.{Host}

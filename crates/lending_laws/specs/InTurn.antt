@@ -1,6 +1,6 @@
 -- Where nothing that a host in code has to say waits when anything but of its link comes to it, and nobody but the host changes its port (Core 5.1, Volume 2
 -- Part E, 4.1.1, for the buffers for which an answer may wait).
-use Rattle.std.specs.Prelude.{ℕ, ◌≡◌, false, List, [], ◌∷◌}
+use Rattle.std.specs.Prelude.{◌≡◌, false, List, [], ◌∷◌}
 use Rattle.call_laws.specs.bt_host.specs.host_link.specs.Hearing.{PlainNews, Nothing, LinkUp, LinkFailed, LinkDown, Pdu, news_of}
 use Rattle.call_laws.specs.bt_host.specs.host_model.specs.Circumstances.{Circumstance}
 use Rattle.call_laws.specs.bt_host.specs.host_model.specs.Profiles.{Profile}
