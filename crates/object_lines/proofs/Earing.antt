@@ -1,5 +1,5 @@
 -- Which PDUs are picked by their numbers.
-use Rattle.std.proofs.Common.{◌≡◌, ℕ, ◌+◌, ◌*◌, ◌/◌, ◌%◌, ◌<◌, ◌||◌, Bool, true, false, cond, not, eqb, List, [], ◌∷◌, ◌++◌, drop, slice_index, nat_lt, length, Ok, Err, refl, sym, ap, ◌∙◌, arith, append-nil}
+use Rattle.std.proofs.Common.{◌≡◌, ℕ, ◌+◌, ◌/◌, ◌%◌, ◌||◌, Bool, true, false, cond, not, eqb, List, [], ◌∷◌, drop, slice_index, nat_lt, length, Ok, Err, refl, sym, ap, ◌∙◌, arith, append-nil}
 use Rattle.std.proofs.lemmas.Bool.{eq-eqb}
 use Rattle.std.specs.Prelude.{Option, option_map}
 use Rattle.bt_base.specs.Octets.{IsOctets}
@@ -11,7 +11,7 @@ use Rattle.ertm_frames.specs.Reading.{is_whole, check_holds, has_reserved_bit, k
 use Rattle.ertm_frames.proofs.Spelled.{one-answer}
 use Rattle.ertm_frames.proofs.WorkedOut.{answer-is_worked_out}
 use Rattle.ertm_frames.specs.Segments.{Segment}
-use Rattle.ertm_frames.specs.Joining.{Begun, joint, joined_by, ended_by, Joining, At, joined, ended}
+use Rattle.ertm_frames.specs.Joining.{joint, joined_by, ended_by, Joining, joined, ended}
 use Rattle.link_talk.specs.Picks.{pick_in}
 use Rattle.link_readers.specs.talk_laws.specs.Sdus.{Ear, segment_of, ear_after}
 use Rattle.object_lines.specs.declared.segments.Begun.{Begun as LentBegun}

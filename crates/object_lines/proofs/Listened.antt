@@ -2,7 +2,6 @@
 use Rattle.std.proofs.Common.{◌≡◌, ℕ, ◌+◌, ◌<◌, List, [], ◌∷◌, ◌++◌, length, take, get_or, map, refl, sym, ap, subst, ◌∙◌}
 use Rattle.std.proofs.lemmas.List.{map-append}
 use Rattle.capture.proofs.HistoryLaws.{front-more}
-use Rattle.bt_base.specs.Objects.{Object}
 use Rattle.link_talk.specs.declared.channel.Channel.{Channel}
 use Rattle.link_talk.specs.declared.party.Party.{Party}
 use Rattle.link_talk.specs.Sayings.{Saying}
@@ -12,7 +11,7 @@ use Rattle.link_talk.specs.ObjectsHeard.{channel_objects}
 use Rattle.link_talk.proofs.OnePass.{reading-more}
 use Rattle.link_readers.specs.declared.Saying.{Saying as LentSaying}
 use Rattle.link_readers.specs.Lent.{plain_saying, plain_sayings}
-use Rattle.link_readers.specs.talk_laws.specs.Spelling.{no_hearing, hearing_with, objects_told, hearing_of}
+use Rattle.link_readers.specs.talk_laws.specs.Spelling.{no_hearing, objects_told, hearing_of}
 use Rattle.link_readers.specs.talk_laws.proofs.Spelling.{hearing-more, objects-more, hearing-before, objects-before}
 use Rattle.object_lines.specs.Tallies.{Told, told}
 use Rattle.object_lines.specs.Matters.{Matter, no_matter, step_among, told_among, matter_by, matter}

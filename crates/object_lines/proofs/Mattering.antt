@@ -29,7 +29,7 @@ use Rattle.link_readers.specs.talk_laws.specs.Packets.{Streams, no_streams, stre
 use Rattle.link_readers.specs.talk_laws.specs.Spelling.{run_with, Hearing, hearing_with, objects_told}
 use Rattle.link_readers.specs.talk_laws.specs.Waits.{mode_held}
 use Rattle.object_lines.specs.Tallies.{told, Tally, tally_of, tally_after, told_by, told_from}
-use Rattle.object_lines.specs.Matters.{Matter, short_ear, short_ears, ears_with, puts_of, without_out, sdu_after, sdus_told, heard_with, told_with, matter_after, told_now, matter_passing, told_passing, matter_step, matter_told, matter_by, matter, MattersLead}
+use Rattle.object_lines.specs.Matters.{Matter, short_ear, short_ears, ears_with, puts_of, without_out, sdu_after, sdus_told, heard_with, matter_after, told_now, matter_passing, told_passing, matter_step, matter_told, matter_by, matter, MattersLead}
 use Rattle.object_lines.proofs.Tallying.{runs_tallied, tolds_are}
 
 -- ---- numbers modulo 64

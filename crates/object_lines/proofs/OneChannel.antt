@@ -1,28 +1,20 @@
 -- The objects of a link on which one channel alone has some.
-use Rattle.std.proofs.Common.{◌≡◌, ℕ, ◌+◌, ◌<◌, List, [], ◌∷◌, ◌++◌, Bool, true, false, cond, eqb, map, drop, get_or, length, Some, None, refl, sym, ap, subst, ◌∙◌, append-nil, add-one, drop-cons, arith}
+use Rattle.std.proofs.Common.{◌≡◌, ℕ, ◌+◌, ◌<◌, List, [], ◌∷◌, Bool, true, false, cond, eqb, map, drop, get_or, length, Some, None, refl, sym, ap, subst, ◌∙◌, add-one, drop-cons, arith}
 use Rattle.std.specs.List.{AllByRecursion, filter_map, cons_option}
 use Rattle.std.specs.Prelude.{find}
 use Rattle.std.proofs.lemmas.Bool.{eqb-true, eq-eqb}
-use Rattle.std.proofs.lemmas.List.Elements.{filter_map-append}
 use Rattle.bt_base.specs.Objects.{Object}
-use Rattle.capture.specs.declared.flow.Flow.{Flow}
-use Rattle.capture.specs.declared.flow.Flow.TheVariants.{Out, Into}
-use Rattle.capture.specs.Histories.{given_by}
-use Rattle.link_readers.specs.l2cap_config.specs.declared.wish.Mode.{Mode}
+use Rattle.capture.specs.declared.flow.Flow.TheVariants.{Into}
 use Rattle.link_talk.specs.declared.channel.Channel.{Channel}
 use Rattle.link_talk.specs.declared.party.Party.{Party}
 use Rattle.link_talk.specs.Sayings.{Saying}
 use Rattle.link_talk.specs.Channels.{Entry, Reading, reading}
-use Rattle.link_talk.specs.Carriages.{Carriage, pdus_of, one_way, stretch, mode_of, has_own}
-use Rattle.link_talk.specs.Sdus.{sdus_of, sdus_by, spoken_as, spoken_with, spoken_way, spoken_one_way, spoken}
-use Rattle.link_talk.specs.Packets.{packets_heard}
+use Rattle.link_talk.specs.Carriages.{has_own}
+use Rattle.link_talk.specs.Sdus.{spoken_one_way, spoken}
 use Rattle.link_talk.specs.ObjectsHeard.{spelled_within, channel_objects, objects}
 use Rattle.link_readers.specs.declared.entries.Entry.{Entry as LentEntry}
 use Rattle.link_readers.specs.Lent.{plain_entry, plain_entries}
-use Rattle.link_talk.proofs.Ways.{over_l2cap, over_nothing}
-use Rattle.link_readers.specs.talk_laws.specs.Sdus.{sdus_with, ears_so_far, spoken_now, ear_of}
-use Rattle.link_readers.specs.talk_laws.proofs.Passes.{from_end}
-use Rattle.link_readers.specs.talk_laws.proofs.Sdus.{sdus-grow, sdus-look_back}
+use Rattle.link_talk.proofs.Ways.{over_nothing}
 use Rattle.link_readers.specs.talk_laws.proofs.Owning.{found_passes, some_is}
 use Rattle.link_readers.specs.talk_laws.specs.LinkObjects.{PlacedObject, placed_objects, object_on}
 use Rattle.link_readers.specs.talk_laws.proofs.LinkObjects.{objects-fall_to_channels}

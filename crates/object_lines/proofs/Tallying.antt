@@ -1,5 +1,5 @@
 -- What is counted of PUTs is what their objects are told by.
-use Rattle.std.proofs.Common.{◌≡◌, ℕ, ◌+◌, ◌≤◌, ◌⊎◌, inl, inr, Bool, true, false, cond, ◌&&◌, ◌||◌, not, eqb, ltb, min, List, [], ◌∷◌, ◌++◌, length, map, fold, drop, Option, Some, None, Ok, refl, sym, ap, ◌∙◌, append_assoc, append-nil, length-append, arith}
+use Rattle.std.proofs.Common.{◌≡◌, ℕ, ◌+◌, ◌≤◌, ◌⊎◌, inl, inr, Bool, true, false, cond, ◌&&◌, ◌||◌, not, eqb, ltb, min, List, [], ◌∷◌, ◌++◌, length, map, fold, Option, Some, None, Ok, refl, sym, ap, ◌∙◌, append_assoc, append-nil, length-append, arith}
 use Rattle.std.specs.Prelude.{is_none}
 use Rattle.std.specs.List.{filter_map, cons_option, list_any, AllByRecursion}
 use Rattle.std.proofs.lemmas.Bool.{cond-true, ne_eqb, cases_lt, lt-ltb, le-ltb, eqb-true}
@@ -12,14 +12,12 @@ use Rattle.obex_headers.specs.declared.packet.Packet.{Packet}
 use Rattle.obex_headers.specs.declared.packet.Phase.TheVariants.{Request}
 use Rattle.obex_headers.specs.Packets.{PlainHeader, PlainPacket, IsHeader, header_octets, headers_octets, units_of}
 use Rattle.obex_headers.specs.Reading.{header_at, packet_in, GivesPacket}
-use Rattle.obex_headers.specs.Reader.{IsPut, octets_of_all}
-use Rattle.std.specs.Global.{Vec}
-use Rattle.std.proofs.lemmas.List.{drop_all}
+use Rattle.obex_headers.specs.Reader.{IsPut}
 use Rattle.obex_headers.specs.Runs.{put_of, is_final, name_text, body_of, names, bodies, ahead_of_name, joined, run_headers, is_long, breaks, lacks, object_of, objects_from}
 use Rattle.obex_headers.proofs.HeaderLaws.{ok_is, header_again}
 use Rattle.obex_headers.proofs.PacketLaws.{packet_takes}
 use Rattle.obex_headers.proofs.ReaderLaws.{IsLeft}
-use Rattle.link_talk.specs.ObjectsHeard.{put_within, spelled_within}
+use Rattle.link_talk.specs.ObjectsHeard.{put_within}
 use Rattle.link_readers.specs.talk_laws.specs.Spelling.{run_with}
 use Rattle.link_readers.specs.talk_laws.specs.Spelling as runs
 use Rattle.object_lines.specs.declared.tally.Told.{Told as LentTold}

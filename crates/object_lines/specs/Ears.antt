@@ -1,5 +1,5 @@
 -- How far the SDUs of a channel are joined, apart from where their octets lie in memory.
-use Rattle.std.specs.Prelude.{ℕ, ◌%◌, Bool, true, false, List, [], ◌∷◌, Option, Some, None, option_map, option_to_list}
+use Rattle.std.specs.Prelude.{ℕ, ◌%◌, Bool, true, false, List, Option, option_map, option_to_list}
 use Rattle.ertm_frames.specs.Segments.{Segment}
 use Rattle.ertm_frames.specs.Joining.{Begun, Joint, Misplaced, Begins, Ends, Joining, At, Stopped}
 use Rattle.link_readers.specs.talk_laws.specs.Sdus.{Ear}

@@ -1,5 +1,5 @@
 -- How far the multiplexer of a link is, and what it brought into its host that is no whole packet yet, as values.
-use Rattle.std.specs.Prelude.{List, []}
+use Rattle.std.specs.Prelude.{[]}
 use Rattle.rfcomm_frames.specs.Frames.{plain}
 use Rattle.rfcomm_frames.specs.Multiplexing.{Framed, Connections}
 use Rattle.rfcomm_frames.specs.Ending.{Course}

@@ -1,4 +1,4 @@
-use Rattle.std.proofs.Common.{ap, ◌∙◌}
+use Rattle.std.proofs.Common.{◌∙◌}
 use Rattle.object_lines.specs.Matter.{plain_matter, carriage}
 use Rattle.object_lines.proofs.Mattering.{packet_after, frame_after}
 use Rattle.object_lines.proofs.matter.Matter.hear.Goals as goal

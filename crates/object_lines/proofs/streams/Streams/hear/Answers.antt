@@ -1,4 +1,4 @@
-use Rattle.std.proofs.Common.{ℕ, List, ◌++◌, [], map, fold, sym, ap, ◌∙◌, append-nil}
+use Rattle.std.proofs.Common.{ℕ, List, ◌++◌, map, fold, sym, ap, ◌∙◌, append-nil}
 use Rattle.rfcomm_frames.specs.ObexPackets.{obex_packets}
 use Rattle.link_talk.specs.ObjectsHeard.{put_within}
 use Rattle.object_lines.specs.Tallies.{tally_after, told_from, plain_told, plain_tally}
