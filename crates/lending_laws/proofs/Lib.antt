@@ -1,3 +1,4 @@
 pub mod Following
+pub mod Clients
 pub mod Servers
 pub mod Showing

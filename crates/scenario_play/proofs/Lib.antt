@@ -2,7 +2,7 @@ mod Blaming
 pub mod Causes
 mod Embedded
 mod Counting
-mod Bare
+pub mod Bare
 mod Plainness
 mod Newness
 mod Alikeness
