@@ -1,0 +1,3 @@
+pub use Rattle.push_laws
+pub mod Once
+pub mod BlamesNone
