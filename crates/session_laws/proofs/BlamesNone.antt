@@ -1,5 +1,5 @@
 -- In no pair of sessions does a response show that the server is at fault.
-use Rattle.std.proofs.Common.{ℕ, ◌≡◌, ◌==◌, Bool, true, false, List, ◌∷◌, length, Option, Some, None, Result, Ok, Err, refl, sym, ap, subst, ◌∙◌, if◌then◌else◌}
+use Rattle.std.proofs.Common.{ℕ, ◌≡◌, ◌==◌, Bool, true, false, List, length, Option, Some, None, sym, ap, subst, ◌∙◌, if◌then◌else◌}
 use Rattle.std.proofs.lemmas.Bool.{eq-eqb}
 use Rattle.push_laws.specs.push_model.specs.obex_headers.specs.declared.fault.ObexRefusal.{ObexRefusal}
 use Rattle.push_laws.specs.push_model.specs.obex_headers.specs.declared.fault.ObexRefusal.TheVariants as refusals

@@ -1,5 +1,5 @@
 -- What is heard of one push spells its object once or nothing, and nothing of one above the bound.
-use Rattle.std.proofs.Common.{ℕ, ◌≡◌, ◌<◌, ◌≤◌, ◌^◌, ◌⊎◌, ◌&&◌, ◌||◌, Bool, true, false, cond, List, [], ◌∷◌, ◌++◌, map, length, Option, Some, None, refl, sym, ap, ap₂, subst, ◌∙◌, inl, inr, arith}
+use Rattle.std.proofs.Common.{ℕ, ◌≡◌, ◌<◌, ◌⊎◌, ◌&&◌, ◌||◌, true, false, cond, List, [], ◌∷◌, ◌++◌, Option, Some, None, refl, sym, ap, ap₂, ◌∙◌, inl, inr, arith}
 use Rattle.std.specs.List.{AllByRecursion}
 use Rattle.std.proofs.lemmas.Bool.{cases_lt}
 use Rattle.std.proofs.lemmas.List.{append-nil, map-append}
@@ -11,14 +11,12 @@ use Rattle.push_laws.specs.push_model.specs.obex_headers.specs.Runs.{put_in, hea
 use Rattle.push_laws.specs.push_model.specs.obex_session.specs.Asking.{Asking}
 use Rattle.push_laws.specs.push_model.specs.obex_session.specs.ObjectPuts.{HasPut, IsWhole}
 use Rattle.push_laws.specs.push_model.specs.obex_session.specs.Pairs.{Pair, connect_packet, past_packets, HearsFront}
-use Rattle.push_laws.specs.push_model.specs.obex_session.specs.Pushes.{IsNoPut}
-use Rattle.push_laws.specs.push_model.specs.obex_session.specs.PutPackets.{units_in}
 use Rattle.push_laws.specs.push_model.specs.obex_session.proofs.PairFronts.{pairs_hear_fronts}
 use Rattle.push_laws.specs.push_model.specs.obex_session.proofs.PushLaws.{nones_heard}
 use Rattle.push_laws.specs.Sending.{ArePuts}
 use Rattle.push_laws.proofs.OneObject.{sent_long, front_spells_none}
 use Rattle.push_laws.proofs.Spelling.{no_put_within}
-use Rattle.session_laws.specs.Once.{SpellsOnce, PairsSpellOnce}
+use Rattle.session_laws.specs.Once.{PairsSpellOnce}
 
 -- ---- packets that are no PUT, behind others
 
