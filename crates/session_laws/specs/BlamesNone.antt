@@ -3,6 +3,6 @@ use Rattle.std.specs.Prelude.{ℕ, ◌≡◌, false, List, ◌∷◌}
 use Rattle.push_laws.specs.push_model.specs.obex_session.specs.Pairs.{HoldsAtEachMove}
 use Rattle.push_laws.specs.Blames.{ResponseBlames}
 
--- Wherever the packets have moved to, the next response blames the server for nothing; each request goes out whole.
+-- Wherever the packets have moved to, the next response blames the server for nothing (`false`: each request goes out whole).
 abbrev pub PairsBlameNone : Type 0
 PairsBlameNone = HoldsAtEachMove (λ name size content b. (response : List ℕ) (rest : List (List ℕ)) (reason : ℕ) → b.responses ≡ response ∷ rest → ResponseBlames response b.client false reason → ⊥)
