@@ -1,6 +1,8 @@
-//! Laws of two sessions of OBEX over a pipe of packets: what the server hears of an object of any size, and what the client makes of the responses.
+//! Laws of sessions of OBEX: of two over a pipe of packets, what the server hears of an object of any size and what the client makes of the responses; and of
+//! those of a server, whatever the inbox answers.
 #![tactic(auto)]
 
+ghost use Rattle.session_laws.specs.AbortedFirst.{NamesAbortFirst};
 ghost use Rattle.session_laws.specs.BlamesNone.{PairsBlameNone};
 ghost use Rattle.session_laws.specs.Once.{PairsSpellOnce};
 
@@ -13,4 +15,10 @@ pub fn pairs_spell_once()
 /// Wherever the packets of a push have moved to, the client finds its peer at fault for no response that comes next: none is in a row of the table.
 pub fn pairs_blame_none()
     ensures { PairsBlameNone }
+{}
+
+/// Where a Name comes over one transport of a server while an object is under way over the other, Abort is the first call of the inbox,
+/// whatever that answers. The calls of the packet itself come behind it, unless memory was wanting: then none does, and nothing is answered.
+pub fn names_abort_first()
+    ensures { NamesAbortFirst }
 {}
