@@ -45,6 +45,7 @@ without_ends answered =
       own = record { happenings = own.happenings; world = own.world; happened = own.happened; ends = []; last = tt; capture_is = ap (λ (hs : List Happening). all_entries hs) (sym answered.happenings_are) ∙ sym (append-nil (all_entries own.happenings)) };
       happenings_are = answered.happenings_are;
       stored = answered.stored;
+      able = answered.able;
       at_end = λ push is. cc;
     }
 

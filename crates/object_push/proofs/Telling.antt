@@ -71,8 +71,8 @@ has_pushed scenario (Some shelf) capture known = known shelf refl
 
 -- what was done, where it is known of a shelf and an inbox that tell what they hold
 has_done : (scenario : Scenario) (shelf : Option (List Object)) (before after : Option Contents) (counts counts' : Counts) (capture : List Entry) → IfSome before (λ held. held.pending ≡ None)
-    → ((objects stored : List Object) → shelf ≡ Some objects → before ≡ holding stored → scenario.settings.transport ≡ L2cap → LackedNever counts counts' → DoneAreStored scenario.settings stored after capture)
-    → IfSome shelf (λ objects. IfSome before (λ held. scenario.settings.transport ≡ L2cap → LackedNever counts counts' → DoneAreStored scenario.settings held.stored after capture))
+    → ((objects stored : List Object) → shelf ≡ Some objects → before ≡ holding stored → scenario.settings.transport ≡ L2cap → LackedNever counts counts' → DoneAreStored scenario objects stored after capture)
+    → IfSome shelf (λ objects. IfSome before (λ held. scenario.settings.transport ≡ L2cap → LackedNever counts counts' → DoneAreStored scenario objects held.stored after capture))
 has_done scenario None before after counts counts' capture none known = tt
 has_done scenario (Some objects) None after counts counts' capture none known = tt
 has_done scenario (Some objects) (Some held) after counts counts' capture none known = known objects held.stored refl (held_is held none)
@@ -104,12 +104,12 @@ module _ (scenario : Scenario) (old new : Ports) where
 
   done_played : (content : Option (List Object)) (before : Option Contents) (outcomes : List Outcome) (peaks : Peaks) (shelf stored : List Object) → content ≡ Some shelf → before ≡ holding stored
       → (played : IsPlayed scenario content before new.inbox.content old.trace.content new.trace.content outcomes peaks (counts_in old.inbox) (counts_in new.inbox))
-      → scenario.settings.transport ≡ L2cap → LackedNever (counts_in old.inbox) (counts_in new.inbox) → DoneAreStored scenario.settings stored new.inbox.content played.capture
+      → scenario.settings.transport ≡ L2cap → LackedNever (counts_in old.inbox) (counts_in new.inbox) → DoneAreStored scenario shelf stored new.inbox.content played.capture
   done_played content before outcomes peaks shelf stored of is =
       subst (λ (c : Option (List Object)). (played : IsPlayed scenario c before new.inbox.content old.trace.content new.trace.content outcomes peaks (counts_in old.inbox) (counts_in new.inbox))
-      → scenario.settings.transport ≡ L2cap → LackedNever (counts_in old.inbox) (counts_in new.inbox) → DoneAreStored scenario.settings stored new.inbox.content played.capture) (sym of)
+      → scenario.settings.transport ≡ L2cap → LackedNever (counts_in old.inbox) (counts_in new.inbox) → DoneAreStored scenario shelf stored new.inbox.content played.capture) (sym of)
       (subst (λ (b : Option Contents). (played : IsPlayed scenario (Some shelf) b new.inbox.content old.trace.content new.trace.content outcomes peaks (counts_in old.inbox) (counts_in new.inbox))
-      → scenario.settings.transport ≡ L2cap → LackedNever (counts_in old.inbox) (counts_in new.inbox) → DoneAreStored scenario.settings stored new.inbox.content played.capture) (sym is)
+      → scenario.settings.transport ≡ L2cap → LackedNever (counts_in old.inbox) (counts_in new.inbox) → DoneAreStored scenario shelf stored new.inbox.content played.capture) (sym is)
       (λ played direct enough. plays_store_done.plays scenario shelf stored new.inbox.content old.trace.content new.trace.content outcomes peaks (counts_in old.inbox) (counts_in new.inbox) played direct enough))
 
   ends_so : PlaysKeep → (outcomes : List Outcome) (kept : ℕ) (peaks : Peaks) (played : Played old.inbox.content outcomes peaks) → IfSome old.inbox.content (λ before. before.pending ≡ None) → Gains old.inbox.content kept new.inbox.content
@@ -154,12 +154,12 @@ module _ (scenario : Scenario) (old new : Ports) where
 
   done_broken : (content : Option (List Object)) (before : Option Contents) (shelf stored : List Object) → content ≡ Some shelf → before ≡ holding stored
       → (broken : IsBroken scenario content before new.inbox.content old.trace.content new.trace.content (counts_in old.inbox) (counts_in new.inbox))
-      → scenario.settings.transport ≡ L2cap → LackedNever (counts_in old.inbox) (counts_in new.inbox) → DoneAreStored scenario.settings stored new.inbox.content (all_entries broken.happenings)
+      → scenario.settings.transport ≡ L2cap → LackedNever (counts_in old.inbox) (counts_in new.inbox) → DoneAreStored scenario shelf stored new.inbox.content (all_entries broken.happenings)
   done_broken content before shelf stored of is =
       subst (λ (c : Option (List Object)). (broken : IsBroken scenario c before new.inbox.content old.trace.content new.trace.content (counts_in old.inbox) (counts_in new.inbox))
-      → scenario.settings.transport ≡ L2cap → LackedNever (counts_in old.inbox) (counts_in new.inbox) → DoneAreStored scenario.settings stored new.inbox.content (all_entries broken.happenings)) (sym of)
+      → scenario.settings.transport ≡ L2cap → LackedNever (counts_in old.inbox) (counts_in new.inbox) → DoneAreStored scenario shelf stored new.inbox.content (all_entries broken.happenings)) (sym of)
       (subst (λ (b : Option Contents). (broken : IsBroken scenario (Some shelf) b new.inbox.content old.trace.content new.trace.content (counts_in old.inbox) (counts_in new.inbox))
-      → scenario.settings.transport ≡ L2cap → LackedNever (counts_in old.inbox) (counts_in new.inbox) → DoneAreStored scenario.settings stored new.inbox.content (all_entries broken.happenings)) (sym is)
+      → scenario.settings.transport ≡ L2cap → LackedNever (counts_in old.inbox) (counts_in new.inbox) → DoneAreStored scenario shelf stored new.inbox.content (all_entries broken.happenings)) (sym is)
       (λ broken direct enough. plays_store_done.breaks scenario shelf stored new.inbox.content old.trace.content new.trace.content (counts_in old.inbox) (counts_in new.inbox) broken direct enough))
 
   stops_so : PlaysKeep → (broken : Broke old.inbox.content) → IfSome old.inbox.content (λ before. before.pending ≡ None) → Grows old.inbox.content new.inbox.content → StopsSo scenario old new (all_entries broken.happenings) broken.next

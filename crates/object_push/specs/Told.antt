@@ -68,10 +68,10 @@ HasPushed scenario old capture = IfSome old.shelf.content (λ shelf. ArePushed s
 -- ---- what is done
 
 -- Over L2CAP, where the inbox never lacked memory: where a push ends that is done, what the packets spell that host b heard is what they spelled before that push was
--- begun, and one object more, which is marked as gained in one list of marks for all that they spell. So it is where shelf and inbox tell what they hold, whatever calls of the inbox fail.
+-- begun, and one object more, which is marked as gained in one list of marks for all that they spell, and is the shelf's under the name of that very push. So it is where shelf and inbox tell what they hold, whatever calls of the inbox fail.
 abbrev pub HasDone : (scenario : Scenario) (old new : Ports) (capture : List Entry) → Type 0
 HasDone scenario old new capture =
-    IfSome old.shelf.content (λ shelf. IfSome old.inbox.content (λ before. scenario.settings.transport ≡ L2cap → LackedNever (counts_in old.inbox) (counts_in new.inbox) → DoneAreStored scenario.settings before.stored new.inbox.content capture))
+    IfSome old.shelf.content (λ shelf. IfSome old.inbox.content (λ before. scenario.settings.transport ≡ L2cap → LackedNever (counts_in old.inbox) (counts_in new.inbox) → DoneAreStored scenario shelf before.stored new.inbox.content capture))
 
 -- ---- credits
 

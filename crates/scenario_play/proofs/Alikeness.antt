@@ -35,7 +35,7 @@ use Rattle.noting_laws.specs.pair_laws.proofs.Answered.{IsSame, same_alike, runs
 use Rattle.done_laws.specs.tape_laws.specs.OwnPairs.{own_of, own_beginning, RanOwn}
 
 -- what is told of both of two is told of each of them
-told_same : {S X : Type 0} (tell : S → X) (first other s t : S) → tell other ≡ tell first → IsOther first other s t → tell t ≡ tell s
+pub told_same : {S X : Type 0} (tell : S → X) (first other s t : S) → tell other ≡ tell first → IsOther first other s t → tell t ≡ tell s
 told_same tell first other s t same (inl is) = ap tell is
 told_same tell first other s t same (inr (is_s, is_t)) = ap tell is_t ∙ same ∙ sym (ap tell is_s)
 
@@ -196,9 +196,10 @@ module _ {S T : Type 0} (U : Upper S Circumstance) (V : Upper T Circumstance) (s
 -- ---- where the server has all answers of its inbox from its first moment on
 
 -- a run like that one, in which the server is that of the world in code, and the shelf told what it holds
-pub record IsLikeOwn {S T : Type 0} (scenario : Scenario) (shelf : Option (List Object)) (content : Option Contents) (answers : List Answer) (as_b : Host ServerProfile → T) (happenings : List Happening) (at : World S T) (came : Option Outcome) : Type 0 where
+pub record IsLikeOwn {S T : Type 0} (scenario : Scenario) (shelf : Option (List Object)) (content : Option Contents) (answers : List Answer) (as_a : Host ClientProfile → S) (as_b : Host ServerProfile → T) (s : S) (happenings : List Happening) (at : World S T) (came : Option Outcome) : Type 0 where
   pub world : BothHosts
   pub happened : Runs (holding_on shelf (client_of scenario)) (own_of scenario content answers) happenings (own_beginning scenario content answers) world
+  pub client_is : IsOther s (as_a (client_of scenario).first) at.a.upper (as_a world.a.upper)
   pub server_is : as_b world.b.upper ≡ at.b.upper
   pub pushes_are : world.pushes ≡ at.pushes
   pub radio_is : world.radio ≡ at.radio
@@ -210,7 +211,7 @@ module _ {S T : Type 0} (U : Upper S Circumstance) (V : Upper T Circumstance) (s
   Own = world_at (first_moment (starting s U) (starting (as_b (own_of scenario content answers).first) V) scenario.acl_length scenario.acl_count scenario.names)
 
   abbrev LikeOwn : List Happening → World S T → Type 0
-  LikeOwn happenings at = IsLikeOwn scenario shelf content answers as_b happenings at (U.outcome at.a.upper)
+  LikeOwn happenings at = IsLikeOwn scenario shelf content answers as_a as_b s happenings at (U.outcome at.a.upper)
 
   pub like_own : (happenings : List Happening) (at : World S T) → Runs (holding_on shelf U) V happenings Own at → LikeOwn happenings at
   like_own happenings at run =
@@ -218,18 +219,16 @@ module _ {S T : Type 0} (U : Upper S Circumstance) (V : Upper T Circumstance) (s
       let first_b = as_b (own_of scenario content answers).first in
       let (new, alike, ran) = runs_on (IsOther s other_a) IsSame (holding_on shelf U) (holding_on shelf U) V V (twins_alike (holding_on shelf U) s other_a holding_a) (same_alike (λ (news : News) (gifts : List Circumstance). gifts) V) happenings other_a first_b Own at (inr (refl, refl)) refl run in
       let (world, same, happened) = runs_are_of_less as_a as_b (holding_on shelf (client_of scenario)) (holding_on shelf U) (own_of scenario content answers) V (answering_host as_a (client_of scenario) U (held_by shelf) a) b happenings (own_beginning scenario content answers) new ran in
+      let client = subst (λ (w : World S T). IsOther s other_a at.a.upper w.a.upper) same alike.a in
       record {
         world = world;
         happened = happened;
+        client_is = client;
         server_is = sym (ap (λ (w : World S T). w.b.upper) same) ∙ alike.b;
         pushes_are = sym (ap (λ (w : World S T). w.pushes) same) ∙ ap (λ (w : World S T). w.pushes) alike.same;
         radio_is = sym (ap (λ (w : World S T). w.radio) same) ∙ ap (λ (w : World S T). w.radio) alike.same;
-        outcome_is = sym (a.outcome world.a.upper) ∙ (sym (ap (λ (w : World S T). U.outcome w.a.upper) same) ∙ came new.a.upper at.a.upper alike.a);
+        outcome_is = sym (a.outcome world.a.upper) ∙ told_same (λ (x : S). U.outcome x) s other_a at.a.upper (as_a world.a.upper) holding_a.outcome client;
       }
-    where
-      came : (other now : S) → IsOther s (as_a (client_of scenario).first) now other → U.outcome other ≡ U.outcome now
-      came other now (inl is) = ap U.outcome is
-      came other now (inr (is, first)) = ap U.outcome first ∙ (holding_a.outcome ∙ ap U.outcome (sym is))
 
   -- with the end of the push that goes on behind it, it is the run of a capture
   abbrev pub own_ran : (happenings : List Happening) (at : World S T) (like : LikeOwn happenings at) (ends capture : List Entry) → IsLastEnd at.pushes ends → capture ≡ all_entries happenings ++ ends → RanOwn scenario shelf content answers capture

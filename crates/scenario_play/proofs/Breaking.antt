@@ -54,10 +54,8 @@ use Rattle.scenario_play.specs.Shelving.{plain_client}
 use Rattle.scenario_play.proofs.Plainness.{PlainWorld, plain_world, plain_runs, enough_runs, served_runs}
 use Rattle.scenario_play.proofs.Counting.{Says, rose_or_not, asked_once, left_says}
 use Rattle.scenario_play.proofs.Course.{Hosts, shelf_kept}
-use Rattle.scenario_play.proofs.OwnServers.{ran_answered}
+use Rattle.scenario_play.proofs.OwnServers.{able_in, ran_answered}
 use Rattle.scenario_play.proofs.Alikeness.{IsLikeServed, like_served, IsLike, like_runs, told_a, told_b}
-use Rattle.scenario_play.proofs.Able.{able_along}
-use Rattle.scenario_play.proofs.Shelves.{parts_found}
 
 -- one entry at most ends the last push
 few_last : (came : Option Outcome) (pushes : Pushes) → length (last_entries came pushes) ≤ 1
@@ -129,6 +127,7 @@ untouched scenario shelf content content' trace trace' counts counts' stay store
     own = record { happenings = []; world = own_beginning scenario content []; happened = refl; ends = []; last = tt; capture_is = refl };
     happenings_are = refl;
     stored = stored;
+    able = refl;
     at_end = λ push is. cc;
   };
   stored = inl stored;
@@ -235,11 +234,9 @@ module _ {P Q : Type 0} (holds : P → Option (List Object)) (content : Q → Op
       → (run : Like shelf inbox for_a for_b happenings (plain_at at)) → run.world.a.upper.profile.client.failed ≡ false
   able shelf inbox for_a for_b happenings at plays run =
       let settings = scenario.settings in
-      let new_a = new_client holds shelf settings for_a in
-      let begun = first_moment (starting new_a noted_client_machine) (starting (new_server content inbox settings for_b) noted_server_machine) scenario.acl_length scenario.acl_count scenario.names in
-      told_a client_machine server_machine scenario (content inbox) (set_to settings) (set_to settings) (set_hosts_are_hosts scenario (content inbox)) (plain_client new_a) (plain_set (new_server content inbox settings for_b))
+      told_a client_machine server_machine scenario (content inbox) (set_to settings) (set_to settings) (set_hosts_are_hosts scenario (content inbox)) (plain_client (new_client holds shelf settings for_a)) (plain_set (new_server content inbox settings for_b))
       (client_twins holds shelf settings for_a) (server_twins content inbox settings for_b) happenings (plain_at at) run (λ (x : SetHost ClientProfile). x.host.profile.client.failed) refl
-      ∙ able_along happenings (world_at begun) (world_at at) (record { works = refl; found = parts_found (holds shelf) for_a }) (runs_of noted_client_machine noted_server_machine happenings begun at plays)
+      ∙ able_in holds content scenario shelf inbox for_a for_b happenings at plays
 
   -- ---- to where it broke off
 

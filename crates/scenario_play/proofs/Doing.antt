@@ -1,11 +1,12 @@
 -- What comes of the pushes of a played scenario that are done.
-use Rattle.std.proofs.Common.{◌≡◌, Bool, List, [], ◌∷◌, ◌++◌, Option, Some, None, refl, sym, ap, subst, ◌∙◌, append_assoc, append-nil}
+use Rattle.std.proofs.Common.{◌≡◌, ℕ, Bool, List, [], ◌∷◌, ◌++◌, Option, Some, None, refl, sym, ap, subst, ◌∙◌, append_assoc, append-nil}
 use Rattle.std.specs.Prelude.{IfSome}
 use Rattle.bt_base.specs.Objects.{Object, Contents}
 use Rattle.bt_base.specs.declared.settings.Transport.TheVariants.{L2cap}
 use Rattle.noting_laws.specs.obex_session.specs.Counting.{Counts}
 use Rattle.push_script.specs.declared.scenario.Scenario.{Scenario}
 use Rattle.push_terms.specs.declared.outcome.Outcome.{Outcome}
+use Rattle.push_terms.specs.declared.outcome.Outcome.TheVariants.{Done}
 use Rattle.push_terms.specs.declared.word.Side.TheVariants.{B}
 use Rattle.capture.specs.Entries.{Entry, Moved, Acted, Begun, Ended}
 use Rattle.capture.specs.Histories.{EachAfter}
@@ -17,10 +18,11 @@ use Rattle.noting_laws.specs.scenario_laws.specs.Gains.{holding}
 use Rattle.noting_laws.specs.scenario_laws.specs.Parties.{party_of}
 use Rattle.done_laws.specs.tape_laws.specs.capture.proofs.HistoryLaws.{each_after-both}
 use Rattle.drop_laws.specs.cause_laws.specs.FirstCauses.{since_begun, HasCause, EndsByCause, CausesAreShown}
-use Rattle.done_laws.specs.Storing.{kept_of, StoresDone, StoresKept}
+use Rattle.done_laws.specs.Runs.{IsDoneAt}
+use Rattle.done_laws.specs.Storing.{kept_of, StoresOneMore, AtDone, AtShown, StoresDone, SpellsNamed, StoresKept}
 use Rattle.done_laws.proofs.Stores.{own_servers_store_done}
 use Rattle.scenario_play.proofs.Causes.{causes_shown, causes_so_far}
-use Rattle.scenario_play.specs.Doing.{DoneAreStored, PlaysStoreDone}
+use Rattle.scenario_play.specs.Doing.{NamesDone, DoneAreStored, PlaysStoreDone}
 use Rattle.scenario_play.specs.Playing.{RanAnswered}
 
 -- ---- histories
@@ -42,31 +44,42 @@ module _ (scenario : Scenario) (shelf before : List Object) (after : Option Cont
   all : StoresKept scenario shelf before ran.answers capture ran.own
   all = own_servers_store_done scenario shelf before ran.answers capture ran.own direct ran.enough
 
-  abbrev Stores : List Entry → List Entry → Type 0
-  Stores past entries = EachAfter (StoresDone scenario.settings all.kept) past entries
-
   abbrev Shows : List Entry → List Entry → Type 0
   Shows past entries = EachAfter (EndsByCause scenario.settings) past entries
 
-  behind : (ends : List Entry) → ran.own.ends ≡ ends → Shows (all_entries ran.own.happenings) ends → IsLastEnd ran.own.world.pushes ends → Stores (all_entries ran.own.happenings) ends
-  behind [] is shown_last last = tt
-  behind (Ended push outcome ∷ []) is shown_last last = (
-    λ done.
-        all.now (ran.at_end push (is ∙ ap (λ (o : Outcome). Ended push o ∷ []) done))
-        (subst (λ (o : Outcome). HasCause o (since_begun (all_entries ran.own.happenings))) done shown_last.0.cause),
-    tt,
-  )
-  behind (Ended push outcome ∷ other ∷ more) is shown_last last = absurd last
-  behind (Moved side flow packet ∷ more) is shown_last last = absurd last
-  behind (Acted ordinal word ∷ more) is shown_last last = absurd last
-  behind (Begun push ∷ more) is shown_last last = absurd last
+  -- what holds wherever the capture shows why a push ended so, and of the last one that is done, holds wherever a push ends that is done
+  module _ (So : ℕ → List Entry → Type 0) where
+    abbrev Each : List Entry → List Entry → Type 0
+    Each past entries = EachAfter (AtDone So) past entries
 
-  all_stored : Stores [] capture
-  all_stored =
-      let past = all_entries ran.own.happenings in
-      let cut = each_cut (EndsByCause scenario.settings) [] past ran.own.ends (subst (CausesAreShown scenario.settings) ran.own.capture_is shown) in
-      subst (Stores []) (sym ran.own.capture_is)
-      (each_after-both (StoresDone scenario.settings all.kept) [] past ran.own.ends (each_so (EndsByCause scenario.settings) (StoresDone scenario.settings all.kept) [] past all.moments cut.0) (behind ran.own.ends refl cut.1 ran.own.last))
+    abbrev Now : Type 0
+    Now = IsDoneAt ran.own.world → HasCause Done (since_begun (all_entries ran.own.happenings)) → So ran.own.world.pushes.begun (all_entries ran.own.happenings)
+
+    behind : Now → (ends : List Entry) → ran.own.ends ≡ ends → Shows (all_entries ran.own.happenings) ends → IsLastEnd ran.own.world.pushes ends → Each (all_entries ran.own.happenings) ends
+    behind now [] is shown_last last = tt
+    behind now (Ended push outcome ∷ []) is shown_last last = (
+      λ done.
+          subst (λ (n : ℕ). So n (all_entries ran.own.happenings)) (sym last.1)
+          (now (ran.at_end push (is ∙ ap (λ (o : Outcome). Ended push o ∷ []) done))
+          (subst (λ (o : Outcome). HasCause o (since_begun (all_entries ran.own.happenings))) done shown_last.0.cause)),
+      tt,
+    )
+    behind now (Ended push outcome ∷ other ∷ more) is shown_last last = absurd last
+    behind now (Moved side flow packet ∷ more) is shown_last last = absurd last
+    behind now (Acted ordinal word ∷ more) is shown_last last = absurd last
+    behind now (Begun push ∷ more) is shown_last last = absurd last
+
+    each_done : EachAfter (AtShown scenario.settings So) [] (all_entries ran.own.happenings) → Now → Each [] capture
+    each_done moments now =
+        let past = all_entries ran.own.happenings in
+        let cut = each_cut (EndsByCause scenario.settings) [] past ran.own.ends (subst (CausesAreShown scenario.settings) ran.own.capture_is shown) in
+        subst (Each []) (sym ran.own.capture_is) (each_after-both (AtDone So) [] past ran.own.ends (each_so (EndsByCause scenario.settings) (AtDone So) [] past moments cut.0) (behind now ran.own.ends refl cut.1 ran.own.last))
+
+  all_stored : EachAfter (StoresDone scenario.settings all.kept) [] capture
+  all_stored = each_done (λ push past. StoresOneMore (party_of scenario.settings B) all.kept past) all.moments all.now
+
+  all_named : EachAfter (NamesDone scenario shelf) [] capture
+  all_named = each_done (SpellsNamed scenario shelf) (all.named ran.able) (all.named_now ran.able)
 
   same_some : (xs ys : List Object) → Some xs ≡ Some ys → xs ≡ ys
   same_some xs ys same = cc
@@ -76,8 +89,8 @@ module _ (scenario : Scenario) (shelf before : List Object) (after : Option Cont
   stored_by None is = tt
   stored_by (Some held) is = (all.kept, same_some held.stored (before ++ kept_of all.kept (objects_heard (party_of scenario.settings B) B capture)) (ap stored_in is ∙ all.gained), all_stored)
 
-  stores_done : DoneAreStored scenario.settings before after capture
-  stores_done = stored_by after ran.stored
+  stores_done : DoneAreStored scenario shelf before after capture
+  stores_done = (stored_by after ran.stored, all_named)
 
 pub plays_store_done : PlaysStoreDone
 plays_store_done = record {

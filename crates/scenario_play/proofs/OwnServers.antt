@@ -1,5 +1,5 @@
 -- A server in code, beside its settings, is one that has all answers of its inbox from its first moment on.
-use Rattle.std.proofs.Common.{◌≡◌, ℕ, List, [], ◌∷◌, ◌++◌, Option, Some, refl, sym, ap, ◌∙◌}
+use Rattle.std.proofs.Common.{◌≡◌, ℕ, false, List, [], ◌∷◌, ◌++◌, Option, Some, refl, sym, ap, ◌∙◌}
 use Rattle.bt_base.specs.declared.settings.Settings.{Settings}
 use Rattle.bt_base.specs.Objects.{Object, Contents}
 use Rattle.bt_host.specs.channel_model.specs.Giving.{next_given}
@@ -16,20 +16,24 @@ use Rattle.radio_world.specs.Scenes.{world_at, Plays}
 use Rattle.radio_world.specs.Standing.{starting, first_moment}
 use Rattle.radio_world.proofs.Standing.{runs_of}
 use Rattle.bt_host.specs.host_model.specs.Circumstances.{Circumstance, answers_in}
+use Rattle.bt_host.specs.host_model.specs.Clients.{ClientProfile}
 use Rattle.bt_host.specs.host_model.specs.Machines.{upper}
 use Rattle.bt_host.specs.host_model.specs.Servers.{ServerProfile}
 use Rattle.bt_host.specs.host_model.specs.Settings.{SetHost, set_to, client_machine}
 use Rattle.bt_host.specs.NotedHosts.{noted_client_machine, noted_server_machine}
+use Rattle.noting_laws.specs.scenario_laws.specs.Captures.{client_of}
 use Rattle.noting_laws.specs.scenario_laws.proofs.SetHosts.{set_hosts_are_hosts, hear_same, says_same}
 use Rattle.noting_laws.specs.inbox_laws.specs.Owned.{own_profile, own_machine}
 use Rattle.done_laws.specs.tape_laws.specs.Own.{own_server}
 use Rattle.scenario_play.specs.Peaks.{NotedMoment}
 use Rattle.scenario_play.specs.Playing.{LackedNever, RanAnswered}
 use Rattle.scenario_play.specs.Shelving.{plain_client}
-use Rattle.scenario_play.proofs.Alikeness.{IsLikeOwn, like_own, own_ran}
+use Rattle.scenario_play.proofs.Able.{able_along}
+use Rattle.scenario_play.proofs.Alikeness.{told_same, IsLikeOwn, like_own, own_ran}
 use Rattle.scenario_play.proofs.Counting.{Says}
 use Rattle.scenario_play.proofs.Newness.{new_client, new_server, holding_twins}
 use Rattle.scenario_play.proofs.Plainness.{PlainWorld, plain_world, own_runs}
+use Rattle.scenario_play.proofs.Shelves.{parts_found}
 
 own_stays : (settings : Settings) (content : Option Contents) (answers : List Answer) → Embeds (set_to settings) (upper (own_server settings content answers)) own_machine
 own_stays settings content answers =
@@ -58,13 +62,19 @@ module _ {P Q : Type 0} (holds : P → Option (List Object)) (content : Q → Op
   Happened happenings at =
       Plays noted_client_machine noted_server_machine happenings (first_moment (starting (new_client holds shelf scenario.settings for_a) noted_client_machine) (starting (new_server content inbox scenario.settings for_b) noted_server_machine) scenario.acl_length scenario.acl_count scenario.names) at
 
-  own_like : (happenings : List Happening) (at : NotedMoment) → Happened happenings at → IsLikeOwn scenario (holds shelf) (content inbox) (answers_in for_b) (set_to scenario.settings) happenings (plain_world (world_at at)) (client_machine.outcome (plain_world (world_at at)).a.upper)
+  own_like : (happenings : List Happening) (at : NotedMoment) → Happened happenings at → IsLikeOwn scenario (holds shelf) (content inbox) (answers_in for_b) (set_to scenario.settings) (set_to scenario.settings) (plain_client (new_client holds shelf scenario.settings for_a)) happenings (plain_world (world_at at)) (client_machine.outcome (plain_world (world_at at)).a.upper)
   own_like happenings at plays =
       let settings = scenario.settings in
       let new_a = new_client holds shelf settings for_a in
       let begun = first_moment (starting new_a noted_client_machine) (starting (new_server content inbox settings for_b) noted_server_machine) scenario.acl_length scenario.acl_count scenario.names in
       like_own client_machine own_machine scenario (holds shelf) (content inbox) (answers_in for_b) (set_to settings) (set_to settings) (set_hosts_are_hosts scenario (content inbox)).a (own_stays settings (content inbox) (answers_in for_b)) (plain_client new_a)
       (holding_twins (holds shelf) holds shelf settings for_a) happenings (plain_world (world_at at)) (own_runs (holds shelf) happenings (world_at begun) (world_at at) refl (runs_of noted_client_machine noted_server_machine happenings begun at plays))
+
+  -- host a lacks no memory in it
+  pub able_in : (happenings : List Happening) (at : NotedMoment) → Happened happenings at → (plain_world (world_at at)).a.upper.host.profile.client.failed ≡ false
+  able_in happenings at plays =
+      let begun = first_moment (starting (new_client holds shelf scenario.settings for_a) noted_client_machine) (starting (new_server content inbox scenario.settings for_b) noted_server_machine) scenario.acl_length scenario.acl_count scenario.names in
+      able_along happenings (world_at begun) (world_at at) (record { works = refl; found = parts_found (holds shelf) for_a }) (runs_of noted_client_machine noted_server_machine happenings begun at plays)
 
   -- so a world in code went, with the end of the push that goes on behind it
   pub ran_answered : (happenings : List Happening) (at : NotedMoment) → Happened happenings at → (ends capture : List Entry) → IsLastEnd (world_at at).pushes ends → capture ≡ all_entries happenings ++ ends → ((push : ℕ) → ends ≡ Ended push Done ∷ [] → EndsAtRest (plain_world (world_at at)))
@@ -80,6 +90,8 @@ module _ {P Q : Type 0} (holds : P → Option (List Object)) (content : Q → Op
             (plain_client (new_client holds shelf settings for_a)) (holding_twins (holds shelf) holds shelf settings for_a) happenings (plain_world (world_at at)) like ends capture last is;
         happenings_are = refl;
         stored = stored ∙ sym (ap (λ (s : SetHost ServerProfile). s.host.profile.inbox.content) like.server_is);
+        able = told_same (λ (x : SetHost ClientProfile). x.host.profile.client.failed) (plain_client (new_client holds shelf settings for_a)) (set_to settings (client_of scenario).first) (plain_world (world_at at)).a.upper (set_to settings like.world.a.upper) refl like.client_is
+            ∙ able_in happenings at plays;
         at_end = λ push ends_are.
             let rest = rests push ends_are in
             record {

@@ -54,8 +54,8 @@ abbrev pub RoseNever : Counts → Counts → Type 0
 RoseNever counts counts' = (HasRisen counts.faults counts'.faults → ⊥) × LackedNever counts counts'
 
 -- So the scenario ran with a server that has these answers of its inbox from its first moment on, and this is what the inbox then holds. None of them
--- is want of memory, and the count of faults rose with each that says that a call failed. Where the last push ended as done behind all that happened, nothing was
--- owed to either host.
+-- is want of memory, and the count of faults rose with each that says that a call failed; host a lacked no memory either. Where the last push ended as done behind
+-- all that happened, nothing was owed to either host.
 pub record RanAnswered (scenario : Scenario) (shelf : Option (List Object)) (before after : Option Contents) (counts counts' : Counts) (happenings : List Happening) (capture : List Entry) : Type 0 where
   pub answers : List Answer
   pub enough : NoneShort answers
@@ -63,6 +63,7 @@ pub record RanAnswered (scenario : Scenario) (shelf : Option (List Object)) (bef
   pub own : RanOwn scenario shelf before answers capture
   pub happenings_are : own.happenings ≡ happenings
   pub stored : after ≡ own.world.b.upper.profile.inbox.content
+  pub able : own.world.a.upper.profile.client.failed ≡ false
   pub at_end : (push : ℕ) → own.ends ≡ Ended push Done ∷ [] → IsDoneAt own.world
 
 -- The scenario ran to its end, as the trace gained it: from an inbox that held `before` both hosts came to where all words were turned and

@@ -70,7 +70,8 @@ pub fn plays_gain_less()
 {}
 
 /// Where the inbox of a scenario that was played over L2CAP never lacked memory, and its shelf tells what it holds: one list of marks says which of the objects that the packets spell
-/// the inbox gained. Where a push ends that is done, what they spell is what they spelled before that push was begun, and one object more, which is marked; to the end or as far as it came.
+/// the inbox gained. Where a push ends that is done, what they spell is what they spelled before that push was begun, and one object more, which is marked and is the shelf's under the name of that push; to
+/// the end or as far as it came.
 pub fn plays_store_done()
     ensures { PlaysStoreDone }
 {}
