@@ -10,6 +10,7 @@ use Rattle.request_laws.specs.push_terms.specs.declared.outcome.Outcome.{Outcome
 use Rattle.request_laws.specs.rfcomm_frames.specs.Frames.{PlainFrame}
 use Rattle.request_laws.specs.pair_laws.specs.sdp_client.specs.Asking.{Asking, is_due, after_request, request_octets}
 use Rattle.request_laws.specs.pair_laws.specs.sdp_client.specs.declared.query.Stage.TheVariants as query
+use Rattle.request_laws.specs.pair_laws.specs.sdp_client.specs.Hearing.{found_at}
 use Rattle.request_laws.specs.channel_model.specs.Value.{Channels}
 use Rattle.request_laws.specs.push_model.specs.declared.course.Point.TheVariants.{Due, Asked}
 use Rattle.request_laws.specs.push_model.specs.declared.course.Stage.{Stage}
@@ -20,6 +21,7 @@ use Rattle.request_laws.specs.push_model.specs.Events as events
 use Rattle.request_laws.specs.push_model.specs.Events.{is_search, is_linked, is_paging, search_psm, rfcomm_psm}
 use Rattle.request_laws.specs.push_model.specs.Laws.{Deed, Hears, Asks, Finishes, Cancels, done, all_done}
 use Rattle.request_laws.specs.push_model.specs.Payloads.{Payload, Octets, Framed}
+use Rattle.request_laws.specs.push_model.specs.Shown.{found_shows}
 use Rattle.request_laws.specs.push_model.specs.Steps as steps
 use Rattle.request_laws.specs.push_model.specs.Steps.{Part, Step, Stepped, Made, Ask, Wait, MakeLink, AskFeatures, OpenChannel, SendSdu, CloseChannel, BreakLink, Ended, NoMemory}
 use Rattle.request_laws.specs.push_laws.specs.Opening.{whole_way}
@@ -37,10 +39,11 @@ use Rattle.request_laws.specs.host_laws.proofs.Phases.{search_is}
 use Rattle.request_laws.specs.Streams.{taken_by}
 use Rattle.request_laws.specs.Twists.{taken_on}
 use Rattle.request_laws.proofs.MuxAsking.{Kind, Rests, Searches as Searched, Sends as Sent, at_kind}
+use Rattle.cause_laws.proofs.Clients.{Within}
 use Rattle.cause_laws.proofs.Seeking.{is_seeking, Keeps, opens_so, closes_so, told_so, lost_so, timer_so, cancels_so, sdu_so, asks_so, reply_query}
 use Rattle.blame_laws.proofs.Queries.{is_refused, IsUnrefused, unrefused_again, TakesWell, replied-well}
 use Rattle.blame_laws.proofs.Replying.{IsRequest}
-use Rattle.blame_laws.proofs.Spared.{IsClear, FindsSpared, deed_clear}
+use Rattle.blame_laws.proofs.Spared.{is_spared, IsClear, FindsSpared, deed_clear}
 
 never : {X : Type 0} → false ≡ true → X
 never e = cc
@@ -74,8 +77,8 @@ module _ (settings : Settings) where
     where
       on : c.stage ≡ Search → (here : Bool) → (here ≡ true → sdu ≡ reply settings.serves) → Seeks (cond here (events.hears_reply sdu c) c)
       on at true is =
-          let well = replied-well settings.serves c.query (searches (ap is_searching at)) (so (ap is_seeking at)) in
-          λ seeks. subst IsUnrefused (sym (reply_query sdu c)) (subst (λ (octets : List ℕ). TakesWell c.query octets) (sym (is refl)) well).well_so
+          let well = replied-well settings c.query (searches (ap is_searching at)) (so (ap is_seeking at)) in
+          λ seeks. subst IsUnrefused (sym (reply_query sdu c)) (subst (λ (octets : List ℕ). TakesWell settings c.query octets) (sym (is refl)) well).well_so
       on at false is = so
 
       by : (search : Bool) → is_search c.stage ≡ search → Seeks (events.sdu_at c.stage psm sdu c)
@@ -103,28 +106,30 @@ module _ (settings : Settings) where
     pub stands : Stands walk c
     pub searches : Searches c
     pub seeks : Seeks c
-    pub clear : IsClear settings.transport c
+    pub clear : IsClear settings c
 
   fits_only : (deed : Deed) → Fits settings.serves deed → (psm : ℕ) (sdu : List ℕ) → deed ≡ Hears (events.Sdu psm sdu) → (psm == search_psm) ≡ true → sdu ≡ reply settings.serves
   fits_only deed fits psm sdu is here = (subst (Fits settings.serves) is fits) here
 
-  finds : (psm : ℕ) (sdu : List ℕ) (c : Client) → ((psm == search_psm) ≡ true → sdu ≡ reply settings.serves) → Well c → FindsSpared settings.transport psm sdu c
+  finds : (psm : ℕ) (sdu : List ℕ) (c : Client) → ((psm == search_psm) ≡ true → sdu ≡ reply settings.serves) → Well c → FindsSpared settings psm sdu c
   finds psm sdu c fits well = λ at here.
-      (subst (λ (octets : List ℕ). TakesWell c.query octets) (sym (fits here)) (replied-well settings.serves c.query (well.searches (ap is_searching at)) (well.seeks (ap is_seeking at)))).spared settings.transport c.transport
+      let replied = replied-well settings c.query (well.searches (ap is_searching at)) (well.seeks (ap is_seeking at)) in
+      let found = subst (λ (octets : List ℕ). TakesWell settings c.query octets) (sym (fits here)) replied in
+      subst (λ (transport : Transport). Within (is_spared settings) (found_shows transport (found_at c.query sdu))) (sym well.clear.over.0) found.spared
 
-  clear_by : (deed : Deed) (c : Client) → Fits settings.serves deed → Well c → IsClear settings.transport (done deed c)
-  clear_by (Hears events.LinkUp) c fits well = deed_clear settings.transport (Hears events.LinkUp) c tt well.clear
-  clear_by (Hears (events.LinkDown reason)) c fits well = deed_clear settings.transport (Hears (events.LinkDown reason)) c tt well.clear
-  clear_by (Hears (events.LinkFailed status)) c fits well = deed_clear settings.transport (Hears (events.LinkFailed status)) c tt well.clear
-  clear_by (Hears (events.ChannelOpen psm mtu)) c fits well = deed_clear settings.transport (Hears (events.ChannelOpen psm mtu)) c tt well.clear
-  clear_by (Hears (events.ChannelClosed psm cause)) c fits well = deed_clear settings.transport (Hears (events.ChannelClosed psm cause)) c tt well.clear
-  clear_by (Hears (events.Sdu psm sdu)) c fits well = deed_clear settings.transport (Hears (events.Sdu psm sdu)) c (finds psm sdu c fits well) well.clear
-  clear_by (Hears events.FeaturesTold) c fits well = deed_clear settings.transport (Hears events.FeaturesTold) c tt well.clear
-  clear_by (Hears events.FeaturesLost) c fits well = deed_clear settings.transport (Hears events.FeaturesLost) c tt well.clear
-  clear_by (Hears events.Timer) c fits well = deed_clear settings.transport (Hears events.Timer) c tt well.clear
-  clear_by (Asks parts) c fits well = deed_clear settings.transport (Asks parts) c tt well.clear
-  clear_by Finishes c fits well = deed_clear settings.transport Finishes c tt well.clear
-  clear_by Cancels c fits well = deed_clear settings.transport Cancels c tt well.clear
+  clear_by : (deed : Deed) (c : Client) → Fits settings.serves deed → Well c → IsClear settings (done deed c)
+  clear_by (Hears events.LinkUp) c fits well = deed_clear settings (Hears events.LinkUp) c tt well.clear
+  clear_by (Hears (events.LinkDown reason)) c fits well = deed_clear settings (Hears (events.LinkDown reason)) c tt well.clear
+  clear_by (Hears (events.LinkFailed status)) c fits well = deed_clear settings (Hears (events.LinkFailed status)) c tt well.clear
+  clear_by (Hears (events.ChannelOpen psm mtu)) c fits well = deed_clear settings (Hears (events.ChannelOpen psm mtu)) c tt well.clear
+  clear_by (Hears (events.ChannelClosed psm cause)) c fits well = deed_clear settings (Hears (events.ChannelClosed psm cause)) c tt well.clear
+  clear_by (Hears (events.Sdu psm sdu)) c fits well = deed_clear settings (Hears (events.Sdu psm sdu)) c (finds psm sdu c fits well) well.clear
+  clear_by (Hears events.FeaturesTold) c fits well = deed_clear settings (Hears events.FeaturesTold) c tt well.clear
+  clear_by (Hears events.FeaturesLost) c fits well = deed_clear settings (Hears events.FeaturesLost) c tt well.clear
+  clear_by (Hears events.Timer) c fits well = deed_clear settings (Hears events.Timer) c tt well.clear
+  clear_by (Asks parts) c fits well = deed_clear settings (Asks parts) c tt well.clear
+  clear_by Finishes c fits well = deed_clear settings Finishes c tt well.clear
+  clear_by Cancels c fits well = deed_clear settings Cancels c tt well.clear
 
   deed_well : (deed : Deed) (c : Client) → Fits settings.serves deed → Well c → Well (done deed c)
   deed_well deed c fits well = record {
@@ -141,7 +146,7 @@ module _ (settings : Settings) where
 
   -- ---- where a link comes up
 
-  pub link_well : (c : Client) → WaitsForLink c → IsClear settings.transport c → Well (events.hears_news events.LinkUp c)
+  pub link_well : (c : Client) → WaitsForLink c → IsClear settings c → Well (events.hears_news events.LinkUp c)
   link_well c (at, new) clear = subst (λ (stage : Stage). Well (events.linked_at stage c)) (sym at) (by (is_some c.cause))
     where
       left : (let d : Client = record c { stage = LinkEnd Due } in Well d)

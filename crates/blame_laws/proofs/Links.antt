@@ -5,7 +5,6 @@ use Rattle.std.specs.List.{AllByRecursion}
 use Rattle.std.proofs.lemmas.List.Sums.{fold-append}
 use Rattle.request_laws.specs.bt_base.specs.Objects.{Contents}
 use Rattle.request_laws.specs.bt_base.specs.declared.settings.Settings.{Settings}
-use Rattle.request_laws.specs.bt_base.specs.declared.settings.Transport.{Transport}
 use Rattle.request_laws.specs.channel_model.specs.declared.event.ChannelEvent.{ChannelEvent}
 use Rattle.request_laws.specs.channel_model.specs.Calls.{link_down}
 use Rattle.request_laws.specs.channel_model.specs.Policies.{policy}
@@ -95,24 +94,24 @@ feed_quiet (Happens event v) p none = feed_so IsQuiet quiet_holds p (Happens eve
 feed_quiet (Sent v) p none = feed_so IsQuiet quiet_holds p (Sent v) tt
 feed_quiet (Steps v) p none = feed_so IsQuiet quiet_holds p (Steps v) tt
 
-deed_quiet : (line : Transport) (deed : Deed) (client : Client) → IsQuiet (Does deed) → IsClear line client → IsClear line (done deed client)
-deed_quiet line (Hears (events.Sdu psm octets)) client quiet clear = absurd quiet
-deed_quiet line (Hears events.LinkUp) client quiet clear = deed_clear line (Hears events.LinkUp) client tt clear
-deed_quiet line (Hears (events.LinkDown reason)) client quiet clear = deed_clear line (Hears (events.LinkDown reason)) client tt clear
-deed_quiet line (Hears (events.LinkFailed status)) client quiet clear = deed_clear line (Hears (events.LinkFailed status)) client tt clear
-deed_quiet line (Hears (events.ChannelOpen psm mtu)) client quiet clear = deed_clear line (Hears (events.ChannelOpen psm mtu)) client tt clear
-deed_quiet line (Hears (events.ChannelClosed psm cause)) client quiet clear = deed_clear line (Hears (events.ChannelClosed psm cause)) client tt clear
-deed_quiet line (Hears events.FeaturesTold) client quiet clear = deed_clear line (Hears events.FeaturesTold) client tt clear
-deed_quiet line (Hears events.FeaturesLost) client quiet clear = deed_clear line (Hears events.FeaturesLost) client tt clear
-deed_quiet line (Hears events.Timer) client quiet clear = deed_clear line (Hears events.Timer) client tt clear
-deed_quiet line (Asks parts) client quiet clear = deed_clear line (Asks parts) client tt clear
-deed_quiet line Finishes client quiet clear = deed_clear line Finishes client tt clear
-deed_quiet line Cancels client quiet clear = deed_clear line Cancels client tt clear
+deed_quiet : (settings : Settings) (deed : Deed) (client : Client) → IsQuiet (Does deed) → IsClear settings client → IsClear settings (done deed client)
+deed_quiet settings (Hears (events.Sdu psm octets)) client quiet clear = absurd quiet
+deed_quiet settings (Hears events.LinkUp) client quiet clear = deed_clear settings (Hears events.LinkUp) client tt clear
+deed_quiet settings (Hears (events.LinkDown reason)) client quiet clear = deed_clear settings (Hears (events.LinkDown reason)) client tt clear
+deed_quiet settings (Hears (events.LinkFailed status)) client quiet clear = deed_clear settings (Hears (events.LinkFailed status)) client tt clear
+deed_quiet settings (Hears (events.ChannelOpen psm mtu)) client quiet clear = deed_clear settings (Hears (events.ChannelOpen psm mtu)) client tt clear
+deed_quiet settings (Hears (events.ChannelClosed psm cause)) client quiet clear = deed_clear settings (Hears (events.ChannelClosed psm cause)) client tt clear
+deed_quiet settings (Hears events.FeaturesTold) client quiet clear = deed_clear settings (Hears events.FeaturesTold) client tt clear
+deed_quiet settings (Hears events.FeaturesLost) client quiet clear = deed_clear settings (Hears events.FeaturesLost) client tt clear
+deed_quiet settings (Hears events.Timer) client quiet clear = deed_clear settings (Hears events.Timer) client tt clear
+deed_quiet settings (Asks parts) client quiet clear = deed_clear settings (Asks parts) client tt clear
+deed_quiet settings Finishes client quiet clear = deed_clear settings Finishes client tt clear
+deed_quiet settings Cancels client quiet clear = deed_clear settings Cancels client tt clear
 
-all_quiet : (line : Transport) (affairs : List Affair) (client : Client) → AllByRecursion IsQuiet affairs → IsClear line client → IsClear line (client_behind affairs client)
-all_quiet line [] client quiet clear = clear
-all_quiet line (Begins size name ∷ affairs) client quiet clear = all_quiet line affairs (client_after (Begins size name) client) quiet.1 (begins_clear line size name client clear)
-all_quiet line (Does deed ∷ affairs) client quiet clear = all_quiet line affairs (done deed client) quiet.1 (deed_quiet line deed client quiet.0 clear)
+all_quiet : (settings : Settings) (affairs : List Affair) (client : Client) → AllByRecursion IsQuiet affairs → IsClear settings client → IsClear settings (client_behind affairs client)
+all_quiet settings [] client quiet clear = clear
+all_quiet settings (Begins size name ∷ affairs) client quiet clear = all_quiet settings affairs (client_after (Begins size name) client) quiet.1 (begins_clear settings size name client clear)
+all_quiet settings (Does deed ∷ affairs) client quiet clear = all_quiet settings affairs (done deed client) quiet.1 (deed_quiet settings deed client quiet.0 clear)
 
 between_brings : (feeds : List Feed) → AllByRecursion IsBetween feeds → AllByRecursion BringsNone feeds
 between_brings [] so = tt
@@ -134,7 +133,7 @@ turned_bring circumstances (Down reason) v = let w = link_down v in all_both Bri
 module _ (settings : Settings) (content : Option Contents) where
   -- it blames its peer for no such fault
   abbrev Clear : Client → Type 0
-  Clear client = IsClear settings.transport client
+  Clear client = IsClear settings client
 
   abbrev A : Profile ClientProfile
   A = client_profile settings
@@ -155,7 +154,7 @@ module _ (settings : Settings) (content : Option Contents) where
   feeds_quiet (feed ∷ feeds) p none = let q = fed (client_profile settings) p feed in all_both IsQuiet (pushed_with p feed) (pushed_from settings q feeds) (feed_quiet feed p none.0) (feeds_quiet feeds q none.1)
 
   fed_clear : (feeds : List Feed) (p : ClientProfile) → AllByRecursion BringsNone feeds → Clear p.client → Clear (all_fed (client_profile settings) p feeds).client
-  fed_clear feeds p none clear = subst Clear (sym (all_pushed settings feeds p)) (all_quiet settings.transport (pushed_from settings p feeds) p.client (feeds_quiet feeds p none) clear)
+  fed_clear feeds p none clear = subst Clear (sym (all_pushed settings feeds p)) (all_quiet settings (pushed_from settings p feeds) p.client (feeds_quiet feeds p none) clear)
 
   last_fed : (list : List channels.Occurrence) (feeds : List Feed) (first last : ClientProfile) (so : WovenFed (client_profile settings) (both_ask.clients settings) list feeds first last) → all_fed (client_profile settings) first feeds ≡ last
   last_fed list feeds first last so = ap (all_fed A first) so.feeds_are ∙ (woven_so A asks_a so.woven.weave no_channels first ∙ sym so.woven.last_is)

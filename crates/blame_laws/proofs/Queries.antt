@@ -1,8 +1,11 @@
 -- A query that hears the reply of its server alone: it finds the service that the record names, and is never refused.
-use Rattle.std.proofs.Common.{◌≡◌, ℕ, Bool, true, false, cond, ◌==◌, ◌++◌, List, length, Option, Some, None, inl, inr, refl, sym, ap, subst, ◌∙◌, arith}
+use Rattle.std.proofs.Common.{◌≡◌, ℕ, Bool, true, false, cond, not, ◌==◌, ◌++◌, List, length, Option, Some, None, inl, inr, refl, sym, ap, subst, ◌∙◌, arith}
 use Rattle.std.specs.Prelude.{nat_lt, is_none}
 use Rattle.request_laws.specs.bt_base.specs.declared.settings.Serves.{Serves}
+use Rattle.request_laws.specs.bt_base.specs.declared.settings.Serves.TheVariants as serving
+use Rattle.request_laws.specs.bt_base.specs.declared.settings.Settings.{Settings}
 use Rattle.request_laws.specs.bt_base.specs.declared.settings.Transport.{Transport}
+use Rattle.request_laws.specs.bt_base.specs.declared.settings.Transport.TheVariants.{L2cap, Rfcomm}
 use Rattle.request_laws.specs.pair_laws.specs.sdp_client.specs.declared.query.Stage.{Stage}
 use Rattle.request_laws.specs.pair_laws.specs.sdp_client.specs.declared.query.Stage.TheVariants as at
 use Rattle.request_laws.specs.pair_laws.specs.sdp_client.specs.declared.reason.Found.{Found}
@@ -20,8 +23,9 @@ use Rattle.request_laws.specs.push_model.specs.Server.{reply_room}
 use Rattle.request_laws.specs.push_model.specs.Shown.{way_of, found_shows}
 use Rattle.request_laws.specs.push_laws.proofs.Lookups.{reply, reply_is}
 use Rattle.request_laws.specs.push_laws.proofs.Searching.{IsFirst, query_at}
-use Rattle.cause_laws.proofs.Clients.{Within, either}
+use Rattle.cause_laws.proofs.Clients.{Within}
 use Rattle.cause_laws.proofs.Seeking.{AskedAgain}
+use Rattle.blame_laws.specs.Blamed.{has_way}
 use Rattle.blame_laws.proofs.Spared.{is_spared}
 
 -- ---- a query that was not refused
@@ -81,37 +85,41 @@ service_answers q octets target well_so = by (is_of_another octets q.transaction
 
 -- ---- the reply of the server
 
--- it blames nobody for it, and is as well behind it
-pub record TakesWell (query : Asking) (octets : List ℕ) : Type 0 where
-  pub spared : (line transport : Transport) → Within (is_spared line) (found_shows transport (found_at query octets))
-  pub well_so : IsUnrefused (after_reply query octets)
+none_unless : (transport : Transport) (serves : Serves) → is_none (way_of transport (served_target serves)) ≡ not (has_way transport serves)
+none_unless L2cap serving.Both = refl
+none_unless L2cap serving.L2cap = refl
+none_unless L2cap serving.Rfcomm = refl
+none_unless Rfcomm serving.Both = refl
+none_unless Rfcomm serving.L2cap = refl
+none_unless Rfcomm serving.Rfcomm = refl
 
-module _ (serves : Serves) where
-  named : found_at (query_at at.Written) (reply serves) ≡ Service (served_target serves)
-  named = ap (found_at (query_at at.Written)) (reply_is serves) ∙ finds_the_server serves reply_room (omega arith)
+module _ (settings : Settings) where
+  -- it blames nobody for it, and is as well behind it
+  pub record TakesWell (query : Asking) (octets : List ℕ) : Type 0 where
+    pub spared : Within (is_spared settings) (found_shows settings.transport (found_at query octets))
+    pub well_so : IsUnrefused (after_reply query octets)
 
-  service_spared : (line transport : Transport) → Within (is_spared line) (found_shows transport (Service (served_target serves)))
-  service_spared line transport = either (is_spared line) (is_none (way_of transport (served_target serves))) (Some NoService) None refl tt
+  named : found_at (query_at at.Written) (reply settings.serves) ≡ Service (served_target settings.serves)
+  named = ap (found_at (query_at at.Written)) (reply_is settings.serves) ∙ finds_the_server settings.serves reply_room (omega arith)
 
-  written_well : TakesWell (query_at at.Written) (reply serves)
-  written_well = record {
-    spared = λ line transport. subst (λ (found : Found). Within (is_spared line) (found_shows transport found)) (sym named) (service_spared line transport);
-    well_so = service_answers (query_at at.Written) (reply serves) (served_target serves) refl named;
-  }
+  -- of no way where the record names none
+  service_spared : Within (is_spared settings) (found_shows settings.transport (Service (served_target settings.serves)))
+  service_spared = by (is_none (way_of settings.transport (served_target settings.serves))) (none_unless settings.transport settings.serves)
+    where
+      by : (none : Bool) → none ≡ not (has_way settings.transport settings.serves) → Within (is_spared settings) (cond none (Some NoService) None)
+      by true is = sym is
+      by false is = tt
 
-  again_well : TakesWell (query_at at.Again) (reply serves)
-  again_well = record {
-    spared = λ line transport. subst (λ (found : Found). Within (is_spared line) (found_shows transport found)) (sym named) (service_spared line transport);
-    well_so = service_answers (query_at at.Again) (reply serves) (served_target serves) refl named;
-  }
+  named_spared : Within (is_spared settings) (found_shows settings.transport (found_at (query_at at.Written) (reply settings.serves)))
+  named_spared = subst (λ (found : Found). Within (is_spared settings) (found_shows settings.transport found)) (sym named) service_spared
 
-  stage_well : (stage : Stage) → is_refused stage ≡ false → TakesWell (query_at stage) (reply serves)
-  stage_well at.Due well_so = record { spared = λ line transport. tt; well_so = refl }
-  stage_well at.Written well_so = written_well
-  stage_well at.Again well_so = again_well
-  stage_well at.Answered well_so = record { spared = λ line transport. tt; well_so = refl }
+  stage_well : (stage : Stage) → is_refused stage ≡ false → TakesWell (query_at stage) (reply settings.serves)
+  stage_well at.Due well_so = record { spared = tt; well_so = refl }
+  stage_well at.Written well_so = record { spared = named_spared; well_so = service_answers (query_at at.Written) (reply settings.serves) (served_target settings.serves) refl named }
+  stage_well at.Again well_so = record { spared = named_spared; well_so = service_answers (query_at at.Again) (reply settings.serves) (served_target settings.serves) refl named }
+  stage_well at.Answered well_so = record { spared = tt; well_so = refl }
   stage_well (at.Refused reason) well_so = absurd (let never : true ≡ false = well_so in cc)
 
-  pub replied-well : (query : Asking) → IsFirst query → IsUnrefused query → TakesWell query (reply serves)
+  pub replied-well : (query : Asking) → IsFirst query → IsUnrefused query → TakesWell query (reply settings.serves)
   replied-well query first well_so =
-      subst (λ (q : Asking). TakesWell q (reply serves)) (sym first.1) (stage_well first.0 (ap (λ (q : Asking). is_refused q.stage) (sym first.1) ∙ well_so))
+      subst (λ (q : Asking). TakesWell q (reply settings.serves)) (sym first.1) (stage_well first.0 (ap (λ (q : Asking). is_refused q.stage) (sym first.1) ∙ well_so))

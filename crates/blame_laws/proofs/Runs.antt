@@ -2,7 +2,7 @@
 use Rattle.std.proofs.Common.{◌≡◌, Bool, true, false, not, List, [], ◌∷◌, ◌++◌, Option, Some, None, unwrap_or, refl, sym, subst, append-nil, if◌then◌else◌}
 use Rattle.std.specs.List.{AllByRecursion, flat_map}
 use Rattle.request_laws.specs.bt_base.specs.Objects.{Contents}
-use Rattle.request_laws.specs.bt_base.specs.declared.settings.Transport.{Transport}
+use Rattle.request_laws.specs.bt_base.specs.declared.settings.Settings.{Settings}
 use Rattle.request_laws.specs.capture.specs.Entries.{Entry, Ended}
 use Rattle.request_laws.specs.push_terms.specs.declared.outcome.Outcome.{Outcome}
 use Rattle.request_laws.specs.push_terms.specs.declared.outcome.Outcome.TheVariants.{ScriptEnded}
@@ -34,7 +34,7 @@ use Rattle.blame_laws.proofs.Spared.{is_spared, IsClear}
 
 -- ---- at a moment
 
-turns_clear : (scenario : Scenario) (content : Option Contents) (capture : List Entry) (ran : Ran scenario content capture) → PairsInTurn both_ask scenario content capture ran → IsClear scenario.settings.transport ran.world.a.upper.profile.client
+turns_clear : (scenario : Scenario) (content : Option Contents) (capture : List Entry) (ran : Ran scenario content capture) → PairsInTurn both_ask scenario content capture ran → IsClear scenario.settings ran.world.a.upper.profile.client
 turns_clear scenario content capture ran turns =
     let settings = scenario.settings in
     let pairs = turns.pairs in
@@ -49,28 +49,25 @@ turns_clear scenario content capture ran turns =
     (λ k. k) a.spans a.now a.feeds A.first ran.world.a.upper.profile b.spans b.now b.feeds B.first ran.world.b.upper.profile pairs.a.fed.fed pairs.b.fed.fed (λ k. refl) (λ k. refl)
     (subst (AreTimely false) (sym a.marks_are) pairs.a.fed.so.timely) (subst (AreTimely false) (sym b.marks_are) pairs.b.fed.so.timely) turns.asked (first_pages settings) (record { over = first_over settings; spares = tt }) (first_replies settings content)
 
-moment_clear : (scenario : Scenario) (content : Option Contents) (happenings : List Happening) (world : BothHosts) → Happened scenario content happenings world → IsClear scenario.settings.transport world.a.upper.profile.client
+moment_clear : (scenario : Scenario) (content : Option Contents) (happenings : List Happening) (world : BothHosts) → Happened scenario content happenings world → IsClear scenario.settings world.a.upper.profile.client
 moment_clear scenario content happenings world happened =
     let ran : Ran scenario content (all_entries happenings) = record { happenings = happenings; world = world; happened = happened; ends = []; last = tt; capture_is = sym (append-nil (all_entries happenings)) } in
     turns_clear scenario content (all_entries happenings) ran (hosts-take_turns both_ask scenario content (all_entries happenings) ran)
 
 -- ---- an end
 
-spared_not : (line : Transport) (outcome : Outcome) → is_spared line outcome ≡ true → is_blamed line outcome ≡ false
-spared_not line outcome is = by (is_blamed line outcome) is
+spared_not : (settings : Settings) (outcome : Outcome) → is_spared settings outcome ≡ true → is_blamed settings outcome ≡ false
+spared_not settings outcome is = by (is_blamed settings outcome) is
   where
     by : (blamed : Bool) → not blamed ≡ true → blamed ≡ false
     by true e = cc
     by false e = refl
 
-cause_not : (line : Transport) (cause : Option Outcome) (outcome : Outcome) → cause ≡ Some outcome → Within (is_spared line) cause → is_blamed line outcome ≡ false
-cause_not line cause outcome is spares = spared_not line outcome (subst (Within (is_spared line)) is spares)
+cause_not : (settings : Settings) (cause : Option Outcome) (outcome : Outcome) → cause ≡ Some outcome → Within (is_spared settings) cause → is_blamed settings outcome ≡ false
+cause_not settings cause outcome is spares = spared_not settings outcome (subst (Within (is_spared settings)) is spares)
 
 module _ (scenario : Scenario) (content : Option Contents) where
-  abbrev line : Transport
-  line = scenario.settings.transport
-
-  one_spares : (happening : Happening) (done : List Happening) (old new : BothHosts) → Happened scenario content done old → Does (client_of scenario) (server_of scenario content) happening old new → AllByRecursion (SparesIt scenario.settings.transport) (entries_of happening)
+  one_spares : (happening : Happening) (done : List Happening) (old new : BothHosts) → Happened scenario content done old → Does (client_of scenario) (server_of scenario content) happening old new → AllByRecursion (SparesIt scenario.settings) (entries_of happening)
   one_spares (Tries side effort) done old new runs does = tt
   one_spares (Departure side order) done old new runs does = (tt, tt)
   one_spares (GivingBack side) done old new runs does = tt
@@ -79,25 +76,25 @@ module _ (scenario : Scenario) (content : Option Contents) where
   one_spares (Turns ordinal word) done old new runs does = (tt, tt)
   one_spares (Misses word) done old new runs does = tt
   one_spares (Opens push name) done old new runs does = (tt, tt)
-  one_spares (Closes push outcome) done old new runs (going, push_is, idle, is, apart, none_a, none_b, quiet_a, quiet_b, same) = (cause_not line old.a.upper.profile.client.cause outcome is (moment_clear scenario content done old runs).spares, tt)
+  one_spares (Closes push outcome) done old new runs (going, push_is, idle, is, apart, none_a, none_b, quiet_a, quiet_b, same) = (cause_not scenario.settings old.a.upper.profile.client.cause outcome is (moment_clear scenario content done old runs).spares, tt)
 
-  all_spare : (done rest : List Happening) (now new : BothHosts) → Happened scenario content done now → Runs (client_of scenario) (server_of scenario content) rest now new → AllByRecursion (SparesIt scenario.settings.transport) (all_entries rest)
+  all_spare : (done rest : List Happening) (now new : BothHosts) → Happened scenario content done now → Runs (client_of scenario) (server_of scenario content) rest now new → AllByRecursion (SparesIt scenario.settings) (all_entries rest)
   all_spare done [] now new runs later = tt
   all_spare done (happening ∷ rest) now new runs (mid, does, later) =
-      all_both (SparesIt scenario.settings.transport) (entries_of happening) (all_entries rest) (one_spares happening done now mid runs does)
+      all_both (SparesIt scenario.settings) (entries_of happening) (all_entries rest) (one_spares happening done now mid runs does)
       (all_spare (done ++ happening ∷ []) rest mid new (runs_then (client_of scenario) (server_of scenario content) done happening (beginning scenario content) now mid runs does) later)
 
-  moments : (happenings : List Happening) (world : BothHosts) → Happened scenario content happenings world → SparesPeer scenario.settings.transport (all_entries happenings)
+  moments : (happenings : List Happening) (world : BothHosts) → Happened scenario content happenings world → SparesPeer scenario.settings (all_entries happenings)
   moments happenings world happened = all_spare [] happenings (beginning scenario content) world refl happened
 
-  last_spares : (happenings : List Happening) (world : BothHosts) → Happened scenario content happenings world → AllByRecursion (SparesIt scenario.settings.transport) (last_entries ((client_of scenario).outcome world.a.upper) world.pushes)
+  last_spares : (happenings : List Happening) (world : BothHosts) → Happened scenario content happenings world → AllByRecursion (SparesIt scenario.settings) (last_entries ((client_of scenario).outcome world.a.upper) world.pushes)
   last_spares happenings world happened = by world.pushes.going
     where
-      cause : (found : Option Outcome) → Within (is_spared line) found → is_blamed line (unwrap_or found ScriptEnded) ≡ false
+      cause : (found : Option Outcome) → Within (is_spared scenario.settings) found → is_blamed scenario.settings (unwrap_or found ScriptEnded) ≡ false
       cause None spares = refl
-      cause (Some outcome) spares = spared_not line outcome spares
+      cause (Some outcome) spares = spared_not scenario.settings outcome spares
 
-      by : (going : Bool) → AllByRecursion (SparesIt scenario.settings.transport) (if going then Ended world.pushes.begun (unwrap_or world.a.upper.profile.client.cause ScriptEnded) ∷ [] else [])
+      by : (going : Bool) → AllByRecursion (SparesIt scenario.settings) (if going then Ended world.pushes.begun (unwrap_or world.a.upper.profile.client.cause ScriptEnded) ∷ [] else [])
       by true = (cause world.a.upper.profile.client.cause (moment_clear scenario content happenings world happened).spares, tt)
       by false = tt
 
@@ -105,5 +102,5 @@ pub runs_spare_peers : RunsSparePeers
 runs_spare_peers = record {
   moments = λ scenario content happenings world happened. moments scenario content happenings world happened;
   ends = λ scenario content happenings world happened.
-      all_both (SparesIt scenario.settings.transport) (all_entries happenings) (last_entries ((client_of scenario).outcome world.a.upper) world.pushes) (moments scenario content happenings world happened) (last_spares scenario content happenings world happened);
+      all_both (SparesIt scenario.settings) (all_entries happenings) (last_entries ((client_of scenario).outcome world.a.upper) world.pushes) (moments scenario content happenings world happened) (last_spares scenario content happenings world happened);
 }

@@ -3,10 +3,11 @@ use Rattle.std.proofs.Common.{◌≡◌, ℕ, zero, suc, Bool, true, false, cond
 use Rattle.std.proofs.lemmas.Bool.{eqb-true}
 use Rattle.request_laws.specs.bt_base.specs.declared.ports.PortFault.{PortFault}
 use Rattle.request_laws.specs.bt_base.specs.declared.ports.PortFault.TheVariants as fault
+use Rattle.request_laws.specs.bt_base.specs.declared.settings.Settings.{Settings}
 use Rattle.request_laws.specs.bt_base.specs.declared.settings.Transport.{Transport}
 use Rattle.request_laws.specs.bt_base.specs.declared.settings.Transport.TheVariants.{L2cap, Rfcomm}
 use Rattle.request_laws.specs.push_terms.specs.declared.outcome.Outcome.{Outcome}
-use Rattle.request_laws.specs.push_terms.specs.declared.outcome.Outcome.TheVariants.{LinkLost, Cancelled, PeerClosed, PeerFault}
+use Rattle.request_laws.specs.push_terms.specs.declared.outcome.Outcome.TheVariants.{NoService, LinkLost, Cancelled, PeerClosed, PeerFault}
 use Rattle.request_laws.specs.pair_laws.specs.rfcomm_model.specs.Hearing.{Up, nothing, opened, bytes, closed, up, hears}
 use Rattle.request_laws.specs.pair_laws.specs.sdp_client.specs.Hearing.{found_at}
 use Rattle.request_laws.specs.obex_session.specs.declared.client.Answered.{Answered}
@@ -29,33 +30,45 @@ use Rattle.blame_laws.specs.Blamed.{is_faultless, is_blamed}
 
 -- ---- outcomes
 
-abbrev pub is_spared : Transport → Outcome → Bool
-is_spared line outcome = not (is_blamed line outcome)
+abbrev pub is_spared : Settings → Outcome → Bool
+is_spared settings outcome = not (is_blamed settings outcome)
 
--- no fault below service discovery is such a one
-low_spared : (line : Transport) (layer reason : ℕ) → (layer == 2) ≡ true → is_spared line (PeerFault layer reason) ≡ true
-low_spared L2cap layer reason is = ap (λ (n : ℕ). not (is_faultless L2cap n)) (eqb-true layer 2 is)
-low_spared Rfcomm layer reason is = ap (λ (n : ℕ). not (is_faultless Rfcomm n)) (eqb-true layer 2 is)
+-- those that blame it for nothing of the kind over a transport, whatever it serves
+abbrev is_fair : Transport → Outcome → Bool
+is_fair line (PeerFault layer reason) = not (is_faultless line layer)
+is_fair line NoService = false
+is_fair line outcome = true
 
-any_spared : (line : Transport) (outcome : Outcome) → is_any outcome ≡ true → is_spared line outcome ≡ true
-any_spared line (PeerFault layer reason) is = low_spared line layer reason is
-any_spared line outcome is = refl
+fair_spared : (settings : Settings) (outcome : Outcome) → is_fair settings.transport outcome ≡ true → is_spared settings outcome ≡ true
+fair_spared settings (PeerFault layer reason) is = is
+fair_spared settings NoService is = cc
+fair_spared settings outcome is = refl
 
-link_spared : (line : Transport) (reason : ℕ) → is_spared line (cause_of_link reason) ≡ true
-link_spared line reason = by (reason == 0x13)
+-- no fault below service discovery is another
+low_fair : (line : Transport) (layer reason : ℕ) → (layer == 2) ≡ true → is_fair line (PeerFault layer reason) ≡ true
+low_fair L2cap layer reason is = ap (λ (n : ℕ). not (is_faultless L2cap n)) (eqb-true layer 2 is)
+low_fair Rfcomm layer reason is = ap (λ (n : ℕ). not (is_faultless Rfcomm n)) (eqb-true layer 2 is)
+
+any_fair : (line : Transport) (outcome : Outcome) → is_any outcome ≡ true → is_fair line outcome ≡ true
+any_fair line (PeerFault layer reason) is = low_fair line layer reason is
+any_fair line NoService is = is
+any_fair line outcome is = refl
+
+link_fair : (line : Transport) (reason : ℕ) → is_fair line (cause_of_link reason) ≡ true
+link_fair line reason = by (reason == 0x13)
   where
-    by : (user : Bool) → is_spared line (cond user PeerClosed LinkLost) ≡ true
+    by : (user : Bool) → is_fair line (cond user PeerClosed LinkLost) ≡ true
     by true = refl
     by false = refl
 
-page_spared : (line : Transport) (status : ℕ) → is_spared line (cause_of_page status) ≡ true
-page_spared L2cap status = refl
-page_spared Rfcomm status = refl
+page_fair : (line : Transport) (status : ℕ) → is_fair line (cause_of_page status) ≡ true
+page_fair L2cap status = refl
+page_fair Rfcomm status = refl
 
 -- ---- responses over L2CAP
 
 abbrev Direct : Option Outcome → Type 0
-Direct shown = Within (is_spared L2cap) shown
+Direct shown = Within (is_fair L2cap) shown
 
 says_direct : (answered : Answered) → Direct (says answered)
 says_direct answer.Go = tt
@@ -66,12 +79,12 @@ says_direct answer.Srmp = refl
 
 answer_direct : (answered : Option Answered) (client : Client) → Direct (answer_shows answered client)
 answer_direct None client = refl
-answer_direct (Some answered) client = either (is_spared L2cap) (is_success answered && is_early client) (Some unawaited_response) (says answered) refl (says_direct answered)
+answer_direct (Some answered) client = either (is_fair L2cap) (is_success answered && is_early client) (Some unawaited_response) (says answered) refl (says_direct answered)
 
 -- ---- responses over RFCOMM
 
 abbrev Muxed : Option Outcome → Type 0
-Muxed shown = Within (is_spared Rfcomm) shown
+Muxed shown = Within (is_fair Rfcomm) shown
 
 says_muxed : (answered : Answered) → Muxed (says answered)
 says_muxed answer.Go = tt
@@ -82,7 +95,7 @@ says_muxed answer.Srmp = refl
 
 answer_muxed : (answered : Option Answered) (client : Client) → Muxed (answer_shows answered client)
 answer_muxed None client = refl
-answer_muxed (Some answered) client = either (is_spared Rfcomm) (is_success answered && is_early client) (Some unawaited_response) (says answered) refl (says_muxed answered)
+answer_muxed (Some answered) client = either (is_fair Rfcomm) (is_success answered && is_early client) (Some unawaited_response) (says answered) refl (says_muxed answered)
 
 response_muxed : (packet : List ℕ) (client : Client) → Muxed (response_shows packet client)
 response_muxed packet client = answer_muxed (answer_at client.session.awaited client.session packet) client
@@ -107,93 +120,98 @@ up_muxed : (news : Up) (client : Client) → Muxed (up_shows news client)
 up_muxed nothing client = tt
 up_muxed opened client = tt
 up_muxed (bytes octets) client = stream_muxed (length (client.held ++ octets)) (client.held ++ octets) client
-up_muxed (closed reason) client = either (is_spared Rfcomm) (is_left client.contact reason) None (Some (cause_of_mux reason)) tt refl
+up_muxed (closed reason) client = either (is_fair Rfcomm) (is_left client.contact reason) None (Some (cause_of_mux reason)) tt refl
 
 -- ---- an SDU
 
-outside_spared : (line : Transport) → Within (is_spared line) (outside_shows line)
-outside_spared L2cap = refl
-outside_spared Rfcomm = tt
+outside_fair : (line : Transport) → Within (is_fair line) (outside_shows line)
+outside_fair L2cap = refl
+outside_fair Rfcomm = tt
 
-object_spared : (line : Transport) (sdu : List ℕ) (client : Client) → Within (is_spared line) (object_shows line sdu client)
-object_spared L2cap sdu client = answer_direct (answer_at client.session.awaited client.session sdu) client
-object_spared Rfcomm sdu client = up_muxed (up sdu client.mux) (record client { mux = hears sdu client.mux })
+object_fair : (line : Transport) (sdu : List ℕ) (client : Client) → Within (is_fair line) (object_shows line sdu client)
+object_fair L2cap sdu client = answer_direct (answer_at client.session.awaited client.session sdu) client
+object_fair Rfcomm sdu client = up_muxed (up sdu client.mux) (record client { mux = hears sdu client.mux })
 
 -- what its query finds blames nobody
-abbrev pub FindsSpared : Transport → (psm : ℕ) (sdu : List ℕ) → Client → Type 0
-FindsSpared line psm sdu client = client.stage ≡ Search → (psm == search_psm) ≡ true → Within (is_spared line) (found_shows client.transport (found_at client.query sdu))
+abbrev pub FindsSpared : Settings → (psm : ℕ) (sdu : List ℕ) → Client → Type 0
+FindsSpared settings psm sdu client = client.stage ≡ Search → (psm == search_psm) ≡ true → Within (is_spared settings) (found_shows client.transport (found_at client.query sdu))
 
-sdu_spared : (line : Transport) (stage : Stage) (psm : ℕ) (sdu : List ℕ) (client : Client) → client.stage ≡ stage → client.transport ≡ line → FindsSpared line psm sdu client → Within (is_spared line) (sdu_shows stage psm sdu client)
-sdu_spared line Search psm sdu client at over finds = by (psm == search_psm) (finds at)
-  where
-    by : (here : Bool) → (here ≡ true → Within (is_spared line) (found_shows client.transport (found_at client.query sdu))) → Within (is_spared line) (cond here (found_shows client.transport (found_at client.query sdu)) None)
-    by true found = found refl
-    by false found = tt
-sdu_spared line (ObjectChannel point) psm sdu client at over finds =
-    either (is_spared line) (psm == client.psm) (outside_shows client.transport) None (subst (λ (t : Transport). Within (is_spared line) (outside_shows t)) (sym over) (outside_spared line)) tt
-sdu_spared line Object psm sdu client at over finds =
-    either (is_spared line) (psm == client.psm) (object_shows client.transport sdu client) None (subst (λ (t : Transport). Within (is_spared line) (object_shows t sdu client)) (sym over) (object_spared line sdu client)) tt
-sdu_spared line (ObjectEnd point) psm sdu client at over finds =
-    either (is_spared line) (psm == client.psm) (outside_shows client.transport) None (subst (λ (t : Transport). Within (is_spared line) (outside_shows t)) (sym over) (outside_spared line)) tt
-sdu_spared line Rest psm sdu client at over finds = tt
-sdu_spared line (Link point) psm sdu client at over finds = tt
-sdu_spared line (SearchChannel point) psm sdu client at over finds = tt
-sdu_spared line (SearchEnd point) psm sdu client at over finds = tt
-sdu_spared line (Features point) psm sdu client at over finds = tt
-sdu_spared line (LinkEnd point) psm sdu client at over finds = tt
-sdu_spared line Over psm sdu client at over finds = tt
+abbrev IsSparedSdu : Settings → Deed → Client → Type 0
+IsSparedSdu settings (Hears (events.Sdu psm sdu)) client = FindsSpared settings psm sdu client
+IsSparedSdu settings deed client = Unit {0}
 
--- ---- all that it hears and does
+module _ (settings : Settings) where
+  fairly : (shown : Option Outcome) → Within (is_fair settings.transport) shown → Within (is_spared settings) shown
+  fairly shown fair = within_more (is_fair settings.transport) (is_spared settings) (fair_spared settings) shown fair
 
-abbrev IsSparedSdu : Transport → Deed → Client → Type 0
-IsSparedSdu line (Hears (events.Sdu psm sdu)) client = FindsSpared line psm sdu client
-IsSparedSdu line deed client = Unit {0}
+  -- on a channel of its object, over its transport
+  object_spared : (here : Bool) (shown : Transport → Option Outcome) (client : Client) → client.transport ≡ settings.transport → ((line : Transport) → Within (is_fair line) (shown line)) → Within (is_spared settings) (cond here (shown client.transport) None)
+  object_spared true shown client over fair = subst (λ (line : Transport). Within (is_spared settings) (shown line)) (sym over) (fairly (shown settings.transport) (fair settings.transport))
+  object_spared false shown client over fair = tt
 
-module _ (line : Transport) where
-  shown_spared : (deed : Deed) (client : Client) → ShowsWithin is_any deed → Within (is_spared line) (shows deed client)
-  shown_spared deed client shown = within_more is_any (is_spared line) (any_spared line) (shows deed client) (shown client)
+  sdu_spared : (stage : Stage) (psm : ℕ) (sdu : List ℕ) (client : Client) → client.stage ≡ stage → client.transport ≡ settings.transport → FindsSpared settings psm sdu client → Within (is_spared settings) (sdu_shows stage psm sdu client)
+  sdu_spared Search psm sdu client at over finds = by (psm == search_psm) (finds at)
+    where
+      by : (here : Bool) → (here ≡ true → Within (is_spared settings) (found_shows client.transport (found_at client.query sdu))) → Within (is_spared settings) (cond here (found_shows client.transport (found_at client.query sdu)) None)
+      by true found = found refl
+      by false found = tt
+  sdu_spared (ObjectChannel point) psm sdu client at over finds = object_spared (psm == client.psm) (λ line. outside_shows line) client over outside_fair
+  sdu_spared Object psm sdu client at over finds = object_spared (psm == client.psm) (λ line. object_shows line sdu client) client over (λ line. object_fair line sdu client)
+  sdu_spared (ObjectEnd point) psm sdu client at over finds = object_spared (psm == client.psm) (λ line. outside_shows line) client over outside_fair
+  sdu_spared Rest psm sdu client at over finds = tt
+  sdu_spared (Link point) psm sdu client at over finds = tt
+  sdu_spared (SearchChannel point) psm sdu client at over finds = tt
+  sdu_spared (SearchEnd point) psm sdu client at over finds = tt
+  sdu_spared (Features point) psm sdu client at over finds = tt
+  sdu_spared (LinkEnd point) psm sdu client at over finds = tt
+  sdu_spared Over psm sdu client at over finds = tt
 
-  news_spared : (news : events.News) (client : Client) → client.transport ≡ line → IsSparedSdu line (Hears news) client → Within (is_spared line) (news_show news client)
+  -- ---- all that it hears and does
+
+  shown_spared : (deed : Deed) (client : Client) → ShowsWithin is_any deed → Within (is_spared settings) (shows deed client)
+  shown_spared deed client shown = fairly (shows deed client) (within_more is_any (is_fair settings.transport) (any_fair settings.transport) (shows deed client) (shown client))
+
+  news_spared : (news : events.News) (client : Client) → client.transport ≡ settings.transport → IsSparedSdu settings (Hears news) client → Within (is_spared settings) (news_show news client)
   news_spared events.LinkUp client over so = tt
-  news_spared (events.LinkDown reason) client over so = either (is_spared line) (is_linked client.stage) (Some (cause_of_link reason)) None (link_spared line reason) tt
-  news_spared (events.LinkFailed status) client over so = either (is_spared line) (is_paging client.stage) (Some (cause_of_page status)) None (page_spared line status) tt
+  news_spared (events.LinkDown reason) client over so = either (is_spared settings) (is_linked client.stage) (Some (cause_of_link reason)) None (fairly (Some (cause_of_link reason)) (link_fair settings.transport reason)) tt
+  news_spared (events.LinkFailed status) client over so = either (is_spared settings) (is_paging client.stage) (Some (cause_of_page status)) None (fairly (Some (cause_of_page status)) (page_fair settings.transport status)) tt
   news_spared (events.ChannelOpen psm mtu) client over so = shown_spared (Hears (events.ChannelOpen psm mtu)) client (opens_shown psm mtu)
   news_spared (events.ChannelClosed psm cause) client over so = shown_spared (Hears (events.ChannelClosed psm cause)) client (closes_shown psm cause)
-  news_spared (events.Sdu psm sdu) client over so = sdu_spared line client.stage psm sdu client refl over so
+  news_spared (events.Sdu psm sdu) client over so = sdu_spared client.stage psm sdu client refl over so
   news_spared events.FeaturesTold client over so = tt
   news_spared events.FeaturesLost client over so = shown_spared (Hears events.FeaturesLost) client lost_shown
   news_spared events.Timer client over so = shown_spared (Hears events.Timer) client timer_shown
 
-  shows_spared : (deed : Deed) (client : Client) → client.transport ≡ line → IsSparedSdu line deed client → Within (is_spared line) (shows deed client)
+  shows_spared : (deed : Deed) (client : Client) → client.transport ≡ settings.transport → IsSparedSdu settings deed client → Within (is_spared settings) (shows deed client)
   shows_spared (Hears news) client over so = news_spared news client over so
   shows_spared (Asks parts) client over so = shown_spared (Asks parts) client (asks_shown parts)
   shows_spared Finishes client over so = tt
-  shows_spared Cancels client over so = either (is_spared line) (may_cancel client) (Some Cancelled) None refl tt
+  shows_spared Cancels client over so = either (is_spared settings) (may_cancel client) (Some Cancelled) None refl tt
 
   -- ---- a client that blames none, over its transport
 
   pub record IsClear (client : Client) : Type 0 where
-    pub over : IsOver line client
-    pub spares : Within (is_spared line) client.cause
+    pub over : IsOver settings.transport client
+    pub spares : Within (is_spared settings) client.cause
 
-  spares_then : (old new : Option Outcome) → Came (is_spared line) old new → Within (is_spared line) old → Within (is_spared line) new
+  spares_then : (old new : Option Outcome) → Came (is_spared settings) old new → Within (is_spared settings) old → Within (is_spared settings) new
   spares_then None new came spares = came
-  spares_then (Some outcome) new came spares = subst (Within (is_spared line)) (sym came) spares
+  spares_then (Some outcome) new came spares = subst (Within (is_spared settings)) (sym came) spares
 
-  pub deed_clear : (deed : Deed) (client : Client) → IsSparedSdu line deed client → IsClear client → IsClear (done deed client)
+  pub deed_clear : (deed : Deed) (client : Client) → IsSparedSdu settings deed client → IsClear client → IsClear (done deed client)
   deed_clear deed client so clear = record {
-    over = stays_over line (Does deed ∷ []) client clear.over;
-    spares = spares_then client.cause (done deed client).cause (came_by (is_spared line) deed client (shows_spared deed client clear.over.0 so)) clear.spares;
+    over = stays_over settings.transport (Does deed ∷ []) client clear.over;
+    spares = spares_then client.cause (done deed client).cause (came_by (is_spared settings) deed client (shows_spared deed client clear.over.0 so)) clear.spares;
   }
 
-  begins_spare : (size : Result ℕ PortFault) (name : List ℕ) (client : Client) → Within (is_spared line) client.cause → Within (is_spared line) (begins size name client).cause
+  begins_spare : (size : Result ℕ PortFault) (name : List ℕ) (client : Client) → Within (is_spared settings) client.cause → Within (is_spared settings) (begins size name client).cause
   begins_spare size name client spares = by client.failed size
     where
-      by : (failed : Bool) (size : Result ℕ PortFault) → Within (is_spared line) (cond failed client (begun_by size name client)).cause
+      by : (failed : Bool) (size : Result ℕ PortFault) → Within (is_spared settings) (cond failed client (begun_by size name client)).cause
       by true size = spares
       by false (Ok count) = tt
       by false (Err fault.Failed) = refl
       by false (Err fault.NoMemory) = spares
 
   pub begins_clear : (size : Result ℕ PortFault) (name : List ℕ) (client : Client) → IsClear client → IsClear (begins size name client)
-  begins_clear size name client clear = record { over = stays_over line (Begins size name ∷ []) client clear.over; spares = begins_spare size name client clear.spares }
+  begins_clear size name client clear = record { over = stays_over settings.transport (Begins size name ∷ []) client clear.over; spares = begins_spare size name client clear.spares }

@@ -109,8 +109,8 @@ pub record EndsSo (scenario : Scenario) (old new : Ports) (outcomes : List Outco
 -- ---- short of it
 
 -- The trace gained the capture of what happened, and a front of its next entry, if one was begun. The inbox gained what that capture spells, by the same
--- rule; each push that ended has the cause of its outcome in its part of it, and none blames its peer for what is never its fault, nor ends as closed by it while fewer words of the
--- script are adverse than the hosts try; and the credits are so behind that entry as well, and the service too.
+-- rule; each push that ended has the cause of its outcome in its part of it, and none blames its peer for what is never its fault, or lacks a service that it
+-- has, nor ends as closed by it while fewer words of the script are adverse than the hosts try; and the credits are so behind that entry as well, and the service too.
 pub record StopsSo (scenario : Scenario) (old new : Ports) (past next : List Entry) : Type 0 where
   pub few : length next ≤ 1
   pub each : AllByRecursion IsEntry (past ++ next)
@@ -118,7 +118,7 @@ pub record StopsSo (scenario : Scenario) (old new : Ports) (past next : List Ent
   pub keeps : KeepsBroken scenario (past ++ next)
   pub causes : CausesAreShown scenario.settings past
   pub drops : LossesAreDrops past
-  pub spares : SparesPeer scenario.settings.transport past
+  pub spares : SparesPeer scenario.settings past
   pub limits : adverse_in (words_of scenario.script) < scenario.settings.tries → PeersCloseNone past
   pub pushed : HasPushed scenario old past
   pub done : HasDone scenario old new past

@@ -45,12 +45,12 @@ losses_so_far scenario shelf before after trace trace' counts counts' broken = r
 
 -- and that none blames its peer for what is never its fault
 pub peer_spared : (scenario : Scenario) (shelf : Option (List Object)) (before after : Option Contents) (trace trace' : Option (List ℕ)) (outcomes : List Outcome) (peaks : Peaks) (counts counts' : Counts) (played : IsPlayed scenario shelf before after trace trace' outcomes peaks counts counts')
-    → SparesPeer scenario.settings.transport played.capture
+    → SparesPeer scenario.settings played.capture
 peer_spared scenario shelf before after trace trace' outcomes peaks counts counts' played =
     let ran = played.finished.ran in
-    subst (SparesPeer scenario.settings.transport) (sym (ran.capture_is ∙ ap (λ (ends : List Entry). all_entries ran.happenings ++ ends) played.ends)) (runs_spare_peers.ends scenario before ran.happenings ran.world ran.happened)
+    subst (SparesPeer scenario.settings) (sym (ran.capture_is ∙ ap (λ (ends : List Entry). all_entries ran.happenings ++ ends) played.ends)) (runs_spare_peers.ends scenario before ran.happenings ran.world ran.happened)
 
-pub peer_spared_so_far : (scenario : Scenario) (shelf : Option (List Object)) (before after : Option Contents) (trace trace' : Option (List ℕ)) (counts counts' : Counts) (broken : IsBroken scenario shelf before after trace trace' counts counts') → SparesPeer scenario.settings.transport (all_entries broken.happenings)
+pub peer_spared_so_far : (scenario : Scenario) (shelf : Option (List Object)) (before after : Option Contents) (trace trace' : Option (List ℕ)) (counts counts' : Counts) (broken : IsBroken scenario shelf before after trace trace' counts counts') → SparesPeer scenario.settings (all_entries broken.happenings)
 peer_spared_so_far scenario shelf before after trace trace' counts counts' broken = runs_spare_peers.moments scenario before broken.happenings broken.world broken.happened
 
 -- and that none ends as closed by its peer, while few words are adverse

@@ -89,8 +89,8 @@ pub record ServesAndGains (asks : HostsAsk) (scenario : Scenario) (before : List
   pub gained : stored ≡ Some (before ++ objects_heard (party_of scenario.settings B) B capture)
 
 -- A scenario that was played to its end: its accounts, that each push which began has its end, an outcome for each object and what shows why it came, that none
--- blames its peer for what is never its fault, nor ends as closed by it while fewer words of the script are adverse than the hosts try, and that the air obeyed the
--- script, whatever ports answer.
+-- blames its peer for what is never its fault, or lacks a service that it has, nor ends as closed by it while fewer words of the script are adverse than the hosts
+-- try, and that the air obeyed the script, whatever ports answer.
 pub record KeepsPlayed (scenario : Scenario) (outcomes : List Outcome) (capture : List Entry) : Type 0 where
   pub accounts : KeepsAccounts scenario capture
   pub all_ended : AllHaveEnded capture
@@ -98,7 +98,7 @@ pub record KeepsPlayed (scenario : Scenario) (outcomes : List Outcome) (capture 
   pub outcomes_are_all : length outcomes ≡ length scenario.names
   pub causes : CausesAreShown scenario.settings capture
   pub drops : LossesAreDrops capture
-  pub spares : SparesPeer scenario.settings.transport capture
+  pub spares : SparesPeer scenario.settings capture
   pub limits : adverse_in (words_of scenario.script) < scenario.settings.tries → PeersCloseNone capture
   pub obeys : Obeys (hosts_of scenario.settings) scenario.acl_length (words_of scenario.script) capture
 
