@@ -7,7 +7,7 @@ use Rattle.btpush_forms.specs.declared.status.Status.{Status}
 use Rattle.object_push.specs.Ports.{Ports}
 use Rattle.object_push.specs.Running.{Runs, RanToEnd, RanShort}
 
--- Where it was played to its end: its accounts, the pushes and their outcomes, the windows at its end, and the air obeyed the script. As far as it
+-- Where it was played to its end: its accounts, the pushes and their outcomes, and the air obeyed the script. As far as it
 -- came where it stopped short: its accounts, and each entry keeps to the script.
 abbrev pub KeepsRun : (scenario : Scenario) (old new : Ports) (result : Status) → Runs scenario old new result → Type 0
 KeepsRun scenario old new result (RanToEnd outcomes kept peaks played gains faults reports) = KeepsPlayed scenario outcomes played.capture

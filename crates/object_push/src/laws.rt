@@ -15,8 +15,8 @@ pub fn runs_gain()
 }
 
 /// What is so of each run of a scenario, over L2CAP or over RFCOMM, over its capture alone and whatever its ports answer: the buffers of both
-/// controllers at each moment, the pushes and their outcomes, the windows at its end, and that the air obeyed the script; where it stopped
-/// short, as far as it came.
+/// controllers and the windows of both hosts at each moment, the pushes and their outcomes, and that the air obeyed the script; where it
+/// stopped short, as far as it came.
 pub fn runs_keep()
     ensures { RunsKeep }
 {

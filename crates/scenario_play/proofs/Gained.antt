@@ -1,7 +1,8 @@
 -- What a scenario comes to that was played: over either transport, and over L2CAP.
-use Rattle.std.proofs.Common.{◌≡◌, ℕ, List, [], ◌++◌, length, take, Option, Some, None, refl, sym, ap, ◌∙◌, subst, inl, inr, ◌⊎◌}
+use Rattle.std.proofs.Common.{◌≡◌, ℕ, List, [], ◌++◌, length, Option, Some, None, refl, sym, ap, ◌∙◌, subst, inl, inr, ◌⊎◌}
 use Rattle.std.proofs.lemmas.List.{append-nil}
 use Rattle.bt_base.specs.Objects.{Object, Contents}
+use Rattle.bt_base.specs.declared.settings.Settings.{Settings}
 use Rattle.bt_base.specs.declared.settings.Transport.TheVariants.{L2cap}
 use Rattle.noting_laws.specs.obex_session.specs.Counting.{Counts}
 use Rattle.push_script.specs.declared.scenario.Scenario.{Scenario}
@@ -11,7 +12,7 @@ use Rattle.push_terms.specs.declared.word.Side.{Side}
 use Rattle.push_terms.specs.declared.word.Side.TheVariants.{A, B}
 use Rattle.push_terms.specs.declared.word.Word.{Word}
 use Rattle.capture.specs.Entries.{Entry}
-use Rattle.capture.specs.Histories.{EachAfter, AtEach}
+use Rattle.capture.specs.Histories.{EachAfter}
 use Rattle.capture.proofs.HistoryLaws.{at_each-whole}
 use Rattle.radio_world.specs.radio_model.specs.Air.{KeepsTo}
 use Rattle.noting_laws.specs.link_talk.specs.Captures.{objects_heard, talk_now}
@@ -38,6 +39,7 @@ use Rattle.noting_laws.specs.scenario_laws.proofs.OneLink.{pushes_have_one_link}
 use Rattle.noting_laws.specs.scenario_laws.proofs.PushEnds.{pushes_end, pushes_are_of_scenarios}
 use Rattle.noting_laws.specs.pair_laws.specs.Granted.{granting, HappenedGranted}
 use Rattle.noting_laws.specs.pair_laws.specs.Served.{HappenedServed}
+use Rattle.noting_laws.specs.pair_laws.specs.Windows.{HoldsOn, HoldsThroughout, RunsHoldWindows}
 use Rattle.noting_laws.specs.pair_laws.proofs.Answered.{runs-so}
 use Rattle.noting_laws.specs.pair_laws.proofs.Pairing.{granted-take_turns, held-take_turns, served-take_turns}
 use Rattle.noting_laws.specs.pair_laws.proofs.Taking.{clients_within, servers_within}
@@ -59,17 +61,23 @@ use Rattle.scenario_play.proofs.Alikeness.{enough_held}
 
 -- ---- a run
 
--- no window is passed at any moment
-window_kept : (scenario : Scenario) (content : Option Contents) (capture : List Entry) (side : Side) → Ran scenario content capture → AtEach (KeepsWindow scenario.settings side) capture
-window_kept scenario content capture side ran n own channel known alive =
-    talks_hold.used scenario.settings side (talk_now side (take n capture)) own channel ((runs_hold windows-hold).throughout scenario content capture side ran n) known
+-- both hosts hold their windows
+windows_held : RunsHoldWindows
+windows_held = runs_hold windows-hold
+
+-- what is held at each moment is not passed at the end
+window_kept : (settings : Settings) (side : Side) (capture : List Entry) → HoldsThroughout settings side capture → KeepsWindow settings side capture
+window_kept settings side capture holds own channel known alive =
+    talks_hold.used settings side (talk_now side capture) own channel (at_each-whole (λ (past : List Entry). HoldsOn settings side (talk_now side past)) capture holds) known
 
 pub accounts_kept : (scenario : Scenario) (content : Option Contents) (capture : List Entry) → Ran scenario content capture → KeepsAccounts scenario capture
 accounts_kept scenario content capture ran = record {
   within_a = buffers_kept scenario content capture A ran;
   within_b = buffers_kept scenario content capture B ran;
-  window_a = window_kept scenario content capture A ran;
-  window_b = window_kept scenario content capture B ran;
+  window_a = windows_held.throughout scenario content capture A ran;
+  window_b = windows_held.throughout scenario content capture B ran;
+  on_links_a = windows_held.on_links scenario content capture A ran;
+  on_links_b = windows_held.on_links scenario content capture B ran;
   honest = controllers_honest scenario content capture ran;
   in_turn = pushes_in_turn scenario content capture ran;
   one_link_a = pushes_have_one_link scenario content capture A ran;
@@ -183,8 +191,8 @@ plays keeps scenario shelf before after trace trace' outcomes peaks counts count
         gained = all.gained;
         within_a = kept.accounts.within_a;
         within_b = kept.accounts.within_b;
-        window_a = at_each-whole (KeepsWindow scenario.settings A) played.capture kept.accounts.window_a;
-        window_b = at_each-whole (KeepsWindow scenario.settings B) played.capture kept.accounts.window_b;
+        window_a = window_kept scenario.settings A played.capture kept.accounts.window_a;
+        window_b = window_kept scenario.settings B played.capture kept.accounts.window_b;
         honest = kept.accounts.honest;
         in_turn = kept.accounts.in_turn;
         outcomes_are = played.outcomes_are;

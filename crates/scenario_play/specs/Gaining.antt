@@ -20,7 +20,6 @@ use Rattle.noting_laws.specs.world_model.specs.Worlds.{all_entries}
 use Rattle.noting_laws.specs.push_laws.specs.Laws.{stored_in}
 use Rattle.bt_host.specs.shelf_model.specs.Held.{length_of}
 use Rattle.noting_laws.specs.host_laws.specs.Calls.{HostsAsk}
-use Rattle.noting_laws.specs.scenario_laws.specs.Accounts.{KeepsWindow}
 use Rattle.noting_laws.specs.scenario_laws.specs.Air.{hosts_of}
 use Rattle.noting_laws.specs.scenario_laws.specs.Broken.{BrokeOff}
 use Rattle.noting_laws.specs.scenario_laws.specs.Captures.{BothHosts, Ran, Finished}
@@ -33,6 +32,7 @@ use Rattle.noting_laws.specs.scenario_laws.specs.PushEnds.{AllHaveEnded}
 use Rattle.noting_laws.specs.pair_laws.specs.Costs.{adverse_in}
 use Rattle.noting_laws.specs.pair_laws.specs.InTurn.{PairsInTurn}
 use Rattle.noting_laws.specs.pair_laws.specs.Served.{HeldInTurn}
+use Rattle.noting_laws.specs.pair_laws.specs.Windows.{HoldsOnLinks, HoldsThroughout}
 use Rattle.drop_laws.specs.cause_laws.specs.FirstCauses.{CausesAreShown}
 use Rattle.drop_laws.specs.Dropped.{LossesAreDrops}
 use Rattle.blame_laws.specs.Blamed.{SparesPeer}
@@ -70,13 +70,15 @@ HoldsAtMost most (Some objects) = (name : List ℕ) (size : ℕ) → length_of n
 
 -- ---- what is so
 
--- Whatever ports answer: the buffers of both controllers and the windows of both hosts at each moment, honest controllers, and pushes in turn, each of them
--- over one link at most, and no more of them than objects.
+-- Whatever ports answer: the buffers of both controllers at each moment, and so the windows of both hosts, on the link that is up then and on each link to its end, also
+-- of a channel that was closed; honest controllers, and pushes in turn, each of them over one link at most, and no more of them than objects.
 pub record KeepsAccounts (scenario : Scenario) (capture : List Entry) : Type 0 where
   pub within_a : KeepsWithin A scenario.acl_count capture
   pub within_b : KeepsWithin B scenario.acl_count capture
-  pub window_a : AtEach (KeepsWindow scenario.settings A) capture
-  pub window_b : AtEach (KeepsWindow scenario.settings B) capture
+  pub window_a : HoldsThroughout scenario.settings A capture
+  pub window_b : HoldsThroughout scenario.settings B capture
+  pub on_links_a : HoldsOnLinks scenario.settings A capture
+  pub on_links_b : HoldsOnLinks scenario.settings B capture
   pub honest : AreHonest capture
   pub in_turn : PushesInTurn capture
   pub one_link_a : AtEach (HasOneLink A) capture
