@@ -1,16 +1,15 @@
 -- A Name first aborts what is under way over the other transport, whatever the inbox answers.
-use Rattle.std.proofs.Common.{◌≡◌, Bool, true, false, ℕ, List, [], ◌∷◌, drop, Option, Some, None, Ok, Err, refl, ap, ◌∙◌}
+use Rattle.std.proofs.Common.{◌≡◌, true, false, List, [], ◌∷◌, drop, Option, Ok, Err, refl, ap, ◌∙◌}
 use Rattle.std.specs.Option.{option_map}
 use Rattle.std.proofs.lemmas.Bool.{cond-true, cond-false}
 use Rattle.push_laws.specs.link_talk.specs.bt_base.specs.declared.ports.PortFault.TheVariants.{Failed, NoMemory}
-use Rattle.push_laws.specs.link_talk.specs.bt_base.specs.declared.settings.Transport.{Transport}
 use Rattle.push_laws.specs.link_talk.specs.bt_base.specs.Objects.{Contents, aborted}
 use Rattle.push_laws.specs.push_model.specs.obex_session.specs.InboxCalls.{InboxCall, Answer, Abort, come_of}
 use Rattle.push_laws.specs.push_model.specs.obex_session.specs.Past.{Serving}
 use Rattle.push_laws.specs.push_model.specs.obex_session.specs.Rules.{aborts, progress_in}
 use Rattle.push_laws.specs.push_model.specs.obex_session.specs.Serving.{ruling_on}
 use Rattle.push_laws.specs.push_model.specs.obex_session.specs.Views.{rested}
-use Rattle.push_laws.specs.push_model.specs.Sessions.{Sessions, Gift, Parted, Heard, session_of, other_of, after_calls, is_short, is_naming, lets_go, answers_to, hears_after, hears}
+use Rattle.push_laws.specs.push_model.specs.Sessions.{Gift, Parted, Heard, session_of, other_of, after_calls, is_short, is_naming, lets_go, answers_to, hears_after, hears}
 use Rattle.push_laws.proofs.Sessions.{kept_session}
 use Rattle.session_laws.specs.AbortedFirst.{after_abort, NamesAbortFirst}
 
