@@ -1,0 +1,2 @@
+pub use Rattle.channel_laws
+pub mod Refused
