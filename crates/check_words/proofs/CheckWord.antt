@@ -13,7 +13,7 @@ low_part = true ∷ (zeros 12 ++ true ∷ false ∷ true ∷ [])
 
 -- ---- what is kept is linear too
 
-interchange : (a b c d : List Bool) → added (added a b) (added c d) ≡ added (added a c) (added b d)
+pub interchange : (a b c d : List Bool) → added (added a b) (added c d) ≡ added (added a c) (added b d)
 interchange a b c d =
     added-assoc a b (added c d) ∙ ap (added a) (added-left-comm b c d) ∙ sym (added-assoc a c (added b d))
 

@@ -20,7 +20,7 @@ use Rattle.check_words.proofs.Octets.{kept_all-octet}
 abbrev pub left_behind : ℕ → List ℕ → List Bool
 left_behind word octets = remainder l2cap_generator (added (low_bits 16 word) (bits_of octets ++ zeros 16))
 
-behind_is_kept : (word : ℕ) (octets : List ℕ) → left_behind word octets ≡ kept_all low_part (low_bits 16 word) (bits_of octets)
+pub behind_is_kept : (word : ℕ) (octets : List ℕ) → left_behind word octets ≡ kept_all low_part (low_bits 16 word) (bits_of octets)
 behind_is_kept word octets = remainder-from low_part (low_bits 16 word) (bits_of octets) (length-low_bits 16 word) (omega arith)
 
 pub none_behind : (word : ℕ) → low_bits 16 word ≡ left_behind word []
@@ -37,6 +37,17 @@ one_behind start octets i octet word next within is before after =
     ∙ ap (λ (s : List Bool). kept_all low_part s (low_bits 8 octet)) (before ∙ behind_is_kept start (take i octets))
     ∙ sym (kept_all-octet low_part (low_bits 16 start) octets i octet within is)
     ∙ sym (behind_is_kept start (take (i + 1) octets))
+
+-- octets behind those of a word that is left of others
+further_behind : (start : ℕ) (front octets : List ℕ) (word next : ℕ) → low_bits 16 word ≡ left_behind start front
+    → low_bits 16 next ≡ left_behind word octets → low_bits 16 next ≡ left_behind start (front ++ octets)
+further_behind start front octets word next before after =
+    after
+    ∙ behind_is_kept word octets
+    ∙ ap (λ (s : List Bool). kept_all low_part s (bits_of octets)) (before ∙ behind_is_kept start front)
+    ∙ sym (kept_all-append low_part (low_bits 16 start) (bits_of front) (bits_of octets))
+    ∙ ap (kept_all low_part (low_bits 16 start)) (sym (flat_map-append (low_bits 8) front octets))
+    ∙ sym (behind_is_kept start (front ++ octets))
 
 pub all_behind : (front octets : List ℕ) (word next : ℕ) → low_bits 16 word ≡ l2cap_check front
     → low_bits 16 next ≡ left_behind word octets → low_bits 16 next ≡ l2cap_check (front ++ octets)
@@ -132,11 +143,11 @@ in_front word a b octets =
     ap (remainder l2cap_generator) (added-front (low_bits 16 word) (bits_of (a ∷ b ∷ octets)) (zeros 16) long ∙ ap (λ (w : List Bool). w ++ zeros 16) both)
 
 -- so many elements from one on
-abbrev elements : ℕ → ℕ → List ℕ → List ℕ
+abbrev pub elements : ℕ → ℕ → List ℕ → List ℕ
 elements zero i xs = []
 elements (suc count) i xs = get_or xs i 0 ∷ elements count (i + 1) xs
 
-all_elements : (count i : ℕ) (xs : List ℕ) → length xs ≡ i + count → drop i xs ≡ elements count i xs
+pub all_elements : (count i : ℕ) (xs : List ℕ) → length xs ≡ i + count → drop i xs ≡ elements count i xs
 all_elements zero i xs long = drop_all i xs (omega arith)
 all_elements (suc count) i xs long =
     drop_more xs i 0 (omega arith) ∙ ap (λ (ys : List ℕ). get_or xs i 0 ∷ ys) (all_elements count (i + 1) xs (omega arith))
@@ -202,21 +213,25 @@ eight_behind word octets s t u v w x y z long is-s is-t is-u is-v is-w is-x is-y
 
 -- ---- octets up to a place
 
-pub eight_more : (octets : List ℕ) (eight word next : ℕ) → low_bits 16 word ≡ l2cap_check (take (8 * eight) octets)
-    → low_bits 16 next ≡ left_behind word (slice_range octets (8 * eight) (8 * eight + 8))
-    → low_bits 16 next ≡ l2cap_check (take (8 * (eight + 1)) octets)
-eight_more octets eight word next before after =
-    let n : ℕ = 8 * eight in
-    let size : n + 8 - n ≡ 8 = omega arith in
-    let further : n + 8 ≡ 8 * (eight + 1) = omega arith in
-    all_behind (take n octets) (slice_range octets n (n + 8)) word next before after
-    ∙ ap (λ (k : ℕ). l2cap_check (take n octets ++ take k (drop n octets))) size
-    ∙ ap l2cap_check (sym (take-add n 8 octets))
-    ∙ ap (λ (k : ℕ). l2cap_check (take k octets)) further
+-- the octets up to a place, and so many from there on
+pub up_to : (octets : List ℕ) (n count : ℕ) → take n octets ++ slice_range octets n (n + count) ≡ take (n + count) octets
+up_to octets n count =
+    let size : n + count - n ≡ count = omega arith in
+    ap (λ (k : ℕ). take n octets ++ take k (drop n octets)) size ∙ sym (take-add n count octets)
 
-pub rest_behind : (octets : List ℕ) (n word next : ℕ) → low_bits 16 word ≡ l2cap_check (take n octets)
-    → low_bits 16 next ≡ left_behind word (slice_range octets n (length octets)) → low_bits 16 next ≡ l2cap_check octets
-rest_behind octets n word next before after =
-    all_behind (take n octets) (slice_range octets n (length octets)) word next before after
-    ∙ ap (λ (xs : List ℕ). l2cap_check (take n octets ++ xs)) (take_rest octets n)
-    ∙ ap l2cap_check (take-append-drop n octets)
+pub to_the_end : (octets : List ℕ) (n : ℕ) → take n octets ++ slice_range octets n (length octets) ≡ octets
+to_the_end octets n = ap (λ (xs : List ℕ). take n octets ++ xs) (take_rest octets n) ∙ take-append-drop n octets
+
+pub eight_more : (start : ℕ) (octets : List ℕ) (eight word next : ℕ) → low_bits 16 word ≡ left_behind start (take (8 * eight) octets)
+    → low_bits 16 next ≡ left_behind word (slice_range octets (8 * eight) (8 * eight + 8))
+    → low_bits 16 next ≡ left_behind start (take (8 * (eight + 1)) octets)
+eight_more start octets eight word next before after =
+    let n : ℕ = 8 * eight in
+    let further : n + 8 ≡ 8 * (eight + 1) = omega arith in
+    further_behind start (take n octets) (slice_range octets n (n + 8)) word next before after
+    ∙ ap (left_behind start) (up_to octets n 8 ∙ ap (λ (k : ℕ). take k octets) further)
+
+pub rest_behind : (start : ℕ) (octets : List ℕ) (n word next : ℕ) → low_bits 16 word ≡ left_behind start (take n octets)
+    → low_bits 16 next ≡ left_behind word (slice_range octets n (length octets)) → low_bits 16 next ≡ left_behind start octets
+rest_behind start octets n word next before after =
+    further_behind start (take n octets) (slice_range octets n (length octets)) word next before after ∙ ap (left_behind start) (to_the_end octets n)

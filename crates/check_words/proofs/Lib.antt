@@ -10,3 +10,5 @@ pub mod RfcommValues
 pub mod RfcommChanges
 pub mod BehindValues
 pub mod Eights
+pub mod Folding
+pub mod Words

@@ -12,6 +12,10 @@ low_bits (suc count) n = (n % 2 == 1) ∷ low_bits count (n / 2)
 abbrev pub bits_of : List ℕ → List Bool
 bits_of octets = flat_map (low_bits 8) octets
 
+-- words of 64 bits in the order of the air, of each the lowest bit first
+abbrev pub bits_of_words : List ℕ → List Bool
+bits_of_words words = flat_map (low_bits 64) words
+
 -- D^16 + D^15 + D^2 + 1 (Core 5.1, Volume 3 Part A, 3.3.5)
 abbrev pub l2cap_generator : List Bool
 l2cap_generator = true ∷ true ∷ (zeros 12 ++ true ∷ false ∷ true ∷ [])

@@ -3,6 +3,7 @@
 
 mod behind;
 mod fcs;
+mod fold;
 pub mod laws;
 mod rfcomm;
 mod rfcomm_table;
