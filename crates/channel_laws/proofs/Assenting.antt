@@ -2,54 +2,54 @@
 use Rattle.std.proofs.Common.{◌≡◌, ℕ, ◌%◌, List, [], ◌∷◌, ◌++◌, map, drop, Bool, true, false, cond, eqb, Option, Some, None, Result, Ok, Err, refl, sym, ap, subst, ◌∙◌, ◌⊎◌, inl, inr, append_assoc, append-nil}
 use Rattle.std.specs.Prelude.{find, is_some}
 use Rattle.std.specs.List.{AllByRecursion}
-use Rattle.talk_laws.specs.acl_fragments.specs.Pieces.{channel_of}
-use Rattle.talk_laws.specs.capture.specs.declared.flow.Flow.TheVariants.{Into}
-use Rattle.talk_laws.specs.l2cap_signal.specs.Commands.{Command, Content, reject, connection_request, connection_response, configuration_request, configuration_response, disconnection_request, disconnection_response, echo_request, echo_response, information_request, information_response}
-use Rattle.talk_laws.specs.l2cap_signal.specs.Reading.{Answer as Read, answers}
-use Rattle.talk_laws.specs.l2cap_signal.specs.declared.refusal.SignalRefusal.TheVariants.{ZeroIdentifier, BadLength, UnknownCode, AboveMtu}
-use Rattle.talk_laws.specs.l2cap_config.specs.declared.options.Options.{Options}
-use Rattle.talk_laws.specs.l2cap_config.specs.declared.options.ConfigRefusal.{ConfigRefusal}
-use Rattle.talk_laws.specs.l2cap_config.specs.declared.agreement.ConfigAnswer.{ConfigAnswer}
-use Rattle.talk_laws.specs.l2cap_config.specs.declared.agreement.ConfigAnswer.TheVariants.{Accept, Unacceptable, Unknown}
-use Rattle.talk_laws.specs.l2cap_config.specs.declared.wish.Wish.{Wish}
-use Rattle.talk_laws.specs.l2cap_config.specs.Agreement.{answered as answer_on}
-use Rattle.talk_laws.specs.l2cap_config.specs.Items.{joined}
-use Rattle.talk_laws.specs.l2cap_config.specs.Reading.{options_read}
-use Rattle.talk_laws.specs.link_talk.specs.Sayings.{Saying, Carried}
-use Rattle.talk_laws.specs.link_talk.specs.Sayings as sayings
-use Rattle.talk_laws.specs.link_talk.specs.Channels.{reading}
-use Rattle.channel_model.specs.declared.request_kind.RequestKind.{RequestKind}
-use Rattle.channel_model.specs.declared.request_kind.RequestKind.TheVariants as kinds
-use Rattle.channel_model.specs.Value.{Own, Unasked, Asking, Granted, Setup, Stage, Requested, Connected, Leaving, Closing, Crossed, Held, Remembered, Memory, Channels}
-use Rattle.channel_model.specs.Policies.{Policy}
-use Rattle.channel_model.specs.Changing.{has_own, held_at, is_open, setup_of, stage_with, with_setup}
-use Rattle.channel_model.specs.Asking.{first_options}
-use Rattle.channel_model.specs.Configuring.{Verdict, TooLate, Judged, judged_part, judged_read, judged_setup, judged_stage, verdict_on, accepted_setup, accepts_with, follows_verdict}
-use Rattle.channel_model.specs.Answers.{kind_of_code, remembered, with_remembered, not_understood, too_long, connection_result, connection_answer, judged_answer, configuration_answer, information_answer, answer_to}
-use Rattle.channel_model.specs.Following.{follows_setup, follows_configuration, follows, remembers, says, can_say, hears_new, hears_again, hears_kind, hears_request}
-use Rattle.channel_model.specs.Responses.{features_in}
-use Rattle.channel_model.specs.Hearing.{hears_content, hears_malformed, is_response_code, is_kind, hears_unread, hears_command, hears_commands}
-use Rattle.channel_model.specs.Carrying.{takes}
-use Rattle.channel_model.specs.Timing.{times_channels, timed_out}
-use Rattle.channel_model.specs.Giving.{next_given}
-use Rattle.channel_model.specs.Calls.{carrier_at, connected, asks_features, disconnected}
-use Rattle.channel_model.proofs.Walking.{found-own, with-found, with-setup}
-use Rattle.channel_laws.specs.OwnTalk.{spoken, command_with, response_by, response_as, response_to, response_malformed, response_unread, command_if, exchanged, asked_between, said_with, said_with_all}
-use Rattle.channel_laws.specs.Runs.{Occurrence, Comes, Connects, AsksFeatures, Disconnects, Sends, Gives, Fires, Tells, peer_at, said_by_channels, said_in, value_after, Run}
-use Rattle.channel_laws.specs.Views.{peer_of}
-use Rattle.channel_laws.specs.Signals.{StandsIn}
+use Rattle.own_channel_laws.specs.talk_laws.specs.acl_fragments.specs.Pieces.{channel_of}
+use Rattle.own_channel_laws.specs.talk_laws.specs.capture.specs.declared.flow.Flow.TheVariants.{Into}
+use Rattle.own_channel_laws.specs.talk_laws.specs.l2cap_signal.specs.Commands.{Command, Content, reject, connection_request, connection_response, configuration_request, configuration_response, disconnection_request, disconnection_response, echo_request, echo_response, information_request, information_response}
+use Rattle.own_channel_laws.specs.talk_laws.specs.l2cap_signal.specs.Reading.{Answer as Read, answers}
+use Rattle.own_channel_laws.specs.talk_laws.specs.l2cap_signal.specs.declared.refusal.SignalRefusal.TheVariants.{ZeroIdentifier, BadLength, UnknownCode, AboveMtu}
+use Rattle.own_channel_laws.specs.talk_laws.specs.l2cap_config.specs.declared.options.Options.{Options}
+use Rattle.own_channel_laws.specs.talk_laws.specs.l2cap_config.specs.declared.options.ConfigRefusal.{ConfigRefusal}
+use Rattle.own_channel_laws.specs.talk_laws.specs.l2cap_config.specs.declared.agreement.ConfigAnswer.{ConfigAnswer}
+use Rattle.own_channel_laws.specs.talk_laws.specs.l2cap_config.specs.declared.agreement.ConfigAnswer.TheVariants.{Accept, Unacceptable, Unknown}
+use Rattle.own_channel_laws.specs.talk_laws.specs.l2cap_config.specs.declared.wish.Wish.{Wish}
+use Rattle.own_channel_laws.specs.talk_laws.specs.l2cap_config.specs.Agreement.{answered as answer_on}
+use Rattle.own_channel_laws.specs.talk_laws.specs.l2cap_config.specs.Items.{joined}
+use Rattle.own_channel_laws.specs.talk_laws.specs.l2cap_config.specs.Reading.{options_read}
+use Rattle.own_channel_laws.specs.talk_laws.specs.link_talk.specs.Sayings.{Saying, Carried}
+use Rattle.own_channel_laws.specs.talk_laws.specs.link_talk.specs.Sayings as sayings
+use Rattle.own_channel_laws.specs.talk_laws.specs.link_talk.specs.Channels.{reading}
+use Rattle.own_channel_laws.specs.channel_model.specs.declared.request_kind.RequestKind.{RequestKind}
+use Rattle.own_channel_laws.specs.channel_model.specs.declared.request_kind.RequestKind.TheVariants as kinds
+use Rattle.own_channel_laws.specs.channel_model.specs.Value.{Own, Unasked, Asking, Granted, Setup, Stage, Requested, Connected, Leaving, Closing, Crossed, Held, Remembered, Memory, Channels}
+use Rattle.own_channel_laws.specs.channel_model.specs.Policies.{Policy}
+use Rattle.own_channel_laws.specs.channel_model.specs.Changing.{has_own, held_at, is_open, setup_of, stage_with, with_setup}
+use Rattle.own_channel_laws.specs.channel_model.specs.Asking.{first_options}
+use Rattle.own_channel_laws.specs.channel_model.specs.Configuring.{Verdict, TooLate, Judged, judged_part, judged_read, judged_setup, judged_stage, verdict_on, accepted_setup, accepts_with, follows_verdict}
+use Rattle.own_channel_laws.specs.channel_model.specs.Answers.{kind_of_code, remembered, with_remembered, not_understood, too_long, connection_result, connection_answer, judged_answer, configuration_answer, information_answer, answer_to}
+use Rattle.own_channel_laws.specs.channel_model.specs.Following.{follows_setup, follows_configuration, follows, remembers, says, can_say, hears_new, hears_again, hears_kind, hears_request}
+use Rattle.own_channel_laws.specs.channel_model.specs.Responses.{features_in}
+use Rattle.own_channel_laws.specs.channel_model.specs.Hearing.{hears_content, hears_malformed, is_response_code, is_kind, hears_unread, hears_command, hears_commands}
+use Rattle.own_channel_laws.specs.channel_model.specs.Carrying.{takes}
+use Rattle.own_channel_laws.specs.channel_model.specs.Timing.{times_channels, timed_out}
+use Rattle.own_channel_laws.specs.channel_model.specs.Giving.{next_given}
+use Rattle.own_channel_laws.specs.channel_model.specs.Calls.{carrier_at, connected, asks_features, disconnected}
+use Rattle.own_channel_laws.specs.channel_model.proofs.Walking.{found-own, with-found, with-setup}
+use Rattle.own_channel_laws.specs.OwnTalk.{spoken, command_with, response_by, response_as, response_to, response_malformed, response_unread, command_if, exchanged, asked_between, said_with, said_with_all}
+use Rattle.own_channel_laws.specs.Runs.{Occurrence, Comes, Connects, AsksFeatures, Disconnects, Sends, Gives, Fires, Tells, peer_at, said_by_channels, said_in, value_after, Run}
+use Rattle.own_channel_laws.specs.Views.{peer_of}
+use Rattle.own_channel_laws.specs.Signals.{StandsIn}
 use Rattle.channel_laws.specs.Consent.{SuccessesAccept}
-use Rattle.channel_laws.proofs.Commands.{IsTold, hears-any}
-use Rattle.channel_laws.proofs.Conversing.{says_memory, features_memory, features_lost, single_memory, reading-on}
-use Rattle.channel_laws.proofs.Converses.{is_single}
-use Rattle.channel_laws.proofs.Lasting.{follows-lasts, grant-lasts, response-lasts, end-lasts, takes-lasts}
-use Rattle.channel_laws.proofs.Mild.{is_about_options}
-use Rattle.channel_laws.proofs.PlainReplies.{plain_response, some_plain, no_plain, ended_plain, informed_plain}
-use Rattle.channel_laws.proofs.Running.{IsSound, along}
-use Rattle.channel_laws.proofs.Saying.{stands-left, stands-right, stands-either}
-use Rattle.channel_laws.proofs.Sound.{Sound}
-use Rattle.channel_laws.proofs.Told.{all-told}
-use Rattle.channel_laws.proofs.Words.{words-left}
+use Rattle.own_channel_laws.proofs.Commands.{IsTold, hears-any}
+use Rattle.own_channel_laws.proofs.Conversing.{says_memory, features_memory, features_lost, single_memory, reading-on}
+use Rattle.own_channel_laws.proofs.Converses.{is_single}
+use Rattle.own_channel_laws.proofs.Lasting.{follows-lasts, grant-lasts, response-lasts, end-lasts, takes-lasts}
+use Rattle.own_channel_laws.proofs.Mild.{is_about_options}
+use Rattle.own_channel_laws.proofs.PlainReplies.{plain_response, some_plain, no_plain, ended_plain, informed_plain}
+use Rattle.own_channel_laws.proofs.Running.{IsSound, along}
+use Rattle.own_channel_laws.proofs.Saying.{stands-left, stands-right, stands-either}
+use Rattle.own_channel_laws.proofs.Sound.{Sound}
+use Rattle.own_channel_laws.proofs.Told.{all-told}
+use Rattle.own_channel_laws.proofs.Words.{words-left}
 use Rattle.channel_laws.proofs.Assents.{IsCarried, carried-accepted, success_to, plain_none, Backs, backs_more, Assents, IsSilent, both_silent, carried_silent, own_words, asked_silent, carrier_silent, given_silent, fired_silent, fired_memory, silent_assents}
 
 -- ---- options are accepted

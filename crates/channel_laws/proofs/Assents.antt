@@ -3,39 +3,39 @@ use Rattle.std.proofs.Common.{◌≡◌, ℕ, List, [], ◌∷◌, ◌++◌, Boo
 use Rattle.std.specs.Prelude.{option_map, is_some, unwrap_or}
 use Rattle.std.specs.Option.{option_or}
 use Rattle.std.specs.List.{list_any}
-use Rattle.talk_laws.specs.capture.specs.declared.flow.Flow.TheVariants.{Out, Into}
-use Rattle.talk_laws.specs.l2cap_signal.specs.Commands.{Command, Content, reject, connection_request, connection_response, configuration_request, configuration_response, disconnection_request, disconnection_response, echo_request, echo_response, information_request, information_response}
-use Rattle.talk_laws.specs.l2cap_signal.specs.Reading.{Answer as Read}
-use Rattle.talk_laws.specs.l2cap_config.specs.declared.wish.Mode.{Mode}
-use Rattle.talk_laws.specs.l2cap_config.specs.declared.wish.Mode.TheVariants.{Basic}
-use Rattle.talk_laws.specs.l2cap_config.specs.Writing.{written}
-use Rattle.talk_laws.specs.link_talk.specs.declared.channel.Channel.{Channel}
-use Rattle.talk_laws.specs.link_talk.specs.Sayings.{Saying, Carried, GaveUp}
-use Rattle.talk_laws.specs.link_talk.specs.Sayings as sayings
-use Rattle.talk_laws.specs.link_talk.specs.Senses.{sense}
-use Rattle.talk_laws.specs.link_talk.specs.Meanings.{Meaning, Part, meant}
-use Rattle.talk_laws.specs.link_talk.specs.Setups.{mode_in, is_set, with_term, setup_after, Term, Wished, Answered, term}
-use Rattle.talk_laws.specs.link_talk.specs.Channels.{Entry, fresh, entry_after, entries_after, is_owner, is_there, made_by, Reading, reading}
-use Rattle.channel_model.specs.declared.errand.Errand.TheVariants as errands
-use Rattle.channel_model.specs.Value.{Request, Carrier, Plain, Retransmitting, Setup, Held, Remembered, Channels}
-use Rattle.channel_model.specs.Policies.{Policy}
-use Rattle.channel_model.specs.Changing.{held_at, setup_of}
-use Rattle.channel_model.specs.Timing.{times_held, times_features, times_channels}
-use Rattle.channel_model.specs.Giving.{Given, Signal, Whole, Framed}
-use Rattle.channel_laws.specs.OwnTalk.{spoken, command_with, asked_between}
-use Rattle.channel_laws.specs.Runs.{features_given_up, said_again, said_on_firing, said_by_channel, said_by_channels, fired_channel, said_by_carrier, said_as}
-use Rattle.channel_laws.specs.Views.{peer_of, carrier_mode, read_at}
-use Rattle.channel_laws.specs.Signals.{StandsIn}
+use Rattle.own_channel_laws.specs.talk_laws.specs.capture.specs.declared.flow.Flow.TheVariants.{Out, Into}
+use Rattle.own_channel_laws.specs.talk_laws.specs.l2cap_signal.specs.Commands.{Command, Content, reject, connection_request, connection_response, configuration_request, configuration_response, disconnection_request, disconnection_response, echo_request, echo_response, information_request, information_response}
+use Rattle.own_channel_laws.specs.talk_laws.specs.l2cap_signal.specs.Reading.{Answer as Read}
+use Rattle.own_channel_laws.specs.talk_laws.specs.l2cap_config.specs.declared.wish.Mode.{Mode}
+use Rattle.own_channel_laws.specs.talk_laws.specs.l2cap_config.specs.declared.wish.Mode.TheVariants.{Basic}
+use Rattle.own_channel_laws.specs.talk_laws.specs.l2cap_config.specs.Writing.{written}
+use Rattle.own_channel_laws.specs.talk_laws.specs.link_talk.specs.declared.channel.Channel.{Channel}
+use Rattle.own_channel_laws.specs.talk_laws.specs.link_talk.specs.Sayings.{Saying, Carried, GaveUp}
+use Rattle.own_channel_laws.specs.talk_laws.specs.link_talk.specs.Sayings as sayings
+use Rattle.own_channel_laws.specs.talk_laws.specs.link_talk.specs.Senses.{sense}
+use Rattle.own_channel_laws.specs.talk_laws.specs.link_talk.specs.Meanings.{Meaning, Part, meant}
+use Rattle.own_channel_laws.specs.talk_laws.specs.link_talk.specs.Setups.{mode_in, is_set, with_term, setup_after, Term, Wished, Answered, term}
+use Rattle.own_channel_laws.specs.talk_laws.specs.link_talk.specs.Channels.{Entry, fresh, entry_after, entries_after, is_owner, is_there, made_by, Reading, reading}
+use Rattle.own_channel_laws.specs.channel_model.specs.declared.errand.Errand.TheVariants as errands
+use Rattle.own_channel_laws.specs.channel_model.specs.Value.{Request, Carrier, Plain, Retransmitting, Setup, Held, Remembered, Channels}
+use Rattle.own_channel_laws.specs.channel_model.specs.Policies.{Policy}
+use Rattle.own_channel_laws.specs.channel_model.specs.Changing.{held_at, setup_of}
+use Rattle.own_channel_laws.specs.channel_model.specs.Timing.{times_held, times_features, times_channels}
+use Rattle.own_channel_laws.specs.channel_model.specs.Giving.{Given, Signal, Whole, Framed}
+use Rattle.own_channel_laws.specs.OwnTalk.{spoken, command_with, asked_between}
+use Rattle.own_channel_laws.specs.Runs.{features_given_up, said_again, said_on_firing, said_by_channel, said_by_channels, fired_channel, said_by_carrier, said_as}
+use Rattle.own_channel_laws.specs.Views.{peer_of, carrier_mode, read_at}
+use Rattle.own_channel_laws.specs.Signals.{StandsIn}
 use Rattle.channel_laws.specs.Consent.{HasAccepted, HasPart}
-use Rattle.channel_laws.proofs.Conversing.{reading-on}
-use Rattle.channel_laws.proofs.Entries.{makes-fresh, read-after, read-append, read-own}
-use Rattle.channel_laws.proofs.Holding.{IsRead, is-read}
-use Rattle.channel_laws.proofs.Lasting.{times-last, ends-last}
-use Rattle.channel_laws.proofs.Mild.{is_about_options}
-use Rattle.channel_laws.proofs.Origins.{makes-it}
-use Rattle.channel_laws.proofs.Saying.{stands-left, stands-either}
-use Rattle.channel_laws.proofs.Sound.{Sound}
-use Rattle.channel_laws.proofs.Words.{Words, words-asked, words-again, words-firing}
+use Rattle.own_channel_laws.proofs.Conversing.{reading-on}
+use Rattle.own_channel_laws.proofs.Entries.{makes-fresh, read-after, read-append, read-own}
+use Rattle.own_channel_laws.proofs.Holding.{IsRead, is-read}
+use Rattle.own_channel_laws.proofs.Lasting.{times-last, ends-last}
+use Rattle.own_channel_laws.proofs.Mild.{is_about_options}
+use Rattle.own_channel_laws.proofs.Origins.{makes-it}
+use Rattle.own_channel_laws.proofs.Saying.{stands-left, stands-either}
+use Rattle.own_channel_laws.proofs.Sound.{Sound}
+use Rattle.own_channel_laws.proofs.Words.{Words, words-asked, words-again, words-firing}
 
 -- ---- what was accepted stays so
 

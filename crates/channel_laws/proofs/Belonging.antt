@@ -2,48 +2,48 @@
 use Rattle.std.proofs.Common.{◌≡◌, ℕ, List, [], ◌∷◌, ◌++◌, map, drop, Bool, true, false, cond, eqb, Option, Some, None, Ok, refl, sym, ap, subst, ◌∙◌, ◌⊎◌, inl, inr, append_assoc, append-nil}
 use Rattle.std.specs.Prelude.{find, option_map, option_to_list}
 use Rattle.std.proofs.lemmas.List.Sums.{fold-append}
-use Rattle.talk_laws.specs.acl_fragments.specs.Pieces.{channel_of}
-use Rattle.talk_laws.specs.capture.specs.declared.flow.Flow.TheVariants.{Out, Into}
-use Rattle.talk_laws.specs.capture.specs.Histories.{EachAfter}
-use Rattle.talk_laws.specs.l2cap_signal.specs.Commands.{Content, Command, reject, connection_request, connection_response, configuration_request, configuration_response, disconnection_request, disconnection_response, echo_request, echo_response, information_request, information_response}
-use Rattle.talk_laws.specs.l2cap_config.specs.declared.options.Options.{Options}
-use Rattle.talk_laws.specs.l2cap_config.specs.Agreement.{requested}
-use Rattle.talk_laws.specs.l2cap_config.specs.Writing.{written}
-use Rattle.talk_laws.specs.link_talk.specs.declared.channel.Channel.{Channel}
-use Rattle.talk_laws.specs.l2cap_signal.specs.Reading.{Answer as Read, answers}
-use Rattle.talk_laws.specs.link_talk.specs.Sayings.{Saying, Carried, GaveUp}
-use Rattle.talk_laws.specs.link_talk.specs.Sayings as sayings
-use Rattle.talk_laws.specs.link_talk.specs.Channels.{Entry, Reading, reading}
-use Rattle.channel_model.specs.declared.errand.Errand.{Errand}
-use Rattle.channel_model.specs.declared.errand.Errand.TheVariants as errands
-use Rattle.channel_model.specs.Value.{Request, Queued, Answer, Ask, Asking, Setup, Stage, Requested, Connected, Leaving, Closing, Crossed, Carrier, Plain, Retransmitting, Held, Channels}
-use Rattle.channel_model.specs.Policies.{Policy}
-use Rattle.channel_model.specs.Changing.{held_at, setup_of}
-use Rattle.channel_model.specs.Calls.{has_fcs, connected, asks_features, disconnected}
-use Rattle.channel_model.specs.Carrying.{takes}
-use Rattle.channel_model.specs.Following.{can_say}
-use Rattle.channel_model.specs.Hearing.{hears_command}
-use Rattle.channel_model.specs.Timing.{times_held, times_end, times_features}
-use Rattle.channel_model.specs.Giving.{Given, Signal, Whole, Framed, command_of, some_carrier_gives, stage_gives, gives, held_gives, queue_gives, next_given}
-use Rattle.channel_model.specs.ertm_model.specs.Giving.{next_frame}
-use Rattle.channel_laws.specs.OwnTalk.{spoken, command_with, exchanged, reply_to, asked_between, said_with, said_with_all}
-use Rattle.channel_laws.specs.Runs.{Occurrence, Comes, Connects, AsksFeatures, Disconnects, Sends, Gives, Fires, Tells, features_given_up, said_again, said_on_firing, said_by_channel, fired_channel, said_by_channels, said_by_carrier, said_as, said_in, Run, run_of}
+use Rattle.own_channel_laws.specs.talk_laws.specs.acl_fragments.specs.Pieces.{channel_of}
+use Rattle.own_channel_laws.specs.talk_laws.specs.capture.specs.declared.flow.Flow.TheVariants.{Out, Into}
+use Rattle.own_channel_laws.specs.talk_laws.specs.capture.specs.Histories.{EachAfter}
+use Rattle.own_channel_laws.specs.talk_laws.specs.l2cap_signal.specs.Commands.{Content, Command, reject, connection_request, connection_response, configuration_request, configuration_response, disconnection_request, disconnection_response, echo_request, echo_response, information_request, information_response}
+use Rattle.own_channel_laws.specs.talk_laws.specs.l2cap_config.specs.declared.options.Options.{Options}
+use Rattle.own_channel_laws.specs.talk_laws.specs.l2cap_config.specs.Agreement.{requested}
+use Rattle.own_channel_laws.specs.talk_laws.specs.l2cap_config.specs.Writing.{written}
+use Rattle.own_channel_laws.specs.talk_laws.specs.link_talk.specs.declared.channel.Channel.{Channel}
+use Rattle.own_channel_laws.specs.talk_laws.specs.l2cap_signal.specs.Reading.{Answer as Read, answers}
+use Rattle.own_channel_laws.specs.talk_laws.specs.link_talk.specs.Sayings.{Saying, Carried, GaveUp}
+use Rattle.own_channel_laws.specs.talk_laws.specs.link_talk.specs.Sayings as sayings
+use Rattle.own_channel_laws.specs.talk_laws.specs.link_talk.specs.Channels.{Entry, Reading, reading}
+use Rattle.own_channel_laws.specs.channel_model.specs.declared.errand.Errand.{Errand}
+use Rattle.own_channel_laws.specs.channel_model.specs.declared.errand.Errand.TheVariants as errands
+use Rattle.own_channel_laws.specs.channel_model.specs.Value.{Request, Queued, Answer, Ask, Asking, Setup, Stage, Requested, Connected, Leaving, Closing, Crossed, Carrier, Plain, Retransmitting, Held, Channels}
+use Rattle.own_channel_laws.specs.channel_model.specs.Policies.{Policy}
+use Rattle.own_channel_laws.specs.channel_model.specs.Changing.{held_at, setup_of}
+use Rattle.own_channel_laws.specs.channel_model.specs.Calls.{has_fcs, connected, asks_features, disconnected}
+use Rattle.own_channel_laws.specs.channel_model.specs.Carrying.{takes}
+use Rattle.own_channel_laws.specs.channel_model.specs.Following.{can_say}
+use Rattle.own_channel_laws.specs.channel_model.specs.Hearing.{hears_command}
+use Rattle.own_channel_laws.specs.channel_model.specs.Timing.{times_held, times_end, times_features}
+use Rattle.own_channel_laws.specs.channel_model.specs.Giving.{Given, Signal, Whole, Framed, command_of, some_carrier_gives, stage_gives, gives, held_gives, queue_gives, next_given}
+use Rattle.own_channel_laws.specs.channel_model.specs.ertm_model.specs.Giving.{next_frame}
+use Rattle.own_channel_laws.specs.OwnTalk.{spoken, command_with, exchanged, reply_to, asked_between, said_with, said_with_all}
+use Rattle.own_channel_laws.specs.Runs.{Occurrence, Comes, Connects, AsksFeatures, Disconnects, Sends, Gives, Fires, Tells, features_given_up, said_again, said_on_firing, said_by_channel, fired_channel, said_by_channels, said_by_carrier, said_as, said_in, Run, run_of}
 use Rattle.channel_laws.specs.Pairs.{End, Pair, new_pair, Happening, Acts, Puts, Takes, Repeats, Loses, Damages, is_alone, occurs, with_near, puts, let_go, takes_first, repeats_first, loses_first, damages_first, happens_near, Side, Near, Far, turned, Turn, happens_at, pair_after, pair_of}
 use Rattle.channel_laws.specs.Ends.{end_at}
-use Rattle.channel_laws.specs.Signals.{StandsIn}
+use Rattle.own_channel_laws.specs.Signals.{StandsIn}
 use Rattle.channel_laws.specs.Belonging.{IsReadAs, IsRead, AreRead, said_at, is_pledge, PledgesWereSaid, Belongs, ChannelsBelong}
-use Rattle.channel_laws.specs.Views.{peer_of, channel_by, read_at}
-use Rattle.channel_laws.specs.Endpoints.{IsOf}
+use Rattle.own_channel_laws.specs.Views.{peer_of, channel_by, read_at}
+use Rattle.own_channel_laws.specs.Endpoints.{IsOf}
 use Rattle.channel_laws.specs.Granted.{IsFor}
 use Rattle.channel_laws.specs.Modes.{policy_of}
-use Rattle.channel_laws.proofs.Naming.{said-of}
-use Rattle.channel_laws.proofs.Conversing.{reading-on}
-use Rattle.channel_laws.proofs.Replying.{is_response}
-use Rattle.channel_laws.proofs.Sound.{OwnStates, Agrees, AgreesIf, standing-is, Reads, ReadsBy, Wants, WantsAt, wanted_by, Sound}
-use Rattle.channel_laws.proofs.Running.{all-sound}
-use Rattle.channel_laws.proofs.Words.{Words, words-errand, words-asked, words-again, words-left, words-firing}
-use Rattle.channel_laws.proofs.Saying.{stands-left, stands-either, answers-are_said, answers-are_responses}
-use Rattle.channel_laws.proofs.Origins.{Origin, answered-asked, entries-from}
+use Rattle.own_channel_laws.proofs.Naming.{said-of}
+use Rattle.own_channel_laws.proofs.Conversing.{reading-on}
+use Rattle.own_channel_laws.proofs.Replying.{is_response}
+use Rattle.own_channel_laws.proofs.Sound.{OwnStates, Agrees, AgreesIf, standing-is, Reads, ReadsBy, Wants, WantsAt, wanted_by, Sound}
+use Rattle.own_channel_laws.proofs.Running.{all-sound}
+use Rattle.own_channel_laws.proofs.Words.{Words, words-errand, words-asked, words-again, words-left, words-firing}
+use Rattle.own_channel_laws.proofs.Saying.{stands-left, stands-either, answers-are_said, answers-are_responses}
+use Rattle.own_channel_laws.proofs.Origins.{Origin, answered-asked, entries-from}
 use Rattle.channel_laws.proofs.Pairing.{each-end_runs}
 
 -- ---- what a host hears

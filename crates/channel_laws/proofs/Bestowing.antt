@@ -2,45 +2,45 @@
 use Rattle.std.proofs.Common.{◌≡◌, ℕ, List, [], ◌∷◌, ◌++◌, map, Bool, true, false, cond, eqb, ◌&&◌, ◌||◌, Option, Some, None, Ok, refl, sym, ap, subst, ◌∙◌, ◌⊎◌, inl, inr, arith}
 use Rattle.std.specs.Prelude.{option_map, option_to_list}
 use Rattle.std.specs.List.{list_any}
-use Rattle.talk_laws.specs.acl_fragments.specs.Pieces.{channel_of}
-use Rattle.talk_laws.specs.capture.specs.declared.flow.Flow.TheVariants.{Out, Into}
-use Rattle.talk_laws.specs.l2cap_signal.specs.Commands.{Command, Content, code_of, connection_request, connection_response, configuration_request, disconnection_request, information_request}
-use Rattle.talk_laws.specs.l2cap_signal.specs.Reading.{Answer as Read}
-use Rattle.talk_laws.specs.l2cap_config.specs.Writing.{written}
-use Rattle.talk_laws.specs.link_talk.specs.declared.channel.Channel.{Channel}
-use Rattle.talk_laws.specs.link_talk.specs.declared.call.Call.{Call}
-use Rattle.talk_laws.specs.link_talk.specs.Sayings.{Saying, Carried, GaveUp}
-use Rattle.talk_laws.specs.link_talk.specs.Sayings as sayings
-use Rattle.talk_laws.specs.link_talk.specs.Senses.{sense}
-use Rattle.talk_laws.specs.link_talk.specs.Requests.{is_own_call, call}
-use Rattle.talk_laws.specs.link_talk.specs.Channels.{Entry, Reading, read_on, reading}
-use Rattle.talk_laws.proofs.Passes.{from_end}
-use Rattle.channel_model.specs.declared.errand.Errand.TheVariants as errands
-use Rattle.channel_model.specs.Value.{Request, Carrier, Plain, Retransmitting, Requested, Held, Remembered, Channels, no_channels}
-use Rattle.channel_model.specs.Policies.{Policy}
-use Rattle.channel_model.specs.Changing.{held_at}
-use Rattle.channel_model.specs.Following.{can_say, follows}
-use Rattle.channel_model.specs.Hearing.{hears_content}
-use Rattle.channel_model.specs.Carrying.{takes}
-use Rattle.channel_model.specs.Giving.{Given, Signal, Whole, Framed, next_given}
-use Rattle.channel_model.specs.Timing.{times_held, times_end, times_features}
-use Rattle.channel_model.specs.Calls.{carrier_at, connected, asks_features, disconnected}
-use Rattle.channel_model.proofs.Lookups.{own_of, eqb-same, found-has}
-use Rattle.channel_laws.specs.OwnTalk.{spoken, command_with, command_if, exchanged, asked_between}
-use Rattle.channel_laws.specs.Runs.{Occurrence, run_of, Comes, Connects, AsksFeatures, Disconnects, Sends, Gives, Fires, Tells, features_given_up, said_again, said_on_firing, said_by_features, said_by_carrier, said_as, said_in, value_after}
-use Rattle.channel_laws.specs.Views.{peer_of, read_at}
-use Rattle.channel_laws.specs.Signals.{StandsIn}
-use Rattle.channel_laws.specs.Endpoints.{IsOf}
+use Rattle.own_channel_laws.specs.talk_laws.specs.acl_fragments.specs.Pieces.{channel_of}
+use Rattle.own_channel_laws.specs.talk_laws.specs.capture.specs.declared.flow.Flow.TheVariants.{Out, Into}
+use Rattle.own_channel_laws.specs.talk_laws.specs.l2cap_signal.specs.Commands.{Command, Content, code_of, connection_request, connection_response, configuration_request, disconnection_request, information_request}
+use Rattle.own_channel_laws.specs.talk_laws.specs.l2cap_signal.specs.Reading.{Answer as Read}
+use Rattle.own_channel_laws.specs.talk_laws.specs.l2cap_config.specs.Writing.{written}
+use Rattle.own_channel_laws.specs.talk_laws.specs.link_talk.specs.declared.channel.Channel.{Channel}
+use Rattle.own_channel_laws.specs.talk_laws.specs.link_talk.specs.declared.call.Call.{Call}
+use Rattle.own_channel_laws.specs.talk_laws.specs.link_talk.specs.Sayings.{Saying, Carried, GaveUp}
+use Rattle.own_channel_laws.specs.talk_laws.specs.link_talk.specs.Sayings as sayings
+use Rattle.own_channel_laws.specs.talk_laws.specs.link_talk.specs.Senses.{sense}
+use Rattle.own_channel_laws.specs.talk_laws.specs.link_talk.specs.Requests.{is_own_call, call}
+use Rattle.own_channel_laws.specs.talk_laws.specs.link_talk.specs.Channels.{Entry, Reading, read_on, reading}
+use Rattle.own_channel_laws.specs.talk_laws.proofs.Passes.{from_end}
+use Rattle.own_channel_laws.specs.channel_model.specs.declared.errand.Errand.TheVariants as errands
+use Rattle.own_channel_laws.specs.channel_model.specs.Value.{Request, Carrier, Plain, Retransmitting, Requested, Held, Remembered, Channels, no_channels}
+use Rattle.own_channel_laws.specs.channel_model.specs.Policies.{Policy}
+use Rattle.own_channel_laws.specs.channel_model.specs.Changing.{held_at}
+use Rattle.own_channel_laws.specs.channel_model.specs.Following.{can_say, follows}
+use Rattle.own_channel_laws.specs.channel_model.specs.Hearing.{hears_content}
+use Rattle.own_channel_laws.specs.channel_model.specs.Carrying.{takes}
+use Rattle.own_channel_laws.specs.channel_model.specs.Giving.{Given, Signal, Whole, Framed, next_given}
+use Rattle.own_channel_laws.specs.channel_model.specs.Timing.{times_held, times_end, times_features}
+use Rattle.own_channel_laws.specs.channel_model.specs.Calls.{carrier_at, connected, asks_features, disconnected}
+use Rattle.own_channel_laws.specs.channel_model.proofs.Lookups.{own_of, eqb-same, found-has}
+use Rattle.own_channel_laws.specs.OwnTalk.{spoken, command_with, command_if, exchanged, asked_between}
+use Rattle.own_channel_laws.specs.Runs.{Occurrence, run_of, Comes, Connects, AsksFeatures, Disconnects, Sends, Gives, Fires, Tells, features_given_up, said_again, said_on_firing, said_by_features, said_by_carrier, said_as, said_in, value_after}
+use Rattle.own_channel_laws.specs.Views.{peer_of, read_at}
+use Rattle.own_channel_laws.specs.Signals.{StandsIn}
+use Rattle.own_channel_laws.specs.Endpoints.{IsOf}
 use Rattle.channel_laws.specs.Belonging.{HasAsked, HasGranted}
 use Rattle.channel_laws.specs.Granted.{IsFor, EndpointsAreGrantedOnce, EndpointsAskForOnePsm}
-use Rattle.channel_laws.proofs.Sound.{Reads, ReadsBy, has_called, requested-unread, Sound}
-use Rattle.channel_laws.proofs.Naming.{said-of}
-use Rattle.channel_laws.proofs.Saying.{stands-left, stands-right, stands-either}
-use Rattle.channel_laws.proofs.Words.{Words, words-asked, words-again, words-left, words-firing}
-use Rattle.channel_laws.proofs.Replying.{is_response, IsReply}
+use Rattle.own_channel_laws.proofs.Sound.{Reads, ReadsBy, has_called, requested-unread, Sound}
+use Rattle.own_channel_laws.proofs.Naming.{said-of}
+use Rattle.own_channel_laws.proofs.Saying.{stands-left, stands-right, stands-either}
+use Rattle.own_channel_laws.proofs.Words.{Words, words-asked, words-again, words-left, words-firing}
+use Rattle.own_channel_laws.proofs.Replying.{is_response, IsReply}
 use Rattle.channel_laws.proofs.Protocols.{KeepsPsm, follows-psm, hears-psm, takes-psm, times-psm, ends-psm, features-psm, single-psm, IsCalled, Asks, asks-first, asks-step}
-use Rattle.channel_laws.proofs.Converses.{is_single, IsMade, IsLast, Grants, ConversesKnowing}
-use Rattle.channel_laws.proofs.Conversing.{conversed-knowing, reading-on}
+use Rattle.own_channel_laws.proofs.Converses.{is_single, IsMade, IsLast, Grants, ConversesKnowing}
+use Rattle.own_channel_laws.proofs.Conversing.{conversed-knowing, reading-on}
 
 -- ---- what was asked was called
 

@@ -1,20 +1,20 @@
 -- What was agreed on a channel stays so while it is open.
 use Rattle.std.proofs.Common.{◌≡◌, ℕ, ◌≤◌, List, ◌++◌, Bool, true, false, Option, Some, None, refl, sym, ap, subst, ◌∙◌, inl, inr}
 use Rattle.std.proofs.lemmas.List.Sums.{fold-append}
-use Rattle.talk_laws.specs.l2cap_config.specs.declared.wish.Agreed.{Agreed}
-use Rattle.talk_laws.specs.l2cap_config.specs.declared.wish.Wish.{Wish}
-use Rattle.channel_model.specs.ertm_model.specs.Value.{Ertm}
-use Rattle.channel_model.specs.Value.{Carrier, Retransmitting, Setup, Stage, Requested, Connected, Leaving, Closing, Crossed, Held}
-use Rattle.channel_model.specs.Policies.{Policy}
-use Rattle.channel_model.specs.Changing.{held_at, is_open}
-use Rattle.channel_model.specs.Calls.{setup_on, carrier_if, open_carrier, carrier_at}
-use Rattle.channel_model.proofs.Going.{CarrierGoes}
-use Rattle.channel_laws.specs.Runs.{Occurrence, Run, new_link, run_on, run_of}
+use Rattle.own_channel_laws.specs.talk_laws.specs.l2cap_config.specs.declared.wish.Agreed.{Agreed}
+use Rattle.own_channel_laws.specs.talk_laws.specs.l2cap_config.specs.declared.wish.Wish.{Wish}
+use Rattle.own_channel_laws.specs.channel_model.specs.ertm_model.specs.Value.{Ertm}
+use Rattle.own_channel_laws.specs.channel_model.specs.Value.{Carrier, Retransmitting, Setup, Stage, Requested, Connected, Leaving, Closing, Crossed, Held}
+use Rattle.own_channel_laws.specs.channel_model.specs.Policies.{Policy}
+use Rattle.own_channel_laws.specs.channel_model.specs.Changing.{held_at, is_open}
+use Rattle.own_channel_laws.specs.channel_model.specs.Calls.{setup_on, carrier_if, open_carrier, carrier_at}
+use Rattle.own_channel_laws.specs.channel_model.proofs.Going.{CarrierGoes}
+use Rattle.own_channel_laws.specs.Runs.{Occurrence, Run, new_link, run_on, run_of}
 use Rattle.channel_laws.specs.Suiting.{AgreementsStay}
-use Rattle.channel_laws.proofs.Keeping.{OfCarrier, StageKeeps, HeldKeeps, AllKeep, Keeps, keeps-all}
-use Rattle.channel_laws.specs.Agreements.{agreed_of}
-use Rattle.channel_laws.proofs.Agreed.{SameAgreed, carries-stated}
-use Rattle.channel_laws.proofs.Running.{IsSound, goes-on, all-sound}
+use Rattle.own_channel_laws.proofs.Keeping.{OfCarrier, StageKeeps, HeldKeeps, AllKeep, Keeps, keeps-all}
+use Rattle.own_channel_laws.specs.Agreements.{agreed_of}
+use Rattle.own_channel_laws.proofs.Agreed.{SameAgreed, carries-stated}
+use Rattle.own_channel_laws.proofs.Running.{IsSound, goes-on, all-sound}
 
 -- it is open by this agreement
 abbrev pub IsBy : Agreed → (opened : Bool) → Option Carrier → Type 0

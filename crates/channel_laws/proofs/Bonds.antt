@@ -1,31 +1,31 @@
 -- By what an enhanced channel is open at each end of a link, and that it suits the other end.
 use Rattle.std.proofs.Common.{◌≡◌, ℕ, ◌≤◌, List, [], ◌∷◌, ◌++◌, fold, Option, Some, None, refl, sym, ap, subst, ◌∙◌, ◌⊎◌, inl, inr, arith, append_assoc, append-nil}
 use Rattle.std.proofs.lemmas.List.Sums.{fold-append}
-use Rattle.talk_laws.specs.l2cap_config.specs.declared.wish.Agreed.{Agreed}
-use Rattle.talk_laws.specs.l2cap_config.specs.declared.wish.Mode.TheVariants.{Enhanced}
-use Rattle.talk_laws.specs.l2cap_config.specs.declared.wish.Wish.{Wish}
-use Rattle.talk_laws.specs.l2cap_config.specs.Items.{no_options}
-use Rattle.talk_laws.specs.l2cap_config.specs.Agreement.{agreed_on}
-use Rattle.channel_model.specs.ertm_model.specs.Value.{Ertm}
-use Rattle.talk_laws.specs.link_talk.specs.declared.channel.Channel.{Channel}
-use Rattle.talk_laws.specs.link_talk.specs.Sayings.{Saying}
-use Rattle.talk_laws.specs.link_talk.specs.Channels.{Entry, reading}
-use Rattle.channel_model.specs.Value.{Carrier, Plain, Retransmitting, Channels}
-use Rattle.channel_model.specs.Policies.{Policy}
-use Rattle.channel_model.specs.Configuring.{bounded_agreement}
-use Rattle.channel_model.specs.Calls.{carrier_at}
-use Rattle.channel_laws.specs.Views.{read_at}
-use Rattle.channel_laws.specs.Endpoints.{IsOf}
-use Rattle.channel_laws.specs.Runs.{Run, new_link, run_on}
+use Rattle.own_channel_laws.specs.talk_laws.specs.l2cap_config.specs.declared.wish.Agreed.{Agreed}
+use Rattle.own_channel_laws.specs.talk_laws.specs.l2cap_config.specs.declared.wish.Mode.TheVariants.{Enhanced}
+use Rattle.own_channel_laws.specs.talk_laws.specs.l2cap_config.specs.declared.wish.Wish.{Wish}
+use Rattle.own_channel_laws.specs.talk_laws.specs.l2cap_config.specs.Items.{no_options}
+use Rattle.own_channel_laws.specs.talk_laws.specs.l2cap_config.specs.Agreement.{agreed_on}
+use Rattle.own_channel_laws.specs.channel_model.specs.ertm_model.specs.Value.{Ertm}
+use Rattle.own_channel_laws.specs.talk_laws.specs.link_talk.specs.declared.channel.Channel.{Channel}
+use Rattle.own_channel_laws.specs.talk_laws.specs.link_talk.specs.Sayings.{Saying}
+use Rattle.own_channel_laws.specs.talk_laws.specs.link_talk.specs.Channels.{Entry, reading}
+use Rattle.own_channel_laws.specs.channel_model.specs.Value.{Carrier, Plain, Retransmitting, Channels}
+use Rattle.own_channel_laws.specs.channel_model.specs.Policies.{Policy}
+use Rattle.own_channel_laws.specs.channel_model.specs.Configuring.{bounded_agreement}
+use Rattle.own_channel_laws.specs.channel_model.specs.Calls.{carrier_at}
+use Rattle.own_channel_laws.specs.Views.{read_at}
+use Rattle.own_channel_laws.specs.Endpoints.{IsOf}
+use Rattle.own_channel_laws.specs.Runs.{Run, new_link, run_on}
 use Rattle.channel_laws.specs.Pairs.{Side, Near, Far, Turn, pair_of, IsRunOf}
 use Rattle.channel_laws.specs.Ends.{end_at}
 use Rattle.channel_laws.specs.Belonging.{AreRead, said_at}
 use Rattle.channel_laws.specs.Modes.{policy_of}
-use Rattle.channel_laws.specs.Agreements.{IsOnHeard}
+use Rattle.own_channel_laws.specs.Agreements.{IsOnHeard}
 use Rattle.channel_laws.specs.Pipes.{Suits, CanState}
 use Rattle.channel_laws.proofs.Pairing.{each-end_runs}
 use Rattle.channel_laws.proofs.Sharing.{run-grows, said-grows, stays-of}
-use Rattle.channel_laws.proofs.Agreements.{on-heard-later, agreements-are_on_heard}
+use Rattle.own_channel_laws.proofs.Agreements.{on-heard-later, agreements-are_on_heard}
 use Rattle.channel_laws.proofs.Suiting.{options-suit}
 use Rattle.channel_laws.proofs.Binding.{agreements-stay}
 

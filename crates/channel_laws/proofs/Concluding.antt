@@ -2,34 +2,34 @@
 use Rattle.std.proofs.Common.{◌≡◌, ℕ, List, map, Bool, true, false, cond, eqb, not, ◌||◌, Option, Some, None, Result, Ok, Err, refl, sym, ap, subst, ◌∙◌}
 use Rattle.std.specs.Prelude.{find, filter, nat_le, is_some}
 use Rattle.std.proofs.lemmas.Bool.{eqb-true}
-use Rattle.talk_laws.specs.l2cap_signal.specs.Commands.{Content, reject, connection_response, configuration_response, disconnection_response, information_response}
-use Rattle.talk_laws.specs.l2cap_config.specs.declared.options.Options.{Options}
-use Rattle.talk_laws.specs.l2cap_config.specs.declared.options.ConfigRefusal.{ConfigRefusal}
-use Rattle.talk_laws.specs.l2cap_config.specs.declared.agreement.Settled.{Settled}
-use Rattle.talk_laws.specs.l2cap_config.specs.declared.agreement.Settled.TheVariants.{Accepted, Again, Wait, Never}
-use Rattle.talk_laws.specs.l2cap_config.specs.Reading.{options_read}
-use Rattle.talk_laws.specs.l2cap_config.specs.Agreement.{settled}
-use Rattle.channel_model.specs.declared.errand.Errand.{Errand}
-use Rattle.channel_model.specs.declared.errand.Errand.TheVariants as errands
-use Rattle.channel_model.specs.declared.event.ChannelEvent.TheVariants.{Features}
-use Rattle.channel_model.specs.declared.event.CloseReason.{CloseReason}
-use Rattle.channel_model.specs.declared.event.CloseReason.TheVariants.{NoAgreement, Refused, OwnClosed}
-use Rattle.channel_model.specs.Value.{Request, Own, Unasked, Asking, Granted, Setup, no_setup, Stage, Requested, Connected, Leaving, Closing, Crossed, Held, Channels}
-use Rattle.channel_model.specs.Policies.{Policy}
-use Rattle.channel_model.specs.Changing.{has_own, held_at, in_place_of, is_peer, is_leaving, setup_of, stage_with, with_setup, to_setup, has_fcs_by, forgets, tells}
-use Rattle.channel_model.specs.Asking.{new_request, first_options, asks_options}
-use Rattle.channel_model.specs.Closing.{closes, closes_at, ends_at, ends}
-use Rattle.channel_model.specs.Configuring.{granted_setup, grants, opens_if}
-use Rattle.channel_model.specs.Hearing.{hears_content}
-use Rattle.channel_model.specs.Responses.{is_fresh_endpoint, connects, hears_connected, hears_grant_at, hears_grant, renewed_setup, hears_settled, hears_options, is_asked, hears_response_on, hears_response, hears_end, has_identifier, hears_features, features_in}
-use Rattle.channel_model.proofs.Lookups.{own_of, eqb-same, found-has, found-placed, find-gone}
-use Rattle.channel_model.proofs.Going.{staged}
-use Rattle.channel_model.proofs.Walking.{found-own, with-found}
+use Rattle.own_channel_laws.specs.talk_laws.specs.l2cap_signal.specs.Commands.{Content, reject, connection_response, configuration_response, disconnection_response, information_response}
+use Rattle.own_channel_laws.specs.talk_laws.specs.l2cap_config.specs.declared.options.Options.{Options}
+use Rattle.own_channel_laws.specs.talk_laws.specs.l2cap_config.specs.declared.options.ConfigRefusal.{ConfigRefusal}
+use Rattle.own_channel_laws.specs.talk_laws.specs.l2cap_config.specs.declared.agreement.Settled.{Settled}
+use Rattle.own_channel_laws.specs.talk_laws.specs.l2cap_config.specs.declared.agreement.Settled.TheVariants.{Accepted, Again, Wait, Never}
+use Rattle.own_channel_laws.specs.talk_laws.specs.l2cap_config.specs.Reading.{options_read}
+use Rattle.own_channel_laws.specs.talk_laws.specs.l2cap_config.specs.Agreement.{settled}
+use Rattle.own_channel_laws.specs.channel_model.specs.declared.errand.Errand.{Errand}
+use Rattle.own_channel_laws.specs.channel_model.specs.declared.errand.Errand.TheVariants as errands
+use Rattle.own_channel_laws.specs.channel_model.specs.declared.event.ChannelEvent.TheVariants.{Features}
+use Rattle.own_channel_laws.specs.channel_model.specs.declared.event.CloseReason.{CloseReason}
+use Rattle.own_channel_laws.specs.channel_model.specs.declared.event.CloseReason.TheVariants.{NoAgreement, Refused, OwnClosed}
+use Rattle.own_channel_laws.specs.channel_model.specs.Value.{Request, Own, Unasked, Asking, Granted, Setup, no_setup, Stage, Requested, Connected, Leaving, Closing, Crossed, Held, Channels}
+use Rattle.own_channel_laws.specs.channel_model.specs.Policies.{Policy}
+use Rattle.own_channel_laws.specs.channel_model.specs.Changing.{has_own, held_at, in_place_of, is_peer, is_leaving, setup_of, stage_with, with_setup, to_setup, has_fcs_by, forgets, tells}
+use Rattle.own_channel_laws.specs.channel_model.specs.Asking.{new_request, first_options, asks_options}
+use Rattle.own_channel_laws.specs.channel_model.specs.Closing.{closes, closes_at, ends_at, ends}
+use Rattle.own_channel_laws.specs.channel_model.specs.Configuring.{granted_setup, grants, opens_if}
+use Rattle.own_channel_laws.specs.channel_model.specs.Hearing.{hears_content}
+use Rattle.own_channel_laws.specs.channel_model.specs.Responses.{is_fresh_endpoint, connects, hears_connected, hears_grant_at, hears_grant, renewed_setup, hears_settled, hears_options, is_asked, hears_response_on, hears_response, hears_end, has_identifier, hears_features, features_in}
+use Rattle.own_channel_laws.specs.channel_model.proofs.Lookups.{own_of, eqb-same, found-has, found-placed, find-gone}
+use Rattle.own_channel_laws.specs.channel_model.proofs.Going.{staged}
+use Rattle.own_channel_laws.specs.channel_model.proofs.Walking.{found-own, with-found}
 use Rattle.channel_laws.specs.Adverse.{responds_with}
 use Rattle.channel_laws.specs.Final.{IsDecided, IsDecidedBy, OnHeld, IsFinal, FinalResponsesEndWaits}
 use Rattle.channel_laws.specs.Heeded.{WaitsNoMore}
-use Rattle.channel_laws.specs.Tries.{for_channel, own_request, for_options, for_end, request_at, request_of}
-use Rattle.channel_laws.proofs.Both.{and-left, and-right}
+use Rattle.own_channel_laws.specs.Tries.{for_channel, own_request, for_options, for_end, request_at, request_of}
+use Rattle.own_channel_laws.proofs.Both.{and-left, and-right}
 
 -- ---- nothing waits
 

@@ -4,52 +4,52 @@ use Rattle.std.specs.Prelude.{find, nat_le, option_map}
 use Rattle.std.specs.List.{list_any}
 use Rattle.std.proofs.lemmas.Bool.{eqb-true, le-leb}
 use Rattle.std.proofs.lemmas.List.Sums.{fold-append}
-use Rattle.talk_laws.specs.acl_fragments.specs.Pieces.{channel_of}
-use Rattle.talk_laws.specs.capture.specs.Histories.{EachAfter}
-use Rattle.talk_laws.specs.capture.specs.declared.flow.Flow.TheVariants.{Out, Into}
-use Rattle.talk_laws.specs.l2cap_signal.specs.Commands.{Content, Command, reject, connection_request, connection_response, configuration_request, configuration_response, disconnection_request, disconnection_response, echo_request, echo_response, information_request, information_response}
-use Rattle.talk_laws.specs.l2cap_signal.specs.Reading.{answers}
-use Rattle.talk_laws.specs.link_talk.specs.declared.channel.Channel.{Channel}
-use Rattle.talk_laws.specs.link_talk.specs.Channels.{Entry, reading}
-use Rattle.talk_laws.specs.link_talk.specs.Sayings.{Saying}
-use Rattle.talk_laws.specs.link_talk.specs.Sayings as sayings
-use Rattle.channel_model.specs.declared.errand.Errand.TheVariants.{Connection}
-use Rattle.channel_model.specs.Changing.{has_own, held_at, has_live_peer, is_live_peer, has_room}
-use Rattle.channel_model.specs.Hearing.{hears_command}
-use Rattle.channel_model.specs.Policies.{Policy}
-use Rattle.channel_model.specs.Responses.{is_fresh_endpoint}
-use Rattle.channel_model.specs.Value.{Request, Stage, Requested, Connected, Leaving, Closing, Crossed, Held, Remembered, Channels}
-use Rattle.channel_model.proofs.Lookups.{own_of, Distinct, found-has, any-finds, found-distinct}
+use Rattle.own_channel_laws.specs.talk_laws.specs.acl_fragments.specs.Pieces.{channel_of}
+use Rattle.own_channel_laws.specs.talk_laws.specs.capture.specs.Histories.{EachAfter}
+use Rattle.own_channel_laws.specs.talk_laws.specs.capture.specs.declared.flow.Flow.TheVariants.{Out, Into}
+use Rattle.own_channel_laws.specs.talk_laws.specs.l2cap_signal.specs.Commands.{Content, Command, reject, connection_request, connection_response, configuration_request, configuration_response, disconnection_request, disconnection_response, echo_request, echo_response, information_request, information_response}
+use Rattle.own_channel_laws.specs.talk_laws.specs.l2cap_signal.specs.Reading.{answers}
+use Rattle.own_channel_laws.specs.talk_laws.specs.link_talk.specs.declared.channel.Channel.{Channel}
+use Rattle.own_channel_laws.specs.talk_laws.specs.link_talk.specs.Channels.{Entry, reading}
+use Rattle.own_channel_laws.specs.talk_laws.specs.link_talk.specs.Sayings.{Saying}
+use Rattle.own_channel_laws.specs.talk_laws.specs.link_talk.specs.Sayings as sayings
+use Rattle.own_channel_laws.specs.channel_model.specs.declared.errand.Errand.TheVariants.{Connection}
+use Rattle.own_channel_laws.specs.channel_model.specs.Changing.{has_own, held_at, has_live_peer, is_live_peer, has_room}
+use Rattle.own_channel_laws.specs.channel_model.specs.Hearing.{hears_command}
+use Rattle.own_channel_laws.specs.channel_model.specs.Policies.{Policy}
+use Rattle.own_channel_laws.specs.channel_model.specs.Responses.{is_fresh_endpoint}
+use Rattle.own_channel_laws.specs.channel_model.specs.Value.{Request, Stage, Requested, Connected, Leaving, Closing, Crossed, Held, Remembered, Channels}
+use Rattle.own_channel_laws.specs.channel_model.proofs.Lookups.{own_of, Distinct, found-has, any-finds, found-distinct}
 use Rattle.channel_laws.specs.Adverse.{asks_with, asks_for, responds_with, responds_to, IsRoomy, AreRoomy}
 use Rattle.channel_laws.specs.Belonging.{AreRead, is_pledge, said_at, HasAsked, HasGranted}
-use Rattle.channel_laws.specs.Decisive.{IsDecisive}
+use Rattle.own_channel_laws.specs.Decisive.{IsDecisive}
 use Rattle.channel_laws.specs.Ends.{end_at}
-use Rattle.channel_laws.specs.Endpoints.{IsOf}
+use Rattle.own_channel_laws.specs.Endpoints.{IsOf}
 use Rattle.channel_laws.specs.Final.{IsFinal}
 use Rattle.channel_laws.specs.Granted.{IsFor}
 use Rattle.channel_laws.specs.Heeded.{IsResponse, WaitsNoMore, RespondsTo, EndsWait, IsMetBy}
 use Rattle.channel_laws.specs.Pairs.{End, Pair, new_pair, Happening, Acts, Puts, Takes, Repeats, Loses, Damages, occurs, let_go, takes_first, Side, Near, Far, turned, Turn, happens_at, pair_after, pair_of, IsRunOf}
 use Rattle.channel_laws.specs.Responding.{Recalls, RecalledOr, IsRecalledOr, CanRespond}
 use Rattle.channel_laws.specs.Modes.{policy_of}
-use Rattle.channel_laws.specs.Runs.{Occurrence, Comes, Run, run_of, said_in}
-use Rattle.channel_laws.specs.Signals.{StandsIn}
-use Rattle.channel_laws.specs.Tries.{for_channel, request_at, request_of}
-use Rattle.channel_model.specs.Carrying.{takes}
-use Rattle.channel_model.specs.Following.{can_say}
-use Rattle.channel_laws.specs.OwnTalk.{spoken, command_with, response_to, command_if, reply_to, asked_between, said_with_all}
-use Rattle.channel_laws.specs.Views.{IsRead as IsReadAt, IsReadBy, peer_of, channel_by, read_at}
+use Rattle.own_channel_laws.specs.Runs.{Occurrence, Comes, Run, run_of, said_in}
+use Rattle.own_channel_laws.specs.Signals.{StandsIn}
+use Rattle.own_channel_laws.specs.Tries.{for_channel, request_at, request_of}
+use Rattle.own_channel_laws.specs.channel_model.specs.Carrying.{takes}
+use Rattle.own_channel_laws.specs.channel_model.specs.Following.{can_say}
+use Rattle.own_channel_laws.specs.OwnTalk.{spoken, command_with, response_to, command_if, reply_to, asked_between, said_with_all}
+use Rattle.own_channel_laws.specs.Views.{IsRead as IsReadAt, IsReadBy, peer_of, channel_by, read_at}
 use Rattle.channel_laws.specs.Connections.{NamesApart, ConnectionsAreMet}
 use Rattle.channel_laws.proofs.Belonging.{channels-belong, pledges-were_said}
 use Rattle.channel_laws.proofs.Bestowing.{endpoints-are_granted_once}
 use Rattle.channel_laws.proofs.Concluding.{final-responses_end_waits}
 use Rattle.channel_laws.proofs.Mating.{high-at}
-use Rattle.channel_laws.proofs.Origins.{answered-asked}
+use Rattle.own_channel_laws.proofs.Origins.{answered-asked}
 use Rattle.channel_laws.proofs.Pairing.{each-end_runs}
 use Rattle.channel_laws.proofs.Responding.{copies-have_responses}
-use Rattle.channel_laws.proofs.Running.{IsSound, all-sound, channels-are_read}
-use Rattle.channel_laws.proofs.Saying.{stands-left, stands-right}
+use Rattle.own_channel_laws.proofs.Running.{IsSound, all-sound, channels-are_read}
+use Rattle.own_channel_laws.proofs.Saying.{stands-left, stands-right}
 use Rattle.channel_laws.proofs.Sharing.{said-grows}
-use Rattle.channel_laws.proofs.Sound.{Wants, WantsAt, wanted_by}
+use Rattle.own_channel_laws.proofs.Sound.{Wants, WantsAt, wanted_by}
 use Rattle.channel_laws.proofs.UnderWay.{AllPlainly, BothPlainly, come-plainly}
 use Rattle.channel_laws.proofs.Recalling.{CallRemembered, heard-so, calls-remembered}
 

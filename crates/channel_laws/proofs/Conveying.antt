@@ -3,51 +3,51 @@ use Rattle.std.proofs.Common.{◌≡◌, ℕ, ◌≤◌, List, [], ◌∷◌, �
 use Rattle.std.specs.Prelude.{find, option_map}
 use Rattle.std.proofs.lemmas.Bool.{eqb-true}
 use Rattle.std.proofs.lemmas.List.Elements.{filter-append}
-use Rattle.talk_laws.specs.bt_base.proofs.OctetLemmas.{le16-number}
-use Rattle.talk_laws.specs.acl_fragments.specs.Pieces.{channel_of}
-use Rattle.talk_laws.specs.capture.specs.declared.flow.Flow.TheVariants.{Out}
-use Rattle.talk_laws.specs.l2cap_signal.specs.Commands.{Command, spelling}
-use Rattle.talk_laws.specs.l2cap_config.specs.declared.wish.Agreed.{Agreed}
-use Rattle.talk_laws.specs.ertm_frames.specs.declared.refusal.FrameRefusal.TheVariants.{Short, BadFcs}
-use Rattle.talk_laws.specs.ertm_frames.specs.Frames.{PlainFrame}
-use Rattle.talk_laws.specs.ertm_frames.specs.Reading.{answer_in, frame_in}
-use Rattle.talk_laws.specs.ertm_frames.specs.Picking.{outs}
-use Rattle.talk_laws.specs.ertm_frames.proofs.Spelled.{written-read}
-use Rattle.talk_laws.specs.ertm_frames.proofs.Telling.{outs-more}
-use Rattle.talk_laws.specs.ertm_frames.proofs.WorkedOut.{answer-is_worked_out}
-use Rattle.channel_model.specs.ertm_model.specs.Value.{Ertm}
-use Rattle.channel_model.specs.ertm_model.specs.Giving.{next_frame}
-use Rattle.channel_model.specs.ertm_model.specs.Pair.{End as MachineEnd}
-use Rattle.talk_laws.specs.link_talk.specs.declared.channel.Channel.{Channel}
-use Rattle.talk_laws.specs.link_talk.specs.declared.party.Party.{Party}
-use Rattle.talk_laws.specs.link_talk.specs.Sayings.{Saying, Carried}
-use Rattle.talk_laws.specs.link_talk.specs.Channels.{is_there}
-use Rattle.talk_laws.specs.link_talk.specs.Carriages.{carried}
-use Rattle.talk_laws.specs.link_talk.specs.Accounts.{frames_passed}
-use Rattle.channel_model.specs.declared.errand.Errand.{Errand}
-use Rattle.channel_model.specs.declared.errand.Errand.TheVariants as errands
-use Rattle.channel_model.specs.Value.{Queued, Answer, Ask, Carrier, Plain, Retransmitting, Setup, Stage, Held, Channels}
-use Rattle.channel_model.specs.Policies.{Policy}
-use Rattle.channel_model.specs.Changing.{has_own, held_at, is_open, setup_of}
-use Rattle.channel_model.specs.Carrying.{Nothing}
-use Rattle.channel_model.specs.Giving.{Given, Signal, Whole, Framed, some_carrier_gives, gives, carrier_spent, held_gives, held_given, queue_gives, queue_given, next_given, command_of, stage_given, counted, connection_given, configuration_given, disconnection_given}
-use Rattle.channel_model.specs.Calls.{has_fcs}
-use Rattle.channel_model.proofs.Lookups.{own_of, eqb-same, found-distinct, found-placed, find-placed}
-use Rattle.channel_model.proofs.Going.{staged}
-use Rattle.channel_model.proofs.Walking.{found-own}
-use Rattle.channel_laws.specs.Runs.{Comes, said_as, sdus_up}
-use Rattle.channel_laws.specs.Views.{peer_of}
-use Rattle.channel_laws.specs.Frames.{IsSpelled, IsUttered}
+use Rattle.own_channel_laws.specs.talk_laws.specs.bt_base.proofs.OctetLemmas.{le16-number}
+use Rattle.own_channel_laws.specs.talk_laws.specs.acl_fragments.specs.Pieces.{channel_of}
+use Rattle.own_channel_laws.specs.talk_laws.specs.capture.specs.declared.flow.Flow.TheVariants.{Out}
+use Rattle.own_channel_laws.specs.talk_laws.specs.l2cap_signal.specs.Commands.{Command, spelling}
+use Rattle.own_channel_laws.specs.talk_laws.specs.l2cap_config.specs.declared.wish.Agreed.{Agreed}
+use Rattle.own_channel_laws.specs.talk_laws.specs.ertm_frames.specs.declared.refusal.FrameRefusal.TheVariants.{Short, BadFcs}
+use Rattle.own_channel_laws.specs.talk_laws.specs.ertm_frames.specs.Frames.{PlainFrame}
+use Rattle.own_channel_laws.specs.talk_laws.specs.ertm_frames.specs.Reading.{answer_in, frame_in}
+use Rattle.own_channel_laws.specs.talk_laws.specs.ertm_frames.specs.Picking.{outs}
+use Rattle.own_channel_laws.specs.talk_laws.specs.ertm_frames.proofs.Spelled.{written-read}
+use Rattle.own_channel_laws.specs.talk_laws.specs.ertm_frames.proofs.Telling.{outs-more}
+use Rattle.own_channel_laws.specs.talk_laws.specs.ertm_frames.proofs.WorkedOut.{answer-is_worked_out}
+use Rattle.own_channel_laws.specs.channel_model.specs.ertm_model.specs.Value.{Ertm}
+use Rattle.own_channel_laws.specs.channel_model.specs.ertm_model.specs.Giving.{next_frame}
+use Rattle.own_channel_laws.specs.channel_model.specs.ertm_model.specs.Pair.{End as MachineEnd}
+use Rattle.own_channel_laws.specs.talk_laws.specs.link_talk.specs.declared.channel.Channel.{Channel}
+use Rattle.own_channel_laws.specs.talk_laws.specs.link_talk.specs.declared.party.Party.{Party}
+use Rattle.own_channel_laws.specs.talk_laws.specs.link_talk.specs.Sayings.{Saying, Carried}
+use Rattle.own_channel_laws.specs.talk_laws.specs.link_talk.specs.Channels.{is_there}
+use Rattle.own_channel_laws.specs.talk_laws.specs.link_talk.specs.Carriages.{carried}
+use Rattle.own_channel_laws.specs.talk_laws.specs.link_talk.specs.Accounts.{frames_passed}
+use Rattle.own_channel_laws.specs.channel_model.specs.declared.errand.Errand.{Errand}
+use Rattle.own_channel_laws.specs.channel_model.specs.declared.errand.Errand.TheVariants as errands
+use Rattle.own_channel_laws.specs.channel_model.specs.Value.{Queued, Answer, Ask, Carrier, Plain, Retransmitting, Setup, Stage, Held, Channels}
+use Rattle.own_channel_laws.specs.channel_model.specs.Policies.{Policy}
+use Rattle.own_channel_laws.specs.channel_model.specs.Changing.{has_own, held_at, is_open, setup_of}
+use Rattle.own_channel_laws.specs.channel_model.specs.Carrying.{Nothing}
+use Rattle.own_channel_laws.specs.channel_model.specs.Giving.{Given, Signal, Whole, Framed, some_carrier_gives, gives, carrier_spent, held_gives, held_given, queue_gives, queue_given, next_given, command_of, stage_given, counted, connection_given, configuration_given, disconnection_given}
+use Rattle.own_channel_laws.specs.channel_model.specs.Calls.{has_fcs}
+use Rattle.own_channel_laws.specs.channel_model.proofs.Lookups.{own_of, eqb-same, found-distinct, found-placed, find-placed}
+use Rattle.own_channel_laws.specs.channel_model.proofs.Going.{staged}
+use Rattle.own_channel_laws.specs.channel_model.proofs.Walking.{found-own}
+use Rattle.own_channel_laws.specs.Runs.{Comes, said_as, sdus_up}
+use Rattle.own_channel_laws.specs.Views.{peer_of}
+use Rattle.own_channel_laws.specs.Frames.{IsSpelled, IsUttered}
 use Rattle.channel_laws.specs.Pairs.{End, Pair, Happening, Acts, Puts, Takes, Repeats, Loses, Damages, is_alone, occurs, with_near, puts, let_go, takes_first, repeats_first, loses_first, damages_first, happens_near}
 use Rattle.channel_laws.specs.Ends.{DoesSo}
 use Rattle.channel_laws.specs.Common.{mirrored}
 use Rattle.channel_laws.specs.Pipes.{IsAddressed, IsSeen, IsCarried, Suits}
-use Rattle.channel_laws.proofs.Running.{IsSound}
-use Rattle.channel_laws.proofs.Keeping.{OfCarrier, HeldKeeps}
-use Rattle.channel_laws.proofs.Receiving.{up-nothing}
-use Rattle.channel_laws.proofs.Passages.{GoesOut, out-own, spelled-frame}
-use Rattle.channel_laws.proofs.Holding.{IsRead, is-read, set-is}
-use Rattle.channel_laws.proofs.Outgoing.{Counts, connection-counts, configuration-counts, disconnection-counts, open-stated, gives-none, gives-by}
+use Rattle.own_channel_laws.proofs.Running.{IsSound}
+use Rattle.own_channel_laws.proofs.Keeping.{OfCarrier, HeldKeeps}
+use Rattle.own_channel_laws.proofs.Receiving.{up-nothing}
+use Rattle.own_channel_laws.proofs.Passages.{GoesOut, out-own, spelled-frame}
+use Rattle.own_channel_laws.proofs.Holding.{IsRead, is-read, set-is}
+use Rattle.own_channel_laws.proofs.Outgoing.{Counts, connection-counts, configuration-counts, disconnection-counts, open-stated, gives-none, gives-by}
 use Rattle.channel_laws.proofs.Joining.{Seen, Terms, Holds, IsEnd, Joined, next-ends_none, joined-same, joined-loses}
 use Rattle.channel_laws.proofs.Partaking.{IsSole, IsMate, CanHear, hears-frame, hears-damaged, joined-gives, kept-on}
 use Rattle.channel_laws.proofs.Piped.{frames_said, under_way, is_to, Next, Piped, said-elsewhere, acts-next, comes-next}

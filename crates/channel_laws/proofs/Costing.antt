@@ -4,34 +4,34 @@ use Rattle.std.specs.Prelude.{find, option_map}
 use Rattle.std.specs.List.{list_any}
 use Rattle.std.proofs.lemmas.Bool.{eqb-true, ltb-false}
 use Rattle.std.proofs.lemmas.List.Sums.{fold-append}
-use Rattle.talk_laws.specs.bt_base.proofs.OctetLemmas.{le16-number}
-use Rattle.talk_laws.specs.acl_fragments.specs.Pieces.{channel_of}
-use Rattle.talk_laws.specs.capture.specs.Histories.{EachAfter}
-use Rattle.talk_laws.specs.l2cap_signal.specs.Commands.{Command, spelling}
-use Rattle.talk_laws.specs.l2cap_signal.specs.Reading.{Answer as Read, answers}
-use Rattle.channel_model.specs.declared.errand.Errand.{Errand}
-use Rattle.channel_model.specs.declared.errand.Errand.TheVariants as errands
-use Rattle.channel_model.specs.Value.{Request, Queued, Answer, Ask, Own, Unasked, Asking, Granted, Stage, Requested, Connected, Leaving, Closing, Crossed, Held, Channels}
-use Rattle.channel_model.specs.Policies.{Policy}
-use Rattle.channel_model.specs.Calls.{has_fcs}
-use Rattle.channel_model.specs.Changing.{has_own, held_at, same_errand, is_answer}
-use Rattle.channel_model.specs.Giving.{Given, Signal, IsPdu, command_of, connection_at, configuration_by, configuration_at, disconnection_at, on_held, features_command, gives, counted, queue_gives, queue_given, next_given}
-use Rattle.channel_model.proofs.Lookups.{own_of, Distinct, eqb-same, found-has}
+use Rattle.own_channel_laws.specs.talk_laws.specs.bt_base.proofs.OctetLemmas.{le16-number}
+use Rattle.own_channel_laws.specs.talk_laws.specs.acl_fragments.specs.Pieces.{channel_of}
+use Rattle.own_channel_laws.specs.talk_laws.specs.capture.specs.Histories.{EachAfter}
+use Rattle.own_channel_laws.specs.talk_laws.specs.l2cap_signal.specs.Commands.{Command, spelling}
+use Rattle.own_channel_laws.specs.talk_laws.specs.l2cap_signal.specs.Reading.{Answer as Read, answers}
+use Rattle.own_channel_laws.specs.channel_model.specs.declared.errand.Errand.{Errand}
+use Rattle.own_channel_laws.specs.channel_model.specs.declared.errand.Errand.TheVariants as errands
+use Rattle.own_channel_laws.specs.channel_model.specs.Value.{Request, Queued, Answer, Ask, Own, Unasked, Asking, Granted, Stage, Requested, Connected, Leaving, Closing, Crossed, Held, Channels}
+use Rattle.own_channel_laws.specs.channel_model.specs.Policies.{Policy}
+use Rattle.own_channel_laws.specs.channel_model.specs.Calls.{has_fcs}
+use Rattle.own_channel_laws.specs.channel_model.specs.Changing.{has_own, held_at, same_errand, is_answer}
+use Rattle.own_channel_laws.specs.channel_model.specs.Giving.{Given, Signal, IsPdu, command_of, connection_at, configuration_by, configuration_at, disconnection_at, on_held, features_command, gives, counted, queue_gives, queue_given, next_given}
+use Rattle.own_channel_laws.specs.channel_model.proofs.Lookups.{own_of, Distinct, eqb-same, found-has}
 use Rattle.channel_laws.specs.Adverse.{asks_with, asks_for, responds_to, how_many, is_read_so, brings, answers_so, under_way, is_quiet, falls, is_vain, adverse_by, seen_from, adverse_from, AdverseTurnsAreCounted, AdverseTurnsAreCountedSince, disturbs, disturbances, IsHeeded, DisturbancesAreCounted, DisturbancesAreCountedSince}
 use Rattle.channel_laws.specs.Belonging.{IsReadAs, IsRead}
 use Rattle.channel_laws.specs.Ends.{DoesSo, end_at}
-use Rattle.channel_laws.specs.Frames.{IsSpelled, IsUttered}
+use Rattle.own_channel_laws.specs.Frames.{IsSpelled, IsUttered}
 use Rattle.channel_laws.specs.Pairs.{End, Pair, new_pair, Happening, Acts, Puts, Takes, Repeats, Loses, Damages, is_alone, occurs, with_near, put, puts, let_go, takes_first, repeats_first, loses_first, damages_first, happens_near, Side, Near, Far, turned, Turn, happens_at, pair_after, pair_of}
-use Rattle.channel_laws.specs.Runs.{Occurrence, Comes, Connects, AsksFeatures, Disconnects, Sends, Gives, Fires, Tells, new_link, run_on, run_of, Run}
-use Rattle.channel_laws.specs.Tries.{for_channel, own_request, for_options, for_end, request_at, request_of, one_if, copies, is_firing}
-use Rattle.channel_laws.proofs.Both.{and-left, and-right}
+use Rattle.own_channel_laws.specs.Runs.{Occurrence, Comes, Connects, AsksFeatures, Disconnects, Sends, Gives, Fires, Tells, new_link, run_on, run_of, Run}
+use Rattle.own_channel_laws.specs.Tries.{for_channel, own_request, for_options, for_end, request_at, request_of, one_if, copies, is_firing}
+use Rattle.own_channel_laws.proofs.Both.{and-left, and-right}
 use Rattle.channel_laws.proofs.Counting.{many-last, one-least, none-many, no-answers, answers-stay}
 use Rattle.channel_laws.proofs.Pairing.{each-end_runs, end-policy}
-use Rattle.channel_laws.proofs.Running.{IsSound, all-sound}
-use Rattle.channel_laws.proofs.Saying.{given-counted}
-use Rattle.channel_laws.proofs.Trying.{By, Tame, same-tame}
-use Rattle.channel_laws.proofs.Dispatching.{Gave, Passes, gives-pass}
-use Rattle.channel_laws.proofs.Spending.{Kept, pass-less, kept-less, kept-tame, same-is, is_giving, one-tame, timed-so}
+use Rattle.own_channel_laws.proofs.Running.{IsSound, all-sound}
+use Rattle.own_channel_laws.proofs.Saying.{given-counted}
+use Rattle.own_channel_laws.proofs.Trying.{By, Tame, same-tame}
+use Rattle.own_channel_laws.proofs.Dispatching.{Gave, Passes, gives-pass}
+use Rattle.own_channel_laws.proofs.Spending.{Kept, pass-less, kept-less, kept-tame, same-is, is_giving, one-tame, timed-so}
 
 -- ---- a copy of a request is read as one
 

@@ -1,25 +1,25 @@
 -- Counting what is under way, and that an answer that waits is kept until it is given.
 use Rattle.std.proofs.Common.{◌≡◌, ℕ, ◌+◌, ◌≤◌, List, [], ◌∷◌, ◌++◌, length, Bool, true, false, Option, refl, sym, ap, subst, ◌∙◌, inl, inr, arith}
 use Rattle.std.specs.List.{list_any}
-use Rattle.talk_laws.specs.acl_fragments.specs.Pieces.{channel_of}
-use Rattle.talk_laws.specs.link_talk.specs.Sayings.{Saying}
-use Rattle.talk_laws.specs.l2cap_signal.specs.Commands.{Content, Command}
-use Rattle.channel_model.specs.Value.{Queued, Answer, Ask, Channels}
-use Rattle.channel_model.specs.Policies.{Policy}
-use Rattle.channel_model.specs.Changing.{held_at, is_answer}
-use Rattle.channel_model.specs.Timing.{times_held, times_end, times_features}
-use Rattle.channel_model.specs.Following.{follows}
-use Rattle.channel_model.specs.Hearing.{hears_content}
-use Rattle.channel_model.specs.Carrying.{takes}
+use Rattle.own_channel_laws.specs.talk_laws.specs.acl_fragments.specs.Pieces.{channel_of}
+use Rattle.own_channel_laws.specs.talk_laws.specs.link_talk.specs.Sayings.{Saying}
+use Rattle.own_channel_laws.specs.talk_laws.specs.l2cap_signal.specs.Commands.{Content, Command}
+use Rattle.own_channel_laws.specs.channel_model.specs.Value.{Queued, Answer, Ask, Channels}
+use Rattle.own_channel_laws.specs.channel_model.specs.Policies.{Policy}
+use Rattle.own_channel_laws.specs.channel_model.specs.Changing.{held_at, is_answer}
+use Rattle.own_channel_laws.specs.channel_model.specs.Timing.{times_held, times_end, times_features}
+use Rattle.own_channel_laws.specs.channel_model.specs.Following.{follows}
+use Rattle.own_channel_laws.specs.channel_model.specs.Hearing.{hears_content}
+use Rattle.own_channel_laws.specs.channel_model.specs.Carrying.{takes}
 use Rattle.channel_laws.specs.Adverse.{how_many, answers_so}
-use Rattle.channel_laws.specs.OwnTalk.{command_with}
-use Rattle.channel_laws.specs.Runs.{Occurrence, Comes, Connects, AsksFeatures, Disconnects, Sends, Gives, Fires, Tells, value_after, run_of}
-use Rattle.channel_laws.specs.Tries.{one_if}
-use Rattle.channel_laws.proofs.Lasting.{answers_of, follows-lasts, takes-lasts, connects-lasts, disconnects-last, sends-last, times-last, ends-last}
-use Rattle.channel_laws.proofs.Converses.{WaitsSo, is_single, ConversesWhile}
-use Rattle.channel_laws.proofs.Conversing.{conversed-on}
-use Rattle.channel_laws.proofs.Saying.{answered-same, lost-same, asks-same}
-use Rattle.channel_laws.proofs.Spending.{is_giving}
+use Rattle.own_channel_laws.specs.OwnTalk.{command_with}
+use Rattle.own_channel_laws.specs.Runs.{Occurrence, Comes, Connects, AsksFeatures, Disconnects, Sends, Gives, Fires, Tells, value_after, run_of}
+use Rattle.own_channel_laws.specs.Tries.{one_if}
+use Rattle.own_channel_laws.proofs.Lasting.{answers_of, follows-lasts, takes-lasts, connects-lasts, disconnects-last, sends-last, times-last, ends-last}
+use Rattle.own_channel_laws.proofs.Converses.{WaitsSo, is_single, ConversesWhile}
+use Rattle.own_channel_laws.proofs.Conversing.{conversed-on}
+use Rattle.own_channel_laws.proofs.Saying.{answered-same, lost-same, asks-same}
+use Rattle.own_channel_laws.proofs.Spending.{is_giving}
 
 -- ---- lists
 

@@ -1,13 +1,13 @@
 -- What comes up of an enhanced channel is a front of what the other host's channel took.
 use Rattle.std.proofs.Common.{◌≡◌, ℕ, List, inl, sym, subst}
-use Rattle.talk_laws.specs.l2cap_config.specs.declared.wish.Mode.TheVariants.{Enhanced}
-use Rattle.talk_laws.specs.link_talk.specs.declared.channel.Channel.{Channel}
-use Rattle.talk_laws.specs.link_talk.specs.Carriages.{mode_of}
-use Rattle.talk_laws.specs.capture.specs.declared.flow.Flow.TheVariants.{Out}
-use Rattle.talk_laws.specs.link_talk.specs.Sdus.{sdus}
-use Rattle.channel_model.specs.Policies.{Policy}
-use Rattle.channel_model.specs.Carrying.{Up}
-use Rattle.channel_laws.specs.Runs.{Occurrence, Run, sdus_up}
+use Rattle.own_channel_laws.specs.talk_laws.specs.l2cap_config.specs.declared.wish.Mode.TheVariants.{Enhanced}
+use Rattle.own_channel_laws.specs.talk_laws.specs.link_talk.specs.declared.channel.Channel.{Channel}
+use Rattle.own_channel_laws.specs.talk_laws.specs.link_talk.specs.Carriages.{mode_of}
+use Rattle.own_channel_laws.specs.talk_laws.specs.capture.specs.declared.flow.Flow.TheVariants.{Out}
+use Rattle.own_channel_laws.specs.talk_laws.specs.link_talk.specs.Sdus.{sdus}
+use Rattle.own_channel_laws.specs.channel_model.specs.Policies.{Policy}
+use Rattle.own_channel_laws.specs.channel_model.specs.Carrying.{Up}
+use Rattle.own_channel_laws.specs.Runs.{Occurrence, Run, sdus_up}
 use Rattle.channel_laws.specs.Pairs.{Pair, Near, Far, turned, pair_of}
 use Rattle.channel_laws.specs.Common.{mirrored}
 use Rattle.channel_laws.specs.Pipes.{IsFront, IsPipe}
@@ -17,13 +17,13 @@ use Rattle.channel_laws.proofs.Bonds.{Bond, bond-of}
 use Rattle.channel_laws.proofs.Joining.{Terms, other_terms}
 use Rattle.channel_laws.proofs.Piped.{frames_said, Piped}
 use Rattle.channel_laws.proofs.Piping.{tells-pipe}
-use Rattle.channel_laws.specs.Endpoints.{IsOf}
-use Rattle.channel_laws.specs.Views.{read_at}
-use Rattle.talk_laws.specs.ertm_frames.specs.Joining.{sdus_of}
-use Rattle.talk_laws.specs.ertm_frames.specs.Picking.{picked}
-use Rattle.channel_model.specs.ertm_model.proofs.Standing.{swapped}
-use Rattle.talk_laws.specs.link_talk.specs.Channels.{reading}
-use Rattle.talk_laws.specs.link_talk.specs.declared.party.Party.{Party}
+use Rattle.own_channel_laws.specs.Endpoints.{IsOf}
+use Rattle.own_channel_laws.specs.Views.{read_at}
+use Rattle.own_channel_laws.specs.talk_laws.specs.ertm_frames.specs.Joining.{sdus_of}
+use Rattle.own_channel_laws.specs.talk_laws.specs.ertm_frames.specs.Picking.{picked}
+use Rattle.own_channel_laws.specs.channel_model.specs.ertm_model.proofs.Standing.{swapped}
+use Rattle.own_channel_laws.specs.talk_laws.specs.link_talk.specs.Channels.{reading}
+use Rattle.own_channel_laws.specs.talk_laws.specs.link_talk.specs.declared.party.Party.{Party}
 use Rattle.channel_laws.proofs.Flowing.{front-of_front, turned-piped, piped-by, terms_of, enhanced-are_pipes}
 use Rattle.channel_laws.proofs.Taken.{taken-said, taken-goes_out}
 

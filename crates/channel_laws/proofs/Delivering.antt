@@ -5,23 +5,23 @@ use Rattle.std.specs.List.{list_any}
 use Rattle.std.proofs.lemmas.Grind.{replicate_next}
 use Rattle.std.proofs.lemmas.List.{map-append}
 use Rattle.std.proofs.lemmas.List.Elements.{filter_map-append}
-use Rattle.talk_laws.specs.capture.specs.declared.flow.Flow.TheVariants.{Out, Into}
-use Rattle.talk_laws.specs.l2cap_config.specs.declared.wish.Agreed.{Agreed}
-use Rattle.talk_laws.specs.l2cap_config.specs.declared.wish.Mode.TheVariants.{Basic}
-use Rattle.talk_laws.specs.l2cap_config.specs.declared.wish.Wish.{Wish}
-use Rattle.talk_laws.specs.link_talk.specs.declared.channel.Channel.{Channel}
-use Rattle.talk_laws.specs.link_talk.specs.Sayings.{Saying, Carried}
-use Rattle.talk_laws.specs.link_talk.specs.Sayings as sayings
-use Rattle.talk_laws.specs.link_talk.specs.Channels.{reading}
-use Rattle.talk_laws.specs.link_talk.specs.Carriages.{is_passed, is_on, taker, carried, passages, pdus_of}
-use Rattle.talk_laws.specs.link_talk.proofs.Growing.{passages-grow}
-use Rattle.channel_model.specs.Value.{Carrier, Plain, Retransmitting}
-use Rattle.channel_model.specs.Policies.{Policy}
-use Rattle.channel_model.proofs.Going.{IsAccepted, CarrierGoes}
+use Rattle.own_channel_laws.specs.talk_laws.specs.capture.specs.declared.flow.Flow.TheVariants.{Out, Into}
+use Rattle.own_channel_laws.specs.talk_laws.specs.l2cap_config.specs.declared.wish.Agreed.{Agreed}
+use Rattle.own_channel_laws.specs.talk_laws.specs.l2cap_config.specs.declared.wish.Mode.TheVariants.{Basic}
+use Rattle.own_channel_laws.specs.talk_laws.specs.l2cap_config.specs.declared.wish.Wish.{Wish}
+use Rattle.own_channel_laws.specs.talk_laws.specs.link_talk.specs.declared.channel.Channel.{Channel}
+use Rattle.own_channel_laws.specs.talk_laws.specs.link_talk.specs.Sayings.{Saying, Carried}
+use Rattle.own_channel_laws.specs.talk_laws.specs.link_talk.specs.Sayings as sayings
+use Rattle.own_channel_laws.specs.talk_laws.specs.link_talk.specs.Channels.{reading}
+use Rattle.own_channel_laws.specs.talk_laws.specs.link_talk.specs.Carriages.{is_passed, is_on, taker, carried, passages, pdus_of}
+use Rattle.own_channel_laws.specs.talk_laws.specs.link_talk.proofs.Growing.{passages-grow}
+use Rattle.own_channel_laws.specs.channel_model.specs.Value.{Carrier, Plain, Retransmitting}
+use Rattle.own_channel_laws.specs.channel_model.specs.Policies.{Policy}
+use Rattle.own_channel_laws.specs.channel_model.proofs.Going.{IsAccepted, CarrierGoes}
 use Rattle.channel_laws.specs.Arrivals.{Arrives}
-use Rattle.channel_laws.proofs.Keeping.{OfCarrier, Keeps}
-use Rattle.channel_laws.proofs.Attending.{IsNew, new-carrier}
-use Rattle.channel_laws.proofs.Signalling.{is_carried, IsBare}
+use Rattle.own_channel_laws.proofs.Keeping.{OfCarrier, Keeps}
+use Rattle.own_channel_laws.proofs.Attending.{IsNew, new-carrier}
+use Rattle.own_channel_laws.proofs.Signalling.{is_carried, IsBare}
 
 -- ---- what comes
 

@@ -1,29 +1,29 @@
 -- What goes out on each channel of a host is what it took, whatever happens.
 use Rattle.std.proofs.Common.{◌≡◌, ℕ, ◌≤◌, List, [], map, Bool, false, eqb, Option, Some, None, refl, sym, ap, subst, ◌∙◌, ◌⊎◌, inl, inr, arith}
 use Rattle.std.specs.Prelude.{find}
-use Rattle.talk_laws.specs.l2cap_config.specs.declared.wish.Agreed.{Agreed}
-use Rattle.talk_laws.specs.l2cap_config.specs.declared.wish.Mode.TheVariants.{Basic}
-use Rattle.talk_laws.specs.l2cap_config.specs.declared.wish.Wish.{Wish}
-use Rattle.talk_laws.specs.l2cap_config.specs.Agreement.{agreed_on}
-use Rattle.channel_model.specs.Configuring.{bounded_agreement, carrier_by}
-use Rattle.talk_laws.specs.ertm_frames.specs.Frames.{PlainFrame}
-use Rattle.talk_laws.specs.ertm_frames.specs.Picking.{picked, outs}
-use Rattle.channel_model.specs.ertm_model.specs.Value.{Ertm}
-use Rattle.talk_laws.specs.link_talk.specs.declared.channel.Channel.{Channel}
-use Rattle.talk_laws.specs.link_talk.specs.declared.party.Party.{Party}
-use Rattle.talk_laws.specs.link_talk.specs.Sayings.{Saying}
-use Rattle.channel_model.specs.Value.{Carrier, Plain, Retransmitting, Setup, Stage, Held, Channels}
-use Rattle.channel_model.specs.Policies.{Policy}
-use Rattle.channel_model.specs.Changing.{has_own, setup_of, in_place_of}
-use Rattle.channel_model.specs.Carrying.{read_by, machine_heard}
-use Rattle.channel_model.proofs.Lookups.{found-placed, find-placed}
-use Rattle.channel_model.proofs.Going.{IsAccepted, CarrierGoes, staged, Walks}
-use Rattle.channel_laws.proofs.Attending.{IsNew, new-carrier}
-use Rattle.channel_laws.proofs.HandedUp.{heard-agreed}
-use Rattle.channel_laws.proofs.Sound.{at_each}
-use Rattle.channel_laws.proofs.Steps.{less-apart}
-use Rattle.channel_laws.proofs.Keeping.{OfCarrier, StageKeeps, HeldKeeps, AllKeep, KeepsOn, walks-keep, under}
-use Rattle.channel_laws.proofs.Holding.{frames_on}
+use Rattle.own_channel_laws.specs.talk_laws.specs.l2cap_config.specs.declared.wish.Agreed.{Agreed}
+use Rattle.own_channel_laws.specs.talk_laws.specs.l2cap_config.specs.declared.wish.Mode.TheVariants.{Basic}
+use Rattle.own_channel_laws.specs.talk_laws.specs.l2cap_config.specs.declared.wish.Wish.{Wish}
+use Rattle.own_channel_laws.specs.talk_laws.specs.l2cap_config.specs.Agreement.{agreed_on}
+use Rattle.own_channel_laws.specs.channel_model.specs.Configuring.{bounded_agreement, carrier_by}
+use Rattle.own_channel_laws.specs.talk_laws.specs.ertm_frames.specs.Frames.{PlainFrame}
+use Rattle.own_channel_laws.specs.talk_laws.specs.ertm_frames.specs.Picking.{picked, outs}
+use Rattle.own_channel_laws.specs.channel_model.specs.ertm_model.specs.Value.{Ertm}
+use Rattle.own_channel_laws.specs.talk_laws.specs.link_talk.specs.declared.channel.Channel.{Channel}
+use Rattle.own_channel_laws.specs.talk_laws.specs.link_talk.specs.declared.party.Party.{Party}
+use Rattle.own_channel_laws.specs.talk_laws.specs.link_talk.specs.Sayings.{Saying}
+use Rattle.own_channel_laws.specs.channel_model.specs.Value.{Carrier, Plain, Retransmitting, Setup, Stage, Held, Channels}
+use Rattle.own_channel_laws.specs.channel_model.specs.Policies.{Policy}
+use Rattle.own_channel_laws.specs.channel_model.specs.Changing.{has_own, setup_of, in_place_of}
+use Rattle.own_channel_laws.specs.channel_model.specs.Carrying.{read_by, machine_heard}
+use Rattle.own_channel_laws.specs.channel_model.proofs.Lookups.{found-placed, find-placed}
+use Rattle.own_channel_laws.specs.channel_model.proofs.Going.{IsAccepted, CarrierGoes, staged, Walks}
+use Rattle.own_channel_laws.proofs.Attending.{IsNew, new-carrier}
+use Rattle.own_channel_laws.proofs.HandedUp.{heard-agreed}
+use Rattle.own_channel_laws.proofs.Sound.{at_each}
+use Rattle.own_channel_laws.proofs.Steps.{less-apart}
+use Rattle.own_channel_laws.proofs.Keeping.{OfCarrier, StageKeeps, HeldKeeps, AllKeep, KeepsOn, walks-keep, under}
+use Rattle.own_channel_laws.proofs.Holding.{frames_on}
 use Rattle.channel_laws.proofs.Putting.{Puts, puts-new, puts-on, fresh-heard}
 
 -- ---- a channel

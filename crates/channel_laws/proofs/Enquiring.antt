@@ -1,31 +1,31 @@
 -- The question for the peer's features: each copy of it is answered where there is room, and each answer ends the wait.
 use Rattle.std.proofs.Common.{◌≡◌, ℕ, List, [], ◌∷◌, ◌++◌, drop, map, Bool, true, false, cond, eqb, Option, Some, None, Ok, Err, refl, sym, subst, ◌∙◌}
-use Rattle.talk_laws.specs.acl_fragments.specs.Pieces.{channel_of}
-use Rattle.talk_laws.specs.capture.specs.Histories.{EachAfter}
-use Rattle.talk_laws.specs.l2cap_signal.specs.Commands.{Content, Command, reject, connection_request, connection_response, configuration_request, configuration_response, disconnection_request, disconnection_response, echo_request, echo_response, information_request, information_response}
-use Rattle.talk_laws.specs.l2cap_signal.specs.Reading.{Answer as Read, answers}
-use Rattle.talk_laws.specs.l2cap_signal.specs.declared.refusal.SignalRefusal.TheVariants.{ZeroIdentifier, BadLength, UnknownCode, AboveMtu}
-use Rattle.channel_model.specs.declared.errand.Errand.TheVariants as errands
-use Rattle.channel_model.specs.declared.request_kind.RequestKind.{RequestKind}
-use Rattle.channel_model.specs.declared.request_kind.RequestKind.TheVariants as kinds
-use Rattle.channel_model.specs.Value.{Remembered, Memory, Channels}
-use Rattle.channel_model.specs.Policies.{Policy}
-use Rattle.channel_model.specs.Changing.{held_at, has_room}
-use Rattle.channel_model.specs.Answers.{kind_of_code, remembered, with_remembered, not_understood, too_long, answer_to}
-use Rattle.channel_model.specs.Following.{follows, remembers, says, can_say, hears_new, hears_again, hears_kind}
-use Rattle.channel_model.specs.Responses.{hears_features, features_in, hears_grant, hears_response, hears_end}
-use Rattle.channel_model.specs.Hearing.{hears_content, hears_malformed, is_response_code, is_kind, hears_unread, hears_command, hears_commands}
-use Rattle.channel_model.specs.Carrying.{takes}
-use Rattle.channel_model.specs.Timing.{times_held, times_end, times_channels, timed_out}
+use Rattle.own_channel_laws.specs.talk_laws.specs.acl_fragments.specs.Pieces.{channel_of}
+use Rattle.own_channel_laws.specs.talk_laws.specs.capture.specs.Histories.{EachAfter}
+use Rattle.own_channel_laws.specs.talk_laws.specs.l2cap_signal.specs.Commands.{Content, Command, reject, connection_request, connection_response, configuration_request, configuration_response, disconnection_request, disconnection_response, echo_request, echo_response, information_request, information_response}
+use Rattle.own_channel_laws.specs.talk_laws.specs.l2cap_signal.specs.Reading.{Answer as Read, answers}
+use Rattle.own_channel_laws.specs.talk_laws.specs.l2cap_signal.specs.declared.refusal.SignalRefusal.TheVariants.{ZeroIdentifier, BadLength, UnknownCode, AboveMtu}
+use Rattle.own_channel_laws.specs.channel_model.specs.declared.errand.Errand.TheVariants as errands
+use Rattle.own_channel_laws.specs.channel_model.specs.declared.request_kind.RequestKind.{RequestKind}
+use Rattle.own_channel_laws.specs.channel_model.specs.declared.request_kind.RequestKind.TheVariants as kinds
+use Rattle.own_channel_laws.specs.channel_model.specs.Value.{Remembered, Memory, Channels}
+use Rattle.own_channel_laws.specs.channel_model.specs.Policies.{Policy}
+use Rattle.own_channel_laws.specs.channel_model.specs.Changing.{held_at, has_room}
+use Rattle.own_channel_laws.specs.channel_model.specs.Answers.{kind_of_code, remembered, with_remembered, not_understood, too_long, answer_to}
+use Rattle.own_channel_laws.specs.channel_model.specs.Following.{follows, remembers, says, can_say, hears_new, hears_again, hears_kind}
+use Rattle.own_channel_laws.specs.channel_model.specs.Responses.{hears_features, features_in, hears_grant, hears_response, hears_end}
+use Rattle.own_channel_laws.specs.channel_model.specs.Hearing.{hears_content, hears_malformed, is_response_code, is_kind, hears_unread, hears_command, hears_commands}
+use Rattle.own_channel_laws.specs.channel_model.specs.Carrying.{takes}
+use Rattle.own_channel_laws.specs.channel_model.specs.Timing.{times_held, times_end, times_channels, timed_out}
 use Rattle.channel_laws.specs.Adverse.{responds_with, responds_to, IsRoomy, FeaturesAreHeeded}
 use Rattle.channel_laws.specs.Ends.{end_at}
 use Rattle.channel_laws.specs.Pairs.{Pair, Happening, Acts, Puts, Takes, Repeats, Loses, Damages, Side, Near, Far, turned, Turn, pair_of}
-use Rattle.channel_laws.specs.Runs.{Occurrence, Comes, Connects, AsksFeatures, Disconnects, Sends, Gives, Fires, Tells, value_after, run_of, Run}
-use Rattle.channel_laws.proofs.Both.{and-right}
-use Rattle.channel_laws.proofs.Lasting.{Lasts, follows-lasts, grant-lasts, response-lasts, end-lasts, takes-lasts, times-last, ends-last}
-use Rattle.channel_laws.proofs.Conversing.{says_memory, features_memory, features_lost, single_memory}
+use Rattle.own_channel_laws.specs.Runs.{Occurrence, Comes, Connects, AsksFeatures, Disconnects, Sends, Gives, Fires, Tells, value_after, run_of, Run}
+use Rattle.own_channel_laws.proofs.Both.{and-right}
+use Rattle.own_channel_laws.proofs.Lasting.{Lasts, follows-lasts, grant-lasts, response-lasts, end-lasts, takes-lasts, times-last, ends-last}
+use Rattle.own_channel_laws.proofs.Conversing.{says_memory, features_memory, features_lost, single_memory}
 use Rattle.channel_laws.proofs.Pairing.{each-end_runs}
-use Rattle.channel_laws.proofs.Running.{along}
+use Rattle.own_channel_laws.proofs.Running.{along}
 use Rattle.channel_laws.specs.Final.{IsFinal}
 use Rattle.channel_laws.specs.Heeded.{RespondsTo, EndsWait, IsMet, IsMetBy}
 use Rattle.channel_laws.specs.Responding.{Recalls, RecalledOr, IsRecalledOr, CanRespond}

@@ -6,49 +6,49 @@ use Rattle.std.proofs.lemmas.List.{map-append}
 use Rattle.std.proofs.lemmas.List.Elements.{filter_map-append}
 use Rattle.std.proofs.lemmas.List.Sums.{fold-append}
 use Rattle.std.proofs.Math.Seq.{drop-append_seam}
-use Rattle.talk_laws.specs.bt_base.proofs.OctetLemmas.{le16-number}
-use Rattle.talk_laws.specs.acl_fragments.specs.Pieces.{channel_of}
-use Rattle.talk_laws.specs.capture.specs.declared.flow.Flow.{Flow}
-use Rattle.talk_laws.specs.capture.specs.declared.flow.Flow.TheVariants.{Out, Into}
-use Rattle.talk_laws.specs.capture.specs.Histories.{each_after, given_by, EachAfter}
-use Rattle.talk_laws.specs.capture.specs.Pdus.{same_flow}
-use Rattle.talk_laws.specs.capture.proofs.HistoryLaws.{given_by-more}
-use Rattle.talk_laws.specs.l2cap_signal.specs.Reading.{answers}
-use Rattle.talk_laws.specs.l2cap_config.specs.declared.wish.Mode.TheVariants.{Basic, Enhanced}
-use Rattle.talk_laws.specs.link_talk.specs.declared.channel.Channel.{Channel}
-use Rattle.talk_laws.specs.link_talk.specs.declared.party.Party.{Party}
-use Rattle.talk_laws.specs.link_talk.specs.Sayings.{Saying, Command as Said, Carried, GaveUp}
-use Rattle.talk_laws.specs.link_talk.specs.Setups.{is_set}
-use Rattle.talk_laws.specs.link_talk.specs.Channels.{Entry, is_alive, is_there, reading}
-use Rattle.talk_laws.specs.link_talk.specs.Carriages.{Carriage, is_held, is_heard, takes as takes_on_it, carried, stretch, pdus_of, one_way, mode_of}
-use Rattle.talk_laws.specs.link_talk.specs.Gains.{gained}
-use Rattle.talk_laws.specs.link_talk.specs.GrowingLaws.{has_opened}
-use Rattle.talk_laws.specs.link_talk.specs.Sdus.{Spoken, spoken_as, sdus_of, spoken_with, spoken}
-use Rattle.talk_laws.specs.link_talk.proofs.Growing.{stretch-grows}
-use Rattle.channel_model.specs.Value.{Own, Unasked, Asking, Granted, Carrier, Plain, Retransmitting, Setup, Stage, Requested, Connected, Leaving, Closing, Crossed, Held, Channels}
-use Rattle.channel_model.specs.Policies.{Policy}
-use Rattle.channel_model.specs.Changing.{held_at, is_open, is_stated, setup_of}
-use Rattle.channel_model.specs.Carrying.{Nothing, sdu_with, sdu_at, up_by, up_on, up_at, takes}
-use Rattle.channel_model.specs.Giving.{Given, Signal, Whole, Framed, headed, carrier_gives, next_given}
-use Rattle.channel_model.specs.Calls.{setup_on, carrier_if, open_carrier, carrier_at, connected, asks_features, disconnected}
-use Rattle.channel_model.proofs.Lookups.{own_of, eqb-same, found-has, and_off}
-use Rattle.channel_laws.specs.OwnTalk.{asked_between, said_with_all}
-use Rattle.channel_laws.specs.Runs.{Occurrence, Comes, Connects, AsksFeatures, Disconnects, Sends, Gives, Fires, Tells, peer_at, said_by_carrier, said_as, said_in, Run, new_link, run_on, run_of}
-use Rattle.channel_laws.specs.Views.{peer_of, life_of, read_at}
-use Rattle.channel_laws.specs.Frames.{IsSpelled, IsUttered}
+use Rattle.own_channel_laws.specs.talk_laws.specs.bt_base.proofs.OctetLemmas.{le16-number}
+use Rattle.own_channel_laws.specs.talk_laws.specs.acl_fragments.specs.Pieces.{channel_of}
+use Rattle.own_channel_laws.specs.talk_laws.specs.capture.specs.declared.flow.Flow.{Flow}
+use Rattle.own_channel_laws.specs.talk_laws.specs.capture.specs.declared.flow.Flow.TheVariants.{Out, Into}
+use Rattle.own_channel_laws.specs.talk_laws.specs.capture.specs.Histories.{each_after, given_by, EachAfter}
+use Rattle.own_channel_laws.specs.talk_laws.specs.capture.specs.Pdus.{same_flow}
+use Rattle.own_channel_laws.specs.talk_laws.specs.capture.proofs.HistoryLaws.{given_by-more}
+use Rattle.own_channel_laws.specs.talk_laws.specs.l2cap_signal.specs.Reading.{answers}
+use Rattle.own_channel_laws.specs.talk_laws.specs.l2cap_config.specs.declared.wish.Mode.TheVariants.{Basic, Enhanced}
+use Rattle.own_channel_laws.specs.talk_laws.specs.link_talk.specs.declared.channel.Channel.{Channel}
+use Rattle.own_channel_laws.specs.talk_laws.specs.link_talk.specs.declared.party.Party.{Party}
+use Rattle.own_channel_laws.specs.talk_laws.specs.link_talk.specs.Sayings.{Saying, Command as Said, Carried, GaveUp}
+use Rattle.own_channel_laws.specs.talk_laws.specs.link_talk.specs.Setups.{is_set}
+use Rattle.own_channel_laws.specs.talk_laws.specs.link_talk.specs.Channels.{Entry, is_alive, is_there, reading}
+use Rattle.own_channel_laws.specs.talk_laws.specs.link_talk.specs.Carriages.{Carriage, is_held, is_heard, takes as takes_on_it, carried, stretch, pdus_of, one_way, mode_of}
+use Rattle.own_channel_laws.specs.talk_laws.specs.link_talk.specs.Gains.{gained}
+use Rattle.own_channel_laws.specs.talk_laws.specs.link_talk.specs.GrowingLaws.{has_opened}
+use Rattle.own_channel_laws.specs.talk_laws.specs.link_talk.specs.Sdus.{Spoken, spoken_as, sdus_of, spoken_with, spoken}
+use Rattle.own_channel_laws.specs.talk_laws.specs.link_talk.proofs.Growing.{stretch-grows}
+use Rattle.own_channel_laws.specs.channel_model.specs.Value.{Own, Unasked, Asking, Granted, Carrier, Plain, Retransmitting, Setup, Stage, Requested, Connected, Leaving, Closing, Crossed, Held, Channels}
+use Rattle.own_channel_laws.specs.channel_model.specs.Policies.{Policy}
+use Rattle.own_channel_laws.specs.channel_model.specs.Changing.{held_at, is_open, is_stated, setup_of}
+use Rattle.own_channel_laws.specs.channel_model.specs.Carrying.{Nothing, sdu_with, sdu_at, up_by, up_on, up_at, takes}
+use Rattle.own_channel_laws.specs.channel_model.specs.Giving.{Given, Signal, Whole, Framed, headed, carrier_gives, next_given}
+use Rattle.own_channel_laws.specs.channel_model.specs.Calls.{setup_on, carrier_if, open_carrier, carrier_at, connected, asks_features, disconnected}
+use Rattle.own_channel_laws.specs.channel_model.proofs.Lookups.{own_of, eqb-same, found-has, and_off}
+use Rattle.own_channel_laws.specs.OwnTalk.{asked_between, said_with_all}
+use Rattle.own_channel_laws.specs.Runs.{Occurrence, Comes, Connects, AsksFeatures, Disconnects, Sends, Gives, Fires, Tells, peer_at, said_by_carrier, said_as, said_in, Run, new_link, run_on, run_of}
+use Rattle.own_channel_laws.specs.Views.{peer_of, life_of, read_at}
+use Rattle.own_channel_laws.specs.Frames.{IsSpelled, IsUttered}
 use Rattle.channel_laws.specs.Taken.{is_free}
 use Rattle.channel_laws.specs.Exchanged.{heard_in, exchanged_in, exchanged_of, ExchangedIsSpoken}
-use Rattle.channel_laws.proofs.Both.{and-left, and-right}
-use Rattle.channel_laws.proofs.Carriages.{goes_over, carried-none, into-else, counted_in, into-here}
+use Rattle.own_channel_laws.proofs.Both.{and-left, and-right}
+use Rattle.own_channel_laws.proofs.Carriages.{goes_over, carried-none, into-else, counted_in, into-here}
 use Rattle.channel_laws.proofs.Ferrying.{IsBasic}
-use Rattle.channel_laws.proofs.Holding.{IsRead, is-read, set-is, unset-is}
-use Rattle.channel_laws.proofs.Outgoing.{open-stated}
-use Rattle.channel_laws.proofs.Passages.{both-false, GoesOut, carried-own, spelled-frame}
+use Rattle.own_channel_laws.proofs.Holding.{IsRead, is-read, set-is, unset-is}
+use Rattle.own_channel_laws.proofs.Outgoing.{open-stated}
+use Rattle.own_channel_laws.proofs.Passages.{both-false, GoesOut, carried-own, spelled-frame}
 use Rattle.channel_laws.proofs.PlainTaken.{basic_mode, wished_basic}
-use Rattle.channel_laws.proofs.Running.{all-sound}
-use Rattle.channel_laws.proofs.Signalling.{is_carried, IsBare, bare-asked, bare-left, bare-with_all, bare-fired}
-use Rattle.channel_laws.proofs.Sound.{ReadsBy, Reads, Sound}
-use Rattle.channel_laws.proofs.Stretching.{unopened-stretch}
+use Rattle.own_channel_laws.proofs.Running.{all-sound}
+use Rattle.own_channel_laws.proofs.Signalling.{is_carried, IsBare, bare-asked, bare-left, bare-with_all, bare-fired}
+use Rattle.own_channel_laws.proofs.Sound.{ReadsBy, Reads, Sound}
+use Rattle.own_channel_laws.proofs.Stretching.{unopened-stretch}
 use Rattle.channel_laws.proofs.Trusting.{Gives_out, queue-out}
 
 -- ---- what its talk carries

@@ -4,43 +4,43 @@ use Rattle.std.specs.Prelude.{option_to_list}
 use Rattle.std.specs.List.{AllByRecursion}
 use Rattle.std.proofs.lemmas.Bool.{eqb-true}
 use Rattle.std.proofs.lemmas.List.Sums.{fold-append}
-use Rattle.talk_laws.specs.acl_fragments.specs.Pieces.{channel_of}
-use Rattle.talk_laws.specs.capture.specs.declared.flow.Flow.TheVariants.{Into}
-use Rattle.talk_laws.specs.capture.specs.Histories.{EachAfter}
-use Rattle.talk_laws.specs.l2cap_signal.specs.Reading.{answers}
-use Rattle.talk_laws.specs.l2cap_config.specs.declared.wish.Mode.TheVariants.{Basic, Enhanced}
-use Rattle.talk_laws.specs.link_talk.specs.declared.channel.Channel.{Channel}
-use Rattle.talk_laws.specs.link_talk.specs.Sayings.{Saying, Carried}
-use Rattle.talk_laws.specs.link_talk.specs.Channels.{reading}
-use Rattle.channel_model.specs.Value.{Carrier, Plain, Retransmitting, Setup, Stage, Requested, Connected, Leaving, Closing, Crossed, Held, Channels}
-use Rattle.channel_model.specs.Policies.{Policy}
-use Rattle.channel_model.specs.Changing.{held_at, setup_of, is_stated, is_retransmitting}
-use Rattle.channel_model.specs.Carrying.{Up, Nothing, is_taken_with, sdu_with, sdu_at, up_at, takes}
-use Rattle.channel_model.specs.Hearing.{hears_commands, up}
-use Rattle.channel_model.specs.Giving.{Given, next_given, queue_given}
-use Rattle.channel_model.specs.Calls.{has_fcs_at, has_fcs_on, has_fcs, connected, asks_features, disconnected, sends, after_event}
-use Rattle.channel_model.specs.Timing.{timed_out}
-use Rattle.channel_model.proofs.Lookups.{found-has}
-use Rattle.channel_model.proofs.Lookups.{own_of}
-use Rattle.channel_model.proofs.Going.{Walks}
-use Rattle.channel_model.proofs.Walking.{commands-go}
-use Rattle.channel_model.proofs.Calling.{connected-goes, asks-features-goes, disconnected-goes, timed-goes, takes-goes}
-use Rattle.channel_laws.specs.OwnTalk.{asked_between, said_with_all}
-use Rattle.channel_laws.specs.Runs.{Occurrence, Comes, Connects, AsksFeatures, Disconnects, Sends, Gives, Fires, Tells, peer_at, given_up, said_by_channels, said_as, said_in, up_with, sdu_up, sdus_up}
-use Rattle.channel_laws.specs.Views.{read_at}
-use Rattle.channel_laws.specs.Frames.{IsSpelled, IsUttered}
+use Rattle.own_channel_laws.specs.talk_laws.specs.acl_fragments.specs.Pieces.{channel_of}
+use Rattle.own_channel_laws.specs.talk_laws.specs.capture.specs.declared.flow.Flow.TheVariants.{Into}
+use Rattle.own_channel_laws.specs.talk_laws.specs.capture.specs.Histories.{EachAfter}
+use Rattle.own_channel_laws.specs.talk_laws.specs.l2cap_signal.specs.Reading.{answers}
+use Rattle.own_channel_laws.specs.talk_laws.specs.l2cap_config.specs.declared.wish.Mode.TheVariants.{Basic, Enhanced}
+use Rattle.own_channel_laws.specs.talk_laws.specs.link_talk.specs.declared.channel.Channel.{Channel}
+use Rattle.own_channel_laws.specs.talk_laws.specs.link_talk.specs.Sayings.{Saying, Carried}
+use Rattle.own_channel_laws.specs.talk_laws.specs.link_talk.specs.Channels.{reading}
+use Rattle.own_channel_laws.specs.channel_model.specs.Value.{Carrier, Plain, Retransmitting, Setup, Stage, Requested, Connected, Leaving, Closing, Crossed, Held, Channels}
+use Rattle.own_channel_laws.specs.channel_model.specs.Policies.{Policy}
+use Rattle.own_channel_laws.specs.channel_model.specs.Changing.{held_at, setup_of, is_stated, is_retransmitting}
+use Rattle.own_channel_laws.specs.channel_model.specs.Carrying.{Up, Nothing, is_taken_with, sdu_with, sdu_at, up_at, takes}
+use Rattle.own_channel_laws.specs.channel_model.specs.Hearing.{hears_commands, up}
+use Rattle.own_channel_laws.specs.channel_model.specs.Giving.{Given, next_given, queue_given}
+use Rattle.own_channel_laws.specs.channel_model.specs.Calls.{has_fcs_at, has_fcs_on, has_fcs, connected, asks_features, disconnected, sends, after_event}
+use Rattle.own_channel_laws.specs.channel_model.specs.Timing.{timed_out}
+use Rattle.own_channel_laws.specs.channel_model.proofs.Lookups.{found-has}
+use Rattle.own_channel_laws.specs.channel_model.proofs.Lookups.{own_of}
+use Rattle.own_channel_laws.specs.channel_model.proofs.Going.{Walks}
+use Rattle.own_channel_laws.specs.channel_model.proofs.Walking.{commands-go}
+use Rattle.own_channel_laws.specs.channel_model.proofs.Calling.{connected-goes, asks-features-goes, disconnected-goes, timed-goes, takes-goes}
+use Rattle.own_channel_laws.specs.OwnTalk.{asked_between, said_with_all}
+use Rattle.own_channel_laws.specs.Runs.{Occurrence, Comes, Connects, AsksFeatures, Disconnects, Sends, Gives, Fires, Tells, peer_at, given_up, said_by_channels, said_as, said_in, up_with, sdu_up, sdus_up}
+use Rattle.own_channel_laws.specs.Views.{read_at}
+use Rattle.own_channel_laws.specs.Frames.{IsSpelled, IsUttered}
 use Rattle.channel_laws.specs.Pairs.{End, Pair, new_pair, Happening, Acts, Puts, Takes, Repeats, Loses, Damages, is_alone, occurs, with_near, puts, let_go, takes_first, repeats_first, loses_first, damages_first, happens_near, Side, Near, Far, turned, Turn, happens_at, pair_after, pair_of, IsRunOf}
 use Rattle.channel_laws.specs.Ends.{AreFair, DoesSo, end_at}
 use Rattle.channel_laws.specs.Belonging.{AreRead}
-use Rattle.channel_laws.specs.Endpoints.{IsOf}
+use Rattle.own_channel_laws.specs.Endpoints.{IsOf}
 use Rattle.channel_laws.specs.Common.{mirrored}
 use Rattle.channel_laws.specs.Modes.{OneWishes}
 use Rattle.channel_laws.specs.Pipes.{IsAddressed, IsSeen, IsCarried, AreCarried, HaveChannel}
-use Rattle.channel_laws.proofs.Both.{and-right}
-use Rattle.channel_laws.proofs.Running.{IsSound, all-sound}
-use Rattle.channel_laws.proofs.Keeping.{KeepsOn, walks-keep}
-use Rattle.channel_laws.proofs.Signalling.{IsBare, bare-asked, bare-left, bare-with_all, bare-fired}
-use Rattle.channel_laws.proofs.Receiving.{up-nothing}
+use Rattle.own_channel_laws.proofs.Both.{and-right}
+use Rattle.own_channel_laws.proofs.Running.{IsSound, all-sound}
+use Rattle.own_channel_laws.proofs.Keeping.{KeepsOn, walks-keep}
+use Rattle.own_channel_laws.proofs.Signalling.{IsBare, bare-asked, bare-left, bare-with_all, bare-fired}
+use Rattle.own_channel_laws.proofs.Receiving.{up-nothing}
 use Rattle.channel_laws.proofs.Pairing.{BothRun, at-runs, first-runs, each-end_runs}
 use Rattle.channel_laws.proofs.Partaking.{IsSole, sdu_for}
 use Rattle.channel_laws.proofs.Piped.{under_way, sends-others, up-more, up-here, up-away}

@@ -3,36 +3,36 @@ use Rattle.std.proofs.Common.{◌≡◌, ℕ, ◌<◌, ◌≤◌, List, [], ◌�
 use Rattle.std.specs.Prelude.{find, option_map, is_some, unwrap_or}
 use Rattle.std.proofs.lemmas.Bool.{eqb-true}
 use Rattle.std.proofs.lemmas.List.{map-append}
-use Rattle.talk_laws.specs.bt_base.proofs.OctetLemmas.{le16-number}
-use Rattle.talk_laws.specs.acl_fragments.specs.Pieces.{channel_of}
-use Rattle.talk_laws.specs.capture.specs.declared.flow.Flow.TheVariants.{Out}
-use Rattle.talk_laws.specs.l2cap_signal.specs.Commands.{Command, spelling}
-use Rattle.talk_laws.specs.l2cap_config.specs.declared.wish.Agreed.{Agreed}
-use Rattle.talk_laws.specs.l2cap_config.specs.declared.wish.Mode.TheVariants.{Basic, Enhanced}
-use Rattle.talk_laws.specs.ertm_frames.specs.Frames.{PlainFrame}
-use Rattle.channel_model.specs.ertm_model.specs.Giving.{next_frame}
-use Rattle.talk_laws.specs.link_talk.specs.declared.channel.Channel.{Channel}
-use Rattle.talk_laws.specs.link_talk.specs.Sayings.{Saying, Carried}
-use Rattle.talk_laws.specs.link_talk.specs.Channels.{is_there, reading}
-use Rattle.talk_laws.specs.link_talk.specs.Carriages.{pdus_of}
-use Rattle.channel_model.specs.Value.{Queued, Answer, Ask, Own, Carrier, Plain, Retransmitting, Setup, Stage, Requested, Connected, Leaving, Closing, Crossed, Held, Channels}
-use Rattle.channel_model.specs.Policies.{Policy}
-use Rattle.channel_model.specs.Changing.{has_own, held_at, is_granted, is_open, setup_of, to_setup}
-use Rattle.channel_model.specs.Giving.{Given, Signal, Whole, Framed, headed, some_carrier_gives, gives, carrier_given, carrier_spent, held_gives, held_given, queue_gives, queue_given, command_of, counted}
-use Rattle.channel_model.specs.Calls.{setup_on, open_carrier, carrier_if, carrier_at, carrier_with, sends_on, sends_held, sends}
-use Rattle.channel_model.proofs.Lookups.{own_of, eqb-same, found-has, found-distinct, find-placed}
-use Rattle.channel_model.proofs.Walking.{found-own, with-found}
-use Rattle.channel_laws.specs.Runs.{peer_at, said_by_carrier, said_as, sdus_up}
-use Rattle.channel_laws.specs.Views.{carrier_mode}
-use Rattle.channel_laws.specs.Frames.{IsSpelled}
+use Rattle.own_channel_laws.specs.talk_laws.specs.bt_base.proofs.OctetLemmas.{le16-number}
+use Rattle.own_channel_laws.specs.talk_laws.specs.acl_fragments.specs.Pieces.{channel_of}
+use Rattle.own_channel_laws.specs.talk_laws.specs.capture.specs.declared.flow.Flow.TheVariants.{Out}
+use Rattle.own_channel_laws.specs.talk_laws.specs.l2cap_signal.specs.Commands.{Command, spelling}
+use Rattle.own_channel_laws.specs.talk_laws.specs.l2cap_config.specs.declared.wish.Agreed.{Agreed}
+use Rattle.own_channel_laws.specs.talk_laws.specs.l2cap_config.specs.declared.wish.Mode.TheVariants.{Basic, Enhanced}
+use Rattle.own_channel_laws.specs.talk_laws.specs.ertm_frames.specs.Frames.{PlainFrame}
+use Rattle.own_channel_laws.specs.channel_model.specs.ertm_model.specs.Giving.{next_frame}
+use Rattle.own_channel_laws.specs.talk_laws.specs.link_talk.specs.declared.channel.Channel.{Channel}
+use Rattle.own_channel_laws.specs.talk_laws.specs.link_talk.specs.Sayings.{Saying, Carried}
+use Rattle.own_channel_laws.specs.talk_laws.specs.link_talk.specs.Channels.{is_there, reading}
+use Rattle.own_channel_laws.specs.talk_laws.specs.link_talk.specs.Carriages.{pdus_of}
+use Rattle.own_channel_laws.specs.channel_model.specs.Value.{Queued, Answer, Ask, Own, Carrier, Plain, Retransmitting, Setup, Stage, Requested, Connected, Leaving, Closing, Crossed, Held, Channels}
+use Rattle.own_channel_laws.specs.channel_model.specs.Policies.{Policy}
+use Rattle.own_channel_laws.specs.channel_model.specs.Changing.{has_own, held_at, is_granted, is_open, setup_of, to_setup}
+use Rattle.own_channel_laws.specs.channel_model.specs.Giving.{Given, Signal, Whole, Framed, headed, some_carrier_gives, gives, carrier_given, carrier_spent, held_gives, held_given, queue_gives, queue_given, command_of, counted}
+use Rattle.own_channel_laws.specs.channel_model.specs.Calls.{setup_on, open_carrier, carrier_if, carrier_at, carrier_with, sends_on, sends_held, sends}
+use Rattle.own_channel_laws.specs.channel_model.proofs.Lookups.{own_of, eqb-same, found-has, found-distinct, find-placed}
+use Rattle.own_channel_laws.specs.channel_model.proofs.Walking.{found-own, with-found}
+use Rattle.own_channel_laws.specs.Runs.{peer_at, said_by_carrier, said_as, sdus_up}
+use Rattle.own_channel_laws.specs.Views.{carrier_mode}
+use Rattle.own_channel_laws.specs.Frames.{IsSpelled}
 use Rattle.channel_laws.specs.Pairs.{Pair, Happening, Acts, Puts, Takes, Repeats, Loses, Damages}
 use Rattle.channel_laws.specs.Pipes.{IsAddressed}
-use Rattle.channel_laws.proofs.Both.{and-right}
-use Rattle.channel_laws.proofs.Sound.{Sound}
-use Rattle.channel_laws.proofs.Keeping.{StageKeeps, HeldKeeps, AllKeep, KeepsOn}
-use Rattle.channel_laws.proofs.Passages.{GoesOut, carried-own, spelled-frame}
-use Rattle.channel_laws.proofs.Holding.{IsRead, is-read, set-is}
-use Rattle.channel_laws.proofs.Outgoing.{open-stated, gives-none, gives-by}
+use Rattle.own_channel_laws.proofs.Both.{and-right}
+use Rattle.own_channel_laws.proofs.Sound.{Sound}
+use Rattle.own_channel_laws.proofs.Keeping.{StageKeeps, HeldKeeps, AllKeep, KeepsOn}
+use Rattle.own_channel_laws.proofs.Passages.{GoesOut, carried-own, spelled-frame}
+use Rattle.own_channel_laws.proofs.Holding.{IsRead, is-read, set-is}
+use Rattle.own_channel_laws.proofs.Outgoing.{open-stated, gives-none, gives-by}
 use Rattle.channel_laws.proofs.Joining.{held-also, IsBelow}
 use Rattle.channel_laws.proofs.Partaking.{IsSole, leaving_of, kept-on, keeps-on}
 use Rattle.channel_laws.proofs.Piped.{under_way, carried-elsewhere, peered}

@@ -3,44 +3,44 @@ use Rattle.std.proofs.Common.{◌≡◌, ℕ, ◌^◌, ◌<◌, ◌≤◌, List,
 use Rattle.std.specs.Prelude.{find, option_map, is_some, nat_le, nat_lt, not, unwrap_or}
 use Rattle.std.specs.List.{AllByRecursion, list_any}
 use Rattle.std.proofs.lemmas.Bool.{eqb-true, eqb-false, ltb-false}
-use Rattle.talk_laws.specs.acl_fragments.specs.Pieces.{channel_of}
-use Rattle.talk_laws.specs.bt_base.specs.Octets.{IsOctets}
-use Rattle.talk_laws.specs.ertm_frames.specs.Frames.{PlainFrame}
-use Rattle.channel_model.specs.ertm_model.specs.Giving.{next_frame}
-use Rattle.talk_laws.specs.l2cap_signal.specs.Commands.{Content, Command, reject, connection_request, connection_response, configuration_request, configuration_response, disconnection_request, disconnection_response, echo_request, echo_response, information_request, information_response, rest_of, payload_of, spelling, IsCommand}
-use Rattle.talk_laws.specs.l2cap_signal.specs.Reading.{Answer as Read, answers}
-use Rattle.talk_laws.specs.l2cap_signal.specs.declared.refusal.SignalRefusal.{SignalRefusal}
-use Rattle.talk_laws.specs.l2cap_signal.specs.declared.refusal.SignalRefusal.TheVariants.{ZeroIdentifier, BadLength, UnknownCode, AboveMtu}
-use Rattle.talk_laws.specs.l2cap_signal.proofs.Contents.{octets_behind}
-use Rattle.talk_laws.specs.l2cap_config.specs.declared.wish.Wish.{Wish}
-use Rattle.talk_laws.specs.l2cap_config.proofs.TypeLists.{unknown_none}
-use Rattle.channel_model.specs.declared.errand.Errand.{Errand}
-use Rattle.channel_model.specs.declared.errand.Errand.TheVariants as errands
-use Rattle.channel_model.specs.declared.event.ChannelEvent.{ChannelEvent}
-use Rattle.channel_model.specs.declared.event.ChannelEvent.TheVariants.{Features}
-use Rattle.channel_model.specs.declared.request_kind.RequestKind.{RequestKind}
-use Rattle.channel_model.specs.declared.request_kind.RequestKind.TheVariants as kinds
-use Rattle.channel_model.specs.Value.{Request, Queued, Answer, Ask, Own, Unasked, Asking, Granted, Carrier, Plain, Retransmitting, Setup, no_setup, Stage, Requested, Connected, Leaving, Closing, Crossed, Held, Remembered, Memory, Channels, no_channels}
-use Rattle.channel_model.specs.Policies.{Policy}
-use Rattle.channel_model.specs.Changing.{has_own, has_peer, held_at, is_peer, is_due, setup_of, forgets, tells}
-use Rattle.channel_model.specs.Configuring.{Verdict, NoChannel, TooLate, Unreadable, Incomplete, Judged, verdict, follows_verdict}
-use Rattle.channel_model.specs.Asking.{new_request, asks, StillDue, OnceMore, Spent}
-use Rattle.channel_model.specs.Closing.{peer_closes_at}
-use Rattle.channel_model.specs.Answers.{kind_of_code, remembered, with_remembered, not_understood, too_long, answer_to}
-use Rattle.channel_model.specs.Following.{with_channel, follows_setup, follows_configuration, follows_disconnection, follows, remembers, says, can_say, hears_new, hears_again, hears_kind, hears_request}
-use Rattle.channel_model.specs.Responses.{has_identifier, hears_features, features_in}
-use Rattle.channel_model.specs.Hearing.{hears_content, hears_malformed, is_response_code, is_kind, hears_unread, hears_refused, hears_command, hears_commands, hears}
-use Rattle.channel_model.specs.Carrying.{takes}
-use Rattle.channel_model.specs.Timing.{fires, times_held, times_end, times_channel, times_channels, loses_features, times_features, timed_out}
-use Rattle.channel_model.specs.Giving.{Given, Signal, Whole, Framed, connection_at, configuration_by, configuration_at, disconnection_at, on_held, features_command, command_of, stage_given, counted, some_carrier_gives, stage_gives, gives, carrier_spent, held_gives, held_given, queue_gives, queue_given, next_given, after_given, headed, IsPdu}
-use Rattle.channel_model.specs.Calls.{connected, asks_features, disconnected, sends}
+use Rattle.own_channel_laws.specs.talk_laws.specs.acl_fragments.specs.Pieces.{channel_of}
+use Rattle.own_channel_laws.specs.talk_laws.specs.bt_base.specs.Octets.{IsOctets}
+use Rattle.own_channel_laws.specs.talk_laws.specs.ertm_frames.specs.Frames.{PlainFrame}
+use Rattle.own_channel_laws.specs.channel_model.specs.ertm_model.specs.Giving.{next_frame}
+use Rattle.own_channel_laws.specs.talk_laws.specs.l2cap_signal.specs.Commands.{Content, Command, reject, connection_request, connection_response, configuration_request, configuration_response, disconnection_request, disconnection_response, echo_request, echo_response, information_request, information_response, rest_of, payload_of, spelling, IsCommand}
+use Rattle.own_channel_laws.specs.talk_laws.specs.l2cap_signal.specs.Reading.{Answer as Read, answers}
+use Rattle.own_channel_laws.specs.talk_laws.specs.l2cap_signal.specs.declared.refusal.SignalRefusal.{SignalRefusal}
+use Rattle.own_channel_laws.specs.talk_laws.specs.l2cap_signal.specs.declared.refusal.SignalRefusal.TheVariants.{ZeroIdentifier, BadLength, UnknownCode, AboveMtu}
+use Rattle.own_channel_laws.specs.talk_laws.specs.l2cap_signal.proofs.Contents.{octets_behind}
+use Rattle.own_channel_laws.specs.talk_laws.specs.l2cap_config.specs.declared.wish.Wish.{Wish}
+use Rattle.own_channel_laws.specs.talk_laws.specs.l2cap_config.proofs.TypeLists.{unknown_none}
+use Rattle.own_channel_laws.specs.channel_model.specs.declared.errand.Errand.{Errand}
+use Rattle.own_channel_laws.specs.channel_model.specs.declared.errand.Errand.TheVariants as errands
+use Rattle.own_channel_laws.specs.channel_model.specs.declared.event.ChannelEvent.{ChannelEvent}
+use Rattle.own_channel_laws.specs.channel_model.specs.declared.event.ChannelEvent.TheVariants.{Features}
+use Rattle.own_channel_laws.specs.channel_model.specs.declared.request_kind.RequestKind.{RequestKind}
+use Rattle.own_channel_laws.specs.channel_model.specs.declared.request_kind.RequestKind.TheVariants as kinds
+use Rattle.own_channel_laws.specs.channel_model.specs.Value.{Request, Queued, Answer, Ask, Own, Unasked, Asking, Granted, Carrier, Plain, Retransmitting, Setup, no_setup, Stage, Requested, Connected, Leaving, Closing, Crossed, Held, Remembered, Memory, Channels, no_channels}
+use Rattle.own_channel_laws.specs.channel_model.specs.Policies.{Policy}
+use Rattle.own_channel_laws.specs.channel_model.specs.Changing.{has_own, has_peer, held_at, is_peer, is_due, setup_of, forgets, tells}
+use Rattle.own_channel_laws.specs.channel_model.specs.Configuring.{Verdict, NoChannel, TooLate, Unreadable, Incomplete, Judged, verdict, follows_verdict}
+use Rattle.own_channel_laws.specs.channel_model.specs.Asking.{new_request, asks, StillDue, OnceMore, Spent}
+use Rattle.own_channel_laws.specs.channel_model.specs.Closing.{peer_closes_at}
+use Rattle.own_channel_laws.specs.channel_model.specs.Answers.{kind_of_code, remembered, with_remembered, not_understood, too_long, answer_to}
+use Rattle.own_channel_laws.specs.channel_model.specs.Following.{with_channel, follows_setup, follows_configuration, follows_disconnection, follows, remembers, says, can_say, hears_new, hears_again, hears_kind, hears_request}
+use Rattle.own_channel_laws.specs.channel_model.specs.Responses.{has_identifier, hears_features, features_in}
+use Rattle.own_channel_laws.specs.channel_model.specs.Hearing.{hears_content, hears_malformed, is_response_code, is_kind, hears_unread, hears_refused, hears_command, hears_commands, hears}
+use Rattle.own_channel_laws.specs.channel_model.specs.Carrying.{takes}
+use Rattle.own_channel_laws.specs.channel_model.specs.Timing.{fires, times_held, times_end, times_channel, times_channels, loses_features, times_features, timed_out}
+use Rattle.own_channel_laws.specs.channel_model.specs.Giving.{Given, Signal, Whole, Framed, connection_at, configuration_by, configuration_at, disconnection_at, on_held, features_command, command_of, stage_given, counted, some_carrier_gives, stage_gives, gives, carrier_spent, held_gives, held_given, queue_gives, queue_given, next_given, after_given, headed, IsPdu}
+use Rattle.own_channel_laws.specs.channel_model.specs.Calls.{connected, asks_features, disconnected, sends}
 use Rattle.channel_laws.specs.Belonging.{IsFit}
 use Rattle.channel_laws.specs.Fit.{IsSoberFor, GivenIsFit}
-use Rattle.channel_laws.specs.Runs.{Occurrence, Comes, Connects, AsksFeatures, Disconnects, Sends, Gives, Fires, Tells, peer_at, value_after, Run, new_link, run_on, run_of}
-use Rattle.channel_laws.specs.Views.{peer_of}
-use Rattle.channel_laws.proofs.Lasting.{asked_by, answers_of, answers-asked, forgotten, asked-with, Lasts, follows-lasts, grant-lasts, response-lasts, end-lasts, takes-lasts, connects-lasts, disconnects-last, sends-last, gives-last, times-last, ends-last}
-use Rattle.channel_laws.proofs.Fitting.{IsEndpoint, IsNumbered, FitsOwn, FitsSetup, FitsStage, FitsHeld, FitsFound, FitsSome, Fits, either, fits-found, setup-fits, next-some, made, peer_closed, followed, parted, unread, grant-fits, response-fits, end-fits, takes-fits, connects-fits, disconnects-fits, sends-fits, gives-fits, times-fits, ends-fit}
-use Rattle.channel_laws.proofs.Modest.{IsModest, IsModestCommand, IsModestRead, IsModestAnswer, heard-modest, FitsVerdict, verdict-fits, short-written, unread-modest, long-modest, answer-modest}
+use Rattle.own_channel_laws.specs.Runs.{Occurrence, Comes, Connects, AsksFeatures, Disconnects, Sends, Gives, Fires, Tells, peer_at, value_after, Run, new_link, run_on, run_of}
+use Rattle.own_channel_laws.specs.Views.{peer_of}
+use Rattle.own_channel_laws.proofs.Lasting.{asked_by, answers_of, answers-asked, forgotten, asked-with, Lasts, follows-lasts, grant-lasts, response-lasts, end-lasts, takes-lasts, connects-lasts, disconnects-last, sends-last, gives-last, times-last, ends-last}
+use Rattle.own_channel_laws.proofs.Fitting.{IsEndpoint, IsNumbered, FitsOwn, FitsSetup, FitsStage, FitsHeld, FitsFound, FitsSome, Fits, either, fits-found, setup-fits, next-some, made, peer_closed, followed, parted, unread, grant-fits, response-fits, end-fits, takes-fits, connects-fits, disconnects-fits, sends-fits, gives-fits, times-fits, ends-fit}
+use Rattle.own_channel_laws.proofs.Modest.{IsModest, IsModestCommand, IsModestRead, IsModestAnswer, heard-modest, FitsVerdict, verdict-fits, short-written, unread-modest, long-modest, answer-modest}
 
 -- ---- all that a host holds
 

@@ -4,37 +4,37 @@ use Rattle.std.specs.Prelude.{option_map}
 use Rattle.std.specs.List.{filter_map, cons_option}
 use Rattle.std.proofs.lemmas.List.Sums.{fold-append}
 use Rattle.std.proofs.lemmas.List.Elements.{filter_map-append}
-use Rattle.talk_laws.specs.capture.specs.declared.flow.Flow.{Flow}
-use Rattle.talk_laws.specs.capture.specs.declared.flow.Flow.TheVariants.{Out, Into}
-use Rattle.talk_laws.specs.capture.specs.Histories.{each_after, EachAfter}
-use Rattle.talk_laws.specs.l2cap_config.specs.declared.wish.Mode.TheVariants.{Basic, Enhanced}
-use Rattle.talk_laws.specs.l2cap_config.specs.declared.wish.Mode.{Mode}
-use Rattle.talk_laws.specs.ertm_frames.specs.Frames.{PlainFrame}
-use Rattle.talk_laws.specs.ertm_frames.specs.Reading.{frame_in, frames_in}
-use Rattle.talk_laws.specs.ertm_frames.specs.Picking.{Out as Gave, In, outs, picked}
-use Rattle.talk_laws.specs.ertm_frames.specs.Joining.{sdus_of}
-use Rattle.channel_model.specs.ertm_model.specs.Pair.{new_end as new_machine_end}
-use Rattle.channel_model.specs.ertm_model.proofs.Standing.{new-stands, swapped}
-use Rattle.talk_laws.specs.link_talk.specs.declared.channel.Channel.{Channel}
-use Rattle.talk_laws.specs.link_talk.specs.declared.party.Party.{Party}
-use Rattle.talk_laws.specs.link_talk.specs.Sayings.{Saying, Command, Carried, GaveUp}
-use Rattle.talk_laws.specs.link_talk.specs.Channels.{Entry, reading}
-use Rattle.talk_laws.specs.link_talk.specs.Setups.{Setup, is_enhanced, agreed_mode}
-use Rattle.talk_laws.specs.link_talk.specs.Carriages.{Carriage, is_heard, is_passed, is_on, taker, carried, stretch, passages, one_way, pdus_of, entry_mode, mode_of}
-use Rattle.talk_laws.specs.link_talk.specs.Accounts.{passage, passage_in}
-use Rattle.talk_laws.specs.link_talk.specs.Sdus.{longest, sdus_by, sdus}
-use Rattle.channel_model.specs.Policies.{Policy}
-use Rattle.channel_laws.specs.Runs.{sdus_up}
-use Rattle.channel_laws.specs.Frames.{IsUttered}
+use Rattle.own_channel_laws.specs.talk_laws.specs.capture.specs.declared.flow.Flow.{Flow}
+use Rattle.own_channel_laws.specs.talk_laws.specs.capture.specs.declared.flow.Flow.TheVariants.{Out, Into}
+use Rattle.own_channel_laws.specs.talk_laws.specs.capture.specs.Histories.{each_after, EachAfter}
+use Rattle.own_channel_laws.specs.talk_laws.specs.l2cap_config.specs.declared.wish.Mode.TheVariants.{Basic, Enhanced}
+use Rattle.own_channel_laws.specs.talk_laws.specs.l2cap_config.specs.declared.wish.Mode.{Mode}
+use Rattle.own_channel_laws.specs.talk_laws.specs.ertm_frames.specs.Frames.{PlainFrame}
+use Rattle.own_channel_laws.specs.talk_laws.specs.ertm_frames.specs.Reading.{frame_in, frames_in}
+use Rattle.own_channel_laws.specs.talk_laws.specs.ertm_frames.specs.Picking.{Out as Gave, In, outs, picked}
+use Rattle.own_channel_laws.specs.talk_laws.specs.ertm_frames.specs.Joining.{sdus_of}
+use Rattle.own_channel_laws.specs.channel_model.specs.ertm_model.specs.Pair.{new_end as new_machine_end}
+use Rattle.own_channel_laws.specs.channel_model.specs.ertm_model.proofs.Standing.{new-stands, swapped}
+use Rattle.own_channel_laws.specs.talk_laws.specs.link_talk.specs.declared.channel.Channel.{Channel}
+use Rattle.own_channel_laws.specs.talk_laws.specs.link_talk.specs.declared.party.Party.{Party}
+use Rattle.own_channel_laws.specs.talk_laws.specs.link_talk.specs.Sayings.{Saying, Command, Carried, GaveUp}
+use Rattle.own_channel_laws.specs.talk_laws.specs.link_talk.specs.Channels.{Entry, reading}
+use Rattle.own_channel_laws.specs.talk_laws.specs.link_talk.specs.Setups.{Setup, is_enhanced, agreed_mode}
+use Rattle.own_channel_laws.specs.talk_laws.specs.link_talk.specs.Carriages.{Carriage, is_heard, is_passed, is_on, taker, carried, stretch, passages, one_way, pdus_of, entry_mode, mode_of}
+use Rattle.own_channel_laws.specs.talk_laws.specs.link_talk.specs.Accounts.{passage, passage_in}
+use Rattle.own_channel_laws.specs.talk_laws.specs.link_talk.specs.Sdus.{longest, sdus_by, sdus}
+use Rattle.own_channel_laws.specs.channel_model.specs.Policies.{Policy}
+use Rattle.own_channel_laws.specs.Runs.{sdus_up}
+use Rattle.own_channel_laws.specs.Frames.{IsUttered}
 use Rattle.channel_laws.specs.Pairs.{End, Pair, new_pair, Happening, happens_near, Side, Near, Far, turned, Turn, happens_at, pair_after, pair_of, IsRunOf}
 use Rattle.channel_laws.specs.Ends.{DoesSo, AreFair, end_at}
-use Rattle.channel_laws.specs.Views.{read_at}
-use Rattle.channel_laws.specs.Endpoints.{IsOf}
+use Rattle.own_channel_laws.specs.Views.{read_at}
+use Rattle.own_channel_laws.specs.Endpoints.{IsOf}
 use Rattle.channel_laws.specs.Belonging.{AreRead, said_at}
 use Rattle.channel_laws.specs.Common.{mirrored}
 use Rattle.channel_laws.specs.Modes.{policy_of, OneWishes}
 use Rattle.channel_laws.specs.Pipes.{IsCarried, HaveChannel, Suits, CanStateBoth, AreCarried, IsFront, IsPipe, EnhancedChannelsArePipes}
-use Rattle.channel_laws.proofs.Running.{IsSound, all-sound}
+use Rattle.own_channel_laws.proofs.Running.{IsSound, all-sound}
 use Rattle.channel_laws.proofs.Pairing.{OfOccurrence, Runs, BothRun, at-runs, first-runs, each-end_runs}
 use Rattle.channel_laws.proofs.Partaking.{IsMate}
 use Rattle.channel_laws.proofs.Mating.{other-wishes, mates-at, high-at}

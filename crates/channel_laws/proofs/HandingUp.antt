@@ -5,55 +5,55 @@ use Rattle.std.specs.List.{filter_map}
 use Rattle.std.proofs.lemmas.Bool.{eqb-true}
 use Rattle.std.proofs.lemmas.List.Sums.{fold-append}
 use Rattle.std.proofs.lemmas.List.Elements.{filter_map-append}
-use Rattle.talk_laws.specs.acl_fragments.specs.Pieces.{channel_of}
-use Rattle.talk_laws.specs.capture.specs.Histories.{EachAfter}
-use Rattle.talk_laws.specs.capture.specs.declared.flow.Flow.TheVariants.{Into}
-use Rattle.talk_laws.specs.l2cap_signal.specs.Reading.{answers}
-use Rattle.talk_laws.specs.l2cap_config.specs.declared.wish.Mode.TheVariants.{Enhanced}
-use Rattle.talk_laws.specs.l2cap_config.specs.declared.wish.Wish.{Wish}
-use Rattle.talk_laws.specs.ertm_frames.specs.Answers.{Answer}
-use Rattle.talk_laws.specs.ertm_frames.specs.Frames.{information, supervisory}
-use Rattle.talk_laws.specs.ertm_frames.specs.Reading.{answer_in, frame_by}
-use Rattle.talk_laws.specs.ertm_frames.specs.Joining.{ended}
-use Rattle.channel_model.specs.ertm_model.specs.declared.reason.ErtmReason.{ErtmReason}
-use Rattle.channel_model.specs.ertm_model.specs.Value.{Ertm}
-use Rattle.talk_laws.specs.link_talk.specs.declared.channel.Channel.{Channel}
-use Rattle.talk_laws.specs.link_talk.specs.declared.party.Party.{Party}
-use Rattle.talk_laws.specs.link_talk.specs.Sayings.{Saying, Carried}
-use Rattle.talk_laws.specs.link_talk.specs.Setups.{is_set}
-use Rattle.talk_laws.specs.link_talk.specs.Channels.{Entry, is_alive, reading}
-use Rattle.talk_laws.specs.link_talk.specs.Carriages.{is_heard, entry_mode}
-use Rattle.talk_laws.specs.link_talk.specs.Picks.{pick_in}
-use Rattle.talk_laws.specs.link_talk.specs.Sdus.{sdus_by, sdus}
-use Rattle.talk_laws.specs.Sdus.{heard_so_far}
-use Rattle.talk_laws.proofs.Sdus.{sdus-more}
-use Rattle.channel_model.specs.Value.{Carrier, Plain, Retransmitting, Setup, Stage, Requested, Connected, Leaving, Closing, Crossed, Held, Channels}
-use Rattle.channel_model.specs.Policies.{Policy}
-use Rattle.channel_model.specs.Changing.{has_own, held_at, setup_of, with_setup, stage_with}
-use Rattle.channel_model.specs.Configuring.{granted_setup}
-use Rattle.channel_model.specs.Hearing.{hears_commands}
-use Rattle.channel_model.specs.Carrying.{read_by, machine_heard, settles_machine, takes_on, takes_held, takes}
-use Rattle.channel_model.specs.Giving.{Given, Signal, Whole, Framed, next_given}
-use Rattle.channel_model.specs.Calls.{carrier_at, connected, asks_features, disconnected}
-use Rattle.channel_model.specs.Telling.{is_told_closed, is_told_broken}
-use Rattle.channel_model.proofs.Lookups.{own_of, found-has, and_off}
-use Rattle.channel_model.proofs.Walking.{found-own, with-found}
-use Rattle.channel_laws.specs.OwnTalk.{asked_between, said_with_all}
-use Rattle.channel_laws.specs.Runs.{Occurrence, Comes, Connects, AsksFeatures, Disconnects, Sends, Gives, Fires, Tells, peer_at, said_by_carrier, said_as, said_in, Run, new_link, run_on, run_of, up_with, arisen, sdu_up, sdus_up}
-use Rattle.channel_laws.specs.Views.{peer_of, life_of, standing, read_at}
-use Rattle.channel_laws.specs.Sdus.{StatesFrame, IsHandedUp}
+use Rattle.own_channel_laws.specs.talk_laws.specs.acl_fragments.specs.Pieces.{channel_of}
+use Rattle.own_channel_laws.specs.talk_laws.specs.capture.specs.Histories.{EachAfter}
+use Rattle.own_channel_laws.specs.talk_laws.specs.capture.specs.declared.flow.Flow.TheVariants.{Into}
+use Rattle.own_channel_laws.specs.talk_laws.specs.l2cap_signal.specs.Reading.{answers}
+use Rattle.own_channel_laws.specs.talk_laws.specs.l2cap_config.specs.declared.wish.Mode.TheVariants.{Enhanced}
+use Rattle.own_channel_laws.specs.talk_laws.specs.l2cap_config.specs.declared.wish.Wish.{Wish}
+use Rattle.own_channel_laws.specs.talk_laws.specs.ertm_frames.specs.Answers.{Answer}
+use Rattle.own_channel_laws.specs.talk_laws.specs.ertm_frames.specs.Frames.{information, supervisory}
+use Rattle.own_channel_laws.specs.talk_laws.specs.ertm_frames.specs.Reading.{answer_in, frame_by}
+use Rattle.own_channel_laws.specs.talk_laws.specs.ertm_frames.specs.Joining.{ended}
+use Rattle.own_channel_laws.specs.channel_model.specs.ertm_model.specs.declared.reason.ErtmReason.{ErtmReason}
+use Rattle.own_channel_laws.specs.channel_model.specs.ertm_model.specs.Value.{Ertm}
+use Rattle.own_channel_laws.specs.talk_laws.specs.link_talk.specs.declared.channel.Channel.{Channel}
+use Rattle.own_channel_laws.specs.talk_laws.specs.link_talk.specs.declared.party.Party.{Party}
+use Rattle.own_channel_laws.specs.talk_laws.specs.link_talk.specs.Sayings.{Saying, Carried}
+use Rattle.own_channel_laws.specs.talk_laws.specs.link_talk.specs.Setups.{is_set}
+use Rattle.own_channel_laws.specs.talk_laws.specs.link_talk.specs.Channels.{Entry, is_alive, reading}
+use Rattle.own_channel_laws.specs.talk_laws.specs.link_talk.specs.Carriages.{is_heard, entry_mode}
+use Rattle.own_channel_laws.specs.talk_laws.specs.link_talk.specs.Picks.{pick_in}
+use Rattle.own_channel_laws.specs.talk_laws.specs.link_talk.specs.Sdus.{sdus_by, sdus}
+use Rattle.own_channel_laws.specs.talk_laws.specs.Sdus.{heard_so_far}
+use Rattle.own_channel_laws.specs.talk_laws.proofs.Sdus.{sdus-more}
+use Rattle.own_channel_laws.specs.channel_model.specs.Value.{Carrier, Plain, Retransmitting, Setup, Stage, Requested, Connected, Leaving, Closing, Crossed, Held, Channels}
+use Rattle.own_channel_laws.specs.channel_model.specs.Policies.{Policy}
+use Rattle.own_channel_laws.specs.channel_model.specs.Changing.{has_own, held_at, setup_of, with_setup, stage_with}
+use Rattle.own_channel_laws.specs.channel_model.specs.Configuring.{granted_setup}
+use Rattle.own_channel_laws.specs.channel_model.specs.Hearing.{hears_commands}
+use Rattle.own_channel_laws.specs.channel_model.specs.Carrying.{read_by, machine_heard, settles_machine, takes_on, takes_held, takes}
+use Rattle.own_channel_laws.specs.channel_model.specs.Giving.{Given, Signal, Whole, Framed, next_given}
+use Rattle.own_channel_laws.specs.channel_model.specs.Calls.{carrier_at, connected, asks_features, disconnected}
+use Rattle.own_channel_laws.specs.channel_model.specs.Telling.{is_told_closed, is_told_broken}
+use Rattle.own_channel_laws.specs.channel_model.proofs.Lookups.{own_of, found-has, and_off}
+use Rattle.own_channel_laws.specs.channel_model.proofs.Walking.{found-own, with-found}
+use Rattle.own_channel_laws.specs.OwnTalk.{asked_between, said_with_all}
+use Rattle.own_channel_laws.specs.Runs.{Occurrence, Comes, Connects, AsksFeatures, Disconnects, Sends, Gives, Fires, Tells, peer_at, said_by_carrier, said_as, said_in, Run, new_link, run_on, run_of, up_with, arisen, sdu_up, sdus_up}
+use Rattle.own_channel_laws.specs.Views.{peer_of, life_of, standing, read_at}
+use Rattle.own_channel_laws.specs.Sdus.{StatesFrame, IsHandedUp}
 use Rattle.channel_laws.specs.Whole.{BringsNone, ClosesOnNone, HandsAllUp, SdusAreHandedUp}
-use Rattle.channel_laws.proofs.Sound.{Agrees, AgreesIf, ReadsBy, Reads}
-use Rattle.channel_laws.proofs.Running.{IsSound, along, all-sound}
-use Rattle.channel_laws.proofs.Keeping.{keeps-all}
-use Rattle.channel_laws.proofs.Agreed.{AllStated, Stated, none-stated, keeps-stated, carries-stated, stated-at}
-use Rattle.channel_laws.proofs.Carriages.{into-else}
-use Rattle.channel_laws.proofs.Signalling.{bare-asked, bare-left, bare-with_all, bare-fired, bare-comes}
-use Rattle.channel_laws.proofs.Stretching.{heard_on, NoneComes, opens, nothing-heard, stays-heard}
-use Rattle.channel_laws.proofs.Taking.{takes-cases}
-use Rattle.channel_laws.proofs.Telling.{StageTold, HeldTold, RunTold, one_told, nothing_told}
-use Rattle.channel_laws.proofs.Receiving.{not-broken, mode-by, Before}
-use Rattle.channel_laws.proofs.Incoming.{before_comes, sdus-are_read}
+use Rattle.own_channel_laws.proofs.Sound.{Agrees, AgreesIf, ReadsBy, Reads}
+use Rattle.own_channel_laws.proofs.Running.{IsSound, along, all-sound}
+use Rattle.own_channel_laws.proofs.Keeping.{keeps-all}
+use Rattle.own_channel_laws.proofs.Agreed.{AllStated, Stated, none-stated, keeps-stated, carries-stated, stated-at}
+use Rattle.own_channel_laws.proofs.Carriages.{into-else}
+use Rattle.own_channel_laws.proofs.Signalling.{bare-asked, bare-left, bare-with_all, bare-fired, bare-comes}
+use Rattle.own_channel_laws.proofs.Stretching.{heard_on, NoneComes, opens, nothing-heard, stays-heard}
+use Rattle.own_channel_laws.proofs.Taking.{takes-cases}
+use Rattle.own_channel_laws.proofs.Telling.{StageTold, HeldTold, RunTold, one_told, nothing_told}
+use Rattle.own_channel_laws.proofs.Receiving.{not-broken, mode-by, Before}
+use Rattle.own_channel_laws.proofs.Incoming.{before_comes, sdus-are_read}
 
 -- ---- what is known of a run
 

@@ -2,30 +2,30 @@
 use Rattle.std.proofs.Common.{◌≡◌, ℕ, ◌≤◌, List, [], ◌∷◌, ◌++◌, fold, drop, Bool, true, false, cond, eqb, Option, Some, None, refl, sym, ap, subst, ◌∙◌, ◌⊎◌, inl, inr, append-nil}
 use Rattle.std.specs.Prelude.{find, option_map, option_to_list, is_some}
 use Rattle.std.proofs.lemmas.Bool.{eqb-true}
-use Rattle.talk_laws.specs.acl_fragments.specs.Pieces.{channel_of}
-use Rattle.talk_laws.specs.l2cap_config.specs.declared.wish.Mode.{Mode}
-use Rattle.talk_laws.specs.l2cap_config.specs.declared.wish.Mode.TheVariants.{Basic, Enhanced}
-use Rattle.talk_laws.specs.link_talk.specs.declared.channel.Channel.{Channel}
-use Rattle.talk_laws.specs.link_talk.specs.Sayings.{Saying}
-use Rattle.talk_laws.specs.link_talk.specs.Channels.{Entry, reading}
-use Rattle.channel_model.specs.Value.{Own, Unasked, Asking, Granted, Carrier, Plain, Retransmitting, Setup, Stage, Requested, Connected, Leaving, Closing, Crossed, Held, Channels}
-use Rattle.channel_model.specs.Policies.{Policy}
-use Rattle.channel_model.specs.Changing.{has_own, held_at, is_stated, setup_of}
-use Rattle.channel_model.specs.Carrying.{Nothing, is_taken_with, sdu_with, sdu_at}
-use Rattle.channel_model.proofs.Going.{IsStated}
-use Rattle.channel_model.proofs.Lookups.{eqb-same}
-use Rattle.channel_laws.specs.Runs.{Occurrence, Comes, Connects, AsksFeatures, Disconnects, Sends, Gives, Fires, Tells, up_with, sdus_up, Run, run_on}
-use Rattle.channel_laws.specs.Views.{carrier_mode, read_at}
-use Rattle.channel_laws.proofs.Agreed.{SameAgreed, carries-stated}
+use Rattle.own_channel_laws.specs.talk_laws.specs.acl_fragments.specs.Pieces.{channel_of}
+use Rattle.own_channel_laws.specs.talk_laws.specs.l2cap_config.specs.declared.wish.Mode.{Mode}
+use Rattle.own_channel_laws.specs.talk_laws.specs.l2cap_config.specs.declared.wish.Mode.TheVariants.{Basic, Enhanced}
+use Rattle.own_channel_laws.specs.talk_laws.specs.link_talk.specs.declared.channel.Channel.{Channel}
+use Rattle.own_channel_laws.specs.talk_laws.specs.link_talk.specs.Sayings.{Saying}
+use Rattle.own_channel_laws.specs.talk_laws.specs.link_talk.specs.Channels.{Entry, reading}
+use Rattle.own_channel_laws.specs.channel_model.specs.Value.{Own, Unasked, Asking, Granted, Carrier, Plain, Retransmitting, Setup, Stage, Requested, Connected, Leaving, Closing, Crossed, Held, Channels}
+use Rattle.own_channel_laws.specs.channel_model.specs.Policies.{Policy}
+use Rattle.own_channel_laws.specs.channel_model.specs.Changing.{has_own, held_at, is_stated, setup_of}
+use Rattle.own_channel_laws.specs.channel_model.specs.Carrying.{Nothing, is_taken_with, sdu_with, sdu_at}
+use Rattle.own_channel_laws.specs.channel_model.proofs.Going.{IsStated}
+use Rattle.own_channel_laws.specs.channel_model.proofs.Lookups.{eqb-same}
+use Rattle.own_channel_laws.specs.Runs.{Occurrence, Comes, Connects, AsksFeatures, Disconnects, Sends, Gives, Fires, Tells, up_with, sdus_up, Run, run_on}
+use Rattle.own_channel_laws.specs.Views.{carrier_mode, read_at}
+use Rattle.own_channel_laws.proofs.Agreed.{SameAgreed, carries-stated}
 use Rattle.channel_laws.proofs.Assents.{Took}
 use Rattle.channel_laws.proofs.Ferried.{up_of_it, up_of_other}
 use Rattle.channel_laws.proofs.Ferrying.{IsBasic}
-use Rattle.channel_laws.proofs.Holding.{IsRead, is-read}
-use Rattle.channel_laws.proofs.Keeping.{OfCarrier, StageKeeps, HeldKeeps, AllKeep, Keeps, keeps-all}
+use Rattle.own_channel_laws.proofs.Holding.{IsRead, is-read}
+use Rattle.own_channel_laws.proofs.Keeping.{OfCarrier, StageKeeps, HeldKeeps, AllKeep, Keeps, keeps-all}
 use Rattle.channel_laws.proofs.Partaking.{sdu_for}
-use Rattle.channel_laws.proofs.Receiving.{up-nothing}
-use Rattle.channel_laws.proofs.Running.{IsSound, goes-on}
-use Rattle.channel_laws.proofs.Sound.{Reads, requested-unread, Sound}
+use Rattle.own_channel_laws.proofs.Receiving.{up-nothing}
+use Rattle.own_channel_laws.proofs.Running.{IsSound, goes-on}
+use Rattle.own_channel_laws.proofs.Sound.{Reads, requested-unread, Sound}
 
 -- ---- a channel that its host has left
 

@@ -2,38 +2,38 @@
 use Rattle.std.proofs.Common.{◌≡◌, ℕ, ◌+◌, ◌-◌, ◌<◌, ◌≤◌, ◌⊎◌, inl, inr, List, [], ◌∷◌, ◌++◌, map, Bool, true, false, cond, eqb, not, ◌||◌, Option, Some, None, Result, Ok, Err, refl, sym, ap, subst, ◌∙◌, arith}
 use Rattle.std.specs.Prelude.{find, filter, is_some, nat_le}
 use Rattle.std.proofs.lemmas.Bool.{eqb-true, leb-false}
-use Rattle.talk_laws.specs.l2cap_config.specs.declared.options.Options.{Options}
-use Rattle.talk_laws.specs.l2cap_config.specs.declared.options.ConfigRefusal.{ConfigRefusal}
-use Rattle.talk_laws.specs.l2cap_config.specs.declared.agreement.ConfigAnswer.{ConfigAnswer}
-use Rattle.talk_laws.specs.l2cap_config.specs.declared.agreement.ConfigAnswer.TheVariants.{Accept, Unacceptable, Unknown}
-use Rattle.talk_laws.specs.l2cap_config.specs.declared.agreement.Settled.{Settled}
-use Rattle.talk_laws.specs.l2cap_config.specs.declared.agreement.Settled.TheVariants.{Accepted, Again, Wait, Never}
-use Rattle.talk_laws.specs.l2cap_config.specs.declared.wish.Wish.{Wish}
-use Rattle.talk_laws.specs.l2cap_config.specs.Reading.{options_read}
-use Rattle.talk_laws.specs.l2cap_config.specs.Agreement.{settled}
-use Rattle.channel_model.specs.ertm_model.specs.declared.reason.ErtmReason.{ErtmReason}
-use Rattle.channel_model.specs.ertm_model.specs.Value.{Ertm}
-use Rattle.channel_model.specs.declared.errand.Errand.{Errand}
-use Rattle.channel_model.specs.declared.errand.Errand.TheVariants as errands
-use Rattle.talk_laws.specs.l2cap_signal.specs.Commands.{Content, Command}
-use Rattle.channel_model.specs.Giving.{asking, connection_at, configuration_by, configuration_at, disconnection_at, on_held, features_command, command_of}
-use Rattle.channel_model.specs.declared.event.CloseReason.{CloseReason}
-use Rattle.channel_model.specs.declared.event.ChannelEvent.TheVariants.{Features}
-use Rattle.channel_model.specs.declared.event.CloseReason.TheVariants.{NoAgreement, Refused, OwnClosed}
-use Rattle.channel_model.specs.Value.{Request, Own, Unasked, Asking, Granted, Carrier, Plain, Retransmitting, Setup, no_setup, Stage, Requested, Connected, Leaving, Closing, Crossed, Held, Channels}
-use Rattle.channel_model.specs.Policies.{Policy}
-use Rattle.channel_model.specs.Changing.{has_own, in_place_of, has_fcs_by, is_peer, setup_of, stage_with, with_setup, to_setup, forgets, is_leaving, tells}
-use Rattle.channel_model.specs.Asking.{next_identifier, new_request, first_options, asks_options}
-use Rattle.channel_model.specs.Closing.{closes, closes_at, peer_closes_at, ends_at, ends}
-use Rattle.channel_model.specs.Configuring.{Verdict, NoChannel, TooLate, Unreadable, Incomplete, Judged, verdict, accepted_setup, without_parts, accepts_with, refused_setup, follows_answer, follows_verdict, opens_if, granted_setup, grants}
-use Rattle.channel_model.specs.Following.{follows_setup, follows_configuration, follows_disconnection}
-use Rattle.channel_model.specs.Responses.{is_fresh_endpoint, connects, hears_connected, hears_grant_at, hears_grant, renewed_setup, hears_settled, hears_options, is_asked, hears_response_on, hears_response, hears_end, has_identifier, hears_features}
-use Rattle.channel_model.specs.Carrying.{reason_of, settles_machine, machine_heard, read_by, carries, is_taken_with, shows, opens_with, takes_with, takes_on, takes_held}
+use Rattle.own_channel_laws.specs.talk_laws.specs.l2cap_config.specs.declared.options.Options.{Options}
+use Rattle.own_channel_laws.specs.talk_laws.specs.l2cap_config.specs.declared.options.ConfigRefusal.{ConfigRefusal}
+use Rattle.own_channel_laws.specs.talk_laws.specs.l2cap_config.specs.declared.agreement.ConfigAnswer.{ConfigAnswer}
+use Rattle.own_channel_laws.specs.talk_laws.specs.l2cap_config.specs.declared.agreement.ConfigAnswer.TheVariants.{Accept, Unacceptable, Unknown}
+use Rattle.own_channel_laws.specs.talk_laws.specs.l2cap_config.specs.declared.agreement.Settled.{Settled}
+use Rattle.own_channel_laws.specs.talk_laws.specs.l2cap_config.specs.declared.agreement.Settled.TheVariants.{Accepted, Again, Wait, Never}
+use Rattle.own_channel_laws.specs.talk_laws.specs.l2cap_config.specs.declared.wish.Wish.{Wish}
+use Rattle.own_channel_laws.specs.talk_laws.specs.l2cap_config.specs.Reading.{options_read}
+use Rattle.own_channel_laws.specs.talk_laws.specs.l2cap_config.specs.Agreement.{settled}
+use Rattle.own_channel_laws.specs.channel_model.specs.ertm_model.specs.declared.reason.ErtmReason.{ErtmReason}
+use Rattle.own_channel_laws.specs.channel_model.specs.ertm_model.specs.Value.{Ertm}
+use Rattle.own_channel_laws.specs.channel_model.specs.declared.errand.Errand.{Errand}
+use Rattle.own_channel_laws.specs.channel_model.specs.declared.errand.Errand.TheVariants as errands
+use Rattle.own_channel_laws.specs.talk_laws.specs.l2cap_signal.specs.Commands.{Content, Command}
+use Rattle.own_channel_laws.specs.channel_model.specs.Giving.{asking, connection_at, configuration_by, configuration_at, disconnection_at, on_held, features_command, command_of}
+use Rattle.own_channel_laws.specs.channel_model.specs.declared.event.CloseReason.{CloseReason}
+use Rattle.own_channel_laws.specs.channel_model.specs.declared.event.ChannelEvent.TheVariants.{Features}
+use Rattle.own_channel_laws.specs.channel_model.specs.declared.event.CloseReason.TheVariants.{NoAgreement, Refused, OwnClosed}
+use Rattle.own_channel_laws.specs.channel_model.specs.Value.{Request, Own, Unasked, Asking, Granted, Carrier, Plain, Retransmitting, Setup, no_setup, Stage, Requested, Connected, Leaving, Closing, Crossed, Held, Channels}
+use Rattle.own_channel_laws.specs.channel_model.specs.Policies.{Policy}
+use Rattle.own_channel_laws.specs.channel_model.specs.Changing.{has_own, in_place_of, has_fcs_by, is_peer, setup_of, stage_with, with_setup, to_setup, forgets, is_leaving, tells}
+use Rattle.own_channel_laws.specs.channel_model.specs.Asking.{next_identifier, new_request, first_options, asks_options}
+use Rattle.own_channel_laws.specs.channel_model.specs.Closing.{closes, closes_at, peer_closes_at, ends_at, ends}
+use Rattle.own_channel_laws.specs.channel_model.specs.Configuring.{Verdict, NoChannel, TooLate, Unreadable, Incomplete, Judged, verdict, accepted_setup, without_parts, accepts_with, refused_setup, follows_answer, follows_verdict, opens_if, granted_setup, grants}
+use Rattle.own_channel_laws.specs.channel_model.specs.Following.{follows_setup, follows_configuration, follows_disconnection}
+use Rattle.own_channel_laws.specs.channel_model.specs.Responses.{is_fresh_endpoint, connects, hears_connected, hears_grant_at, hears_grant, renewed_setup, hears_settled, hears_options, is_asked, hears_response_on, hears_response, hears_end, has_identifier, hears_features}
+use Rattle.own_channel_laws.specs.channel_model.specs.Carrying.{reason_of, settles_machine, machine_heard, read_by, carries, is_taken_with, shows, opens_with, takes_with, takes_on, takes_held}
 use Rattle.channel_laws.specs.Named.{HaveNames}
-use Rattle.channel_model.proofs.Lookups.{own_of, Distinct, not_found, found-placed, find-placed, find-others, find-gone, distinct-filter, placed-distinct}
-use Rattle.channel_model.proofs.Going.{staged}
-use Rattle.channel_model.proofs.Walking.{found-own, with-found, with-setup}
-use Rattle.channel_model.proofs.Calling.{granted-same}
+use Rattle.own_channel_laws.specs.channel_model.proofs.Lookups.{own_of, Distinct, not_found, found-placed, find-placed, find-others, find-gone, distinct-filter, placed-distinct}
+use Rattle.own_channel_laws.specs.channel_model.proofs.Going.{staged}
+use Rattle.own_channel_laws.specs.channel_model.proofs.Walking.{found-own, with-found, with-setup}
+use Rattle.own_channel_laws.specs.channel_model.proofs.Calling.{granted-same}
 
 -- ---- what may still be asked of a channel
 

@@ -3,34 +3,34 @@ use Rattle.std.proofs.Common.{◌≡◌, ℕ, ◌+◌, ◌≤◌, ◌⊎◌, inl
 use Rattle.std.specs.Option.{option_or}
 use Rattle.std.proofs.lemmas.Bool.{eqb-true}
 use Rattle.std.specs.Prelude.{find, option_map, is_some, nat_le}
-use Rattle.talk_laws.specs.acl_fragments.specs.Pieces.{channel_of}
-use Rattle.talk_laws.specs.l2cap_signal.specs.Commands.{Content, Command, reject, connection_request, connection_response, configuration_request, configuration_response, disconnection_request, disconnection_response, echo_request, echo_response, information_request, information_response}
-use Rattle.talk_laws.specs.l2cap_signal.specs.Reading.{Answer as Read, answers}
-use Rattle.talk_laws.specs.l2cap_signal.specs.declared.refusal.SignalRefusal.TheVariants.{ZeroIdentifier, BadLength, UnknownCode, AboveMtu}
-use Rattle.channel_model.specs.ertm_model.specs.Giving.{timed}
-use Rattle.channel_model.specs.declared.errand.Errand.{Errand}
-use Rattle.channel_model.specs.declared.errand.Errand.TheVariants as errands
-use Rattle.channel_model.specs.declared.event.CloseReason.TheVariants.{OwnClosed, RetryLimit}
-use Rattle.channel_model.specs.declared.request_kind.RequestKind.{RequestKind}
-use Rattle.channel_model.specs.declared.request_kind.RequestKind.TheVariants as kinds
-use Rattle.channel_model.specs.Value.{Request, Queued, Answer, Ask, Own, Unasked, Asking, Granted, Carrier, Plain, Retransmitting, Setup, Stage, Requested, Connected, Leaving, Closing, Crossed, Held, Remembered, Channels}
-use Rattle.channel_model.specs.Policies.{Policy}
-use Rattle.channel_model.specs.Changing.{has_own, held_at, is_open, setup_of, queued, is_due}
-use Rattle.channel_model.specs.Asking.{new_request, asks, StillDue, OnceMore, Spent}
-use Rattle.channel_model.specs.Closing.{closes, ends}
-use Rattle.channel_model.specs.Answers.{kind_of_code, remembered, not_understood, too_long, answer_to}
-use Rattle.channel_model.specs.Following.{with_channel, follows_connection, follows, remembers, says, can_say, hears_new, hears_again, hears_kind}
-use Rattle.channel_model.specs.Responses.{features_in}
-use Rattle.channel_model.specs.Hearing.{hears_content, hears_malformed, is_response_code, is_kind, hears_unread, hears_command, hears_commands}
-use Rattle.channel_model.specs.Carrying.{takes}
-use Rattle.channel_model.specs.Timing.{fires, times, times_carrier, times_setup, times_stage, times_held, loses_end, times_end_at, times_end, loses_features, times_features, times_channels}
-use Rattle.channel_model.specs.Giving.{connection_at, configuration_by, configuration_at, disconnection_at, on_held, features_command, one_more, own_given, connection_given, configuration_given, disconnection_given, stage_given, counted, carrier_given, gives, carrier_spent, held_given, queue_given}
-use Rattle.channel_model.specs.Calls.{can_connect, disconnected_at, disconnected_held, sends_setup, sends_on, sends_held, carrier_with}
-use Rattle.channel_model.proofs.Lookups.{own_of, Distinct, find-append, distinct-append, found-distinct}
-use Rattle.channel_model.proofs.Going.{staged, new_held}
-use Rattle.channel_model.proofs.Walking.{found-own}
+use Rattle.own_channel_laws.specs.talk_laws.specs.acl_fragments.specs.Pieces.{channel_of}
+use Rattle.own_channel_laws.specs.talk_laws.specs.l2cap_signal.specs.Commands.{Content, Command, reject, connection_request, connection_response, configuration_request, configuration_response, disconnection_request, disconnection_response, echo_request, echo_response, information_request, information_response}
+use Rattle.own_channel_laws.specs.talk_laws.specs.l2cap_signal.specs.Reading.{Answer as Read, answers}
+use Rattle.own_channel_laws.specs.talk_laws.specs.l2cap_signal.specs.declared.refusal.SignalRefusal.TheVariants.{ZeroIdentifier, BadLength, UnknownCode, AboveMtu}
+use Rattle.own_channel_laws.specs.channel_model.specs.ertm_model.specs.Giving.{timed}
+use Rattle.own_channel_laws.specs.channel_model.specs.declared.errand.Errand.{Errand}
+use Rattle.own_channel_laws.specs.channel_model.specs.declared.errand.Errand.TheVariants as errands
+use Rattle.own_channel_laws.specs.channel_model.specs.declared.event.CloseReason.TheVariants.{OwnClosed, RetryLimit}
+use Rattle.own_channel_laws.specs.channel_model.specs.declared.request_kind.RequestKind.{RequestKind}
+use Rattle.own_channel_laws.specs.channel_model.specs.declared.request_kind.RequestKind.TheVariants as kinds
+use Rattle.own_channel_laws.specs.channel_model.specs.Value.{Request, Queued, Answer, Ask, Own, Unasked, Asking, Granted, Carrier, Plain, Retransmitting, Setup, Stage, Requested, Connected, Leaving, Closing, Crossed, Held, Remembered, Channels}
+use Rattle.own_channel_laws.specs.channel_model.specs.Policies.{Policy}
+use Rattle.own_channel_laws.specs.channel_model.specs.Changing.{has_own, held_at, is_open, setup_of, queued, is_due}
+use Rattle.own_channel_laws.specs.channel_model.specs.Asking.{new_request, asks, StillDue, OnceMore, Spent}
+use Rattle.own_channel_laws.specs.channel_model.specs.Closing.{closes, ends}
+use Rattle.own_channel_laws.specs.channel_model.specs.Answers.{kind_of_code, remembered, not_understood, too_long, answer_to}
+use Rattle.own_channel_laws.specs.channel_model.specs.Following.{with_channel, follows_connection, follows, remembers, says, can_say, hears_new, hears_again, hears_kind}
+use Rattle.own_channel_laws.specs.channel_model.specs.Responses.{features_in}
+use Rattle.own_channel_laws.specs.channel_model.specs.Hearing.{hears_content, hears_malformed, is_response_code, is_kind, hears_unread, hears_command, hears_commands}
+use Rattle.own_channel_laws.specs.channel_model.specs.Carrying.{takes}
+use Rattle.own_channel_laws.specs.channel_model.specs.Timing.{fires, times, times_carrier, times_setup, times_stage, times_held, loses_end, times_end_at, times_end, loses_features, times_features, times_channels}
+use Rattle.own_channel_laws.specs.channel_model.specs.Giving.{connection_at, configuration_by, configuration_at, disconnection_at, on_held, features_command, one_more, own_given, connection_given, configuration_given, disconnection_given, stage_given, counted, carrier_given, gives, carrier_spent, held_given, queue_given}
+use Rattle.own_channel_laws.specs.channel_model.specs.Calls.{can_connect, disconnected_at, disconnected_held, sends_setup, sends_on, sends_held, carrier_with}
+use Rattle.own_channel_laws.specs.channel_model.proofs.Lookups.{own_of, Distinct, find-append, distinct-append, found-distinct}
+use Rattle.own_channel_laws.specs.channel_model.proofs.Going.{staged, new_held}
+use Rattle.own_channel_laws.specs.channel_model.proofs.Walking.{found-own}
 use Rattle.channel_laws.specs.Connections.{requests_by}
-use Rattle.channel_laws.specs.Runs.{Occurrence, Comes, Connects, AsksFeatures, Disconnects, Sends, Gives, Fires, Tells, value_after}
+use Rattle.own_channel_laws.specs.Runs.{Occurrence, Comes, Connects, AsksFeatures, Disconnects, Sends, Gives, Fires, Tells, value_after}
 use Rattle.channel_laws.proofs.Identifiers.{first_left, renewals, left_of, append-left, TakesFew, Spends, both-spend, still-spends, stills-spend, same-spends, either, goes-on, next-less, next-more, asks-end_on, named-so, WaitsAnew, anew-named, closed-spends, ends-spend, setup-spends, configuration-spends, disconnection-spends, grant-spends, response-spends, end-spends, features-spend, settles-spend, taken-held}
 
 -- ---- commands

@@ -1,25 +1,25 @@
 -- An enhanced channel that two hosts have in common: its ends are two ends in order, whatever one of them does.
 use Rattle.std.proofs.Common.{◌≡◌, ℕ, ◌≤◌, List, [], ◌∷◌, Bool, true, false, Option, Some, None, Ok, refl, sym, ap, subst, ◌∙◌, ◌⊎◌, inl, inr, arith}
 use Rattle.std.proofs.lemmas.Bool.Decides.{leb_tells}
-use Rattle.talk_laws.specs.l2cap_config.specs.declared.wish.Agreed.{Agreed}
-use Rattle.talk_laws.specs.l2cap_config.specs.declared.wish.Mode.TheVariants.{Basic}
-use Rattle.talk_laws.specs.l2cap_config.specs.declared.wish.Wish.{Wish}
-use Rattle.talk_laws.specs.ertm_frames.specs.Frames.{PlainFrame, information, supervisory}
-use Rattle.talk_laws.specs.ertm_frames.specs.Answers.{IsWithin}
-use Rattle.talk_laws.specs.ertm_frames.specs.Reading.{answer_in}
-use Rattle.channel_model.specs.ertm_model.specs.Value.{Ertm, new_ertm}
-use Rattle.channel_model.specs.ertm_model.specs.Giving.{Giving, PollAnswer, Acknowledgement, Rejection, Polling, Again, New, giving, given_frame, frame_by, next_frame, timed}
-use Rattle.channel_model.specs.ertm_model.specs.Pair.{Sent, End, Pair, new_end, near, Fire, behind_front}
-use Rattle.channel_model.specs.ertm_model.specs.Order.{StandsBoth}
-use Rattle.channel_model.specs.ertm_model.proofs.Standing.{does-stands, goes-stands, swapped}
-use Rattle.channel_model.specs.Value.{Carrier, Plain, Retransmitting, Stage, Requested, Connected, Leaving, Closing, Crossed, Held, Channels}
-use Rattle.channel_model.specs.Policies.{Policy}
-use Rattle.channel_model.specs.Changing.{held_at, is_open}
-use Rattle.channel_model.proofs.Going.{IsAccepted, CarrierGoes}
+use Rattle.own_channel_laws.specs.talk_laws.specs.l2cap_config.specs.declared.wish.Agreed.{Agreed}
+use Rattle.own_channel_laws.specs.talk_laws.specs.l2cap_config.specs.declared.wish.Mode.TheVariants.{Basic}
+use Rattle.own_channel_laws.specs.talk_laws.specs.l2cap_config.specs.declared.wish.Wish.{Wish}
+use Rattle.own_channel_laws.specs.talk_laws.specs.ertm_frames.specs.Frames.{PlainFrame, information, supervisory}
+use Rattle.own_channel_laws.specs.talk_laws.specs.ertm_frames.specs.Answers.{IsWithin}
+use Rattle.own_channel_laws.specs.talk_laws.specs.ertm_frames.specs.Reading.{answer_in}
+use Rattle.own_channel_laws.specs.channel_model.specs.ertm_model.specs.Value.{Ertm, new_ertm}
+use Rattle.own_channel_laws.specs.channel_model.specs.ertm_model.specs.Giving.{Giving, PollAnswer, Acknowledgement, Rejection, Polling, Again, New, giving, given_frame, frame_by, next_frame, timed}
+use Rattle.own_channel_laws.specs.channel_model.specs.ertm_model.specs.Pair.{Sent, End, Pair, new_end, near, Fire, behind_front}
+use Rattle.own_channel_laws.specs.channel_model.specs.ertm_model.specs.Order.{StandsBoth}
+use Rattle.own_channel_laws.specs.channel_model.specs.ertm_model.proofs.Standing.{does-stands, goes-stands, swapped}
+use Rattle.own_channel_laws.specs.channel_model.specs.Value.{Carrier, Plain, Retransmitting, Stage, Requested, Connected, Leaving, Closing, Crossed, Held, Channels}
+use Rattle.own_channel_laws.specs.channel_model.specs.Policies.{Policy}
+use Rattle.own_channel_laws.specs.channel_model.specs.Changing.{held_at, is_open}
+use Rattle.own_channel_laws.specs.channel_model.proofs.Going.{IsAccepted, CarrierGoes}
 use Rattle.channel_laws.specs.Pipes.{IsFront}
-use Rattle.channel_laws.proofs.Keeping.{OfCarrier, StageKeeps, HeldKeeps, AllKeep, KeepsOn, Keeps}
-use Rattle.channel_laws.proofs.Attending.{IsNew, new-carrier, fires-aside}
-use Rattle.channel_laws.proofs.Passing.{Fired, fired-same}
+use Rattle.own_channel_laws.proofs.Keeping.{OfCarrier, StageKeeps, HeldKeeps, AllKeep, KeepsOn, Keeps}
+use Rattle.own_channel_laws.proofs.Attending.{IsNew, new-carrier, fires-aside}
+use Rattle.own_channel_laws.proofs.Passing.{Fired, fired-same}
 use Rattle.channel_laws.proofs.Piping.{Tells, tells-fires}
 
 -- ---- what can be seen of it

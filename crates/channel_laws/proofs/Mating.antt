@@ -2,28 +2,28 @@
 use Rattle.std.proofs.Common.{◌≡◌, ℕ, ◌<◌, ◌≤◌, List, [], ◌∷◌, ◌++◌, Bool, true, false, Option, Some, None, refl, sym, ap, subst, ◌∙◌, ◌⊎◌, inl, inr}
 use Rattle.std.specs.Prelude.{is_some, nat_lt, option_map}
 use Rattle.std.proofs.lemmas.Bool.{ltb-false, ltb-true}
-use Rattle.talk_laws.specs.capture.specs.Histories.{EachAfter}
-use Rattle.talk_laws.specs.l2cap_config.specs.declared.wish.Agreed.{Agreed}
-use Rattle.talk_laws.specs.l2cap_config.specs.declared.wish.Mode.{Mode}
-use Rattle.talk_laws.specs.l2cap_config.specs.declared.wish.Mode.TheVariants.{Basic, Enhanced}
-use Rattle.talk_laws.specs.link_talk.specs.declared.channel.Channel.{Channel}
-use Rattle.talk_laws.specs.link_talk.specs.Sayings.{Saying}
-use Rattle.talk_laws.specs.link_talk.specs.Channels.{Entry, reading}
-use Rattle.channel_model.specs.Value.{Carrier, Plain, Retransmitting, Setup, Stage, Requested, Connected, Leaving, Closing, Crossed, Held, Channels}
-use Rattle.channel_model.specs.Policies.{Policy}
-use Rattle.channel_model.specs.Changing.{held_at, is_open, setup_of}
-use Rattle.channel_model.specs.Calls.{setup_on, open_carrier, carrier_if}
-use Rattle.channel_model.proofs.Lookups.{own_of, found-has}
-use Rattle.channel_laws.specs.Views.{peer_of, carrier_mode, channel_by, read_at, standing}
-use Rattle.channel_laws.specs.Endpoints.{IsOf}
-use Rattle.channel_laws.specs.Runs.{Run}
+use Rattle.own_channel_laws.specs.talk_laws.specs.capture.specs.Histories.{EachAfter}
+use Rattle.own_channel_laws.specs.talk_laws.specs.l2cap_config.specs.declared.wish.Agreed.{Agreed}
+use Rattle.own_channel_laws.specs.talk_laws.specs.l2cap_config.specs.declared.wish.Mode.{Mode}
+use Rattle.own_channel_laws.specs.talk_laws.specs.l2cap_config.specs.declared.wish.Mode.TheVariants.{Basic, Enhanced}
+use Rattle.own_channel_laws.specs.talk_laws.specs.link_talk.specs.declared.channel.Channel.{Channel}
+use Rattle.own_channel_laws.specs.talk_laws.specs.link_talk.specs.Sayings.{Saying}
+use Rattle.own_channel_laws.specs.talk_laws.specs.link_talk.specs.Channels.{Entry, reading}
+use Rattle.own_channel_laws.specs.channel_model.specs.Value.{Carrier, Plain, Retransmitting, Setup, Stage, Requested, Connected, Leaving, Closing, Crossed, Held, Channels}
+use Rattle.own_channel_laws.specs.channel_model.specs.Policies.{Policy}
+use Rattle.own_channel_laws.specs.channel_model.specs.Changing.{held_at, is_open, setup_of}
+use Rattle.own_channel_laws.specs.channel_model.specs.Calls.{setup_on, open_carrier, carrier_if}
+use Rattle.own_channel_laws.specs.channel_model.proofs.Lookups.{own_of, found-has}
+use Rattle.own_channel_laws.specs.Views.{peer_of, carrier_mode, channel_by, read_at, standing}
+use Rattle.own_channel_laws.specs.Endpoints.{IsOf}
+use Rattle.own_channel_laws.specs.Runs.{Run}
 use Rattle.channel_laws.specs.Pairs.{Pair, Side, Near, Far, turned, Turn, pair_of, IsRunOf}
 use Rattle.channel_laws.specs.Ends.{end_at}
 use Rattle.channel_laws.specs.Belonging.{AreRead}
 use Rattle.channel_laws.specs.Common.{mirrored}
 use Rattle.channel_laws.specs.Modes.{policy_of, OneWishes}
-use Rattle.channel_laws.proofs.Sound.{Agrees, AgreesIf, standing-is, ReadsBy, Reads, CarrierIs}
-use Rattle.channel_laws.proofs.Running.{IsSound, all-sound}
+use Rattle.own_channel_laws.proofs.Sound.{Agrees, AgreesIf, standing-is, ReadsBy, Reads, CarrierIs}
+use Rattle.own_channel_laws.proofs.Running.{IsSound, all-sound}
 use Rattle.channel_laws.proofs.Partaking.{IsMachine, IsSole, IsMate}
 use Rattle.channel_laws.proofs.Sharing.{channels-are_common, stays-of}
 use Rattle.channel_laws.proofs.Modes.{modes-are_wished}

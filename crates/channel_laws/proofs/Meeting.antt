@@ -3,38 +3,38 @@ use Rattle.std.proofs.Common.{◌≡◌, ℕ, ◌+◌, ◌≤◌, List, [], ◌�
 use Rattle.std.specs.List.{list_any}
 use Rattle.std.proofs.lemmas.Bool.{eqb-true, le-ltb}
 use Rattle.std.proofs.lemmas.List.Sums.{fold-append}
-use Rattle.talk_laws.specs.acl_fragments.specs.Pieces.{channel_of}
-use Rattle.talk_laws.specs.capture.specs.Histories.{EachAfter}
-use Rattle.talk_laws.specs.l2cap_signal.specs.Commands.{Content, Command, reject, connection_request, connection_response, configuration_request, configuration_response, disconnection_request, disconnection_response, echo_request, echo_response, information_request, information_response}
-use Rattle.talk_laws.specs.l2cap_signal.specs.Reading.{answers}
-use Rattle.channel_model.specs.declared.errand.Errand.{Errand}
-use Rattle.channel_model.specs.declared.request_kind.RequestKind.{RequestKind}
-use Rattle.channel_model.specs.declared.request_kind.RequestKind.TheVariants as kinds
-use Rattle.channel_model.specs.Value.{Request, Remembered, Channels}
-use Rattle.channel_model.specs.Policies.{Policy}
-use Rattle.channel_model.specs.Calls.{has_fcs}
-use Rattle.channel_model.specs.Changing.{has_room}
-use Rattle.channel_model.specs.Answers.{answer_to}
-use Rattle.channel_model.specs.Following.{follows, remembers, says, hears_new, hears_again, hears_kind}
-use Rattle.channel_model.specs.Giving.{Given, Signal, Whole, Framed, next_given}
-use Rattle.channel_model.specs.Hearing.{hears_content, hears_command, hears_commands}
-use Rattle.channel_model.specs.Carrying.{takes}
-use Rattle.channel_model.proofs.Lookups.{eqb-same}
+use Rattle.own_channel_laws.specs.talk_laws.specs.acl_fragments.specs.Pieces.{channel_of}
+use Rattle.own_channel_laws.specs.talk_laws.specs.capture.specs.Histories.{EachAfter}
+use Rattle.own_channel_laws.specs.talk_laws.specs.l2cap_signal.specs.Commands.{Content, Command, reject, connection_request, connection_response, configuration_request, configuration_response, disconnection_request, disconnection_response, echo_request, echo_response, information_request, information_response}
+use Rattle.own_channel_laws.specs.talk_laws.specs.l2cap_signal.specs.Reading.{answers}
+use Rattle.own_channel_laws.specs.channel_model.specs.declared.errand.Errand.{Errand}
+use Rattle.own_channel_laws.specs.channel_model.specs.declared.request_kind.RequestKind.{RequestKind}
+use Rattle.own_channel_laws.specs.channel_model.specs.declared.request_kind.RequestKind.TheVariants as kinds
+use Rattle.own_channel_laws.specs.channel_model.specs.Value.{Request, Remembered, Channels}
+use Rattle.own_channel_laws.specs.channel_model.specs.Policies.{Policy}
+use Rattle.own_channel_laws.specs.channel_model.specs.Calls.{has_fcs}
+use Rattle.own_channel_laws.specs.channel_model.specs.Changing.{has_room}
+use Rattle.own_channel_laws.specs.channel_model.specs.Answers.{answer_to}
+use Rattle.own_channel_laws.specs.channel_model.specs.Following.{follows, remembers, says, hears_new, hears_again, hears_kind}
+use Rattle.own_channel_laws.specs.channel_model.specs.Giving.{Given, Signal, Whole, Framed, next_given}
+use Rattle.own_channel_laws.specs.channel_model.specs.Hearing.{hears_content, hears_command, hears_commands}
+use Rattle.own_channel_laws.specs.channel_model.specs.Carrying.{takes}
+use Rattle.own_channel_laws.specs.channel_model.proofs.Lookups.{eqb-same}
 use Rattle.channel_laws.specs.Adverse.{asks_with, asks_for, responds_to, how_many, is_read_so, brings, answers_so, under_way, falls, is_vain, seen_from, IsHeeded}
 use Rattle.channel_laws.specs.Belonging.{IsReadAs, IsRead}
 use Rattle.channel_laws.specs.Ends.{end_at}
 use Rattle.channel_laws.specs.Heeded.{IsResponse, RespondsTo, EndsWait, IsMetBy, MetIsHeeded}
-use Rattle.channel_laws.specs.OwnTalk.{command_with, response_by, response_to, command_if, reply_to}
+use Rattle.own_channel_laws.specs.OwnTalk.{command_with, response_by, response_to, command_if, reply_to}
 use Rattle.channel_laws.specs.Pairs.{End, Pair, new_pair, Happening, Acts, Puts, Takes, Repeats, Loses, Damages, is_alone, occurs, with_near, puts, let_go, takes_first, repeats_first, loses_first, damages_first, happens_near, Side, Near, Far, turned, Turn, happens_at, pair_after, pair_of}
-use Rattle.channel_laws.specs.Runs.{Comes, value_after}
-use Rattle.channel_laws.specs.Signals.{StandsIn}
-use Rattle.channel_laws.specs.Tries.{request_of, one_if}
-use Rattle.channel_laws.proofs.Both.{and-left, and-right}
-use Rattle.channel_laws.proofs.Conversing.{answers-more}
+use Rattle.own_channel_laws.specs.Runs.{Comes, value_after}
+use Rattle.own_channel_laws.specs.Signals.{StandsIn}
+use Rattle.own_channel_laws.specs.Tries.{request_of, one_if}
+use Rattle.own_channel_laws.proofs.Both.{and-left, and-right}
+use Rattle.own_channel_laws.proofs.Conversing.{answers-more}
 use Rattle.channel_laws.proofs.Costing.{Known, known-at}
 use Rattle.channel_laws.proofs.Counting.{many-last, many-answers}
-use Rattle.channel_laws.proofs.Lasting.{answers_of, Lasts, follows-lasts}
-use Rattle.channel_laws.proofs.Saying.{stands-either}
+use Rattle.own_channel_laws.proofs.Lasting.{answers_of, Lasts, follows-lasts}
+use Rattle.own_channel_laws.proofs.Saying.{stands-either}
 
 -- ---- a reply for which there is room waits
 

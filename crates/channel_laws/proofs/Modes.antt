@@ -2,33 +2,33 @@
 use Rattle.std.proofs.Common.{◌≡◌, ℕ, List, [], ◌++◌, Bool, true, false, cond, Option, Some, None, Ok, refl, sym, ap, subst, ◌∙◌, ◌⊎◌, inl, inr}
 use Rattle.std.specs.Prelude.{option_map, unwrap_or, is_some}
 use Rattle.std.specs.Option.{option_or}
-use Rattle.talk_laws.specs.l2cap_config.specs.declared.options.ModeOption.{ModeOption}
-use Rattle.talk_laws.specs.l2cap_config.specs.declared.options.Options.{Options}
-use Rattle.talk_laws.specs.l2cap_config.specs.declared.wish.Mode.{Mode}
-use Rattle.talk_laws.specs.l2cap_config.specs.declared.wish.Mode.TheVariants.{Basic, Enhanced}
-use Rattle.talk_laws.specs.l2cap_config.specs.declared.wish.Wish.{Wish}
-use Rattle.talk_laws.specs.l2cap_config.specs.Agreement.{requested}
-use Rattle.talk_laws.specs.l2cap_config.specs.Items.{options_in}
-use Rattle.talk_laws.specs.l2cap_config.specs.Reading.{items_of, items_within, options_read}
-use Rattle.talk_laws.specs.l2cap_config.specs.Writing.{items_for, written}
-use Rattle.talk_laws.specs.link_talk.specs.declared.channel.Channel.{Channel}
-use Rattle.talk_laws.specs.link_talk.specs.Sayings.{Saying}
-use Rattle.talk_laws.specs.link_talk.specs.Meanings.{Part}
-use Rattle.talk_laws.specs.link_talk.specs.Setups.{Setup, mode_numbered, mode_stated, mode_in, with_answer}
-use Rattle.talk_laws.specs.link_talk.specs.Channels.{Entry, reading}
-use Rattle.channel_model.specs.Policies.{Policy}
-use Rattle.channel_laws.specs.Views.{read_at}
-use Rattle.channel_laws.specs.Endpoints.{IsOf}
+use Rattle.own_channel_laws.specs.talk_laws.specs.l2cap_config.specs.declared.options.ModeOption.{ModeOption}
+use Rattle.own_channel_laws.specs.talk_laws.specs.l2cap_config.specs.declared.options.Options.{Options}
+use Rattle.own_channel_laws.specs.talk_laws.specs.l2cap_config.specs.declared.wish.Mode.{Mode}
+use Rattle.own_channel_laws.specs.talk_laws.specs.l2cap_config.specs.declared.wish.Mode.TheVariants.{Basic, Enhanced}
+use Rattle.own_channel_laws.specs.talk_laws.specs.l2cap_config.specs.declared.wish.Wish.{Wish}
+use Rattle.own_channel_laws.specs.talk_laws.specs.l2cap_config.specs.Agreement.{requested}
+use Rattle.own_channel_laws.specs.talk_laws.specs.l2cap_config.specs.Items.{options_in}
+use Rattle.own_channel_laws.specs.talk_laws.specs.l2cap_config.specs.Reading.{items_of, items_within, options_read}
+use Rattle.own_channel_laws.specs.talk_laws.specs.l2cap_config.specs.Writing.{items_for, written}
+use Rattle.own_channel_laws.specs.talk_laws.specs.link_talk.specs.declared.channel.Channel.{Channel}
+use Rattle.own_channel_laws.specs.talk_laws.specs.link_talk.specs.Sayings.{Saying}
+use Rattle.own_channel_laws.specs.talk_laws.specs.link_talk.specs.Meanings.{Part}
+use Rattle.own_channel_laws.specs.talk_laws.specs.link_talk.specs.Setups.{Setup, mode_numbered, mode_stated, mode_in, with_answer}
+use Rattle.own_channel_laws.specs.talk_laws.specs.link_talk.specs.Channels.{Entry, reading}
+use Rattle.own_channel_laws.specs.channel_model.specs.Policies.{Policy}
+use Rattle.own_channel_laws.specs.Views.{read_at}
+use Rattle.own_channel_laws.specs.Endpoints.{IsOf}
 use Rattle.channel_laws.specs.Pairs.{Side, Near, Far, turned, Turn, pair_of, IsRunOf}
 use Rattle.channel_laws.specs.Belonging.{AreRead, said_at}
 use Rattle.channel_laws.specs.Common.{mirrored}
-use Rattle.channel_laws.specs.Runs.{Run}
+use Rattle.own_channel_laws.specs.Runs.{Run}
 use Rattle.channel_laws.specs.Modes.{policy_of, ModesAreWished, ModesAreCommon}
-use Rattle.channel_laws.proofs.Sound.{PartsAre, states_mode}
-use Rattle.channel_laws.proofs.Agreeing.{parts-more, requested-states}
-use Rattle.channel_laws.proofs.Granting.{no_parts}
+use Rattle.own_channel_laws.proofs.Sound.{PartsAre, states_mode}
+use Rattle.own_channel_laws.proofs.Agreeing.{parts-more, requested-states}
+use Rattle.own_channel_laws.proofs.Granting.{no_parts}
 use Rattle.channel_laws.proofs.Belonging.{IsWished, wishes-wished}
-use Rattle.channel_laws.proofs.Petitions.{IsAskedOf, asked-before, Survives, all-survive}
+use Rattle.own_channel_laws.proofs.Petitions.{IsAskedOf, asked-before, Survives, all-survive}
 use Rattle.channel_laws.proofs.Sharing.{psms-same, channels-are_common}
 use Rattle.channel_laws.proofs.Pairing.{each-end_runs}
 use Rattle.channel_laws.proofs.OwnModes.{modes-are_own}

@@ -3,41 +3,41 @@ use Rattle.std.proofs.Common.{◌≡◌, ℕ, ◌+◌, ◌<◌, ◌≤◌, List,
 use Rattle.std.specs.Prelude.{nat_lt, find}
 use Rattle.std.proofs.lemmas.Bool.{ltb-true}
 use Rattle.std.proofs.lemmas.List.Sums.{fold-append}
-use Rattle.talk_laws.specs.capture.specs.Histories.{EachAfter}
-use Rattle.talk_laws.specs.capture.specs.declared.flow.Flow.TheVariants.{Out}
-use Rattle.talk_laws.specs.l2cap_signal.specs.Commands.{Command, connection_request}
-use Rattle.talk_laws.specs.link_talk.specs.declared.call.Call.{Call}
-use Rattle.talk_laws.specs.link_talk.specs.declared.call.Wanted.{Wanted}
-use Rattle.talk_laws.specs.link_talk.specs.Sayings.{Saying}
-use Rattle.channel_model.specs.declared.errand.Errand.{Errand}
-use Rattle.channel_model.specs.declared.errand.Errand.TheVariants as errands
-use Rattle.channel_model.specs.declared.errand.Errand.TheVariants.{Connection}
-use Rattle.channel_model.specs.Asking.{new_request, asks}
-use Rattle.channel_model.specs.Calls.{can_connect}
-use Rattle.channel_model.specs.Changing.{has_own}
-use Rattle.channel_model.specs.Following.{with_channel}
-use Rattle.channel_model.specs.Giving.{connection_at, on_held, command_of}
-use Rattle.channel_model.specs.Policies.{Policy}
-use Rattle.channel_model.specs.Value.{Requested, Held, Channels, no_channels}
+use Rattle.own_channel_laws.specs.talk_laws.specs.capture.specs.Histories.{EachAfter}
+use Rattle.own_channel_laws.specs.talk_laws.specs.capture.specs.declared.flow.Flow.TheVariants.{Out}
+use Rattle.own_channel_laws.specs.talk_laws.specs.l2cap_signal.specs.Commands.{Command, connection_request}
+use Rattle.own_channel_laws.specs.talk_laws.specs.link_talk.specs.declared.call.Call.{Call}
+use Rattle.own_channel_laws.specs.talk_laws.specs.link_talk.specs.declared.call.Wanted.{Wanted}
+use Rattle.own_channel_laws.specs.talk_laws.specs.link_talk.specs.Sayings.{Saying}
+use Rattle.own_channel_laws.specs.channel_model.specs.declared.errand.Errand.{Errand}
+use Rattle.own_channel_laws.specs.channel_model.specs.declared.errand.Errand.TheVariants as errands
+use Rattle.own_channel_laws.specs.channel_model.specs.declared.errand.Errand.TheVariants.{Connection}
+use Rattle.own_channel_laws.specs.channel_model.specs.Asking.{new_request, asks}
+use Rattle.own_channel_laws.specs.channel_model.specs.Calls.{can_connect}
+use Rattle.own_channel_laws.specs.channel_model.specs.Changing.{has_own}
+use Rattle.own_channel_laws.specs.channel_model.specs.Following.{with_channel}
+use Rattle.own_channel_laws.specs.channel_model.specs.Giving.{connection_at, on_held, command_of}
+use Rattle.own_channel_laws.specs.channel_model.specs.Policies.{Policy}
+use Rattle.own_channel_laws.specs.channel_model.specs.Value.{Requested, Held, Channels, no_channels}
 use Rattle.channel_laws.specs.Belonging.{HasAsked}
 use Rattle.channel_laws.specs.Connections.{NamesApart, requests_by, requests_for, NamesAreApart}
 use Rattle.channel_laws.specs.Named.{HaveNames, RequestsHaveNames}
-use Rattle.channel_laws.specs.OwnTalk.{spoken, command_with, asked_between}
-use Rattle.channel_laws.specs.Runs.{Occurrence, Comes, Connects, AsksFeatures, Disconnects, Sends, Gives, Fires, Tells, said_in, value_after, Run, new_link, run_on, run_of}
-use Rattle.channel_laws.specs.Signals.{StandsIn}
+use Rattle.own_channel_laws.specs.OwnTalk.{spoken, command_with, asked_between}
+use Rattle.own_channel_laws.specs.Runs.{Occurrence, Comes, Connects, AsksFeatures, Disconnects, Sends, Gives, Fires, Tells, said_in, value_after, Run, new_link, run_on, run_of}
+use Rattle.own_channel_laws.specs.Signals.{StandsIn}
 use Rattle.channel_laws.specs.Singly.{calls_that_went, IsAgain, IsFresh, AreOneByOne, AsksSo}
-use Rattle.channel_laws.proofs.Asking.{newest-asks, asked-one}
-use Rattle.channel_laws.proofs.Calling.{own_call}
-use Rattle.channel_laws.proofs.Conversing.{conversed-on}
+use Rattle.own_channel_laws.proofs.Asking.{newest-asks, asked-one}
+use Rattle.own_channel_laws.proofs.Calling.{own_call}
+use Rattle.own_channel_laws.proofs.Conversing.{conversed-on}
 use Rattle.channel_laws.proofs.Identifiers.{all_left, TakesFew, next-more}
 use Rattle.channel_laws.proofs.Identifying.{one-spends}
-use Rattle.channel_laws.proofs.Inviting.{held_here}
+use Rattle.own_channel_laws.proofs.Inviting.{held_here}
 use Rattle.channel_laws.proofs.OneByOne.{Holds, Allows, one_by_one, first_holds, each_allowed}
-use Rattle.channel_laws.proofs.Questions.{asked-none}
-use Rattle.channel_laws.proofs.Running.{IsSound, all-sound}
-use Rattle.channel_laws.proofs.Saying.{stands-left, stands-right}
+use Rattle.own_channel_laws.proofs.Questions.{asked-none}
+use Rattle.own_channel_laws.proofs.Running.{IsSound, all-sound}
+use Rattle.own_channel_laws.proofs.Saying.{stands-left, stands-right}
 use Rattle.channel_laws.proofs.Singling.{calls-more}
-use Rattle.channel_laws.proofs.Sound.{wanted_by}
+use Rattle.own_channel_laws.proofs.Sound.{wanted_by}
 
 -- ---- calls
 

@@ -3,53 +3,53 @@ use Rattle.std.proofs.Common.{◌≡◌, ℕ, List, [], ◌∷◌, ◌++◌, map
 use Rattle.std.specs.Prelude.{find, option_map, option_to_list}
 use Rattle.std.specs.List.{AllByRecursion, list_any}
 use Rattle.std.proofs.lemmas.Bool.{eqb-true}
-use Rattle.talk_laws.specs.acl_fragments.specs.Pieces.{channel_of}
-use Rattle.talk_laws.specs.capture.specs.Histories.{EachAfter}
-use Rattle.talk_laws.specs.capture.specs.declared.flow.Flow.{Flow}
-use Rattle.talk_laws.specs.capture.specs.declared.flow.Flow.TheVariants.{Out, Into}
-use Rattle.talk_laws.specs.capture.specs.Pdus.{same_flow}
-use Rattle.talk_laws.specs.l2cap_signal.specs.Commands.{Command, Content, reject, connection_request, connection_response, configuration_request, configuration_response, disconnection_request, disconnection_response, echo_request, echo_response, information_request, information_response}
-use Rattle.talk_laws.specs.l2cap_signal.specs.Reading.{Answer as Read}
-use Rattle.talk_laws.specs.l2cap_signal.specs.declared.refusal.SignalRefusal.TheVariants.{ZeroIdentifier, BadLength, UnknownCode, AboveMtu}
-use Rattle.talk_laws.specs.l2cap_config.specs.Writing.{written}
-use Rattle.talk_laws.specs.link_talk.specs.declared.call.Call.{Call}
-use Rattle.talk_laws.specs.link_talk.specs.Sayings.{Saying, Carried, GaveUp}
-use Rattle.talk_laws.specs.link_talk.specs.Sayings as sayings
-use Rattle.talk_laws.specs.link_talk.specs.Senses.{Asks, Quiet, Unread}
-use Rattle.talk_laws.specs.link_talk.specs.Requests.{call, went, is_own_call}
-use Rattle.talk_laws.specs.link_talk.specs.Channels.{reading}
-use Rattle.channel_model.specs.declared.errand.Errand.TheVariants as errands
-use Rattle.channel_model.specs.Value.{Request, Carrier, Plain, Retransmitting, Requested, Held, Channels, no_channels}
-use Rattle.channel_model.specs.Policies.{Policy}
-use Rattle.channel_model.specs.Changing.{has_own, held_at}
-use Rattle.channel_model.specs.Asking.{new_request, asks}
-use Rattle.channel_model.specs.Following.{can_say, with_channel, follows}
-use Rattle.channel_model.specs.Hearing.{hears_content}
-use Rattle.channel_model.specs.Carrying.{takes}
-use Rattle.channel_model.specs.Giving.{Given, Signal, Whole, Framed, next_given, on_held, connection_at}
-use Rattle.channel_model.specs.Timing.{times_held, times_end, times_features}
-use Rattle.channel_model.specs.Calls.{carrier_at, can_connect, connected, asks_features, disconnected}
-use Rattle.channel_model.proofs.Lookups.{own_of, Distinct, eqb-same, found-has}
-use Rattle.channel_model.proofs.Going.{new_held}
-use Rattle.channel_model.proofs.Walking.{follows-goes, command-goes}
-use Rattle.channel_model.proofs.Calling.{asks-features-goes, disconnected-goes, sends-goes, takes-goes, timed-held, ended-held, features-timed, given-goes}
-use Rattle.channel_laws.specs.OwnTalk.{spoken, command_with, command_if, exchanged, asked_between}
-use Rattle.channel_laws.specs.Runs.{Occurrence, Comes, Connects, AsksFeatures, Disconnects, Sends, Gives, Fires, Tells, features_given_up, said_again, said_on_firing, said_by_features, said_by_carrier, said_as, said_in, value_after, run_of}
-use Rattle.channel_laws.specs.Signals.{StandsIn}
+use Rattle.own_channel_laws.specs.talk_laws.specs.acl_fragments.specs.Pieces.{channel_of}
+use Rattle.own_channel_laws.specs.talk_laws.specs.capture.specs.Histories.{EachAfter}
+use Rattle.own_channel_laws.specs.talk_laws.specs.capture.specs.declared.flow.Flow.{Flow}
+use Rattle.own_channel_laws.specs.talk_laws.specs.capture.specs.declared.flow.Flow.TheVariants.{Out, Into}
+use Rattle.own_channel_laws.specs.talk_laws.specs.capture.specs.Pdus.{same_flow}
+use Rattle.own_channel_laws.specs.talk_laws.specs.l2cap_signal.specs.Commands.{Command, Content, reject, connection_request, connection_response, configuration_request, configuration_response, disconnection_request, disconnection_response, echo_request, echo_response, information_request, information_response}
+use Rattle.own_channel_laws.specs.talk_laws.specs.l2cap_signal.specs.Reading.{Answer as Read}
+use Rattle.own_channel_laws.specs.talk_laws.specs.l2cap_signal.specs.declared.refusal.SignalRefusal.TheVariants.{ZeroIdentifier, BadLength, UnknownCode, AboveMtu}
+use Rattle.own_channel_laws.specs.talk_laws.specs.l2cap_config.specs.Writing.{written}
+use Rattle.own_channel_laws.specs.talk_laws.specs.link_talk.specs.declared.call.Call.{Call}
+use Rattle.own_channel_laws.specs.talk_laws.specs.link_talk.specs.Sayings.{Saying, Carried, GaveUp}
+use Rattle.own_channel_laws.specs.talk_laws.specs.link_talk.specs.Sayings as sayings
+use Rattle.own_channel_laws.specs.talk_laws.specs.link_talk.specs.Senses.{Asks, Quiet, Unread}
+use Rattle.own_channel_laws.specs.talk_laws.specs.link_talk.specs.Requests.{call, went, is_own_call}
+use Rattle.own_channel_laws.specs.talk_laws.specs.link_talk.specs.Channels.{reading}
+use Rattle.own_channel_laws.specs.channel_model.specs.declared.errand.Errand.TheVariants as errands
+use Rattle.own_channel_laws.specs.channel_model.specs.Value.{Request, Carrier, Plain, Retransmitting, Requested, Held, Channels, no_channels}
+use Rattle.own_channel_laws.specs.channel_model.specs.Policies.{Policy}
+use Rattle.own_channel_laws.specs.channel_model.specs.Changing.{has_own, held_at}
+use Rattle.own_channel_laws.specs.channel_model.specs.Asking.{new_request, asks}
+use Rattle.own_channel_laws.specs.channel_model.specs.Following.{can_say, with_channel, follows}
+use Rattle.own_channel_laws.specs.channel_model.specs.Hearing.{hears_content}
+use Rattle.own_channel_laws.specs.channel_model.specs.Carrying.{takes}
+use Rattle.own_channel_laws.specs.channel_model.specs.Giving.{Given, Signal, Whole, Framed, next_given, on_held, connection_at}
+use Rattle.own_channel_laws.specs.channel_model.specs.Timing.{times_held, times_end, times_features}
+use Rattle.own_channel_laws.specs.channel_model.specs.Calls.{carrier_at, can_connect, connected, asks_features, disconnected}
+use Rattle.own_channel_laws.specs.channel_model.proofs.Lookups.{own_of, Distinct, eqb-same, found-has}
+use Rattle.own_channel_laws.specs.channel_model.proofs.Going.{new_held}
+use Rattle.own_channel_laws.specs.channel_model.proofs.Walking.{follows-goes, command-goes}
+use Rattle.own_channel_laws.specs.channel_model.proofs.Calling.{asks-features-goes, disconnected-goes, sends-goes, takes-goes, timed-held, ended-held, features-timed, given-goes}
+use Rattle.own_channel_laws.specs.OwnTalk.{spoken, command_with, command_if, exchanged, asked_between}
+use Rattle.own_channel_laws.specs.Runs.{Occurrence, Comes, Connects, AsksFeatures, Disconnects, Sends, Gives, Fires, Tells, features_given_up, said_again, said_on_firing, said_by_features, said_by_carrier, said_as, said_in, value_after, run_of}
+use Rattle.own_channel_laws.specs.Signals.{StandsIn}
 use Rattle.channel_laws.specs.Singly.{calls_that_went, names, IsAgain, IsFresh, AreOneByOne, NoneIsDue, AsksSo, CallsAreOneByOne, AsksForNoChannel, NoneIsCalled}
-use Rattle.channel_laws.proofs.Asking.{newest-asks, asked-one}
-use Rattle.channel_laws.proofs.Questions.{asked-none}
-use Rattle.channel_laws.proofs.Inviting.{held_here, held_others}
-use Rattle.channel_laws.proofs.Sound.{Wants, WantsAt, Sound}
-use Rattle.channel_laws.proofs.Saying.{stands-right, stands-either}
-use Rattle.channel_laws.proofs.Words.{Words, words-asked, words-again, words-left, words-firing}
-use Rattle.channel_laws.proofs.Replying.{IsReply}
-use Rattle.channel_laws.proofs.Converses.{IsAlike, is_single, ConversesWhile}
-use Rattle.channel_laws.proofs.Conversing.{conversed-while}
+use Rattle.own_channel_laws.proofs.Asking.{newest-asks, asked-one}
+use Rattle.own_channel_laws.proofs.Questions.{asked-none}
+use Rattle.own_channel_laws.proofs.Inviting.{held_here, held_others}
+use Rattle.own_channel_laws.proofs.Sound.{Wants, WantsAt, Sound}
+use Rattle.own_channel_laws.proofs.Saying.{stands-right, stands-either}
+use Rattle.own_channel_laws.proofs.Words.{Words, words-asked, words-again, words-left, words-firing}
+use Rattle.own_channel_laws.proofs.Replying.{IsReply}
+use Rattle.own_channel_laws.proofs.Converses.{IsAlike, is_single, ConversesWhile}
+use Rattle.own_channel_laws.proofs.Conversing.{conversed-while}
 use Rattle.channel_laws.proofs.Protocols.{KeepsPsm, follows-psm, hears-psm, takes-psm, times-psm, ends-psm, features-psm, single-psm}
 use Rattle.channel_laws.proofs.Placing.{is_call, follows-next, responds-next, takes-next, times-next, timed-end-next, features-next, single-next}
 use Rattle.channel_laws.proofs.Singling.{calls-more}
-use Rattle.channel_laws.proofs.Due.{KeepsDue, same-due, apart, walks, AllWereDue, all-due, granted-due, Any, within}
+use Rattle.own_channel_laws.proofs.Due.{KeepsDue, same-due, apart, walks, AllWereDue, all-due, granted-due, Any, within}
 
 -- ---- what a host says of its own accord
 

@@ -3,30 +3,30 @@ use Rattle.std.proofs.Common.{◌≡◌, ℕ, ◌≤◌, List, [], ◌∷◌, �
 use Rattle.std.specs.Prelude.{option_to_list}
 use Rattle.std.proofs.lemmas.Bool.{eqb-true}
 use Rattle.std.proofs.lemmas.List.Sums.{fold-append}
-use Rattle.talk_laws.specs.acl_fragments.specs.Pieces.{channel_of}
-use Rattle.talk_laws.specs.capture.specs.declared.flow.Flow.TheVariants.{Out}
-use Rattle.talk_laws.specs.capture.specs.Histories.{EachAfter}
-use Rattle.talk_laws.specs.l2cap_config.specs.declared.wish.Mode.TheVariants.{Basic, Enhanced}
-use Rattle.talk_laws.specs.link_talk.specs.declared.channel.Channel.{Channel}
-use Rattle.talk_laws.specs.link_talk.specs.Sayings.{Saying}
-use Rattle.talk_laws.specs.link_talk.specs.Channels.{reading}
-use Rattle.talk_laws.specs.link_talk.specs.Carriages.{is_passed, carried, pdus_of}
-use Rattle.channel_model.specs.Value.{Carrier, Plain, Retransmitting, Setup, Stage, Connected, Channels}
-use Rattle.channel_model.specs.Policies.{Policy}
-use Rattle.channel_model.specs.Changing.{held_at, is_open}
-use Rattle.channel_model.specs.Carrying.{Nothing}
-use Rattle.channel_model.specs.Hearing.{up}
-use Rattle.channel_model.specs.Giving.{Given, carrier_gives, next_given}
-use Rattle.channel_model.specs.Telling.{is_told_closed}
-use Rattle.channel_model.specs.Calls.{setup_on, carrier_if, open_carrier, carrier_at}
-use Rattle.channel_model.proofs.Going.{IsStated}
-use Rattle.channel_laws.specs.Runs.{Occurrence, Comes, Gives, up_with, sdus_up, said_in, Run, run_on, run_of}
-use Rattle.channel_laws.specs.Views.{read_at}
-use Rattle.channel_laws.specs.Signals.{StandsIn}
-use Rattle.channel_laws.specs.Frames.{IsSpelled, IsUttered}
+use Rattle.own_channel_laws.specs.talk_laws.specs.acl_fragments.specs.Pieces.{channel_of}
+use Rattle.own_channel_laws.specs.talk_laws.specs.capture.specs.declared.flow.Flow.TheVariants.{Out}
+use Rattle.own_channel_laws.specs.talk_laws.specs.capture.specs.Histories.{EachAfter}
+use Rattle.own_channel_laws.specs.talk_laws.specs.l2cap_config.specs.declared.wish.Mode.TheVariants.{Basic, Enhanced}
+use Rattle.own_channel_laws.specs.talk_laws.specs.link_talk.specs.declared.channel.Channel.{Channel}
+use Rattle.own_channel_laws.specs.talk_laws.specs.link_talk.specs.Sayings.{Saying}
+use Rattle.own_channel_laws.specs.talk_laws.specs.link_talk.specs.Channels.{reading}
+use Rattle.own_channel_laws.specs.talk_laws.specs.link_talk.specs.Carriages.{is_passed, carried, pdus_of}
+use Rattle.own_channel_laws.specs.channel_model.specs.Value.{Carrier, Plain, Retransmitting, Setup, Stage, Connected, Channels}
+use Rattle.own_channel_laws.specs.channel_model.specs.Policies.{Policy}
+use Rattle.own_channel_laws.specs.channel_model.specs.Changing.{held_at, is_open}
+use Rattle.own_channel_laws.specs.channel_model.specs.Carrying.{Nothing}
+use Rattle.own_channel_laws.specs.channel_model.specs.Hearing.{up}
+use Rattle.own_channel_laws.specs.channel_model.specs.Giving.{Given, carrier_gives, next_given}
+use Rattle.own_channel_laws.specs.channel_model.specs.Telling.{is_told_closed}
+use Rattle.own_channel_laws.specs.channel_model.specs.Calls.{setup_on, carrier_if, open_carrier, carrier_at}
+use Rattle.own_channel_laws.specs.channel_model.proofs.Going.{IsStated}
+use Rattle.own_channel_laws.specs.Runs.{Occurrence, Comes, Gives, up_with, sdus_up, said_in, Run, run_on, run_of}
+use Rattle.own_channel_laws.specs.Views.{read_at}
+use Rattle.own_channel_laws.specs.Signals.{StandsIn}
+use Rattle.own_channel_laws.specs.Frames.{IsSpelled, IsUttered}
 use Rattle.channel_laws.specs.Pairs.{End, Pair, new_pair, Happening, Acts, Puts, Takes, Repeats, Loses, Damages, is_alone, occurs, with_near, puts, let_go, takes_first, loses_first, happens_near, Side, Near, Far, turned, Turn, happens_at, pair_after, pair_of, IsRunOf}
 use Rattle.channel_laws.specs.Ends.{end_at, DoesSo, AreFair}
-use Rattle.channel_laws.specs.Endpoints.{IsOf}
+use Rattle.own_channel_laws.specs.Endpoints.{IsOf}
 use Rattle.channel_laws.specs.Belonging.{said_at, AreRead}
 use Rattle.channel_laws.specs.Common.{mirrored}
 use Rattle.channel_laws.specs.Consent.{HasAccepted}
@@ -40,15 +40,15 @@ use Rattle.channel_laws.proofs.Delivering.{Waits, sent_on, sent-more}
 use Rattle.channel_laws.proofs.Ferried.{Sends_so, near_owed, Ends_so, ends_at, up_of_it, flight_first, flight_other, first_done, other_in, acts_up, none_up}
 use Rattle.channel_laws.proofs.Ferrying.{Flight, Owes, Way, Delivers, IsBasic}
 use Rattle.channel_laws.proofs.Hushed.{Left, left-all, left-up, left-stays, StatesIts, hands-up}
-use Rattle.channel_laws.proofs.Keeping.{HeldKeeps, AllKeep}
+use Rattle.own_channel_laws.proofs.Keeping.{HeldKeeps, AllKeep}
 use Rattle.channel_laws.proofs.Mating.{front-each, same_channel, stays_other, high-at}
 use Rattle.channel_laws.proofs.Pairing.{each-end_runs, end-policy}
 use Rattle.channel_laws.proofs.Partaking.{leaving_of, kept-on, sdu_for}
-use Rattle.channel_laws.proofs.Receiving.{up-nothing}
-use Rattle.channel_laws.proofs.Running.{IsSound, along}
-use Rattle.channel_laws.proofs.Saying.{stands-either}
+use Rattle.own_channel_laws.proofs.Receiving.{up-nothing}
+use Rattle.own_channel_laws.proofs.Running.{IsSound, along}
+use Rattle.own_channel_laws.proofs.Saying.{stands-either}
 use Rattle.channel_laws.proofs.Sharing.{channels-are_common, near_grows, run-grows, said-grows}
-use Rattle.channel_laws.proofs.Telling.{StageTold, HeldTold, RunTold, one_told, nothing_told}
+use Rattle.own_channel_laws.proofs.Telling.{StageTold, HeldTold, RunTold, one_told, nothing_told}
 use Rattle.channel_laws.proofs.Trusting.{GoesTo, goes_to, Gives_out, queue-out, both-sound, peers-have_accepted}
 
 -- ---- the two ends of a way

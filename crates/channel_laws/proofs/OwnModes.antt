@@ -3,70 +3,70 @@ use Rattle.std.proofs.Common.{◌≡◌, ℕ, ◌%◌, List, [], ◌∷◌, ◌+
 use Rattle.std.specs.Prelude.{find, option_map, unwrap_or}
 use Rattle.std.specs.List.{AllByRecursion}
 use Rattle.std.proofs.lemmas.Bool.{eqb-true}
-use Rattle.talk_laws.specs.acl_fragments.specs.Pieces.{channel_of}
-use Rattle.talk_laws.specs.capture.specs.declared.flow.Flow.{Flow}
-use Rattle.talk_laws.specs.capture.specs.declared.flow.Flow.TheVariants.{Into}
-use Rattle.talk_laws.specs.l2cap_signal.specs.Commands.{Content, reject, connection_request, connection_response, configuration_request, configuration_response, disconnection_request, disconnection_response, echo_request, echo_response, information_request, information_response}
-use Rattle.talk_laws.specs.l2cap_signal.specs.Reading.{Answer as Read, answers}
-use Rattle.talk_laws.specs.l2cap_signal.specs.declared.refusal.SignalRefusal.TheVariants.{ZeroIdentifier, BadLength, UnknownCode, AboveMtu}
-use Rattle.talk_laws.specs.l2cap_config.specs.declared.options.Options.{Options}
-use Rattle.talk_laws.specs.l2cap_config.specs.declared.options.ConfigRefusal.{ConfigRefusal}
-use Rattle.talk_laws.specs.l2cap_config.specs.declared.agreement.ConfigAnswer.{ConfigAnswer}
-use Rattle.talk_laws.specs.l2cap_config.specs.declared.agreement.ConfigAnswer.TheVariants.{Accept, Unacceptable, Unknown}
-use Rattle.talk_laws.specs.l2cap_config.specs.declared.wish.Mode.{Mode}
-use Rattle.talk_laws.specs.l2cap_config.specs.declared.wish.Mode.TheVariants.{Basic}
-use Rattle.talk_laws.specs.l2cap_config.specs.declared.wish.Wish.{Wish}
-use Rattle.talk_laws.specs.l2cap_config.specs.Items.{joined}
-use Rattle.talk_laws.specs.l2cap_config.specs.Reading.{options_read}
-use Rattle.talk_laws.specs.l2cap_config.specs.Agreement.{answered as answer_on}
-use Rattle.talk_laws.specs.link_talk.specs.declared.channel.Channel.{Channel}
-use Rattle.talk_laws.specs.link_talk.specs.Sayings.{Saying, Carried}
-use Rattle.talk_laws.specs.link_talk.specs.Sayings as sayings
-use Rattle.talk_laws.specs.link_talk.specs.Requests.{Terms, answered_query}
-use Rattle.talk_laws.specs.link_talk.specs.Meanings.{Part, Answers, Nothing, answered}
-use Rattle.talk_laws.specs.link_talk.specs.Setups as read
-use Rattle.talk_laws.specs.link_talk.specs.Setups.{mode_in, is_set, with_answer, setup_after, Answered}
-use Rattle.talk_laws.specs.link_talk.specs.Channels.{Entry, fresh, entry_after, is_there, Reading, reading}
-use Rattle.channel_model.specs.declared.errand.Errand.TheVariants as errands
-use Rattle.channel_model.specs.declared.request_kind.RequestKind.TheVariants as kinds
-use Rattle.channel_model.specs.Value.{Own, Unasked, Asking, Granted, Request, Carrier, Plain, Retransmitting, Setup, Stage, Requested, Connected, Leaving, Closing, Crossed, Held, Remembered, Channels}
-use Rattle.channel_model.specs.Policies.{Policy}
-use Rattle.channel_model.specs.Changing.{has_own, held_at, is_open, setup_of}
-use Rattle.channel_model.specs.Asking.{first_options}
-use Rattle.channel_model.specs.Configuring.{Verdict, TooLate, Judged, judged_part, judged_read, judged_setup, judged_stage, verdict_on, verdict, accepted_setup, accepts_with, follows_verdict}
-use Rattle.channel_model.specs.Answers.{remembered, answer_to, configuration_answer}
-use Rattle.channel_model.specs.Following.{follows_setup, follows_configuration, follows, remembers, says, can_say, hears_again, hears_new, hears_kind}
-use Rattle.channel_model.specs.Hearing.{hears_content, hears_command}
-use Rattle.channel_model.specs.Carrying.{takes}
-use Rattle.channel_model.specs.Timing.{times_held, times_features}
-use Rattle.channel_model.specs.Giving.{Given, Signal, Whole, Framed, next_given}
-use Rattle.channel_model.specs.Calls.{setup_on, carrier_at, connected, asks_features, disconnected}
-use Rattle.channel_model.proofs.Lookups.{own_of, found-has}
-use Rattle.channel_model.proofs.Walking.{found-own, with-found, with-setup}
-use Rattle.channel_laws.specs.OwnTalk.{spoken, command_with, response_by, response_to, command_if, reply_to, exchanged, asked_between, said_with, said_with_all}
-use Rattle.channel_laws.specs.Runs.{Occurrence, Comes, Connects, AsksFeatures, Disconnects, Sends, Gives, Fires, Tells, peer_at, said_again, features_given_up, said_on_firing, said_by_channel, said_by_features, said_by_channels, fired_channel, said_by_carrier, said_as, said_in, Run}
-use Rattle.channel_laws.specs.Views.{peer_of, life_of, carrier_mode, standing, read_at}
+use Rattle.own_channel_laws.specs.talk_laws.specs.acl_fragments.specs.Pieces.{channel_of}
+use Rattle.own_channel_laws.specs.talk_laws.specs.capture.specs.declared.flow.Flow.{Flow}
+use Rattle.own_channel_laws.specs.talk_laws.specs.capture.specs.declared.flow.Flow.TheVariants.{Into}
+use Rattle.own_channel_laws.specs.talk_laws.specs.l2cap_signal.specs.Commands.{Content, reject, connection_request, connection_response, configuration_request, configuration_response, disconnection_request, disconnection_response, echo_request, echo_response, information_request, information_response}
+use Rattle.own_channel_laws.specs.talk_laws.specs.l2cap_signal.specs.Reading.{Answer as Read, answers}
+use Rattle.own_channel_laws.specs.talk_laws.specs.l2cap_signal.specs.declared.refusal.SignalRefusal.TheVariants.{ZeroIdentifier, BadLength, UnknownCode, AboveMtu}
+use Rattle.own_channel_laws.specs.talk_laws.specs.l2cap_config.specs.declared.options.Options.{Options}
+use Rattle.own_channel_laws.specs.talk_laws.specs.l2cap_config.specs.declared.options.ConfigRefusal.{ConfigRefusal}
+use Rattle.own_channel_laws.specs.talk_laws.specs.l2cap_config.specs.declared.agreement.ConfigAnswer.{ConfigAnswer}
+use Rattle.own_channel_laws.specs.talk_laws.specs.l2cap_config.specs.declared.agreement.ConfigAnswer.TheVariants.{Accept, Unacceptable, Unknown}
+use Rattle.own_channel_laws.specs.talk_laws.specs.l2cap_config.specs.declared.wish.Mode.{Mode}
+use Rattle.own_channel_laws.specs.talk_laws.specs.l2cap_config.specs.declared.wish.Mode.TheVariants.{Basic}
+use Rattle.own_channel_laws.specs.talk_laws.specs.l2cap_config.specs.declared.wish.Wish.{Wish}
+use Rattle.own_channel_laws.specs.talk_laws.specs.l2cap_config.specs.Items.{joined}
+use Rattle.own_channel_laws.specs.talk_laws.specs.l2cap_config.specs.Reading.{options_read}
+use Rattle.own_channel_laws.specs.talk_laws.specs.l2cap_config.specs.Agreement.{answered as answer_on}
+use Rattle.own_channel_laws.specs.talk_laws.specs.link_talk.specs.declared.channel.Channel.{Channel}
+use Rattle.own_channel_laws.specs.talk_laws.specs.link_talk.specs.Sayings.{Saying, Carried}
+use Rattle.own_channel_laws.specs.talk_laws.specs.link_talk.specs.Sayings as sayings
+use Rattle.own_channel_laws.specs.talk_laws.specs.link_talk.specs.Requests.{Terms, answered_query}
+use Rattle.own_channel_laws.specs.talk_laws.specs.link_talk.specs.Meanings.{Part, Answers, Nothing, answered}
+use Rattle.own_channel_laws.specs.talk_laws.specs.link_talk.specs.Setups as read
+use Rattle.own_channel_laws.specs.talk_laws.specs.link_talk.specs.Setups.{mode_in, is_set, with_answer, setup_after, Answered}
+use Rattle.own_channel_laws.specs.talk_laws.specs.link_talk.specs.Channels.{Entry, fresh, entry_after, is_there, Reading, reading}
+use Rattle.own_channel_laws.specs.channel_model.specs.declared.errand.Errand.TheVariants as errands
+use Rattle.own_channel_laws.specs.channel_model.specs.declared.request_kind.RequestKind.TheVariants as kinds
+use Rattle.own_channel_laws.specs.channel_model.specs.Value.{Own, Unasked, Asking, Granted, Request, Carrier, Plain, Retransmitting, Setup, Stage, Requested, Connected, Leaving, Closing, Crossed, Held, Remembered, Channels}
+use Rattle.own_channel_laws.specs.channel_model.specs.Policies.{Policy}
+use Rattle.own_channel_laws.specs.channel_model.specs.Changing.{has_own, held_at, is_open, setup_of}
+use Rattle.own_channel_laws.specs.channel_model.specs.Asking.{first_options}
+use Rattle.own_channel_laws.specs.channel_model.specs.Configuring.{Verdict, TooLate, Judged, judged_part, judged_read, judged_setup, judged_stage, verdict_on, verdict, accepted_setup, accepts_with, follows_verdict}
+use Rattle.own_channel_laws.specs.channel_model.specs.Answers.{remembered, answer_to, configuration_answer}
+use Rattle.own_channel_laws.specs.channel_model.specs.Following.{follows_setup, follows_configuration, follows, remembers, says, can_say, hears_again, hears_new, hears_kind}
+use Rattle.own_channel_laws.specs.channel_model.specs.Hearing.{hears_content, hears_command}
+use Rattle.own_channel_laws.specs.channel_model.specs.Carrying.{takes}
+use Rattle.own_channel_laws.specs.channel_model.specs.Timing.{times_held, times_features}
+use Rattle.own_channel_laws.specs.channel_model.specs.Giving.{Given, Signal, Whole, Framed, next_given}
+use Rattle.own_channel_laws.specs.channel_model.specs.Calls.{setup_on, carrier_at, connected, asks_features, disconnected}
+use Rattle.own_channel_laws.specs.channel_model.proofs.Lookups.{own_of, found-has}
+use Rattle.own_channel_laws.specs.channel_model.proofs.Walking.{found-own, with-found, with-setup}
+use Rattle.own_channel_laws.specs.OwnTalk.{spoken, command_with, response_by, response_to, command_if, reply_to, exchanged, asked_between, said_with, said_with_all}
+use Rattle.own_channel_laws.specs.Runs.{Occurrence, Comes, Connects, AsksFeatures, Disconnects, Sends, Gives, Fires, Tells, peer_at, said_again, features_given_up, said_on_firing, said_by_channel, said_by_features, said_by_channels, fired_channel, said_by_carrier, said_as, said_in, Run}
+use Rattle.own_channel_laws.specs.Views.{peer_of, life_of, carrier_mode, standing, read_at}
 use Rattle.channel_laws.specs.Modes.{ModesAreOwn}
-use Rattle.channel_laws.proofs.Sound.{CarrierIs, Agrees, AgreesIf, ReadsBy, Reads, QueriesKept, IsRepeated, RepeatsOf, Repeats, RepeatsIn, part_of, Sound, standing-is}
-use Rattle.channel_laws.proofs.Entries.{read-own}
-use Rattle.channel_laws.proofs.Both.{and-left}
-use Rattle.channel_laws.proofs.Questions.{IsNew}
-use Rattle.channel_laws.proofs.Configuring.{queried, Queries, queries-by, begins_same, query-new}
-use Rattle.channel_laws.proofs.Conversing.{reading-on}
-use Rattle.channel_laws.proofs.Commands.{IsTold, hears-any}
-use Rattle.channel_laws.proofs.Told.{all-told}
-use Rattle.channel_laws.proofs.Words.{words-asked, words-left, words-again, words-firing}
-use Rattle.channel_laws.proofs.Running.{IsSound, along}
-use Rattle.talk_laws.specs.l2cap_signal.specs.declared.refusal.SignalRefusal.{SignalRefusal}
-use Rattle.talk_laws.specs.link_talk.specs.Requests.{query_terms}
-use Rattle.channel_model.specs.declared.request_kind.RequestKind.{RequestKind}
-use Rattle.channel_model.specs.Answers.{not_understood, too_long, connection_result, connection_answer, information_answer, kind_of_code}
-use Rattle.channel_model.specs.Following.{hears_request}
-use Rattle.channel_model.specs.Hearing.{hears_malformed, is_response_code, is_kind, hears_unread, hears_refused}
-use Rattle.channel_laws.specs.OwnTalk.{response_as, response_malformed, response_unread}
-use Rattle.channel_laws.proofs.Commands.{short-queries}
-use Rattle.channel_laws.proofs.Mild.{IsOwn, OwnAt, after_keeps, same_accepted, IsMild, KeepsOwn, one_saying, no_sayings, both_sayings, heard_mild, is_about_options, spoken_mild, own_words}
-use Rattle.channel_laws.proofs.PlainReplies.{plain_response, some_plain, no_plain, ended_plain, informed_plain}
+use Rattle.own_channel_laws.proofs.Sound.{CarrierIs, Agrees, AgreesIf, ReadsBy, Reads, QueriesKept, IsRepeated, RepeatsOf, Repeats, RepeatsIn, part_of, Sound, standing-is}
+use Rattle.own_channel_laws.proofs.Entries.{read-own}
+use Rattle.own_channel_laws.proofs.Both.{and-left}
+use Rattle.own_channel_laws.proofs.Questions.{IsNew}
+use Rattle.own_channel_laws.proofs.Configuring.{queried, Queries, queries-by, begins_same, query-new}
+use Rattle.own_channel_laws.proofs.Conversing.{reading-on}
+use Rattle.own_channel_laws.proofs.Commands.{IsTold, hears-any}
+use Rattle.own_channel_laws.proofs.Told.{all-told}
+use Rattle.own_channel_laws.proofs.Words.{words-asked, words-left, words-again, words-firing}
+use Rattle.own_channel_laws.proofs.Running.{IsSound, along}
+use Rattle.own_channel_laws.specs.talk_laws.specs.l2cap_signal.specs.declared.refusal.SignalRefusal.{SignalRefusal}
+use Rattle.own_channel_laws.specs.talk_laws.specs.link_talk.specs.Requests.{query_terms}
+use Rattle.own_channel_laws.specs.channel_model.specs.declared.request_kind.RequestKind.{RequestKind}
+use Rattle.own_channel_laws.specs.channel_model.specs.Answers.{not_understood, too_long, connection_result, connection_answer, information_answer, kind_of_code}
+use Rattle.own_channel_laws.specs.channel_model.specs.Following.{hears_request}
+use Rattle.own_channel_laws.specs.channel_model.specs.Hearing.{hears_malformed, is_response_code, is_kind, hears_unread, hears_refused}
+use Rattle.own_channel_laws.specs.OwnTalk.{response_as, response_malformed, response_unread}
+use Rattle.own_channel_laws.proofs.Commands.{short-queries}
+use Rattle.own_channel_laws.proofs.Mild.{IsOwn, OwnAt, after_keeps, same_accepted, IsMild, KeepsOwn, one_saying, no_sayings, both_sayings, heard_mild, is_about_options, spoken_mild, own_words}
+use Rattle.own_channel_laws.proofs.PlainReplies.{plain_response, some_plain, no_plain, ended_plain, informed_plain}
 
 -- ---- a channel that talks
 

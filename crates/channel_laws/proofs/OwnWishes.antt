@@ -4,55 +4,55 @@ use Rattle.std.specs.Prelude.{nat_le, unwrap_or, option_map, option_to_list, is_
 use Rattle.std.specs.Option.{option_or}
 use Rattle.std.specs.List.{list_any}
 use Rattle.std.proofs.lemmas.Bool.{and_parts, eqb-true}
-use Rattle.talk_laws.specs.acl_fragments.specs.Pieces.{channel_of}
-use Rattle.talk_laws.specs.capture.specs.declared.flow.Flow.TheVariants.{Out, Into}
-use Rattle.talk_laws.specs.l2cap_signal.specs.Commands.{Content, Command as Signal_command, reject, connection_request, connection_response, configuration_request, configuration_response, disconnection_request, disconnection_response, echo_request, echo_response, information_request, information_response}
-use Rattle.talk_laws.specs.l2cap_signal.specs.Reading.{Answer as Read}
-use Rattle.talk_laws.specs.l2cap_signal.specs.declared.refusal.SignalRefusal.TheVariants.{ZeroIdentifier, BadLength, UnknownCode, AboveMtu}
-use Rattle.talk_laws.specs.l2cap_config.specs.declared.options.Options.{Options}
-use Rattle.talk_laws.specs.l2cap_config.specs.declared.wish.Mode.{Mode}
-use Rattle.talk_laws.specs.l2cap_config.specs.declared.wish.Mode.TheVariants.{Basic, Enhanced}
-use Rattle.talk_laws.specs.l2cap_config.specs.declared.wish.Wish.{Wish}
-use Rattle.talk_laws.specs.l2cap_config.specs.Reading.{options_read}
-use Rattle.talk_laws.specs.l2cap_config.specs.Writing.{written}
-use Rattle.talk_laws.specs.link_talk.specs.declared.channel.Channel.{Channel}
-use Rattle.talk_laws.specs.link_talk.specs.declared.call.Wanted.{Wanted}
-use Rattle.talk_laws.specs.link_talk.specs.Sayings.{Saying, Command, Carried}
-use Rattle.talk_laws.specs.link_talk.specs.Senses.{Asks, Quiet, Unread, sense}
-use Rattle.talk_laws.specs.link_talk.specs.Requests.{Requests, answered_call, answered_query, has_failed}
-use Rattle.talk_laws.specs.link_talk.specs.Requests.{Terms}
-use Rattle.talk_laws.specs.link_talk.specs.Meanings.{Part, Meaning, Makes, Answers, Wishes, Settles, Parts, Nothing, granted, answered, meant, is_read}
-use Rattle.talk_laws.specs.link_talk.specs.Setups as read
-use Rattle.talk_laws.specs.link_talk.specs.Setups.{mode_in, is_set, is_enhanced, with_answer, setup_after, term, Wished, Answered}
-use Rattle.talk_laws.specs.link_talk.specs.Channels.{word, Entry, fresh, entry_after, entries_after, is_there, is_owner, made_by, Reading, reading}
-use Rattle.channel_model.specs.declared.errand.Errand.TheVariants as errands
-use Rattle.channel_model.specs.Value.{Request, Asking, Carrier, Plain, Retransmitting, Setup, Held, Channels}
-use Rattle.channel_model.specs.Policies.{Policy}
-use Rattle.channel_model.specs.Changing.{held_at, setup_of}
-use Rattle.channel_model.specs.Carrying.{takes}
-use Rattle.channel_model.specs.Following.{follows, can_say}
-use Rattle.channel_model.specs.Giving.{Given, Signal, Whole, Framed, next_given}
-use Rattle.channel_model.specs.Hearing.{hears_content}
-use Rattle.channel_model.specs.Timing.{times_held, times_end, times_features}
-use Rattle.channel_model.specs.Calls.{carrier_at, connected, asks_features, disconnected}
-use Rattle.channel_laws.specs.CheckWords.{IsEnhancedAt, CheckWordsAreWished}
-use Rattle.channel_laws.specs.Endpoints.{IsOf}
-use Rattle.channel_laws.specs.OwnTalk.{spoken, command_with, command_if, exchanged, asked_between}
-use Rattle.channel_laws.specs.Runs.{Occurrence, Comes, Connects, AsksFeatures, Disconnects, Sends, Gives, Fires, Tells, peer_at, features_given_up, said_again, said_on_firing, said_by_carrier, said_as, said_by_features, said_in, value_after, Run, run_of}
-use Rattle.channel_laws.specs.Views.{peer_of, is_checked_by, read_at}
-use Rattle.channel_laws.proofs.Agreeing.{requested-so, wish_states}
+use Rattle.own_channel_laws.specs.talk_laws.specs.acl_fragments.specs.Pieces.{channel_of}
+use Rattle.own_channel_laws.specs.talk_laws.specs.capture.specs.declared.flow.Flow.TheVariants.{Out, Into}
+use Rattle.own_channel_laws.specs.talk_laws.specs.l2cap_signal.specs.Commands.{Content, Command as Signal_command, reject, connection_request, connection_response, configuration_request, configuration_response, disconnection_request, disconnection_response, echo_request, echo_response, information_request, information_response}
+use Rattle.own_channel_laws.specs.talk_laws.specs.l2cap_signal.specs.Reading.{Answer as Read}
+use Rattle.own_channel_laws.specs.talk_laws.specs.l2cap_signal.specs.declared.refusal.SignalRefusal.TheVariants.{ZeroIdentifier, BadLength, UnknownCode, AboveMtu}
+use Rattle.own_channel_laws.specs.talk_laws.specs.l2cap_config.specs.declared.options.Options.{Options}
+use Rattle.own_channel_laws.specs.talk_laws.specs.l2cap_config.specs.declared.wish.Mode.{Mode}
+use Rattle.own_channel_laws.specs.talk_laws.specs.l2cap_config.specs.declared.wish.Mode.TheVariants.{Basic, Enhanced}
+use Rattle.own_channel_laws.specs.talk_laws.specs.l2cap_config.specs.declared.wish.Wish.{Wish}
+use Rattle.own_channel_laws.specs.talk_laws.specs.l2cap_config.specs.Reading.{options_read}
+use Rattle.own_channel_laws.specs.talk_laws.specs.l2cap_config.specs.Writing.{written}
+use Rattle.own_channel_laws.specs.talk_laws.specs.link_talk.specs.declared.channel.Channel.{Channel}
+use Rattle.own_channel_laws.specs.talk_laws.specs.link_talk.specs.declared.call.Wanted.{Wanted}
+use Rattle.own_channel_laws.specs.talk_laws.specs.link_talk.specs.Sayings.{Saying, Command, Carried}
+use Rattle.own_channel_laws.specs.talk_laws.specs.link_talk.specs.Senses.{Asks, Quiet, Unread, sense}
+use Rattle.own_channel_laws.specs.talk_laws.specs.link_talk.specs.Requests.{Requests, answered_call, answered_query, has_failed}
+use Rattle.own_channel_laws.specs.talk_laws.specs.link_talk.specs.Requests.{Terms}
+use Rattle.own_channel_laws.specs.talk_laws.specs.link_talk.specs.Meanings.{Part, Meaning, Makes, Answers, Wishes, Settles, Parts, Nothing, granted, answered, meant, is_read}
+use Rattle.own_channel_laws.specs.talk_laws.specs.link_talk.specs.Setups as read
+use Rattle.own_channel_laws.specs.talk_laws.specs.link_talk.specs.Setups.{mode_in, is_set, is_enhanced, with_answer, setup_after, term, Wished, Answered}
+use Rattle.own_channel_laws.specs.talk_laws.specs.link_talk.specs.Channels.{word, Entry, fresh, entry_after, entries_after, is_there, is_owner, made_by, Reading, reading}
+use Rattle.own_channel_laws.specs.channel_model.specs.declared.errand.Errand.TheVariants as errands
+use Rattle.own_channel_laws.specs.channel_model.specs.Value.{Request, Asking, Carrier, Plain, Retransmitting, Setup, Held, Channels}
+use Rattle.own_channel_laws.specs.channel_model.specs.Policies.{Policy}
+use Rattle.own_channel_laws.specs.channel_model.specs.Changing.{held_at, setup_of}
+use Rattle.own_channel_laws.specs.channel_model.specs.Carrying.{takes}
+use Rattle.own_channel_laws.specs.channel_model.specs.Following.{follows, can_say}
+use Rattle.own_channel_laws.specs.channel_model.specs.Giving.{Given, Signal, Whole, Framed, next_given}
+use Rattle.own_channel_laws.specs.channel_model.specs.Hearing.{hears_content}
+use Rattle.own_channel_laws.specs.channel_model.specs.Timing.{times_held, times_end, times_features}
+use Rattle.own_channel_laws.specs.channel_model.specs.Calls.{carrier_at, connected, asks_features, disconnected}
+use Rattle.own_channel_laws.specs.CheckWords.{IsEnhancedAt, CheckWordsAreWished}
+use Rattle.own_channel_laws.specs.Endpoints.{IsOf}
+use Rattle.own_channel_laws.specs.OwnTalk.{spoken, command_with, command_if, exchanged, asked_between}
+use Rattle.own_channel_laws.specs.Runs.{Occurrence, Comes, Connects, AsksFeatures, Disconnects, Sends, Gives, Fires, Tells, peer_at, features_given_up, said_again, said_on_firing, said_by_carrier, said_as, said_by_features, said_in, value_after, Run, run_of}
+use Rattle.own_channel_laws.specs.Views.{peer_of, is_checked_by, read_at}
+use Rattle.own_channel_laws.proofs.Agreeing.{requested-so, wish_states}
 use Rattle.channel_laws.proofs.Bestowing.{still_of}
-use Rattle.channel_laws.proofs.CheckWords.{checked, held_checks}
-use Rattle.channel_laws.proofs.Conversing.{reading-on, conversed}
-use Rattle.channel_laws.proofs.Converses.{is_single, Goes, Converses}
-use Rattle.channel_laws.proofs.Entries.{makes-fresh, read-after, read-append, there-before}
-use Rattle.channel_laws.proofs.Holding.{is-read}
-use Rattle.channel_laws.proofs.Origins.{makes-it}
-use Rattle.channel_laws.proofs.Replying.{is_response, IsReply}
-use Rattle.channel_laws.proofs.Running.{all-sound}
-use Rattle.channel_laws.proofs.Sound.{states_mode, OwnStates, ReadsBy, Reads, Sound, some-of_map}
-use Rattle.channel_laws.proofs.Wishing.{IsNamed, setup_wishes, sound-named}
-use Rattle.channel_laws.proofs.Words.{Words, words-asked, words-left, words-again, words-firing}
+use Rattle.own_channel_laws.proofs.CheckWords.{checked, held_checks}
+use Rattle.own_channel_laws.proofs.Conversing.{reading-on, conversed}
+use Rattle.own_channel_laws.proofs.Converses.{is_single, Goes, Converses}
+use Rattle.own_channel_laws.proofs.Entries.{makes-fresh, read-after, read-append, there-before}
+use Rattle.own_channel_laws.proofs.Holding.{is-read}
+use Rattle.own_channel_laws.proofs.Origins.{makes-it}
+use Rattle.own_channel_laws.proofs.Replying.{is_response, IsReply}
+use Rattle.own_channel_laws.proofs.Running.{all-sound}
+use Rattle.own_channel_laws.proofs.Sound.{states_mode, OwnStates, ReadsBy, Reads, Sound, some-of_map}
+use Rattle.own_channel_laws.proofs.Wishing.{IsNamed, setup_wishes, sound-named}
+use Rattle.own_channel_laws.proofs.Words.{Words, words-asked, words-left, words-again, words-firing}
 
 -- ---- what is asked of a channel
 

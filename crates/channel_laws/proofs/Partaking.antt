@@ -2,43 +2,43 @@
 use Rattle.std.proofs.Common.{◌≡◌, ℕ, zero, suc, ◌+◌, ◌≤◌, List, [], ◌∷◌, ◌++◌, length, Bool, true, false, cond, ◌&&◌, Option, Some, None, Ok, Err, refl, sym, ap, subst, ◌∙◌, ◌⊎◌, inl, inr, arith, append-nil, append_assoc}
 use Rattle.std.specs.Prelude.{find, option_map, option_to_list, is_some, slice_get}
 use Rattle.std.specs.List.{AllByRecursion}
-use Rattle.talk_laws.specs.l2cap_config.specs.declared.wish.Agreed.{Agreed}
-use Rattle.talk_laws.specs.ertm_frames.specs.declared.refusal.FrameRefusal.{FrameRefusal}
-use Rattle.talk_laws.specs.ertm_frames.specs.declared.refusal.FrameRefusal.TheVariants.{Short, BadFcs}
-use Rattle.talk_laws.specs.ertm_frames.specs.Frames.{PlainFrame, information, supervisory}
-use Rattle.talk_laws.specs.ertm_frames.specs.Segments.{Segment}
-use Rattle.talk_laws.specs.ertm_frames.specs.Answers.{Answer, IsWithin}
-use Rattle.talk_laws.specs.ertm_frames.specs.Reading.{answer_in}
-use Rattle.channel_model.specs.ertm_model.specs.declared.reason.ErtmReason.{ErtmReason}
-use Rattle.channel_model.specs.ertm_model.specs.Value.{Ertm, new_ertm}
-use Rattle.channel_model.specs.ertm_model.specs.Submitting.{is_busy, submitted}
-use Rattle.channel_model.specs.ertm_model.specs.Giving.{Giving, giving, given_frame, next_frame, after_by, frame_by, after_frame}
-use Rattle.channel_model.specs.ertm_model.specs.Hearing.{fault, refusal_fault, closed_by, segment_of}
-use Rattle.channel_model.specs.ertm_model.specs.Pair.{Sent, End, Pair, near, Submit, gave, took, hearing_by, hearing, acknowledged_by, accepted_by}
-use Rattle.channel_model.specs.ertm_model.specs.Order.{MayFly, Stands}
-use Rattle.channel_model.specs.ertm_model.proofs.Standing.{does-stands, swapped}
-use Rattle.channel_model.specs.ertm_model.proofs.Hearing.{hearing-stands}
-use Rattle.channel_model.specs.ertm_model.proofs.Saying.{gives-stands}
-use Rattle.channel_model.specs.ertm_model.proofs.Ordering.{front-flies}
-use Rattle.channel_model.specs.Value.{Carrier, Plain, Retransmitting, Setup, Stage, Requested, Connected, Leaving, Closing, Crossed, Held, Channels}
-use Rattle.channel_model.specs.Policies.{Policy}
-use Rattle.channel_model.specs.Changing.{has_own, held_at, is_granted, is_open, setup_of, stage_with, with_setup, to_setup, has_fcs_by}
-use Rattle.channel_model.specs.Asking.{new_request}
-use Rattle.channel_model.specs.Closing.{closes_at}
-use Rattle.channel_model.specs.Configuring.{granted_setup}
-use Rattle.channel_model.specs.Carrying.{reason_of, settles_machine, read_by, machine_heard, machine_sdu, carried_sdu, is_taken_with, sdu_with, sdu_at, takes_on, takes_held, takes}
-use Rattle.channel_model.specs.Giving.{carrier_given, carrier_spent}
-use Rattle.channel_model.specs.Calls.{carrier_with, sends_on, sends_held, sends}
-use Rattle.channel_model.proofs.Lookups.{own_of, found-has, found-placed}
-use Rattle.channel_model.proofs.Going.{staged}
-use Rattle.channel_model.proofs.Walking.{found-own, with-setup, with-found}
-use Rattle.channel_laws.specs.Views.{peer_of}
+use Rattle.own_channel_laws.specs.talk_laws.specs.l2cap_config.specs.declared.wish.Agreed.{Agreed}
+use Rattle.own_channel_laws.specs.talk_laws.specs.ertm_frames.specs.declared.refusal.FrameRefusal.{FrameRefusal}
+use Rattle.own_channel_laws.specs.talk_laws.specs.ertm_frames.specs.declared.refusal.FrameRefusal.TheVariants.{Short, BadFcs}
+use Rattle.own_channel_laws.specs.talk_laws.specs.ertm_frames.specs.Frames.{PlainFrame, information, supervisory}
+use Rattle.own_channel_laws.specs.talk_laws.specs.ertm_frames.specs.Segments.{Segment}
+use Rattle.own_channel_laws.specs.talk_laws.specs.ertm_frames.specs.Answers.{Answer, IsWithin}
+use Rattle.own_channel_laws.specs.talk_laws.specs.ertm_frames.specs.Reading.{answer_in}
+use Rattle.own_channel_laws.specs.channel_model.specs.ertm_model.specs.declared.reason.ErtmReason.{ErtmReason}
+use Rattle.own_channel_laws.specs.channel_model.specs.ertm_model.specs.Value.{Ertm, new_ertm}
+use Rattle.own_channel_laws.specs.channel_model.specs.ertm_model.specs.Submitting.{is_busy, submitted}
+use Rattle.own_channel_laws.specs.channel_model.specs.ertm_model.specs.Giving.{Giving, giving, given_frame, next_frame, after_by, frame_by, after_frame}
+use Rattle.own_channel_laws.specs.channel_model.specs.ertm_model.specs.Hearing.{fault, refusal_fault, closed_by, segment_of}
+use Rattle.own_channel_laws.specs.channel_model.specs.ertm_model.specs.Pair.{Sent, End, Pair, near, Submit, gave, took, hearing_by, hearing, acknowledged_by, accepted_by}
+use Rattle.own_channel_laws.specs.channel_model.specs.ertm_model.specs.Order.{MayFly, Stands}
+use Rattle.own_channel_laws.specs.channel_model.specs.ertm_model.proofs.Standing.{does-stands, swapped}
+use Rattle.own_channel_laws.specs.channel_model.specs.ertm_model.proofs.Hearing.{hearing-stands}
+use Rattle.own_channel_laws.specs.channel_model.specs.ertm_model.proofs.Saying.{gives-stands}
+use Rattle.own_channel_laws.specs.channel_model.specs.ertm_model.proofs.Ordering.{front-flies}
+use Rattle.own_channel_laws.specs.channel_model.specs.Value.{Carrier, Plain, Retransmitting, Setup, Stage, Requested, Connected, Leaving, Closing, Crossed, Held, Channels}
+use Rattle.own_channel_laws.specs.channel_model.specs.Policies.{Policy}
+use Rattle.own_channel_laws.specs.channel_model.specs.Changing.{has_own, held_at, is_granted, is_open, setup_of, stage_with, with_setup, to_setup, has_fcs_by}
+use Rattle.own_channel_laws.specs.channel_model.specs.Asking.{new_request}
+use Rattle.own_channel_laws.specs.channel_model.specs.Closing.{closes_at}
+use Rattle.own_channel_laws.specs.channel_model.specs.Configuring.{granted_setup}
+use Rattle.own_channel_laws.specs.channel_model.specs.Carrying.{reason_of, settles_machine, read_by, machine_heard, machine_sdu, carried_sdu, is_taken_with, sdu_with, sdu_at, takes_on, takes_held, takes}
+use Rattle.own_channel_laws.specs.channel_model.specs.Giving.{carrier_given, carrier_spent}
+use Rattle.own_channel_laws.specs.channel_model.specs.Calls.{carrier_with, sends_on, sends_held, sends}
+use Rattle.own_channel_laws.specs.channel_model.proofs.Lookups.{own_of, found-has, found-placed}
+use Rattle.own_channel_laws.specs.channel_model.proofs.Going.{staged}
+use Rattle.own_channel_laws.specs.channel_model.proofs.Walking.{found-own, with-setup, with-found}
+use Rattle.own_channel_laws.specs.Views.{peer_of}
 use Rattle.channel_laws.specs.Pipes.{IsFront, Suits}
-use Rattle.channel_laws.proofs.Both.{and-right}
-use Rattle.channel_laws.proofs.Keeping.{OfCarrier, StageKeeps, HeldKeeps}
-use Rattle.channel_laws.proofs.Attending.{submits-aside, gives-aside}
-use Rattle.channel_laws.proofs.HandedUp.{heard-agreed, closes-silent}
-use Rattle.channel_laws.proofs.Taking.{Opens, takes-cases}
+use Rattle.own_channel_laws.proofs.Both.{and-right}
+use Rattle.own_channel_laws.proofs.Keeping.{OfCarrier, StageKeeps, HeldKeeps}
+use Rattle.own_channel_laws.proofs.Attending.{submits-aside, gives-aside}
+use Rattle.own_channel_laws.proofs.HandedUp.{heard-agreed, closes-silent}
+use Rattle.own_channel_laws.proofs.Taking.{Opens, takes-cases}
 use Rattle.channel_laws.proofs.Piping.{Tells, tells-gives, tells-takes, took-machine, tells-hears, heard-machine, heard-up}
 use Rattle.channel_laws.proofs.Joining.{Seen, Reads, AreSpelled, Terms, Joins, Holds, IsEnd, At, Joined, IsBelow}
 

@@ -3,38 +3,38 @@ use Rattle.std.proofs.Common.{◌≡◌, ℕ, ◌≤◌, List, [], ◌∷◌, �
 use Rattle.std.specs.Prelude.{nat_lt, nat_le, option_map, if◌then◌else◌}
 use Rattle.std.proofs.lemmas.Bool.{ltb-false, ltb-true}
 use Rattle.std.proofs.lemmas.List.Sums.{fold-append}
-use Rattle.channel_model.specs.Calls.{can_connect, connected, peer_mtu, carrier_mtu, open_carrier, setup_on}
-use Rattle.channel_model.specs.Changing.{setup_of, has_peer}
-use Rattle.channel_model.specs.Changing.{held_at}
-use Rattle.channel_model.specs.Following.{with_channel, follows_connection, follows}
+use Rattle.own_channel_laws.specs.channel_model.specs.Calls.{can_connect, connected, peer_mtu, carrier_mtu, open_carrier, setup_on}
+use Rattle.own_channel_laws.specs.channel_model.specs.Changing.{setup_of, has_peer}
+use Rattle.own_channel_laws.specs.channel_model.specs.Changing.{held_at}
+use Rattle.own_channel_laws.specs.channel_model.specs.Following.{with_channel, follows_connection, follows}
 use Rattle.channel_laws.specs.Singly.{AsksForNoChannel}
 use Rattle.channel_laws.specs.Pending.{OffersNothing, NoneComesDue, OneOpens}
-use Rattle.channel_laws.specs.Runs.{new_link, run_on, Run}
-use Rattle.channel_laws.proofs.Running.{all-sound}
-use Rattle.channel_laws.proofs.Due.{KeepsDue, Any, walks, AllWereDue, all-due}
-use Rattle.channel_laws.proofs.Conversing.{conversed-on}
+use Rattle.own_channel_laws.specs.Runs.{new_link, run_on, Run}
+use Rattle.own_channel_laws.proofs.Running.{all-sound}
+use Rattle.own_channel_laws.proofs.Due.{KeepsDue, Any, walks, AllWereDue, all-due}
+use Rattle.own_channel_laws.proofs.Conversing.{conversed-on}
 use Rattle.channel_laws.proofs.OneByOne.{asked-due, single-due}
 use Rattle.std.specs.List.{AllByRecursion, list_any}
-use Rattle.talk_laws.specs.acl_fragments.specs.Pieces.{channel_of}
-use Rattle.talk_laws.specs.capture.specs.Histories.{EachAfter}
-use Rattle.talk_laws.specs.capture.specs.declared.flow.Flow.TheVariants.{Into}
-use Rattle.talk_laws.specs.l2cap_signal.specs.Commands.{Content, reject, connection_request, connection_response, configuration_request, configuration_response, disconnection_request, disconnection_response, echo_request, echo_response, information_request, information_response}
-use Rattle.talk_laws.specs.l2cap_signal.specs.Reading.{Answer as Read}
-use Rattle.talk_laws.specs.link_talk.specs.Sayings.{Saying, Carried}
-use Rattle.talk_laws.specs.link_talk.specs.Channels.{reading}
-use Rattle.channel_model.specs.declared.errand.Errand.TheVariants as errands
-use Rattle.channel_model.specs.Value.{Stage, Requested, Held, Channels}
-use Rattle.channel_model.specs.Policies.{Policy}
-use Rattle.channel_model.specs.Asking.{new_request, asks}
-use Rattle.channel_model.specs.Hearing.{hears_content}
-use Rattle.channel_model.specs.Carrying.{takes}
-use Rattle.channel_model.specs.Timing.{times_held, times_end, times_features}
-use Rattle.channel_model.proofs.Walking.{command-goes}
-use Rattle.channel_model.proofs.Calling.{takes-goes, timed-held, ended-held, features-timed}
-use Rattle.channel_laws.specs.OwnTalk.{command_with, command_if, exchanged, asked_between}
-use Rattle.channel_laws.specs.Runs.{Occurrence, Connects, said_on_firing, said_by_features, said_in, value_after, run_of}
-use Rattle.channel_laws.proofs.Sound.{Sound}
-use Rattle.channel_laws.proofs.Converses.{ConversesWhile}
+use Rattle.own_channel_laws.specs.talk_laws.specs.acl_fragments.specs.Pieces.{channel_of}
+use Rattle.own_channel_laws.specs.talk_laws.specs.capture.specs.Histories.{EachAfter}
+use Rattle.own_channel_laws.specs.talk_laws.specs.capture.specs.declared.flow.Flow.TheVariants.{Into}
+use Rattle.own_channel_laws.specs.talk_laws.specs.l2cap_signal.specs.Commands.{Content, reject, connection_request, connection_response, configuration_request, configuration_response, disconnection_request, disconnection_response, echo_request, echo_response, information_request, information_response}
+use Rattle.own_channel_laws.specs.talk_laws.specs.l2cap_signal.specs.Reading.{Answer as Read}
+use Rattle.own_channel_laws.specs.talk_laws.specs.link_talk.specs.Sayings.{Saying, Carried}
+use Rattle.own_channel_laws.specs.talk_laws.specs.link_talk.specs.Channels.{reading}
+use Rattle.own_channel_laws.specs.channel_model.specs.declared.errand.Errand.TheVariants as errands
+use Rattle.own_channel_laws.specs.channel_model.specs.Value.{Stage, Requested, Held, Channels}
+use Rattle.own_channel_laws.specs.channel_model.specs.Policies.{Policy}
+use Rattle.own_channel_laws.specs.channel_model.specs.Asking.{new_request, asks}
+use Rattle.own_channel_laws.specs.channel_model.specs.Hearing.{hears_content}
+use Rattle.own_channel_laws.specs.channel_model.specs.Carrying.{takes}
+use Rattle.own_channel_laws.specs.channel_model.specs.Timing.{times_held, times_end, times_features}
+use Rattle.own_channel_laws.specs.channel_model.proofs.Walking.{command-goes}
+use Rattle.own_channel_laws.specs.channel_model.proofs.Calling.{takes-goes, timed-held, ended-held, features-timed}
+use Rattle.own_channel_laws.specs.OwnTalk.{command_with, command_if, exchanged, asked_between}
+use Rattle.own_channel_laws.specs.Runs.{Occurrence, Connects, said_on_firing, said_by_features, said_in, value_after, run_of}
+use Rattle.own_channel_laws.proofs.Sound.{Sound}
+use Rattle.own_channel_laws.proofs.Converses.{ConversesWhile}
 use Rattle.channel_laws.proofs.Placing.{follows-next, responds-next, takes-next, times-next, timed-end-next, features-next, single-next}
 
 -- ---- nothing is granted

@@ -4,50 +4,50 @@ use Rattle.std.specs.Prelude.{find, filter, drop, map, option_map, option_to_lis
 use Rattle.std.specs.List.{cons_option}
 use Rattle.std.proofs.lemmas.Bool.{eqb-true}
 use Rattle.std.proofs.lemmas.List.Elements.{filter_map-append}
-use Rattle.talk_laws.specs.bt_base.proofs.OctetLemmas.{le16-number}
-use Rattle.talk_laws.specs.acl_fragments.specs.Pieces.{channel_of}
-use Rattle.talk_laws.specs.capture.specs.declared.flow.Flow.TheVariants.{Out, Into}
-use Rattle.talk_laws.specs.l2cap_signal.specs.Reading.{answers}
-use Rattle.talk_laws.specs.l2cap_config.specs.declared.wish.Agreed.{Agreed}
-use Rattle.talk_laws.specs.ertm_frames.specs.Frames.{PlainFrame}
-use Rattle.talk_laws.specs.ertm_frames.specs.Reading.{frame_in}
-use Rattle.talk_laws.specs.ertm_frames.specs.Picking.{In, outs}
-use Rattle.talk_laws.specs.ertm_frames.proofs.Telling.{outs-same}
-use Rattle.talk_laws.specs.link_talk.specs.declared.channel.Channel.{Channel}
-use Rattle.talk_laws.specs.link_talk.specs.declared.party.Party.{Party}
-use Rattle.talk_laws.specs.link_talk.specs.Sayings.{Saying, Carried}
-use Rattle.talk_laws.specs.link_talk.specs.Setups.{is_set}
-use Rattle.talk_laws.specs.link_talk.specs.Channels.{Entry, is_there, reading}
-use Rattle.talk_laws.specs.link_talk.specs.Carriages.{is_passed, is_held, carried}
-use Rattle.talk_laws.specs.link_talk.specs.Accounts.{frames_passed}
-use Rattle.channel_model.specs.Value.{Carrier, Plain, Retransmitting, Setup, Stage, Requested, Connected, Leaving, Closing, Crossed, Held, Channels}
-use Rattle.channel_model.specs.Policies.{Policy}
-use Rattle.channel_model.specs.Changing.{has_own, held_at, is_open, setup_of}
-use Rattle.channel_model.specs.Carrying.{Up, Nothing, sdu_at, up_by, up_on, up_at, takes}
-use Rattle.channel_model.specs.Hearing.{hears_commands, hears, up}
-use Rattle.channel_model.specs.Giving.{headed}
-use Rattle.channel_model.specs.Calls.{setup_on, open_carrier, carrier_if, carrier_at, carrier_mtu, peer_mtu, connected, asks_features, disconnected, sends_on, sends_held, sends, after_event}
-use Rattle.channel_model.specs.Timing.{timed_out}
-use Rattle.channel_model.proofs.Lookups.{own_of, eqb-same, found-has, find-placed}
-use Rattle.channel_model.proofs.Going.{Walks}
-use Rattle.channel_model.proofs.Walking.{found-own, commands-go}
-use Rattle.channel_model.proofs.Calling.{connected-goes, asks-features-goes, disconnected-goes, timed-goes}
-use Rattle.channel_laws.specs.OwnTalk.{asked_between, said_with_all}
-use Rattle.channel_laws.specs.Runs.{Occurrence, Comes, Connects, AsksFeatures, Disconnects, Sends, Gives, Fires, Tells, peer_at, given_up, said_by_channels, said_by_carrier, said_in, sdu_up, sdus_up}
-use Rattle.channel_laws.specs.Views.{peer_of, read_at}
-use Rattle.channel_laws.specs.Frames.{IsUttered}
+use Rattle.own_channel_laws.specs.talk_laws.specs.bt_base.proofs.OctetLemmas.{le16-number}
+use Rattle.own_channel_laws.specs.talk_laws.specs.acl_fragments.specs.Pieces.{channel_of}
+use Rattle.own_channel_laws.specs.talk_laws.specs.capture.specs.declared.flow.Flow.TheVariants.{Out, Into}
+use Rattle.own_channel_laws.specs.talk_laws.specs.l2cap_signal.specs.Reading.{answers}
+use Rattle.own_channel_laws.specs.talk_laws.specs.l2cap_config.specs.declared.wish.Agreed.{Agreed}
+use Rattle.own_channel_laws.specs.talk_laws.specs.ertm_frames.specs.Frames.{PlainFrame}
+use Rattle.own_channel_laws.specs.talk_laws.specs.ertm_frames.specs.Reading.{frame_in}
+use Rattle.own_channel_laws.specs.talk_laws.specs.ertm_frames.specs.Picking.{In, outs}
+use Rattle.own_channel_laws.specs.talk_laws.specs.ertm_frames.proofs.Telling.{outs-same}
+use Rattle.own_channel_laws.specs.talk_laws.specs.link_talk.specs.declared.channel.Channel.{Channel}
+use Rattle.own_channel_laws.specs.talk_laws.specs.link_talk.specs.declared.party.Party.{Party}
+use Rattle.own_channel_laws.specs.talk_laws.specs.link_talk.specs.Sayings.{Saying, Carried}
+use Rattle.own_channel_laws.specs.talk_laws.specs.link_talk.specs.Setups.{is_set}
+use Rattle.own_channel_laws.specs.talk_laws.specs.link_talk.specs.Channels.{Entry, is_there, reading}
+use Rattle.own_channel_laws.specs.talk_laws.specs.link_talk.specs.Carriages.{is_passed, is_held, carried}
+use Rattle.own_channel_laws.specs.talk_laws.specs.link_talk.specs.Accounts.{frames_passed}
+use Rattle.own_channel_laws.specs.channel_model.specs.Value.{Carrier, Plain, Retransmitting, Setup, Stage, Requested, Connected, Leaving, Closing, Crossed, Held, Channels}
+use Rattle.own_channel_laws.specs.channel_model.specs.Policies.{Policy}
+use Rattle.own_channel_laws.specs.channel_model.specs.Changing.{has_own, held_at, is_open, setup_of}
+use Rattle.own_channel_laws.specs.channel_model.specs.Carrying.{Up, Nothing, sdu_at, up_by, up_on, up_at, takes}
+use Rattle.own_channel_laws.specs.channel_model.specs.Hearing.{hears_commands, hears, up}
+use Rattle.own_channel_laws.specs.channel_model.specs.Giving.{headed}
+use Rattle.own_channel_laws.specs.channel_model.specs.Calls.{setup_on, open_carrier, carrier_if, carrier_at, carrier_mtu, peer_mtu, connected, asks_features, disconnected, sends_on, sends_held, sends, after_event}
+use Rattle.own_channel_laws.specs.channel_model.specs.Timing.{timed_out}
+use Rattle.own_channel_laws.specs.channel_model.proofs.Lookups.{own_of, eqb-same, found-has, find-placed}
+use Rattle.own_channel_laws.specs.channel_model.proofs.Going.{Walks}
+use Rattle.own_channel_laws.specs.channel_model.proofs.Walking.{found-own, commands-go}
+use Rattle.own_channel_laws.specs.channel_model.proofs.Calling.{connected-goes, asks-features-goes, disconnected-goes, timed-goes}
+use Rattle.own_channel_laws.specs.OwnTalk.{asked_between, said_with_all}
+use Rattle.own_channel_laws.specs.Runs.{Occurrence, Comes, Connects, AsksFeatures, Disconnects, Sends, Gives, Fires, Tells, peer_at, given_up, said_by_channels, said_by_carrier, said_in, sdu_up, sdus_up}
+use Rattle.own_channel_laws.specs.Views.{peer_of, read_at}
+use Rattle.own_channel_laws.specs.Frames.{IsUttered}
 use Rattle.channel_laws.specs.Pairs.{Pair, is_alone, occurs, with_near}
 use Rattle.channel_laws.specs.Common.{mirrored}
 use Rattle.channel_laws.specs.Pipes.{IsTakeable, Suits}
-use Rattle.channel_laws.proofs.Sound.{ReadsBy, Reads as IsReadAs, Sound}
-use Rattle.channel_laws.proofs.Running.{IsSound}
-use Rattle.channel_laws.proofs.Keeping.{KeepsOn, walks-keep}
-use Rattle.channel_laws.proofs.Signalling.{IsBare, bare-asked, bare-left, bare-with_all, bare-fired}
-use Rattle.channel_laws.proofs.Carriages.{goes_over, carried-none, counted_in}
-use Rattle.channel_laws.proofs.Taking.{takes-others}
-use Rattle.channel_laws.proofs.Receiving.{up-nothing}
-use Rattle.channel_laws.proofs.Passing.{Fired, heard_in}
-use Rattle.channel_laws.proofs.Passages.{none_more, bare-passes, into-other, into-own}
+use Rattle.own_channel_laws.proofs.Sound.{ReadsBy, Reads as IsReadAs, Sound}
+use Rattle.own_channel_laws.proofs.Running.{IsSound}
+use Rattle.own_channel_laws.proofs.Keeping.{KeepsOn, walks-keep}
+use Rattle.own_channel_laws.proofs.Signalling.{IsBare, bare-asked, bare-left, bare-with_all, bare-fired}
+use Rattle.own_channel_laws.proofs.Carriages.{goes_over, carried-none, counted_in}
+use Rattle.own_channel_laws.proofs.Taking.{takes-others}
+use Rattle.own_channel_laws.proofs.Receiving.{up-nothing}
+use Rattle.own_channel_laws.proofs.Passing.{Fired, heard_in}
+use Rattle.own_channel_laws.proofs.Passages.{none_more, bare-passes, into-other, into-own}
 use Rattle.channel_laws.proofs.Joining.{Seen, Terms, Joined, Kept, keeps-kept, joined-walks, joined-same}
 use Rattle.channel_laws.proofs.Partaking.{IsSole, IsMate, Agrees, CanHear, sdu_for, joined-takes, IsShort, SendsShort, joined-sends}
 

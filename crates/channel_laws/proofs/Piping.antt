@@ -5,26 +5,26 @@ use Rattle.std.specs.List.{AllByRecursion}
 use Rattle.std.proofs.lemmas.Bool.{eq-eqb, ne_eqb}
 use Rattle.std.proofs.lemmas.Bool.Decides.{leb_tells}
 use Rattle.std.proofs.lemmas.List.{length-take}
-use Rattle.talk_laws.specs.ertm_frames.specs.Frames.{PlainFrame}
-use Rattle.talk_laws.specs.ertm_frames.specs.Segments.{Segment}
-use Rattle.talk_laws.specs.ertm_frames.specs.Picking.{segments_in, picked}
-use Rattle.talk_laws.specs.ertm_frames.specs.Joining.{At, joined, ended, sdus_of}
-use Rattle.talk_laws.specs.ertm_frames.proofs.Longest.{ended-append}
-use Rattle.talk_laws.specs.ertm_frames.proofs.Telling.{picked-more}
-use Rattle.channel_model.specs.ertm_model.specs.declared.reason.ErtmReason.{ErtmReason}
-use Rattle.channel_model.specs.ertm_model.specs.Value.{Ertm, Kept, Poll, NoPoll, Due, Waits}
-use Rattle.channel_model.specs.ertm_model.specs.Submitting.{later_within, cut, is_busy, submitted, taking}
-use Rattle.channel_model.specs.ertm_model.specs.Giving.{Giving, PollAnswer, Acknowledgement, Rejection, Polling, Again, New, giving, given_frame, next_number, polling, closing, first_poll, poll_timed, open_timed, timed}
-use Rattle.channel_model.specs.ertm_model.specs.Hearing.{fault, heard_by, open_heard, heard, sdu_in, sdu_answer, answer_by}
-use Rattle.channel_model.specs.ertm_model.specs.declared.reason.ErtmReason.TheVariants.{RetryLimit}
-use Rattle.channel_model.specs.ertm_model.specs.Pair.{End, gave, took, near, Submit, listed, hearing_by, hearing}
-use Rattle.channel_model.specs.ertm_model.specs.Order.{Stands}
-use Rattle.channel_model.specs.ertm_model.proofs.Inverting as inverting
-use Rattle.channel_model.specs.ertm_model.proofs.Lists.{get-inside, get-none, all-both}
-use Rattle.channel_model.specs.ertm_model.proofs.Sending.{put-length}
-use Rattle.channel_model.specs.ertm_model.proofs.Standing.{no_fresh}
-use Rattle.channel_model.specs.ertm_model.proofs.Reading.{none-more}
-use Rattle.channel_model.specs.Carrying.{sdu_heard, machine_sdu}
+use Rattle.own_channel_laws.specs.talk_laws.specs.ertm_frames.specs.Frames.{PlainFrame}
+use Rattle.own_channel_laws.specs.talk_laws.specs.ertm_frames.specs.Segments.{Segment}
+use Rattle.own_channel_laws.specs.talk_laws.specs.ertm_frames.specs.Picking.{segments_in, picked}
+use Rattle.own_channel_laws.specs.talk_laws.specs.ertm_frames.specs.Joining.{At, joined, ended, sdus_of}
+use Rattle.own_channel_laws.specs.talk_laws.specs.ertm_frames.proofs.Longest.{ended-append}
+use Rattle.own_channel_laws.specs.talk_laws.specs.ertm_frames.proofs.Telling.{picked-more}
+use Rattle.own_channel_laws.specs.channel_model.specs.ertm_model.specs.declared.reason.ErtmReason.{ErtmReason}
+use Rattle.own_channel_laws.specs.channel_model.specs.ertm_model.specs.Value.{Ertm, Kept, Poll, NoPoll, Due, Waits}
+use Rattle.own_channel_laws.specs.channel_model.specs.ertm_model.specs.Submitting.{later_within, cut, is_busy, submitted, taking}
+use Rattle.own_channel_laws.specs.channel_model.specs.ertm_model.specs.Giving.{Giving, PollAnswer, Acknowledgement, Rejection, Polling, Again, New, giving, given_frame, next_number, polling, closing, first_poll, poll_timed, open_timed, timed}
+use Rattle.own_channel_laws.specs.channel_model.specs.ertm_model.specs.Hearing.{fault, heard_by, open_heard, heard, sdu_in, sdu_answer, answer_by}
+use Rattle.own_channel_laws.specs.channel_model.specs.ertm_model.specs.declared.reason.ErtmReason.TheVariants.{RetryLimit}
+use Rattle.own_channel_laws.specs.channel_model.specs.ertm_model.specs.Pair.{End, gave, took, near, Submit, listed, hearing_by, hearing}
+use Rattle.own_channel_laws.specs.channel_model.specs.ertm_model.specs.Order.{Stands}
+use Rattle.own_channel_laws.specs.channel_model.specs.ertm_model.proofs.Inverting as inverting
+use Rattle.own_channel_laws.specs.channel_model.specs.ertm_model.proofs.Lists.{get-inside, get-none, all-both}
+use Rattle.own_channel_laws.specs.channel_model.specs.ertm_model.proofs.Sending.{put-length}
+use Rattle.own_channel_laws.specs.channel_model.specs.ertm_model.proofs.Standing.{no_fresh}
+use Rattle.own_channel_laws.specs.channel_model.specs.ertm_model.proofs.Reading.{none-more}
+use Rattle.own_channel_laws.specs.channel_model.specs.Carrying.{sdu_heard, machine_sdu}
 use Rattle.channel_laws.specs.Pipes.{IsFront}
 
 -- ---- what the frames of an end say

@@ -1,41 +1,41 @@
 -- An endpoint is given to a new channel alone: whatever else happens, the next one stays.
 use Rattle.std.proofs.Common.{◌≡◌, ℕ, List, [], ◌∷◌, Bool, true, false, cond, eqb, Option, Some, None, Result, Ok, Err, refl, ◌∙◌, ◌||◌}
 use Rattle.std.specs.Prelude.{find, is_some, nat_le}
-use Rattle.talk_laws.specs.l2cap_config.specs.declared.agreement.ConfigAnswer.{ConfigAnswer}
-use Rattle.talk_laws.specs.l2cap_config.specs.declared.agreement.ConfigAnswer.TheVariants.{Accept, Unacceptable, Unknown}
-use Rattle.talk_laws.specs.l2cap_config.specs.declared.agreement.Settled.{Settled}
-use Rattle.talk_laws.specs.l2cap_config.specs.declared.agreement.Settled.TheVariants.{Accepted, Again, Wait, Never}
-use Rattle.talk_laws.specs.l2cap_config.specs.declared.options.Options.{Options}
-use Rattle.talk_laws.specs.l2cap_config.specs.declared.options.ConfigRefusal.{ConfigRefusal}
-use Rattle.talk_laws.specs.l2cap_config.specs.declared.wish.Wish.{Wish}
-use Rattle.talk_laws.specs.l2cap_config.specs.Agreement.{settled}
-use Rattle.talk_laws.specs.l2cap_config.specs.Reading.{options_read}
-use Rattle.talk_laws.specs.l2cap_signal.specs.Commands.{Content, reject, connection_request, connection_response, configuration_request, configuration_response, disconnection_request, disconnection_response, echo_request, echo_response, information_request, information_response}
-use Rattle.channel_model.specs.ertm_model.specs.declared.reason.ErtmReason.{ErtmReason}
-use Rattle.channel_model.specs.ertm_model.specs.Value.{Ertm}
-use Rattle.channel_model.specs.ertm_model.specs.Giving.{timed}
-use Rattle.channel_model.specs.declared.errand.Errand.{Errand}
-use Rattle.channel_model.specs.declared.errand.Errand.TheVariants as errands
-use Rattle.channel_model.specs.declared.event.ChannelEvent.TheVariants as events
-use Rattle.channel_model.specs.declared.event.CloseReason.{CloseReason}
-use Rattle.channel_model.specs.declared.event.CloseReason.TheVariants.{Refused, NoAgreement, RetryLimit, OwnClosed}
-use Rattle.channel_model.specs.Value.{Request, Queued, Answer, Ask, Own, Unasked, Asking, Granted, Carrier, Plain, Retransmitting, Setup, Stage, Requested, Connected, Leaving, Closing, Crossed, Held, Channels}
-use Rattle.channel_model.specs.Policies.{Policy}
-use Rattle.channel_model.specs.Changing.{held_at, setup_of, with_setup, to_setup, is_peer, forgets, tells, is_leaving}
-use Rattle.channel_model.specs.Asking.{Fired, StillDue, OnceMore, Spent, fired, asks, asks_options, new_request}
-use Rattle.channel_model.specs.Closing.{closes_at, closes, peer_closes_at, ends_at, ends}
-use Rattle.channel_model.specs.Configuring.{Verdict, NoChannel, TooLate, Unreadable, Incomplete, Judged, verdict, accepts_with, accepted_setup, refused_setup, follows_answer, follows_verdict, opens_if, granted_setup}
-use Rattle.channel_model.specs.Following.{follows_setup, follows_configuration, follows_disconnection, follows}
-use Rattle.channel_model.specs.Responses.{connects, is_fresh_endpoint, hears_connected, hears_grant_at, hears_grant, renewed_setup, hears_settled, hears_options, is_asked, hears_response_on, hears_response, hears_end, has_identifier, hears_features, features_in}
-use Rattle.channel_model.specs.Hearing.{hears_content}
-use Rattle.channel_model.specs.Carrying.{reason_of, settles_machine, read_by, machine_heard, carries, is_taken_with, opens_with, takes_with, takes_on, takes_held, takes}
-use Rattle.channel_model.specs.Timing.{fires, times_carrier, times_setup, times_stage, times_held, loses_end, times_end_at, times_end, loses_features, times_features}
-use Rattle.channel_model.specs.Giving.{connection_given, configuration_given, disconnection_given, stage_given, counted, carrier_spent, held_given, queue_given, gives}
-use Rattle.channel_model.specs.Calls.{asks_features, disconnected_at, disconnected_held, sends_on, sends_held}
-use Rattle.channel_laws.specs.Runs.{Occurrence, Comes, Connects, AsksFeatures, Disconnects, Sends, Gives, Fires, Tells, value_after}
+use Rattle.own_channel_laws.specs.talk_laws.specs.l2cap_config.specs.declared.agreement.ConfigAnswer.{ConfigAnswer}
+use Rattle.own_channel_laws.specs.talk_laws.specs.l2cap_config.specs.declared.agreement.ConfigAnswer.TheVariants.{Accept, Unacceptable, Unknown}
+use Rattle.own_channel_laws.specs.talk_laws.specs.l2cap_config.specs.declared.agreement.Settled.{Settled}
+use Rattle.own_channel_laws.specs.talk_laws.specs.l2cap_config.specs.declared.agreement.Settled.TheVariants.{Accepted, Again, Wait, Never}
+use Rattle.own_channel_laws.specs.talk_laws.specs.l2cap_config.specs.declared.options.Options.{Options}
+use Rattle.own_channel_laws.specs.talk_laws.specs.l2cap_config.specs.declared.options.ConfigRefusal.{ConfigRefusal}
+use Rattle.own_channel_laws.specs.talk_laws.specs.l2cap_config.specs.declared.wish.Wish.{Wish}
+use Rattle.own_channel_laws.specs.talk_laws.specs.l2cap_config.specs.Agreement.{settled}
+use Rattle.own_channel_laws.specs.talk_laws.specs.l2cap_config.specs.Reading.{options_read}
+use Rattle.own_channel_laws.specs.talk_laws.specs.l2cap_signal.specs.Commands.{Content, reject, connection_request, connection_response, configuration_request, configuration_response, disconnection_request, disconnection_response, echo_request, echo_response, information_request, information_response}
+use Rattle.own_channel_laws.specs.channel_model.specs.ertm_model.specs.declared.reason.ErtmReason.{ErtmReason}
+use Rattle.own_channel_laws.specs.channel_model.specs.ertm_model.specs.Value.{Ertm}
+use Rattle.own_channel_laws.specs.channel_model.specs.ertm_model.specs.Giving.{timed}
+use Rattle.own_channel_laws.specs.channel_model.specs.declared.errand.Errand.{Errand}
+use Rattle.own_channel_laws.specs.channel_model.specs.declared.errand.Errand.TheVariants as errands
+use Rattle.own_channel_laws.specs.channel_model.specs.declared.event.ChannelEvent.TheVariants as events
+use Rattle.own_channel_laws.specs.channel_model.specs.declared.event.CloseReason.{CloseReason}
+use Rattle.own_channel_laws.specs.channel_model.specs.declared.event.CloseReason.TheVariants.{Refused, NoAgreement, RetryLimit, OwnClosed}
+use Rattle.own_channel_laws.specs.channel_model.specs.Value.{Request, Queued, Answer, Ask, Own, Unasked, Asking, Granted, Carrier, Plain, Retransmitting, Setup, Stage, Requested, Connected, Leaving, Closing, Crossed, Held, Channels}
+use Rattle.own_channel_laws.specs.channel_model.specs.Policies.{Policy}
+use Rattle.own_channel_laws.specs.channel_model.specs.Changing.{held_at, setup_of, with_setup, to_setup, is_peer, forgets, tells, is_leaving}
+use Rattle.own_channel_laws.specs.channel_model.specs.Asking.{Fired, StillDue, OnceMore, Spent, fired, asks, asks_options, new_request}
+use Rattle.own_channel_laws.specs.channel_model.specs.Closing.{closes_at, closes, peer_closes_at, ends_at, ends}
+use Rattle.own_channel_laws.specs.channel_model.specs.Configuring.{Verdict, NoChannel, TooLate, Unreadable, Incomplete, Judged, verdict, accepts_with, accepted_setup, refused_setup, follows_answer, follows_verdict, opens_if, granted_setup}
+use Rattle.own_channel_laws.specs.channel_model.specs.Following.{follows_setup, follows_configuration, follows_disconnection, follows}
+use Rattle.own_channel_laws.specs.channel_model.specs.Responses.{connects, is_fresh_endpoint, hears_connected, hears_grant_at, hears_grant, renewed_setup, hears_settled, hears_options, is_asked, hears_response_on, hears_response, hears_end, has_identifier, hears_features, features_in}
+use Rattle.own_channel_laws.specs.channel_model.specs.Hearing.{hears_content}
+use Rattle.own_channel_laws.specs.channel_model.specs.Carrying.{reason_of, settles_machine, read_by, machine_heard, carries, is_taken_with, opens_with, takes_with, takes_on, takes_held, takes}
+use Rattle.own_channel_laws.specs.channel_model.specs.Timing.{fires, times_carrier, times_setup, times_stage, times_held, loses_end, times_end_at, times_end, loses_features, times_features}
+use Rattle.own_channel_laws.specs.channel_model.specs.Giving.{connection_given, configuration_given, disconnection_given, stage_given, counted, carrier_spent, held_given, queue_given, gives}
+use Rattle.own_channel_laws.specs.channel_model.specs.Calls.{asks_features, disconnected_at, disconnected_held, sends_on, sends_held}
+use Rattle.own_channel_laws.specs.Runs.{Occurrence, Comes, Connects, AsksFeatures, Disconnects, Sends, Gives, Fires, Tells, value_after}
 use Rattle.channel_laws.specs.Singly.{AsksForNoChannel}
-use Rattle.channel_laws.proofs.Converses.{is_single}
-use Rattle.channel_laws.proofs.Replying.{is_response}
+use Rattle.own_channel_laws.proofs.Converses.{is_single}
+use Rattle.own_channel_laws.proofs.Replying.{is_response}
 
 -- ---- steps of one channel
 

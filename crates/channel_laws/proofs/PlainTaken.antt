@@ -3,31 +3,31 @@ use Rattle.std.proofs.Common.{◌≡◌, ℕ, ◌<◌, List, [], ◌∷◌, ◌+
 use Rattle.std.specs.Prelude.{unwrap_or}
 use Rattle.std.proofs.lemmas.Bool.{eqb-true}
 use Rattle.std.proofs.lemmas.List.Sums.{fold-append}
-use Rattle.talk_laws.specs.bt_base.proofs.OctetLemmas.{le16-number}
-use Rattle.talk_laws.specs.acl_fragments.specs.Pieces.{channel_of}
-use Rattle.talk_laws.specs.capture.specs.declared.flow.Flow.TheVariants.{Out, Into}
-use Rattle.talk_laws.specs.capture.specs.Histories.{EachAfter}
-use Rattle.talk_laws.specs.capture.proofs.HistoryLaws.{given_by-more}
-use Rattle.talk_laws.specs.l2cap_signal.specs.Reading.{answers}
-use Rattle.talk_laws.specs.l2cap_config.specs.declared.wish.Mode.{Mode}
-use Rattle.talk_laws.specs.l2cap_config.specs.declared.wish.Mode.TheVariants.{Basic, Enhanced}
-use Rattle.talk_laws.specs.link_talk.specs.declared.channel.Channel.{Channel}
-use Rattle.talk_laws.specs.link_talk.specs.Sayings.{Saying, Carried}
-use Rattle.talk_laws.specs.link_talk.specs.Setups.{is_set}
-use Rattle.talk_laws.specs.link_talk.specs.Channels.{Entry, is_there, reading}
-use Rattle.talk_laws.specs.link_talk.specs.Carriages.{is_held, is_passed, takes as takes_on_it, pdus_of, entry_mode, mode_of}
-use Rattle.channel_model.specs.Value.{Carrier, Plain, Retransmitting, Setup, Held, Channels}
-use Rattle.channel_model.specs.Policies.{Policy}
-use Rattle.channel_model.specs.Changing.{held_at, is_open, setup_of}
-use Rattle.channel_model.specs.Carrying.{takes}
-use Rattle.channel_model.specs.Giving.{Given, Signal, Whole, Framed, headed, carrier_gives, next_given}
-use Rattle.channel_model.specs.Calls.{setup_on, carrier_if, open_carrier, carrier_at, connected, asks_features, disconnected}
-use Rattle.channel_model.proofs.Lookups.{eqb-same}
-use Rattle.channel_laws.specs.OwnTalk.{asked_between, said_with_all}
-use Rattle.channel_laws.specs.Runs.{Occurrence, Comes, Connects, AsksFeatures, Disconnects, Sends, Gives, Fires, Tells, peer_at, said_by_carrier, said_as, said_in, sdus_up, Run, new_link, run_on, run_of}
-use Rattle.channel_laws.specs.Views.{read_at}
-use Rattle.channel_laws.specs.Frames.{IsSpelled, IsUttered, AreUttered}
-use Rattle.channel_laws.specs.Endpoints.{IsOf}
+use Rattle.own_channel_laws.specs.talk_laws.specs.bt_base.proofs.OctetLemmas.{le16-number}
+use Rattle.own_channel_laws.specs.talk_laws.specs.acl_fragments.specs.Pieces.{channel_of}
+use Rattle.own_channel_laws.specs.talk_laws.specs.capture.specs.declared.flow.Flow.TheVariants.{Out, Into}
+use Rattle.own_channel_laws.specs.talk_laws.specs.capture.specs.Histories.{EachAfter}
+use Rattle.own_channel_laws.specs.talk_laws.specs.capture.proofs.HistoryLaws.{given_by-more}
+use Rattle.own_channel_laws.specs.talk_laws.specs.l2cap_signal.specs.Reading.{answers}
+use Rattle.own_channel_laws.specs.talk_laws.specs.l2cap_config.specs.declared.wish.Mode.{Mode}
+use Rattle.own_channel_laws.specs.talk_laws.specs.l2cap_config.specs.declared.wish.Mode.TheVariants.{Basic, Enhanced}
+use Rattle.own_channel_laws.specs.talk_laws.specs.link_talk.specs.declared.channel.Channel.{Channel}
+use Rattle.own_channel_laws.specs.talk_laws.specs.link_talk.specs.Sayings.{Saying, Carried}
+use Rattle.own_channel_laws.specs.talk_laws.specs.link_talk.specs.Setups.{is_set}
+use Rattle.own_channel_laws.specs.talk_laws.specs.link_talk.specs.Channels.{Entry, is_there, reading}
+use Rattle.own_channel_laws.specs.talk_laws.specs.link_talk.specs.Carriages.{is_held, is_passed, takes as takes_on_it, pdus_of, entry_mode, mode_of}
+use Rattle.own_channel_laws.specs.channel_model.specs.Value.{Carrier, Plain, Retransmitting, Setup, Held, Channels}
+use Rattle.own_channel_laws.specs.channel_model.specs.Policies.{Policy}
+use Rattle.own_channel_laws.specs.channel_model.specs.Changing.{held_at, is_open, setup_of}
+use Rattle.own_channel_laws.specs.channel_model.specs.Carrying.{takes}
+use Rattle.own_channel_laws.specs.channel_model.specs.Giving.{Given, Signal, Whole, Framed, headed, carrier_gives, next_given}
+use Rattle.own_channel_laws.specs.channel_model.specs.Calls.{setup_on, carrier_if, open_carrier, carrier_at, connected, asks_features, disconnected}
+use Rattle.own_channel_laws.specs.channel_model.proofs.Lookups.{eqb-same}
+use Rattle.own_channel_laws.specs.OwnTalk.{asked_between, said_with_all}
+use Rattle.own_channel_laws.specs.Runs.{Occurrence, Comes, Connects, AsksFeatures, Disconnects, Sends, Gives, Fires, Tells, peer_at, said_by_carrier, said_as, said_in, sdus_up, Run, new_link, run_on, run_of}
+use Rattle.own_channel_laws.specs.Views.{read_at}
+use Rattle.own_channel_laws.specs.Frames.{IsSpelled, IsUttered, AreUttered}
+use Rattle.own_channel_laws.specs.Endpoints.{IsOf}
 use Rattle.channel_laws.specs.Pairs.{Pair, Near, Far, pair_of}
 use Rattle.channel_laws.specs.Common.{mirrored}
 use Rattle.channel_laws.specs.Pipes.{IsFront}
@@ -35,21 +35,21 @@ use Rattle.channel_laws.specs.Taken.{is_free, taken_in, taken_of}
 use Rattle.channel_laws.specs.Delivered.{IsRunBy}
 use Rattle.channel_laws.specs.PlainTaken.{PlainTakenGoesOut, PlainTakenIsDelivered}
 use Rattle.channel_laws.proofs.Arrived.{sent_are}
-use Rattle.channel_laws.proofs.Both.{and-left, and-right}
-use Rattle.channel_laws.proofs.Carriages.{goes_over, carried-none}
+use Rattle.own_channel_laws.proofs.Both.{and-left, and-right}
+use Rattle.own_channel_laws.proofs.Carriages.{goes_over, carried-none}
 use Rattle.channel_laws.proofs.Delivering.{sent_on, sent-more, sent-elsewhere, sent-heard, sent-bare}
 use Rattle.channel_laws.proofs.Ferrying.{IsBasic}
 use Rattle.channel_laws.proofs.Flowing.{enhanced-accepted}
-use Rattle.channel_laws.proofs.Holding.{IsRead, is-read, set-is}
+use Rattle.own_channel_laws.proofs.Holding.{IsRead, is-read, set-is}
 use Rattle.channel_laws.proofs.Mating.{same_channel}
-use Rattle.channel_laws.proofs.Naming.{endpoints-name_one}
+use Rattle.own_channel_laws.proofs.Naming.{endpoints-name_one}
 use Rattle.channel_laws.proofs.Ordered.{front-all}
-use Rattle.channel_laws.proofs.Outgoing.{open-stated}
+use Rattle.own_channel_laws.proofs.Outgoing.{open-stated}
 use Rattle.channel_laws.proofs.OwnModes.{modes-are_own}
-use Rattle.channel_laws.proofs.Passages.{GoesOut, carried-own, spelled-frame}
-use Rattle.channel_laws.proofs.Running.{all-sound}
-use Rattle.channel_laws.proofs.Signalling.{IsBare, bare-asked, bare-left, bare-with_all, bare-fired}
-use Rattle.channel_laws.proofs.Sound.{ReadsBy, Reads, CarrierIs, Sound}
+use Rattle.own_channel_laws.proofs.Passages.{GoesOut, carried-own, spelled-frame}
+use Rattle.own_channel_laws.proofs.Running.{all-sound}
+use Rattle.own_channel_laws.proofs.Signalling.{IsBare, bare-asked, bare-left, bare-with_all, bare-fired}
+use Rattle.own_channel_laws.proofs.Sound.{ReadsBy, Reads, CarrierIs, Sound}
 use Rattle.channel_laws.proofs.Trusting.{Gives_out, queue-out}
 
 -- ---- a PDU that goes out on another channel

@@ -2,26 +2,26 @@
 use Rattle.std.proofs.Common.{◌≡◌, ℕ, ◌+◌, ◌<◌, ◌≤◌, List, [], ◌∷◌, ◌++◌, Bool, true, false, eqb, Option, Some, None, Ok, refl, sym, ap, ◌∙◌, ◌⊎◌, inl, inr, arith}
 use Rattle.std.specs.Prelude.{find, nat_lt, option_map}
 use Rattle.std.proofs.lemmas.Bool.{eqb-true, ltb-false, ltb-true}
-use Rattle.talk_laws.specs.l2cap_signal.specs.Commands.{Content}
-use Rattle.talk_laws.specs.link_talk.specs.Sayings.{Saying}
-use Rattle.channel_model.specs.declared.event.ChannelEvent.{ChannelEvent}
-use Rattle.channel_model.specs.Value.{Request, Carrier, Stage, Requested, Held, Channels}
-use Rattle.channel_model.specs.Policies.{Policy}
-use Rattle.channel_model.specs.Changing.{has_own, held_at}
-use Rattle.channel_model.specs.Following.{follows}
-use Rattle.channel_model.specs.Hearing.{hears_content}
-use Rattle.channel_model.specs.Carrying.{takes}
-use Rattle.channel_model.specs.Timing.{times_held, times_end, times_features}
-use Rattle.channel_model.proofs.Lookups.{own_of, Distinct}
-use Rattle.channel_model.proofs.Going.{staged, Moves, new_held, Walks}
-use Rattle.channel_model.proofs.Walking.{follows-goes, command-goes}
-use Rattle.channel_model.proofs.Calling.{connected-goes, asks-features-goes, disconnected-goes, sends-goes, takes-goes, timed-held, ended-held, features-timed, given-goes}
-use Rattle.channel_laws.specs.OwnTalk.{command_with}
-use Rattle.channel_laws.specs.Runs.{Occurrence, Comes, Connects, AsksFeatures, Disconnects, Sends, Gives, Fires, Tells, value_after}
+use Rattle.own_channel_laws.specs.talk_laws.specs.l2cap_signal.specs.Commands.{Content}
+use Rattle.own_channel_laws.specs.talk_laws.specs.link_talk.specs.Sayings.{Saying}
+use Rattle.own_channel_laws.specs.channel_model.specs.declared.event.ChannelEvent.{ChannelEvent}
+use Rattle.own_channel_laws.specs.channel_model.specs.Value.{Request, Carrier, Stage, Requested, Held, Channels}
+use Rattle.own_channel_laws.specs.channel_model.specs.Policies.{Policy}
+use Rattle.own_channel_laws.specs.channel_model.specs.Changing.{has_own, held_at}
+use Rattle.own_channel_laws.specs.channel_model.specs.Following.{follows}
+use Rattle.own_channel_laws.specs.channel_model.specs.Hearing.{hears_content}
+use Rattle.own_channel_laws.specs.channel_model.specs.Carrying.{takes}
+use Rattle.own_channel_laws.specs.channel_model.specs.Timing.{times_held, times_end, times_features}
+use Rattle.own_channel_laws.specs.channel_model.proofs.Lookups.{own_of, Distinct}
+use Rattle.own_channel_laws.specs.channel_model.proofs.Going.{staged, Moves, new_held, Walks}
+use Rattle.own_channel_laws.specs.channel_model.proofs.Walking.{follows-goes, command-goes}
+use Rattle.own_channel_laws.specs.channel_model.proofs.Calling.{connected-goes, asks-features-goes, disconnected-goes, sends-goes, takes-goes, timed-held, ended-held, features-timed, given-goes}
+use Rattle.own_channel_laws.specs.OwnTalk.{command_with}
+use Rattle.own_channel_laws.specs.Runs.{Occurrence, Comes, Connects, AsksFeatures, Disconnects, Sends, Gives, Fires, Tells, value_after}
 use Rattle.channel_laws.specs.Belonging.{HasAsked}
-use Rattle.channel_laws.proofs.Inviting.{held_others}
-use Rattle.channel_laws.proofs.Saying.{stands-either}
-use Rattle.channel_laws.proofs.Converses.{is_single, IsAlike}
+use Rattle.own_channel_laws.proofs.Inviting.{held_others}
+use Rattle.own_channel_laws.proofs.Saying.{stands-either}
+use Rattle.own_channel_laws.proofs.Converses.{is_single, IsAlike}
 
 -- ---- a channel keeps its PSM
 

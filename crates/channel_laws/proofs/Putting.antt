@@ -3,31 +3,31 @@ use Rattle.std.proofs.Common.{◌≡◌, ℕ, ◌+◌, ◌-◌, ◌%◌, ◌<◌
 use Rattle.std.specs.Prelude.{not, nat_le}
 use Rattle.std.specs.List.{flat_map, cons_option}
 use Rattle.std.proofs.lemmas.Grind.{flat_map-append}
-use Rattle.talk_laws.specs.ertm_frames.specs.Frames.{PlainFrame, information, supervisory}
-use Rattle.talk_laws.specs.ertm_frames.specs.Answers.{Answer}
-use Rattle.talk_laws.specs.ertm_frames.specs.Reading.{answer_in, frame_by, frames_in}
-use Rattle.talk_laws.specs.ertm_frames.specs.Segments.{Segment}
-use Rattle.talk_laws.specs.ertm_frames.specs.Joining.{At, joined, ended, sdus_of}
-use Rattle.talk_laws.specs.ertm_frames.specs.Picking.{has_number, segments_in, picked, last_req, Passage, Out, outs, ins}
-use Rattle.talk_laws.specs.ertm_frames.proofs.Longest.{ended-append, sdu_joins}
-use Rattle.talk_laws.specs.ertm_frames.proofs.Telling.{picked_one, picked-more, outs-more}
-use Rattle.channel_model.specs.ertm_model.specs.declared.reason.ErtmReason.{ErtmReason}
-use Rattle.channel_model.specs.ertm_model.specs.declared.reason.ErtmReason.TheVariants.{RetryLimit}
-use Rattle.channel_model.specs.ertm_model.specs.Value.{Ertm, Kept, Poll, NoPoll, Due, Waits, window_used, new_ertm}
-use Rattle.talk_laws.specs.l2cap_config.specs.declared.wish.Agreed.{Agreed}
-use Rattle.channel_model.specs.ertm_model.specs.Submitting.{cut, is_busy, taking}
-use Rattle.channel_model.specs.ertm_model.specs.Giving.{Giving, PollAnswer, Acknowledgement, Rejection, Polling, Again, New, giving, given_frame, after_giving, frame_by as given_by, after_by, next_frame, after_frame, polling, closing, first_poll, poll_timed, open_timed, timed}
-use Rattle.channel_model.specs.ertm_model.specs.Runs.{new_course, all_happen}
-use Rattle.channel_model.specs.ertm_model.specs.Hearing.{fault, heard_by, open_heard, refusal_fault, closed_by}
-use Rattle.channel_model.specs.ertm_model.proofs.Coursing.{answers_small}
-use Rattle.channel_model.specs.ertm_model.proofs.Cutting.{cut-spells}
-use Rattle.channel_model.specs.ertm_model.proofs.Inverting as inverting
-use Rattle.channel_model.specs.ertm_model.proofs.Lists.{again-length}
-use Rattle.channel_model.specs.ertm_model.proofs.Reading.{none-more}
-use Rattle.channel_model.specs.ertm_model.proofs.Standing.{no_fresh}
-use Rattle.channel_model.specs.Carrying.{machine_heard}
+use Rattle.own_channel_laws.specs.talk_laws.specs.ertm_frames.specs.Frames.{PlainFrame, information, supervisory}
+use Rattle.own_channel_laws.specs.talk_laws.specs.ertm_frames.specs.Answers.{Answer}
+use Rattle.own_channel_laws.specs.talk_laws.specs.ertm_frames.specs.Reading.{answer_in, frame_by, frames_in}
+use Rattle.own_channel_laws.specs.talk_laws.specs.ertm_frames.specs.Segments.{Segment}
+use Rattle.own_channel_laws.specs.talk_laws.specs.ertm_frames.specs.Joining.{At, joined, ended, sdus_of}
+use Rattle.own_channel_laws.specs.talk_laws.specs.ertm_frames.specs.Picking.{has_number, segments_in, picked, last_req, Passage, Out, outs, ins}
+use Rattle.own_channel_laws.specs.talk_laws.specs.ertm_frames.proofs.Longest.{ended-append, sdu_joins}
+use Rattle.own_channel_laws.specs.talk_laws.specs.ertm_frames.proofs.Telling.{picked_one, picked-more, outs-more}
+use Rattle.own_channel_laws.specs.channel_model.specs.ertm_model.specs.declared.reason.ErtmReason.{ErtmReason}
+use Rattle.own_channel_laws.specs.channel_model.specs.ertm_model.specs.declared.reason.ErtmReason.TheVariants.{RetryLimit}
+use Rattle.own_channel_laws.specs.channel_model.specs.ertm_model.specs.Value.{Ertm, Kept, Poll, NoPoll, Due, Waits, window_used, new_ertm}
+use Rattle.own_channel_laws.specs.talk_laws.specs.l2cap_config.specs.declared.wish.Agreed.{Agreed}
+use Rattle.own_channel_laws.specs.channel_model.specs.ertm_model.specs.Submitting.{cut, is_busy, taking}
+use Rattle.own_channel_laws.specs.channel_model.specs.ertm_model.specs.Giving.{Giving, PollAnswer, Acknowledgement, Rejection, Polling, Again, New, giving, given_frame, after_giving, frame_by as given_by, after_by, next_frame, after_frame, polling, closing, first_poll, poll_timed, open_timed, timed}
+use Rattle.own_channel_laws.specs.channel_model.specs.ertm_model.specs.Runs.{new_course, all_happen}
+use Rattle.own_channel_laws.specs.channel_model.specs.ertm_model.specs.Hearing.{fault, heard_by, open_heard, refusal_fault, closed_by}
+use Rattle.own_channel_laws.specs.channel_model.specs.ertm_model.proofs.Coursing.{answers_small}
+use Rattle.own_channel_laws.specs.channel_model.specs.ertm_model.proofs.Cutting.{cut-spells}
+use Rattle.own_channel_laws.specs.channel_model.specs.ertm_model.proofs.Inverting as inverting
+use Rattle.own_channel_laws.specs.channel_model.specs.ertm_model.proofs.Lists.{again-length}
+use Rattle.own_channel_laws.specs.channel_model.specs.ertm_model.proofs.Reading.{none-more}
+use Rattle.own_channel_laws.specs.channel_model.specs.ertm_model.proofs.Standing.{no_fresh}
+use Rattle.own_channel_laws.specs.channel_model.specs.Carrying.{machine_heard}
 use Rattle.channel_laws.specs.Pipes.{IsFront}
-use Rattle.channel_laws.proofs.Passing.{Passing, ins_out, passing-used}
+use Rattle.own_channel_laws.proofs.Passing.{Passing, ins_out, passing-used}
 
 -- the segments of what it took are those that its frames say, and behind them those that it never gave; while its channel is not open
 -- there are none

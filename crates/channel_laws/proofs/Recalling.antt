@@ -1,40 +1,40 @@
 -- What a host remembers of the last request for a channel: it heard that request, and the response is for its endpoint.
 use Rattle.std.proofs.Common.{◌≡◌, ℕ, List, [], ◌∷◌, ◌++◌, map, drop, Bool, true, false, cond, eqb, Option, Some, None, Ok, refl, sym, ap, subst, ◌∙◌, inl, append_assoc, append-nil}
 use Rattle.std.proofs.lemmas.List.Sums.{fold-append}
-use Rattle.talk_laws.specs.capture.specs.Histories.{EachAfter}
-use Rattle.talk_laws.specs.capture.proofs.HistoryLaws.{each_after-more}
+use Rattle.own_channel_laws.specs.talk_laws.specs.capture.specs.Histories.{EachAfter}
+use Rattle.own_channel_laws.specs.talk_laws.specs.capture.proofs.HistoryLaws.{each_after-more}
 use Rattle.std.specs.Prelude.{option_map, option_to_list}
-use Rattle.talk_laws.specs.acl_fragments.specs.Pieces.{channel_of}
-use Rattle.talk_laws.specs.capture.specs.declared.flow.Flow.TheVariants.{Into}
-use Rattle.talk_laws.specs.l2cap_signal.specs.Commands.{Content, Command, reject, connection_request, connection_response, configuration_request, configuration_response, disconnection_request, disconnection_response, echo_request, echo_response, information_request, information_response}
-use Rattle.talk_laws.specs.l2cap_signal.specs.Reading.{answers}
-use Rattle.talk_laws.specs.link_talk.specs.Sayings.{Saying}
-use Rattle.talk_laws.specs.link_talk.specs.Sayings as sayings
-use Rattle.channel_model.specs.declared.errand.Errand.TheVariants.{Connection}
-use Rattle.channel_model.specs.declared.request_kind.RequestKind.{RequestKind}
-use Rattle.channel_model.specs.declared.request_kind.RequestKind.TheVariants as kinds
-use Rattle.channel_model.specs.Answers.{answer_to}
-use Rattle.channel_model.specs.Carrying.{takes}
-use Rattle.channel_model.specs.Changing.{held_at}
-use Rattle.channel_model.specs.Following.{follows, remembers, says, can_say, hears_new, hears_again, hears_kind}
-use Rattle.channel_model.specs.Hearing.{hears_content, hears_command, hears_commands}
-use Rattle.channel_model.specs.Policies.{Policy}
-use Rattle.channel_model.specs.Responses.{features_in}
-use Rattle.channel_model.specs.Timing.{times_held, times_end, times_channels, timed_out}
-use Rattle.channel_model.specs.Value.{Held, Remembered, Memory, Channels}
-use Rattle.channel_model.proofs.Lookups.{eqb-same}
-use Rattle.channel_laws.specs.OwnTalk.{spoken, command_with, response_by, response_to, command_if, reply_to, exchanged, asked_between, said_with_all}
-use Rattle.channel_model.specs.Calls.{has_fcs}
-use Rattle.channel_model.specs.Giving.{Given, next_given}
+use Rattle.own_channel_laws.specs.talk_laws.specs.acl_fragments.specs.Pieces.{channel_of}
+use Rattle.own_channel_laws.specs.talk_laws.specs.capture.specs.declared.flow.Flow.TheVariants.{Into}
+use Rattle.own_channel_laws.specs.talk_laws.specs.l2cap_signal.specs.Commands.{Content, Command, reject, connection_request, connection_response, configuration_request, configuration_response, disconnection_request, disconnection_response, echo_request, echo_response, information_request, information_response}
+use Rattle.own_channel_laws.specs.talk_laws.specs.l2cap_signal.specs.Reading.{answers}
+use Rattle.own_channel_laws.specs.talk_laws.specs.link_talk.specs.Sayings.{Saying}
+use Rattle.own_channel_laws.specs.talk_laws.specs.link_talk.specs.Sayings as sayings
+use Rattle.own_channel_laws.specs.channel_model.specs.declared.errand.Errand.TheVariants.{Connection}
+use Rattle.own_channel_laws.specs.channel_model.specs.declared.request_kind.RequestKind.{RequestKind}
+use Rattle.own_channel_laws.specs.channel_model.specs.declared.request_kind.RequestKind.TheVariants as kinds
+use Rattle.own_channel_laws.specs.channel_model.specs.Answers.{answer_to}
+use Rattle.own_channel_laws.specs.channel_model.specs.Carrying.{takes}
+use Rattle.own_channel_laws.specs.channel_model.specs.Changing.{held_at}
+use Rattle.own_channel_laws.specs.channel_model.specs.Following.{follows, remembers, says, can_say, hears_new, hears_again, hears_kind}
+use Rattle.own_channel_laws.specs.channel_model.specs.Hearing.{hears_content, hears_command, hears_commands}
+use Rattle.own_channel_laws.specs.channel_model.specs.Policies.{Policy}
+use Rattle.own_channel_laws.specs.channel_model.specs.Responses.{features_in}
+use Rattle.own_channel_laws.specs.channel_model.specs.Timing.{times_held, times_end, times_channels, timed_out}
+use Rattle.own_channel_laws.specs.channel_model.specs.Value.{Held, Remembered, Memory, Channels}
+use Rattle.own_channel_laws.specs.channel_model.proofs.Lookups.{eqb-same}
+use Rattle.own_channel_laws.specs.OwnTalk.{spoken, command_with, response_by, response_to, command_if, reply_to, exchanged, asked_between, said_with_all}
+use Rattle.own_channel_laws.specs.channel_model.specs.Calls.{has_fcs}
+use Rattle.own_channel_laws.specs.channel_model.specs.Giving.{Given, next_given}
 use Rattle.channel_laws.specs.Belonging.{AreRead, IsRead}
 use Rattle.channel_laws.specs.Ends.{end_at}
 use Rattle.channel_laws.specs.Pairs.{Pair, new_pair, Happening, Acts, Puts, Takes, Repeats, Loses, Damages, is_alone, occurs, with_near, puts, let_go, takes_first, repeats_first, loses_first, damages_first, happens_near, Side, Near, Far, turned, Turn, happens_at, pair_after, pair_of}
 use Rattle.channel_laws.specs.Responding.{Recalls}
-use Rattle.channel_laws.specs.Runs.{Occurrence, Comes, Connects, AsksFeatures, Disconnects, Sends, Gives, Fires, Tells, said_in, value_after, Run, run_on}
-use Rattle.channel_laws.specs.Signals.{StandsIn}
-use Rattle.channel_laws.proofs.Conversing.{says_memory, features_memory, features_lost, single_memory}
-use Rattle.channel_laws.proofs.Lasting.{follows-lasts, grant-lasts, response-lasts, end-lasts, takes-lasts, times-last, ends-last}
-use Rattle.channel_laws.proofs.Saying.{stands-left, stands-right}
+use Rattle.own_channel_laws.specs.Runs.{Occurrence, Comes, Connects, AsksFeatures, Disconnects, Sends, Gives, Fires, Tells, said_in, value_after, Run, run_on}
+use Rattle.own_channel_laws.specs.Signals.{StandsIn}
+use Rattle.own_channel_laws.proofs.Conversing.{says_memory, features_memory, features_lost, single_memory}
+use Rattle.own_channel_laws.proofs.Lasting.{follows-lasts, grant-lasts, response-lasts, end-lasts, takes-lasts, times-last, ends-last}
+use Rattle.own_channel_laws.proofs.Saying.{stands-left, stands-right}
 use Rattle.channel_laws.proofs.Sharing.{near_grows}
 use Rattle.channel_laws.proofs.UnderWay.{IsPlainly, AllPlainly, BothPlainly, come-plainly}
 

@@ -1,28 +1,28 @@
 -- A copy of a request is replied to with a response to it.
 use Rattle.std.proofs.Common.{◌≡◌, ℕ, List, [], ◌∷◌, Bool, true, false, cond, eqb, ◌&&◌, Option, Some, None, Result, Ok, Err, refl, sym, ap, subst, ◌∙◌}
 use Rattle.std.proofs.lemmas.Bool.{eqb-true}
-use Rattle.talk_laws.specs.l2cap_signal.specs.Commands.{Content, connection_request, configuration_request, disconnection_request, disconnection_response, information_request, information_response}
-use Rattle.talk_laws.specs.l2cap_config.specs.declared.agreement.ConfigAnswer.{ConfigAnswer}
-use Rattle.talk_laws.specs.l2cap_config.specs.declared.agreement.ConfigAnswer.TheVariants.{Accept, Unacceptable, Unknown}
-use Rattle.talk_laws.specs.l2cap_config.specs.declared.options.Options.{Options}
-use Rattle.talk_laws.specs.l2cap_config.specs.declared.options.ConfigRefusal.{ConfigRefusal}
-use Rattle.talk_laws.specs.l2cap_config.specs.declared.wish.Wish.{Wish}
-use Rattle.talk_laws.specs.l2cap_config.specs.Agreement.{answered}
-use Rattle.talk_laws.specs.l2cap_config.specs.Items.{joined}
-use Rattle.talk_laws.specs.l2cap_config.specs.Reading.{options_read}
-use Rattle.channel_model.specs.declared.errand.Errand.{Errand}
-use Rattle.channel_model.specs.declared.errand.Errand.TheVariants as errands
-use Rattle.channel_model.specs.Value.{Setup, Stage, Requested, Connected, Leaving, Closing, Crossed, Held, Remembered, Channels}
-use Rattle.channel_model.specs.Policies.{Policy}
-use Rattle.channel_model.specs.Changing.{held_at, is_peer, is_open}
-use Rattle.channel_model.specs.Answers.{connection_result, connection_answer, judged_answer, configuration_answer, disconnection_by, disconnection_answer, information_answer}
-use Rattle.channel_model.specs.Configuring.{TooLate, judged_part, judged_read, judged_setup, judged_stage, verdict_on, verdict}
-use Rattle.channel_model.proofs.Lookups.{eqb-same}
+use Rattle.own_channel_laws.specs.talk_laws.specs.l2cap_signal.specs.Commands.{Content, connection_request, configuration_request, disconnection_request, disconnection_response, information_request, information_response}
+use Rattle.own_channel_laws.specs.talk_laws.specs.l2cap_config.specs.declared.agreement.ConfigAnswer.{ConfigAnswer}
+use Rattle.own_channel_laws.specs.talk_laws.specs.l2cap_config.specs.declared.agreement.ConfigAnswer.TheVariants.{Accept, Unacceptable, Unknown}
+use Rattle.own_channel_laws.specs.talk_laws.specs.l2cap_config.specs.declared.options.Options.{Options}
+use Rattle.own_channel_laws.specs.talk_laws.specs.l2cap_config.specs.declared.options.ConfigRefusal.{ConfigRefusal}
+use Rattle.own_channel_laws.specs.talk_laws.specs.l2cap_config.specs.declared.wish.Wish.{Wish}
+use Rattle.own_channel_laws.specs.talk_laws.specs.l2cap_config.specs.Agreement.{answered}
+use Rattle.own_channel_laws.specs.talk_laws.specs.l2cap_config.specs.Items.{joined}
+use Rattle.own_channel_laws.specs.talk_laws.specs.l2cap_config.specs.Reading.{options_read}
+use Rattle.own_channel_laws.specs.channel_model.specs.declared.errand.Errand.{Errand}
+use Rattle.own_channel_laws.specs.channel_model.specs.declared.errand.Errand.TheVariants as errands
+use Rattle.own_channel_laws.specs.channel_model.specs.Value.{Setup, Stage, Requested, Connected, Leaving, Closing, Crossed, Held, Remembered, Channels}
+use Rattle.own_channel_laws.specs.channel_model.specs.Policies.{Policy}
+use Rattle.own_channel_laws.specs.channel_model.specs.Changing.{held_at, is_peer, is_open}
+use Rattle.own_channel_laws.specs.channel_model.specs.Answers.{connection_result, connection_answer, judged_answer, configuration_answer, disconnection_by, disconnection_answer, information_answer}
+use Rattle.own_channel_laws.specs.channel_model.specs.Configuring.{TooLate, judged_part, judged_read, judged_setup, judged_stage, verdict_on, verdict}
+use Rattle.own_channel_laws.specs.channel_model.proofs.Lookups.{eqb-same}
 use Rattle.channel_laws.specs.Adverse.{asks_with, responds_with}
 use Rattle.channel_laws.specs.Heeded.{IsResponse}
-use Rattle.channel_laws.specs.OwnTalk.{response_by, response_to, command_if}
+use Rattle.own_channel_laws.specs.OwnTalk.{response_by, response_to, command_if}
 use Rattle.channel_laws.specs.Responding.{Recalls, RecalledOr, IsRecalledOr, HasPeer, CanRespond, CopiesHaveResponses}
-use Rattle.channel_laws.proofs.Both.{and-left, and-right}
+use Rattle.own_channel_laws.proofs.Both.{and-left, and-right}
 
 -- the answer to a question for information
 pub informed : (kind : ℕ) → responds_with errands.Features (information_answer kind) ≡ true

@@ -1,29 +1,29 @@
 -- A channel of one end is one of the other, and stays so.
 use Rattle.std.proofs.Common.{◌≡◌, ℕ, List, [], ◌∷◌, ◌++◌, Bool, true, false, cond, fold, Option, Some, None, refl, sym, ap, subst, ◌∙◌, inl, inr, append_assoc, append-nil}
 use Rattle.std.proofs.lemmas.List.Sums.{fold-append}
-use Rattle.talk_laws.specs.acl_fragments.specs.Pieces.{channel_of}
-use Rattle.talk_laws.specs.link_talk.specs.declared.channel.Channel.{Channel}
-use Rattle.talk_laws.specs.link_talk.specs.Sayings.{Saying}
-use Rattle.talk_laws.specs.link_talk.specs.Channels.{Entry, Reading, reading}
-use Rattle.channel_model.specs.Policies.{Policy}
-use Rattle.channel_model.specs.Calls.{has_fcs}
-use Rattle.channel_model.specs.Giving.{Given, next_given}
-use Rattle.channel_laws.specs.Runs.{Occurrence, Comes, Gives, said_in, Run, run_on}
-use Rattle.channel_laws.specs.Views.{read_at}
-use Rattle.channel_laws.specs.Endpoints.{IsOf}
+use Rattle.own_channel_laws.specs.talk_laws.specs.acl_fragments.specs.Pieces.{channel_of}
+use Rattle.own_channel_laws.specs.talk_laws.specs.link_talk.specs.declared.channel.Channel.{Channel}
+use Rattle.own_channel_laws.specs.talk_laws.specs.link_talk.specs.Sayings.{Saying}
+use Rattle.own_channel_laws.specs.talk_laws.specs.link_talk.specs.Channels.{Entry, Reading, reading}
+use Rattle.own_channel_laws.specs.channel_model.specs.Policies.{Policy}
+use Rattle.own_channel_laws.specs.channel_model.specs.Calls.{has_fcs}
+use Rattle.own_channel_laws.specs.channel_model.specs.Giving.{Given, next_given}
+use Rattle.own_channel_laws.specs.Runs.{Occurrence, Comes, Gives, said_in, Run, run_on}
+use Rattle.own_channel_laws.specs.Views.{read_at}
+use Rattle.own_channel_laws.specs.Endpoints.{IsOf}
 use Rattle.channel_laws.specs.Pairs.{End, Pair, new_pair, Happening, Acts, Puts, Takes, Repeats, Loses, Damages, is_alone, occurs, with_near, puts, let_go, takes_first, repeats_first, loses_first, damages_first, happens_near, Side, Near, Far, turned, Turn, happens_at, pair_after, pair_of, IsRunOf}
 use Rattle.channel_laws.specs.Ends.{end_at}
 use Rattle.channel_laws.specs.Belonging.{AreRead, said_at, HasAsked, HasGranted, Belongs}
 use Rattle.channel_laws.specs.Granted.{IsFor}
 use Rattle.channel_laws.specs.Common.{mirrored, ChannelsAreCommon}
 use Rattle.channel_laws.specs.Modes.{policy_of}
-use Rattle.channel_laws.proofs.Entries.{read-own}
-use Rattle.channel_laws.proofs.Conversing.{reading-on}
-use Rattle.channel_laws.proofs.Naming.{said-of}
+use Rattle.own_channel_laws.proofs.Entries.{read-own}
+use Rattle.own_channel_laws.proofs.Conversing.{reading-on}
+use Rattle.own_channel_laws.proofs.Naming.{said-of}
 use Rattle.channel_laws.proofs.Pairing.{each-end_runs, end-policy}
 use Rattle.channel_laws.proofs.Belonging.{wishes-belong, channels-belong}
 use Rattle.channel_laws.proofs.Bestowing.{endpoints-are_granted_once, endpoints-ask_for_one_psm}
-use Rattle.channel_laws.proofs.Petitions.{IsPetitioned, accepted-petitioned}
+use Rattle.own_channel_laws.proofs.Petitions.{IsPetitioned, accepted-petitioned}
 
 -- ---- what an end granted
 

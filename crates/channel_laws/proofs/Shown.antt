@@ -2,64 +2,64 @@
 use Rattle.std.proofs.Common.{◌≡◌, ℕ, List, [], ◌∷◌, ◌++◌, map, Bool, true, false, cond, eqb, ◌&&◌, Option, Some, None, Result, Ok, Err, refl, sym, ap, subst, ◌∙◌, inl, inr, arith, append_assoc, append-nil, ◌||◌}
 use Rattle.std.specs.Prelude.{find, option_map, option_to_list, is_some, nat_le}
 use Rattle.std.proofs.lemmas.Bool.{eqb-true}
-use Rattle.talk_laws.specs.acl_fragments.specs.Pieces.{channel_of}
-use Rattle.talk_laws.specs.capture.specs.declared.flow.Flow.TheVariants.{Into}
-use Rattle.talk_laws.specs.l2cap_signal.specs.Commands.{Command, Content, reject, connection_request, connection_response, configuration_request, configuration_response, disconnection_request, disconnection_response, echo_request, echo_response, information_request, information_response}
-use Rattle.talk_laws.specs.l2cap_signal.specs.Reading.{Answer as Read}
-use Rattle.talk_laws.specs.l2cap_config.specs.declared.options.Options.{Options}
-use Rattle.talk_laws.specs.l2cap_config.specs.declared.options.ConfigRefusal.{ConfigRefusal}
-use Rattle.talk_laws.specs.l2cap_config.specs.declared.agreement.Settled.{Settled}
-use Rattle.talk_laws.specs.l2cap_config.specs.declared.agreement.Settled.TheVariants.{Accepted, Again, Wait, Never}
-use Rattle.talk_laws.specs.l2cap_config.specs.declared.wish.Mode.{Mode}
-use Rattle.talk_laws.specs.l2cap_config.specs.declared.wish.Wish.{Wish}
-use Rattle.talk_laws.specs.l2cap_config.specs.Agreement.{settled, keeps_mode, requested}
-use Rattle.talk_laws.specs.l2cap_config.specs.Reading.{options_read}
-use Rattle.talk_laws.specs.l2cap_config.specs.Writing.{written}
-use Rattle.talk_laws.specs.link_talk.specs.declared.channel.Channel.{Channel}
-use Rattle.talk_laws.specs.link_talk.specs.Sayings.{Saying, Carried}
-use Rattle.talk_laws.specs.link_talk.specs.Sayings as sayings
-use Rattle.talk_laws.specs.link_talk.specs.Senses.{sense}
-use Rattle.talk_laws.specs.link_talk.specs.Meanings.{meant}
-use Rattle.talk_laws.specs.link_talk.specs.Setups.{Wished, setup_after}
-use Rattle.talk_laws.specs.link_talk.specs.Channels.{Entry, entry_after, is_there, Reading, reading}
-use Rattle.channel_model.specs.declared.errand.Errand.TheVariants as errands
-use Rattle.channel_model.specs.Value.{Own, Unasked, Asking, Granted, Request, Carrier, Plain, Retransmitting, Setup, Stage, Requested, Connected, Leaving, Closing, Crossed, Held, Channels}
-use Rattle.channel_model.specs.Policies.{Policy}
-use Rattle.channel_model.specs.Changing.{has_own, held_at, is_leaving, setup_of, with_setup, to_setup}
-use Rattle.channel_model.specs.Asking.{asks_options}
-use Rattle.channel_model.specs.Closing.{closes}
-use Rattle.channel_model.specs.declared.event.CloseReason.TheVariants.{NoAgreement}
-use Rattle.channel_model.specs.Carrying.{takes}
-use Rattle.channel_model.specs.Following.{follows, can_say}
-use Rattle.channel_model.specs.Responses.{renewed_setup, hears_settled, is_asked, hears_options, hears_response_on, hears_response, features_in, hears_features}
-use Rattle.channel_model.specs.Hearing.{hears_content}
-use Rattle.channel_model.specs.Timing.{times_held, times_end, times_features}
-use Rattle.channel_model.specs.Giving.{Given, Signal, Whole, Framed, next_given, after_given}
-use Rattle.channel_model.specs.Calls.{setup_on, carrier_at, connected, asks_features, disconnected, sends, after_event}
-use Rattle.channel_model.proofs.Walking.{found-own}
-use Rattle.channel_laws.specs.OwnTalk.{spoken, command_with, command_if, exchanged, asked_between}
-use Rattle.channel_laws.specs.Runs.{Occurrence, Comes, Connects, AsksFeatures, Disconnects, Sends, Gives, Fires, Tells, peer_at, given_up, features_given_up, said_again, said_on_firing, said_by_features, said_by_carrier, said_as, said_in, value_after, run_of}
-use Rattle.channel_laws.specs.Tries.{own_request}
-use Rattle.channel_laws.specs.Views.{asked_mode, read_at}
-use Rattle.channel_laws.specs.Endpoints.{IsOf}
+use Rattle.own_channel_laws.specs.talk_laws.specs.acl_fragments.specs.Pieces.{channel_of}
+use Rattle.own_channel_laws.specs.talk_laws.specs.capture.specs.declared.flow.Flow.TheVariants.{Into}
+use Rattle.own_channel_laws.specs.talk_laws.specs.l2cap_signal.specs.Commands.{Command, Content, reject, connection_request, connection_response, configuration_request, configuration_response, disconnection_request, disconnection_response, echo_request, echo_response, information_request, information_response}
+use Rattle.own_channel_laws.specs.talk_laws.specs.l2cap_signal.specs.Reading.{Answer as Read}
+use Rattle.own_channel_laws.specs.talk_laws.specs.l2cap_config.specs.declared.options.Options.{Options}
+use Rattle.own_channel_laws.specs.talk_laws.specs.l2cap_config.specs.declared.options.ConfigRefusal.{ConfigRefusal}
+use Rattle.own_channel_laws.specs.talk_laws.specs.l2cap_config.specs.declared.agreement.Settled.{Settled}
+use Rattle.own_channel_laws.specs.talk_laws.specs.l2cap_config.specs.declared.agreement.Settled.TheVariants.{Accepted, Again, Wait, Never}
+use Rattle.own_channel_laws.specs.talk_laws.specs.l2cap_config.specs.declared.wish.Mode.{Mode}
+use Rattle.own_channel_laws.specs.talk_laws.specs.l2cap_config.specs.declared.wish.Wish.{Wish}
+use Rattle.own_channel_laws.specs.talk_laws.specs.l2cap_config.specs.Agreement.{settled, keeps_mode, requested}
+use Rattle.own_channel_laws.specs.talk_laws.specs.l2cap_config.specs.Reading.{options_read}
+use Rattle.own_channel_laws.specs.talk_laws.specs.l2cap_config.specs.Writing.{written}
+use Rattle.own_channel_laws.specs.talk_laws.specs.link_talk.specs.declared.channel.Channel.{Channel}
+use Rattle.own_channel_laws.specs.talk_laws.specs.link_talk.specs.Sayings.{Saying, Carried}
+use Rattle.own_channel_laws.specs.talk_laws.specs.link_talk.specs.Sayings as sayings
+use Rattle.own_channel_laws.specs.talk_laws.specs.link_talk.specs.Senses.{sense}
+use Rattle.own_channel_laws.specs.talk_laws.specs.link_talk.specs.Meanings.{meant}
+use Rattle.own_channel_laws.specs.talk_laws.specs.link_talk.specs.Setups.{Wished, setup_after}
+use Rattle.own_channel_laws.specs.talk_laws.specs.link_talk.specs.Channels.{Entry, entry_after, is_there, Reading, reading}
+use Rattle.own_channel_laws.specs.channel_model.specs.declared.errand.Errand.TheVariants as errands
+use Rattle.own_channel_laws.specs.channel_model.specs.Value.{Own, Unasked, Asking, Granted, Request, Carrier, Plain, Retransmitting, Setup, Stage, Requested, Connected, Leaving, Closing, Crossed, Held, Channels}
+use Rattle.own_channel_laws.specs.channel_model.specs.Policies.{Policy}
+use Rattle.own_channel_laws.specs.channel_model.specs.Changing.{has_own, held_at, is_leaving, setup_of, with_setup, to_setup}
+use Rattle.own_channel_laws.specs.channel_model.specs.Asking.{asks_options}
+use Rattle.own_channel_laws.specs.channel_model.specs.Closing.{closes}
+use Rattle.own_channel_laws.specs.channel_model.specs.declared.event.CloseReason.TheVariants.{NoAgreement}
+use Rattle.own_channel_laws.specs.channel_model.specs.Carrying.{takes}
+use Rattle.own_channel_laws.specs.channel_model.specs.Following.{follows, can_say}
+use Rattle.own_channel_laws.specs.channel_model.specs.Responses.{renewed_setup, hears_settled, is_asked, hears_options, hears_response_on, hears_response, features_in, hears_features}
+use Rattle.own_channel_laws.specs.channel_model.specs.Hearing.{hears_content}
+use Rattle.own_channel_laws.specs.channel_model.specs.Timing.{times_held, times_end, times_features}
+use Rattle.own_channel_laws.specs.channel_model.specs.Giving.{Given, Signal, Whole, Framed, next_given, after_given}
+use Rattle.own_channel_laws.specs.channel_model.specs.Calls.{setup_on, carrier_at, connected, asks_features, disconnected, sends, after_event}
+use Rattle.own_channel_laws.specs.channel_model.proofs.Walking.{found-own}
+use Rattle.own_channel_laws.specs.OwnTalk.{spoken, command_with, command_if, exchanged, asked_between}
+use Rattle.own_channel_laws.specs.Runs.{Occurrence, Comes, Connects, AsksFeatures, Disconnects, Sends, Gives, Fires, Tells, peer_at, given_up, features_given_up, said_again, said_on_firing, said_by_features, said_by_carrier, said_as, said_in, value_after, run_of}
+use Rattle.own_channel_laws.specs.Tries.{own_request}
+use Rattle.own_channel_laws.specs.Views.{asked_mode, read_at}
+use Rattle.own_channel_laws.specs.Endpoints.{IsOf}
 use Rattle.channel_laws.specs.Consent.{IsShown, GrantsAreShown}
-use Rattle.channel_laws.proofs.Anew.{GoesAt, Goes as GoOn, rests-goes, asks-anew, third-goes, follows-goes, grant-goes}
-use Rattle.channel_laws.proofs.Answered.{setup-asks, features_rest, response_else}
+use Rattle.own_channel_laws.proofs.Anew.{GoesAt, Goes as GoOn, rests-goes, asks-anew, third-goes, follows-goes, grant-goes}
+use Rattle.own_channel_laws.proofs.Answered.{setup-asks, features_rest, response_else}
 use Rattle.channel_laws.proofs.Bestowing.{still_of}
-use Rattle.channel_laws.proofs.Conversing.{reading-on, conversed}
-use Rattle.channel_laws.proofs.Converses.{is_single, Goes, Converses}
-use Rattle.channel_laws.proofs.Demanding.{asked_at, asked_on, Rests, same-rests, closes-rests, end-rests, disconnects-rests, sends-rest, times-rest, ends-rest, gives-rest, connects-rest, asks-rest}
-use Rattle.channel_laws.proofs.Heeding.{alike_goes}
-use Rattle.channel_laws.proofs.Holding.{IsRead, is-read}
-use Rattle.channel_laws.proofs.Lasting.{asked_by}
-use Rattle.channel_laws.proofs.Options.{lost_rests}
+use Rattle.own_channel_laws.proofs.Conversing.{reading-on, conversed}
+use Rattle.own_channel_laws.proofs.Converses.{is_single, Goes, Converses}
+use Rattle.own_channel_laws.proofs.Demanding.{asked_at, asked_on, Rests, same-rests, closes-rests, end-rests, disconnects-rests, sends-rest, times-rest, ends-rest, gives-rest, connects-rest, asks-rest}
+use Rattle.own_channel_laws.proofs.Heeding.{alike_goes}
+use Rattle.own_channel_laws.proofs.Holding.{IsRead, is-read}
+use Rattle.own_channel_laws.proofs.Lasting.{asked_by}
+use Rattle.own_channel_laws.proofs.Options.{lost_rests}
 use Rattle.channel_laws.proofs.OwnWishes.{goes_on, asked_same, IsMild, heard_mild, spoken_mild}
-use Rattle.channel_laws.proofs.Replying.{is_response, IsReply}
-use Rattle.channel_laws.proofs.Running.{all-sound}
-use Rattle.channel_laws.proofs.Saying.{stands-left, stands-right}
-use Rattle.channel_laws.proofs.Taking.{takes-others}
-use Rattle.channel_laws.proofs.Wishing.{talks_to, IsNamed, AreNamed, setup_wishes, sound-named}
-use Rattle.channel_laws.proofs.Words.{Words, words-asked, words-left, words-again, words-firing}
+use Rattle.own_channel_laws.proofs.Replying.{is_response, IsReply}
+use Rattle.own_channel_laws.proofs.Running.{all-sound}
+use Rattle.own_channel_laws.proofs.Saying.{stands-left, stands-right}
+use Rattle.own_channel_laws.proofs.Taking.{takes-others}
+use Rattle.own_channel_laws.proofs.Wishing.{talks_to, IsNamed, AreNamed, setup_wishes, sound-named}
+use Rattle.own_channel_laws.proofs.Words.{Words, words-asked, words-left, words-again, words-firing}
 
 -- ---- what was asked of a channel
 

@@ -4,40 +4,40 @@ use Rattle.std.specs.Prelude.{find, drop, slice_get, option_map, option_to_list}
 use Rattle.std.specs.List.{AllByRecursion}
 use Rattle.std.proofs.lemmas.Bool.{eqb-true}
 use Rattle.std.proofs.lemmas.List.Sums.{fold-append}
-use Rattle.talk_laws.specs.acl_fragments.specs.Pieces.{channel_of}
-use Rattle.talk_laws.specs.capture.specs.declared.flow.Flow.TheVariants.{Out, Into}
-use Rattle.talk_laws.specs.l2cap_signal.specs.Commands.{Content, reject, connection_request, connection_response, configuration_request, configuration_response, disconnection_request, disconnection_response, echo_request, echo_response, information_request, information_response}
-use Rattle.talk_laws.specs.l2cap_signal.specs.Reading.{Answer as Read}
-use Rattle.talk_laws.specs.link_talk.specs.Sayings.{Saying, Carried}
-use Rattle.talk_laws.specs.link_talk.specs.Channels.{Entry, reading}
-use Rattle.talk_laws.proofs.Passes.{from_end}
-use Rattle.channel_model.specs.declared.event.ChannelEvent.{ChannelEvent}
-use Rattle.channel_model.specs.declared.event.ChannelEvent.TheVariants as events
-use Rattle.channel_model.specs.Value.{no_setup, Stage, Requested, Connected, Leaving, Closing, Crossed, Held, Channels}
-use Rattle.channel_model.specs.Policies.{Policy}
-use Rattle.channel_model.specs.Changing.{has_own, held_at}
-use Rattle.channel_model.specs.Answers.{connection_result}
-use Rattle.channel_model.specs.Following.{with_channel, follows}
-use Rattle.channel_model.specs.Hearing.{hears_content}
-use Rattle.channel_model.specs.Carrying.{takes}
-use Rattle.channel_model.specs.Telling.{any_reason, closes_for}
-use Rattle.channel_model.specs.Timing.{times_held, times_end, times_features}
-use Rattle.channel_model.proofs.Lookups.{own_of, eqb-same, found-has}
-use Rattle.channel_model.proofs.Going.{staged, IsClosingOf, Moves, Walks}
-use Rattle.channel_model.proofs.Walking.{follows-goes, command-goes}
-use Rattle.channel_model.proofs.Calling.{asks-features-goes, disconnected-goes, sends-goes, takes-goes, timed-held, ended-held, features-timed, given-goes}
-use Rattle.channel_laws.specs.OwnTalk.{command_with, command_if, exchanged, asked_between}
-use Rattle.channel_laws.specs.Runs.{Occurrence, Comes, Connects, AsksFeatures, Disconnects, Sends, Gives, Fires, Tells, said_on_firing, said_by_features, said_in, value_after, told_in, Run, new_link, run_on, run_of}
+use Rattle.own_channel_laws.specs.talk_laws.specs.acl_fragments.specs.Pieces.{channel_of}
+use Rattle.own_channel_laws.specs.talk_laws.specs.capture.specs.declared.flow.Flow.TheVariants.{Out, Into}
+use Rattle.own_channel_laws.specs.talk_laws.specs.l2cap_signal.specs.Commands.{Content, reject, connection_request, connection_response, configuration_request, configuration_response, disconnection_request, disconnection_response, echo_request, echo_response, information_request, information_response}
+use Rattle.own_channel_laws.specs.talk_laws.specs.l2cap_signal.specs.Reading.{Answer as Read}
+use Rattle.own_channel_laws.specs.talk_laws.specs.link_talk.specs.Sayings.{Saying, Carried}
+use Rattle.own_channel_laws.specs.talk_laws.specs.link_talk.specs.Channels.{Entry, reading}
+use Rattle.own_channel_laws.specs.talk_laws.proofs.Passes.{from_end}
+use Rattle.own_channel_laws.specs.channel_model.specs.declared.event.ChannelEvent.{ChannelEvent}
+use Rattle.own_channel_laws.specs.channel_model.specs.declared.event.ChannelEvent.TheVariants as events
+use Rattle.own_channel_laws.specs.channel_model.specs.Value.{no_setup, Stage, Requested, Connected, Leaving, Closing, Crossed, Held, Channels}
+use Rattle.own_channel_laws.specs.channel_model.specs.Policies.{Policy}
+use Rattle.own_channel_laws.specs.channel_model.specs.Changing.{has_own, held_at}
+use Rattle.own_channel_laws.specs.channel_model.specs.Answers.{connection_result}
+use Rattle.own_channel_laws.specs.channel_model.specs.Following.{with_channel, follows}
+use Rattle.own_channel_laws.specs.channel_model.specs.Hearing.{hears_content}
+use Rattle.own_channel_laws.specs.channel_model.specs.Carrying.{takes}
+use Rattle.own_channel_laws.specs.channel_model.specs.Telling.{any_reason, closes_for}
+use Rattle.own_channel_laws.specs.channel_model.specs.Timing.{times_held, times_end, times_features}
+use Rattle.own_channel_laws.specs.channel_model.proofs.Lookups.{own_of, eqb-same, found-has}
+use Rattle.own_channel_laws.specs.channel_model.proofs.Going.{staged, IsClosingOf, Moves, Walks}
+use Rattle.own_channel_laws.specs.channel_model.proofs.Walking.{follows-goes, command-goes}
+use Rattle.own_channel_laws.specs.channel_model.proofs.Calling.{asks-features-goes, disconnected-goes, sends-goes, takes-goes, timed-held, ended-held, features-timed, given-goes}
+use Rattle.own_channel_laws.specs.OwnTalk.{command_with, command_if, exchanged, asked_between}
+use Rattle.own_channel_laws.specs.Runs.{Occurrence, Comes, Connects, AsksFeatures, Disconnects, Sends, Gives, Fires, Tells, said_on_firing, said_by_features, said_in, value_after, told_in, Run, new_link, run_on, run_of}
 use Rattle.channel_laws.specs.Closings.{HasPsm, IsClosingRead, ClosingsAreRead}
-use Rattle.channel_laws.specs.Endpoints.{IsOf}
+use Rattle.own_channel_laws.specs.Endpoints.{IsOf}
 use Rattle.channel_laws.specs.Singly.{calls_that_went, NoneIsDue, AsksForNoChannel}
-use Rattle.channel_laws.specs.Views.{peer_of, channel_by, read_at}
-use Rattle.channel_laws.proofs.Sound.{Reads, ReadsBy, Sound}
-use Rattle.channel_laws.proofs.Converses.{IsAlike, is_single, ConversesWhile}
-use Rattle.channel_laws.proofs.Conversing.{conversed-while}
+use Rattle.own_channel_laws.specs.Views.{peer_of, channel_by, read_at}
+use Rattle.own_channel_laws.proofs.Sound.{Reads, ReadsBy, Sound}
+use Rattle.own_channel_laws.proofs.Converses.{IsAlike, is_single, ConversesWhile}
+use Rattle.own_channel_laws.proofs.Conversing.{conversed-while}
 use Rattle.channel_laws.proofs.Placing.{is_call, follows-next, responds-next, takes-next, times-next, timed-end-next, features-next, single-next}
 use Rattle.channel_laws.proofs.Bestowing.{still_of}
-use Rattle.channel_laws.proofs.Due.{Any}
+use Rattle.own_channel_laws.proofs.Due.{Any}
 use Rattle.channel_laws.proofs.OneByOne.{call_by, HeadIs, Holds, Allows, Never, one_by_one, first_holds, each_none, each_allowed, never-called}
 
 all_both : {X : Type 0} (P : X → Type 0) (xs ys : List X) → AllByRecursion P xs → AllByRecursion P ys → AllByRecursion P (xs ++ ys)

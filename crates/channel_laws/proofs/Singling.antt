@@ -4,40 +4,40 @@ use Rattle.std.specs.Prelude.{option_map, option_to_list}
 use Rattle.std.specs.List.{list_any}
 use Rattle.std.proofs.lemmas.List.Elements.{filter-append}
 use Rattle.std.proofs.lemmas.List.Folds.{list_any-append}
-use Rattle.talk_laws.specs.acl_fragments.specs.Pieces.{channel_of}
-use Rattle.talk_laws.specs.capture.specs.declared.flow.Flow.{Flow}
-use Rattle.talk_laws.specs.capture.specs.declared.flow.Flow.TheVariants.{Out, Into}
-use Rattle.talk_laws.specs.l2cap_signal.specs.Commands.{Command, Content, code_of, reject, connection_request, connection_response, configuration_request, configuration_response, disconnection_request, disconnection_response, echo_request, echo_response, information_request, information_response}
-use Rattle.talk_laws.specs.l2cap_signal.specs.Reading.{Answer as Read}
-use Rattle.talk_laws.specs.l2cap_config.specs.Writing.{written}
-use Rattle.talk_laws.specs.link_talk.specs.declared.call.Call.{Call}
-use Rattle.talk_laws.specs.link_talk.specs.declared.call.Wanted.{Wanted}
-use Rattle.talk_laws.specs.link_talk.specs.Sayings.{Saying, Carried}
-use Rattle.talk_laws.specs.link_talk.specs.Sayings as sayings
-use Rattle.talk_laws.specs.link_talk.specs.Senses.{sense}
-use Rattle.talk_laws.specs.link_talk.specs.Requests.{call, went}
-use Rattle.talk_laws.specs.link_talk.specs.Channels.{Reading, nothing_read, read_on, reading}
-use Rattle.channel_model.specs.declared.errand.Errand.TheVariants as errands
-use Rattle.channel_model.specs.Value.{Request, Carrier, Plain, Retransmitting, Remembered, Channels}
-use Rattle.channel_model.specs.Policies.{Policy}
-use Rattle.channel_model.specs.Changing.{held_at}
-use Rattle.channel_model.specs.Following.{can_say, follows}
-use Rattle.channel_model.specs.Hearing.{hears_content}
-use Rattle.channel_model.specs.Carrying.{takes}
-use Rattle.channel_model.specs.Giving.{Given, Signal, Whole, Framed, next_given}
-use Rattle.channel_model.specs.Timing.{times_held, times_end, times_features}
-use Rattle.channel_model.specs.Calls.{carrier_at, connected, asks_features, disconnected}
-use Rattle.channel_model.proofs.Lookups.{eqb-same}
-use Rattle.channel_laws.specs.OwnTalk.{spoken, command_with, command_if, exchanged, asked_between}
-use Rattle.channel_laws.specs.Runs.{Occurrence, Comes, Connects, AsksFeatures, Disconnects, Sends, Gives, Fires, Tells, features_given_up, said_again, said_on_firing, said_by_features, said_by_carrier, said_as, said_in}
+use Rattle.own_channel_laws.specs.talk_laws.specs.acl_fragments.specs.Pieces.{channel_of}
+use Rattle.own_channel_laws.specs.talk_laws.specs.capture.specs.declared.flow.Flow.{Flow}
+use Rattle.own_channel_laws.specs.talk_laws.specs.capture.specs.declared.flow.Flow.TheVariants.{Out, Into}
+use Rattle.own_channel_laws.specs.talk_laws.specs.l2cap_signal.specs.Commands.{Command, Content, code_of, reject, connection_request, connection_response, configuration_request, configuration_response, disconnection_request, disconnection_response, echo_request, echo_response, information_request, information_response}
+use Rattle.own_channel_laws.specs.talk_laws.specs.l2cap_signal.specs.Reading.{Answer as Read}
+use Rattle.own_channel_laws.specs.talk_laws.specs.l2cap_config.specs.Writing.{written}
+use Rattle.own_channel_laws.specs.talk_laws.specs.link_talk.specs.declared.call.Call.{Call}
+use Rattle.own_channel_laws.specs.talk_laws.specs.link_talk.specs.declared.call.Wanted.{Wanted}
+use Rattle.own_channel_laws.specs.talk_laws.specs.link_talk.specs.Sayings.{Saying, Carried}
+use Rattle.own_channel_laws.specs.talk_laws.specs.link_talk.specs.Sayings as sayings
+use Rattle.own_channel_laws.specs.talk_laws.specs.link_talk.specs.Senses.{sense}
+use Rattle.own_channel_laws.specs.talk_laws.specs.link_talk.specs.Requests.{call, went}
+use Rattle.own_channel_laws.specs.talk_laws.specs.link_talk.specs.Channels.{Reading, nothing_read, read_on, reading}
+use Rattle.own_channel_laws.specs.channel_model.specs.declared.errand.Errand.TheVariants as errands
+use Rattle.own_channel_laws.specs.channel_model.specs.Value.{Request, Carrier, Plain, Retransmitting, Remembered, Channels}
+use Rattle.own_channel_laws.specs.channel_model.specs.Policies.{Policy}
+use Rattle.own_channel_laws.specs.channel_model.specs.Changing.{held_at}
+use Rattle.own_channel_laws.specs.channel_model.specs.Following.{can_say, follows}
+use Rattle.own_channel_laws.specs.channel_model.specs.Hearing.{hears_content}
+use Rattle.own_channel_laws.specs.channel_model.specs.Carrying.{takes}
+use Rattle.own_channel_laws.specs.channel_model.specs.Giving.{Given, Signal, Whole, Framed, next_given}
+use Rattle.own_channel_laws.specs.channel_model.specs.Timing.{times_held, times_end, times_features}
+use Rattle.own_channel_laws.specs.channel_model.specs.Calls.{carrier_at, connected, asks_features, disconnected}
+use Rattle.own_channel_laws.specs.channel_model.proofs.Lookups.{eqb-same}
+use Rattle.own_channel_laws.specs.OwnTalk.{spoken, command_with, command_if, exchanged, asked_between}
+use Rattle.own_channel_laws.specs.Runs.{Occurrence, Comes, Connects, AsksFeatures, Disconnects, Sends, Gives, Fires, Tells, features_given_up, said_again, said_on_firing, said_by_features, said_by_carrier, said_as, said_in}
 use Rattle.channel_laws.specs.Belonging.{HasGranted}
 use Rattle.channel_laws.specs.Singly.{calls_that_went, names, IsAgain, IsFresh, AreOneByOne, GrantsAreSingle}
-use Rattle.channel_laws.proofs.Sound.{CallsKept, Sound}
-use Rattle.channel_laws.proofs.Saying.{stands-either}
-use Rattle.channel_laws.proofs.Replying.{is_response}
-use Rattle.channel_laws.proofs.Words.{Words, words-asked, words-again, words-left, words-firing}
-use Rattle.channel_laws.proofs.Converses.{is_single, IsLast, IsAnew, Grants, ConversesKnowing}
-use Rattle.channel_laws.proofs.Conversing.{conversed-knowing, reading-on}
+use Rattle.own_channel_laws.proofs.Sound.{CallsKept, Sound}
+use Rattle.own_channel_laws.proofs.Saying.{stands-either}
+use Rattle.own_channel_laws.proofs.Replying.{is_response}
+use Rattle.own_channel_laws.proofs.Words.{Words, words-asked, words-again, words-left, words-firing}
+use Rattle.own_channel_laws.proofs.Converses.{is_single, IsLast, IsAnew, Grants, ConversesKnowing}
+use Rattle.own_channel_laws.proofs.Conversing.{conversed-knowing, reading-on}
 use Rattle.channel_laws.proofs.Bestowing.{Bestows, response_in, grant_in, converses, first-bestows}
 
 -- ---- requests, one list behind the other

@@ -1,43 +1,43 @@
 -- What goes out on a channel of a host is what it took, where it sends and gives.
 use Rattle.std.proofs.Common.{◌≡◌, ℕ, ◌<◌, List, [], ◌∷◌, ◌++◌, Bool, true, false, cond, eqb, ◌&&◌, Option, Some, None, refl, sym, ap, subst, ◌∙◌, inl, inr, append-nil}
 use Rattle.std.specs.Prelude.{find, option_map, unwrap_or, is_some, not}
-use Rattle.talk_laws.specs.bt_base.proofs.OctetLemmas.{le16-number}
-use Rattle.talk_laws.specs.capture.specs.declared.flow.Flow.TheVariants.{Out}
-use Rattle.talk_laws.specs.l2cap_signal.specs.Commands.{Command}
-use Rattle.talk_laws.specs.l2cap_config.specs.declared.wish.Agreed.{Agreed}
-use Rattle.talk_laws.specs.l2cap_config.specs.declared.wish.Mode.TheVariants.{Basic}
-use Rattle.talk_laws.specs.ertm_frames.specs.Frames.{PlainFrame}
-use Rattle.talk_laws.specs.ertm_frames.specs.Picking.{outs, Passage}
-use Rattle.channel_model.specs.ertm_model.specs.Submitting.{is_busy, submitted}
-use Rattle.channel_model.specs.ertm_model.specs.Giving.{next_frame, after_frame}
-use Rattle.talk_laws.specs.link_talk.specs.declared.channel.Channel.{Channel}
-use Rattle.talk_laws.specs.link_talk.specs.declared.party.Party.{Party}
-use Rattle.talk_laws.specs.link_talk.specs.Sayings.{Saying, Carried}
-use Rattle.talk_laws.specs.link_talk.specs.Setups.{is_set}
-use Rattle.talk_laws.specs.link_talk.specs.Channels.{is_there, reading}
-use Rattle.channel_model.specs.declared.errand.Errand.{Errand}
-use Rattle.channel_model.specs.declared.errand.Errand.TheVariants as errands
-use Rattle.channel_model.specs.Value.{Queued, Answer, Ask, Carrier, Plain, Retransmitting, Setup, Stage, Held, Channels}
-use Rattle.channel_model.specs.Policies.{Policy}
-use Rattle.channel_model.specs.Changing.{has_own, held_at, is_granted, is_open, setup_of, stage_with, to_setup}
-use Rattle.channel_model.specs.Giving.{command_of, Given, Signal, Framed, next_given, after_given, headed, gives, stage_gives, some_carrier_gives, carrier_given, carrier_spent, held_gives, held_given, queue_gives, queue_given, counted, connection_given, configuration_given, disconnection_given, stage_given}
-use Rattle.channel_model.specs.Calls.{setup_on, carrier_at, open_carrier, carrier_if, carrier_with, sends_on, sends_held, sends}
-use Rattle.channel_model.proofs.Lookups.{own_of, found-distinct}
-use Rattle.channel_model.proofs.Walking.{found-own, with-setup}
-use Rattle.channel_laws.specs.Runs.{said_by_carrier, said_as, peer_at}
-use Rattle.channel_laws.specs.Frames.{IsSpelled}
+use Rattle.own_channel_laws.specs.talk_laws.specs.bt_base.proofs.OctetLemmas.{le16-number}
+use Rattle.own_channel_laws.specs.talk_laws.specs.capture.specs.declared.flow.Flow.TheVariants.{Out}
+use Rattle.own_channel_laws.specs.talk_laws.specs.l2cap_signal.specs.Commands.{Command}
+use Rattle.own_channel_laws.specs.talk_laws.specs.l2cap_config.specs.declared.wish.Agreed.{Agreed}
+use Rattle.own_channel_laws.specs.talk_laws.specs.l2cap_config.specs.declared.wish.Mode.TheVariants.{Basic}
+use Rattle.own_channel_laws.specs.talk_laws.specs.ertm_frames.specs.Frames.{PlainFrame}
+use Rattle.own_channel_laws.specs.talk_laws.specs.ertm_frames.specs.Picking.{outs, Passage}
+use Rattle.own_channel_laws.specs.channel_model.specs.ertm_model.specs.Submitting.{is_busy, submitted}
+use Rattle.own_channel_laws.specs.channel_model.specs.ertm_model.specs.Giving.{next_frame, after_frame}
+use Rattle.own_channel_laws.specs.talk_laws.specs.link_talk.specs.declared.channel.Channel.{Channel}
+use Rattle.own_channel_laws.specs.talk_laws.specs.link_talk.specs.declared.party.Party.{Party}
+use Rattle.own_channel_laws.specs.talk_laws.specs.link_talk.specs.Sayings.{Saying, Carried}
+use Rattle.own_channel_laws.specs.talk_laws.specs.link_talk.specs.Setups.{is_set}
+use Rattle.own_channel_laws.specs.talk_laws.specs.link_talk.specs.Channels.{is_there, reading}
+use Rattle.own_channel_laws.specs.channel_model.specs.declared.errand.Errand.{Errand}
+use Rattle.own_channel_laws.specs.channel_model.specs.declared.errand.Errand.TheVariants as errands
+use Rattle.own_channel_laws.specs.channel_model.specs.Value.{Queued, Answer, Ask, Carrier, Plain, Retransmitting, Setup, Stage, Held, Channels}
+use Rattle.own_channel_laws.specs.channel_model.specs.Policies.{Policy}
+use Rattle.own_channel_laws.specs.channel_model.specs.Changing.{has_own, held_at, is_granted, is_open, setup_of, stage_with, to_setup}
+use Rattle.own_channel_laws.specs.channel_model.specs.Giving.{command_of, Given, Signal, Framed, next_given, after_given, headed, gives, stage_gives, some_carrier_gives, carrier_given, carrier_spent, held_gives, held_given, queue_gives, queue_given, counted, connection_given, configuration_given, disconnection_given, stage_given}
+use Rattle.own_channel_laws.specs.channel_model.specs.Calls.{setup_on, carrier_at, open_carrier, carrier_if, carrier_with, sends_on, sends_held, sends}
+use Rattle.own_channel_laws.specs.channel_model.proofs.Lookups.{own_of, found-distinct}
+use Rattle.own_channel_laws.specs.channel_model.proofs.Walking.{found-own, with-setup}
+use Rattle.own_channel_laws.specs.Runs.{said_by_carrier, said_as, peer_at}
+use Rattle.own_channel_laws.specs.Frames.{IsSpelled}
 use Rattle.channel_laws.specs.Taken.{is_free}
-use Rattle.channel_laws.proofs.Both.{and-right}
-use Rattle.channel_laws.proofs.Sound.{Sound}
-use Rattle.channel_laws.proofs.Keeping.{StageKeeps, HeldKeeps}
+use Rattle.own_channel_laws.proofs.Both.{and-right}
+use Rattle.own_channel_laws.proofs.Sound.{Sound}
+use Rattle.own_channel_laws.proofs.Keeping.{StageKeeps, HeldKeeps}
 use Rattle.channel_laws.proofs.Partaking.{kept-on, keeps-on}
-use Rattle.channel_laws.proofs.Incoming.{channel_at}
-use Rattle.channel_laws.proofs.Passing.{CarrierPasses, Passed, passing-gives}
-use Rattle.channel_laws.proofs.Passages.{GoesOut, out-other, out-own, spelled-frame}
-use Rattle.channel_laws.proofs.Holding.{frames_on, Pass, kept-setup, IsRead, is-read, set-is}
-use Rattle.channel_laws.proofs.Outgoing.{Counts, connection-counts, configuration-counts, disconnection-counts, open-stated, gives-none, gives-by}
+use Rattle.own_channel_laws.proofs.Incoming.{channel_at}
+use Rattle.own_channel_laws.proofs.Passing.{CarrierPasses, Passed, passing-gives}
+use Rattle.own_channel_laws.proofs.Passages.{GoesOut, out-other, out-own, spelled-frame}
+use Rattle.own_channel_laws.proofs.Holding.{frames_on, Pass, kept-setup, IsRead, is-read, set-is}
+use Rattle.own_channel_laws.proofs.Outgoing.{Counts, connection-counts, configuration-counts, disconnection-counts, open-stated, gives-none, gives-by}
 use Rattle.channel_laws.proofs.Putting.{Puts, puts-gives, puts-takes}
-use Rattle.channel_model.proofs.Lookups.{eqb-same, found-has}
+use Rattle.own_channel_laws.specs.channel_model.proofs.Lookups.{eqb-same, found-has}
 use Rattle.channel_laws.proofs.Drawing.{CarrierPuts, Putting, Taken, says_on, Draw, Draws, draw-placed, draws-same}
 
 goes_out : (policy : Policy) (past : List Saying) (v : Channels) (own : ℕ) (held : Held) (setup : Setup) (r : IsRead policy past own held setup) → is_set r.entry.setup ≡ true → Sound policy (reading past) v → GoesOut past own r.peer

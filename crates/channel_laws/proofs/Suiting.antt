@@ -4,29 +4,29 @@ use Rattle.std.specs.Prelude.{min, nat_lt, unwrap_or, IfSome, zero, suc, Result}
 use Rattle.std.specs.List.{AllByRecursion}
 use Rattle.std.proofs.Math.Nat.{min-le_right}
 use Rattle.std.proofs.lemmas.Bool.{ltb-false}
-use Rattle.talk_laws.specs.l2cap_config.specs.declared.options.ModeOption.{ModeOption}
-use Rattle.talk_laws.specs.l2cap_config.specs.declared.options.Options.{Options}
-use Rattle.talk_laws.specs.l2cap_config.specs.declared.options.ConfigRefusal.{ConfigRefusal}
-use Rattle.talk_laws.specs.l2cap_config.specs.declared.agreement.ConfigAnswer.{ConfigAnswer}
-use Rattle.talk_laws.specs.l2cap_config.specs.declared.agreement.ConfigAnswer.TheVariants.{Accept, Unacceptable}
-use Rattle.talk_laws.specs.l2cap_config.specs.declared.wish.Mode.{Mode}
-use Rattle.talk_laws.specs.l2cap_config.specs.declared.wish.Mode.TheVariants.{Basic, Enhanced}
-use Rattle.talk_laws.specs.l2cap_config.specs.declared.wish.Wish.{Wish}
-use Rattle.talk_laws.specs.l2cap_config.specs.Laws.{FitsMode, Fits}
-use Rattle.talk_laws.specs.l2cap_config.specs.Items.{no_options, joined}
-use Rattle.talk_laws.specs.l2cap_config.specs.Reading.{options_read}
-use Rattle.talk_laws.specs.l2cap_config.specs.Agreement.{mode_number, own_mode, bounded, requested_mode, requested, answered_values, answered, sent_mps, sent_window, agreed_on}
-use Rattle.talk_laws.specs.l2cap_config.proofs.Written.{written_read}
-use Rattle.talk_laws.specs.link_talk.specs.Sayings.{Saying}
-use Rattle.channel_model.specs.Configuring.{bounded_agreement}
-use Rattle.channel_laws.specs.Agreements.{IsHeard, joined_parts}
+use Rattle.own_channel_laws.specs.talk_laws.specs.l2cap_config.specs.declared.options.ModeOption.{ModeOption}
+use Rattle.own_channel_laws.specs.talk_laws.specs.l2cap_config.specs.declared.options.Options.{Options}
+use Rattle.own_channel_laws.specs.talk_laws.specs.l2cap_config.specs.declared.options.ConfigRefusal.{ConfigRefusal}
+use Rattle.own_channel_laws.specs.talk_laws.specs.l2cap_config.specs.declared.agreement.ConfigAnswer.{ConfigAnswer}
+use Rattle.own_channel_laws.specs.talk_laws.specs.l2cap_config.specs.declared.agreement.ConfigAnswer.TheVariants.{Accept, Unacceptable}
+use Rattle.own_channel_laws.specs.talk_laws.specs.l2cap_config.specs.declared.wish.Mode.{Mode}
+use Rattle.own_channel_laws.specs.talk_laws.specs.l2cap_config.specs.declared.wish.Mode.TheVariants.{Basic, Enhanced}
+use Rattle.own_channel_laws.specs.talk_laws.specs.l2cap_config.specs.declared.wish.Wish.{Wish}
+use Rattle.own_channel_laws.specs.talk_laws.specs.l2cap_config.specs.Laws.{FitsMode, Fits}
+use Rattle.own_channel_laws.specs.talk_laws.specs.l2cap_config.specs.Items.{no_options, joined}
+use Rattle.own_channel_laws.specs.talk_laws.specs.l2cap_config.specs.Reading.{options_read}
+use Rattle.own_channel_laws.specs.talk_laws.specs.l2cap_config.specs.Agreement.{mode_number, own_mode, bounded, requested_mode, requested, answered_values, answered, sent_mps, sent_window, agreed_on}
+use Rattle.own_channel_laws.specs.talk_laws.specs.l2cap_config.proofs.Written.{written_read}
+use Rattle.own_channel_laws.specs.talk_laws.specs.link_talk.specs.Sayings.{Saying}
+use Rattle.own_channel_laws.specs.channel_model.specs.Configuring.{bounded_agreement}
+use Rattle.own_channel_laws.specs.Agreements.{IsHeard, joined_parts}
 use Rattle.channel_laws.specs.Pairs.{pair_of}
 use Rattle.channel_laws.specs.Belonging.{said_at}
 use Rattle.channel_laws.specs.Modes.{policy_of}
 use Rattle.channel_laws.specs.Pipes.{Suits, CanState}
 use Rattle.channel_laws.specs.Suiting.{OptionsSuit}
-use Rattle.channel_laws.proofs.Agreeing.{read-joined, accepts-mode}
-use Rattle.channel_laws.proofs.Attending.{accepted-values}
+use Rattle.own_channel_laws.proofs.Agreeing.{read-joined, accepts-mode}
+use Rattle.own_channel_laws.proofs.Attending.{accepted-values}
 use Rattle.channel_laws.proofs.Modes.{asked-wished}
 
 -- ---- what a host asks for

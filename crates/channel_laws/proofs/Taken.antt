@@ -3,51 +3,51 @@ use Rattle.std.proofs.Common.{◌≡◌, ℕ, List, [], ◌∷◌, ◌++◌, map
 use Rattle.std.specs.Prelude.{find, option_map, drop}
 use Rattle.std.specs.List.{filter_map, cons_option}
 use Rattle.std.proofs.lemmas.List.Sums.{fold-append}
-use Rattle.talk_laws.specs.acl_fragments.specs.Pieces.{channel_of}
-use Rattle.talk_laws.specs.capture.specs.declared.flow.Flow.TheVariants.{Into}
-use Rattle.talk_laws.specs.capture.specs.Histories.{EachAfter}
-use Rattle.talk_laws.specs.capture.proofs.HistoryLaws.{given_by-more, each_after-both}
-use Rattle.talk_laws.specs.l2cap_signal.specs.Reading.{answers}
-use Rattle.talk_laws.specs.l2cap_config.specs.declared.wish.Mode.TheVariants.{Enhanced}
-use Rattle.talk_laws.specs.ertm_frames.specs.Frames.{PlainFrame}
-use Rattle.talk_laws.specs.ertm_frames.specs.Reading.{frame_in}
-use Rattle.talk_laws.specs.ertm_frames.specs.Joining.{sdus_of}
-use Rattle.talk_laws.specs.ertm_frames.specs.Picking.{picked, outs, In}
-use Rattle.talk_laws.specs.ertm_frames.proofs.Telling.{outs-same}
-use Rattle.talk_laws.specs.link_talk.specs.declared.channel.Channel.{Channel}
-use Rattle.talk_laws.specs.link_talk.specs.declared.party.Party.{Party}
-use Rattle.talk_laws.specs.link_talk.specs.Sayings.{Saying, Carried}
-use Rattle.talk_laws.specs.link_talk.specs.Channels.{Entry, reading}
-use Rattle.talk_laws.specs.link_talk.specs.Carriages.{Carriage, is_passed, is_on, taker, entry_mode, mode_of}
-use Rattle.talk_laws.specs.link_talk.specs.Accounts.{passage_in}
-use Rattle.channel_model.specs.Value.{Carrier, Plain, Retransmitting, Setup, Held, Channels}
-use Rattle.channel_model.specs.Policies.{Policy}
-use Rattle.channel_model.specs.Changing.{has_own, is_open, setup_of}
-use Rattle.channel_model.specs.Hearing.{hears_commands}
-use Rattle.channel_model.specs.Carrying.{takes}
-use Rattle.channel_model.specs.Timing.{timed_out}
-use Rattle.channel_model.specs.Calls.{connected, asks_features, disconnected, after_event}
-use Rattle.channel_model.proofs.Walking.{commands-go}
-use Rattle.channel_model.proofs.Calling.{connected-goes, asks-features-goes, disconnected-goes, takes-goes, timed-goes}
-use Rattle.channel_laws.specs.OwnTalk.{asked_between, said_with_all}
-use Rattle.channel_laws.specs.Runs.{Occurrence, Comes, Connects, AsksFeatures, Disconnects, Sends, Gives, Fires, Tells, given_up, said_by_channels, said_in, value_after, Run, new_link, run_on, run_of}
-use Rattle.channel_laws.specs.Views.{read_at}
-use Rattle.channel_laws.specs.Endpoints.{IsOf}
-use Rattle.channel_laws.specs.Frames.{IsUttered, AreUttered}
-use Rattle.channel_laws.specs.Sdus.{StatesFrame}
+use Rattle.own_channel_laws.specs.talk_laws.specs.acl_fragments.specs.Pieces.{channel_of}
+use Rattle.own_channel_laws.specs.talk_laws.specs.capture.specs.declared.flow.Flow.TheVariants.{Into}
+use Rattle.own_channel_laws.specs.talk_laws.specs.capture.specs.Histories.{EachAfter}
+use Rattle.own_channel_laws.specs.talk_laws.specs.capture.proofs.HistoryLaws.{given_by-more, each_after-both}
+use Rattle.own_channel_laws.specs.talk_laws.specs.l2cap_signal.specs.Reading.{answers}
+use Rattle.own_channel_laws.specs.talk_laws.specs.l2cap_config.specs.declared.wish.Mode.TheVariants.{Enhanced}
+use Rattle.own_channel_laws.specs.talk_laws.specs.ertm_frames.specs.Frames.{PlainFrame}
+use Rattle.own_channel_laws.specs.talk_laws.specs.ertm_frames.specs.Reading.{frame_in}
+use Rattle.own_channel_laws.specs.talk_laws.specs.ertm_frames.specs.Joining.{sdus_of}
+use Rattle.own_channel_laws.specs.talk_laws.specs.ertm_frames.specs.Picking.{picked, outs, In}
+use Rattle.own_channel_laws.specs.talk_laws.specs.ertm_frames.proofs.Telling.{outs-same}
+use Rattle.own_channel_laws.specs.talk_laws.specs.link_talk.specs.declared.channel.Channel.{Channel}
+use Rattle.own_channel_laws.specs.talk_laws.specs.link_talk.specs.declared.party.Party.{Party}
+use Rattle.own_channel_laws.specs.talk_laws.specs.link_talk.specs.Sayings.{Saying, Carried}
+use Rattle.own_channel_laws.specs.talk_laws.specs.link_talk.specs.Channels.{Entry, reading}
+use Rattle.own_channel_laws.specs.talk_laws.specs.link_talk.specs.Carriages.{Carriage, is_passed, is_on, taker, entry_mode, mode_of}
+use Rattle.own_channel_laws.specs.talk_laws.specs.link_talk.specs.Accounts.{passage_in}
+use Rattle.own_channel_laws.specs.channel_model.specs.Value.{Carrier, Plain, Retransmitting, Setup, Held, Channels}
+use Rattle.own_channel_laws.specs.channel_model.specs.Policies.{Policy}
+use Rattle.own_channel_laws.specs.channel_model.specs.Changing.{has_own, is_open, setup_of}
+use Rattle.own_channel_laws.specs.channel_model.specs.Hearing.{hears_commands}
+use Rattle.own_channel_laws.specs.channel_model.specs.Carrying.{takes}
+use Rattle.own_channel_laws.specs.channel_model.specs.Timing.{timed_out}
+use Rattle.own_channel_laws.specs.channel_model.specs.Calls.{connected, asks_features, disconnected, after_event}
+use Rattle.own_channel_laws.specs.channel_model.proofs.Walking.{commands-go}
+use Rattle.own_channel_laws.specs.channel_model.proofs.Calling.{connected-goes, asks-features-goes, disconnected-goes, takes-goes, timed-goes}
+use Rattle.own_channel_laws.specs.OwnTalk.{asked_between, said_with_all}
+use Rattle.own_channel_laws.specs.Runs.{Occurrence, Comes, Connects, AsksFeatures, Disconnects, Sends, Gives, Fires, Tells, given_up, said_by_channels, said_in, value_after, Run, new_link, run_on, run_of}
+use Rattle.own_channel_laws.specs.Views.{read_at}
+use Rattle.own_channel_laws.specs.Endpoints.{IsOf}
+use Rattle.own_channel_laws.specs.Frames.{IsUttered, AreUttered}
+use Rattle.own_channel_laws.specs.Sdus.{StatesFrame}
 use Rattle.channel_laws.specs.Pipes.{IsFront}
 use Rattle.channel_laws.specs.Taken.{taken_in, taken_of, TakenGoesOut}
-use Rattle.channel_laws.proofs.Attending.{fires-aside}
-use Rattle.channel_laws.proofs.Sound.{ReadsBy, Reads, Sound}
-use Rattle.channel_laws.proofs.Running.{IsSound, all-sound}
-use Rattle.channel_laws.proofs.Keeping.{HeldKeeps, keep-also}
+use Rattle.own_channel_laws.proofs.Attending.{fires-aside}
+use Rattle.own_channel_laws.proofs.Sound.{ReadsBy, Reads, Sound}
+use Rattle.own_channel_laws.proofs.Running.{IsSound, all-sound}
+use Rattle.own_channel_laws.proofs.Keeping.{HeldKeeps, keep-also}
 use Rattle.channel_laws.proofs.Partaking.{kept-on}
-use Rattle.channel_laws.proofs.Signalling.{IsBare, bare-asked, bare-left, bare-with_all, bare-fired}
-use Rattle.channel_laws.proofs.Incoming.{channel_at}
-use Rattle.channel_laws.proofs.Passages.{passed-more, bare-passes}
-use Rattle.channel_laws.proofs.Holding.{frames_on, Pass, IsRead, is-read}
-use Rattle.channel_laws.proofs.Frames.{run-passes}
-use Rattle.channel_laws.proofs.Naming.{endpoints-name_one}
+use Rattle.own_channel_laws.proofs.Signalling.{IsBare, bare-asked, bare-left, bare-with_all, bare-fired}
+use Rattle.own_channel_laws.proofs.Incoming.{channel_at}
+use Rattle.own_channel_laws.proofs.Passages.{passed-more, bare-passes}
+use Rattle.own_channel_laws.proofs.Holding.{frames_on, Pass, IsRead, is-read}
+use Rattle.own_channel_laws.proofs.Frames.{run-passes}
+use Rattle.own_channel_laws.proofs.Naming.{endpoints-name_one}
 use Rattle.channel_laws.proofs.OwnModes.{modes-are_own}
 use Rattle.channel_laws.proofs.Flowing.{sent-are, enhanced-accepted}
 use Rattle.channel_laws.proofs.Putting.{puts-front, fresh-timed}

@@ -3,27 +3,27 @@ use Rattle.std.proofs.Common.{◌≡◌, ℕ, ◌%◌, List, [], ◌∷◌, ◌+
 use Rattle.std.specs.Prelude.{find, option_map, is_some}
 use Rattle.std.specs.List.{list_any}
 use Rattle.std.proofs.lemmas.List.Sums.{fold-append}
-use Rattle.talk_laws.specs.bt_base.proofs.OctetLemmas.{le16-number}
-use Rattle.talk_laws.specs.acl_fragments.specs.Pieces.{channel_of}
-use Rattle.talk_laws.specs.capture.specs.declared.flow.Flow.TheVariants.{Into}
-use Rattle.talk_laws.specs.capture.specs.Histories.{EachAfter}
-use Rattle.talk_laws.specs.l2cap_signal.specs.Commands.{Command, configuration_response, spelling}
-use Rattle.talk_laws.specs.l2cap_signal.specs.Reading.{answers}
-use Rattle.talk_laws.specs.ertm_frames.specs.Frames.{PlainFrame}
-use Rattle.channel_model.specs.ertm_model.specs.Giving.{next_frame}
-use Rattle.talk_laws.specs.link_talk.specs.Sayings.{Saying, Carried}
-use Rattle.channel_model.specs.Value.{Queued, Answer, Ask, Own, Unasked, Asking, Granted, Carrier, Plain, Retransmitting, Setup, Stage, Requested, Connected, Leaving, Closing, Crossed, Held, Channels}
-use Rattle.channel_model.specs.Policies.{Policy}
-use Rattle.channel_model.specs.Changing.{has_own, held_at, is_granted, is_open, setup_of}
-use Rattle.channel_model.specs.Carrying.{takes}
-use Rattle.channel_model.specs.Giving.{Given, Signal, Whole, Framed, command_of, carrier_gives, some_carrier_gives, stage_gives, gives, held_gives, queue_gives, next_given}
-use Rattle.channel_model.specs.Calls.{has_fcs, setup_on, carrier_if, open_carrier, carrier_at, connected, asks_features, disconnected}
-use Rattle.channel_model.proofs.Lookups.{own_of, Distinct, found-distinct}
-use Rattle.channel_laws.specs.OwnTalk.{spoken, command_with, asked_between, said_with_all}
-use Rattle.channel_laws.specs.Runs.{Occurrence, Comes, Connects, AsksFeatures, Disconnects, Sends, Gives, Fires, Tells, peer_at, said_by_carrier, said_as, said_in, Run, run_of}
-use Rattle.channel_laws.specs.Views.{peer_of}
-use Rattle.channel_laws.specs.Signals.{StandsIn}
-use Rattle.channel_laws.specs.Frames.{IsSpelled, IsUttered}
+use Rattle.own_channel_laws.specs.talk_laws.specs.bt_base.proofs.OctetLemmas.{le16-number}
+use Rattle.own_channel_laws.specs.talk_laws.specs.acl_fragments.specs.Pieces.{channel_of}
+use Rattle.own_channel_laws.specs.talk_laws.specs.capture.specs.declared.flow.Flow.TheVariants.{Into}
+use Rattle.own_channel_laws.specs.talk_laws.specs.capture.specs.Histories.{EachAfter}
+use Rattle.own_channel_laws.specs.talk_laws.specs.l2cap_signal.specs.Commands.{Command, configuration_response, spelling}
+use Rattle.own_channel_laws.specs.talk_laws.specs.l2cap_signal.specs.Reading.{answers}
+use Rattle.own_channel_laws.specs.talk_laws.specs.ertm_frames.specs.Frames.{PlainFrame}
+use Rattle.own_channel_laws.specs.channel_model.specs.ertm_model.specs.Giving.{next_frame}
+use Rattle.own_channel_laws.specs.talk_laws.specs.link_talk.specs.Sayings.{Saying, Carried}
+use Rattle.own_channel_laws.specs.channel_model.specs.Value.{Queued, Answer, Ask, Own, Unasked, Asking, Granted, Carrier, Plain, Retransmitting, Setup, Stage, Requested, Connected, Leaving, Closing, Crossed, Held, Channels}
+use Rattle.own_channel_laws.specs.channel_model.specs.Policies.{Policy}
+use Rattle.own_channel_laws.specs.channel_model.specs.Changing.{has_own, held_at, is_granted, is_open, setup_of}
+use Rattle.own_channel_laws.specs.channel_model.specs.Carrying.{takes}
+use Rattle.own_channel_laws.specs.channel_model.specs.Giving.{Given, Signal, Whole, Framed, command_of, carrier_gives, some_carrier_gives, stage_gives, gives, held_gives, queue_gives, next_given}
+use Rattle.own_channel_laws.specs.channel_model.specs.Calls.{has_fcs, setup_on, carrier_if, open_carrier, carrier_at, connected, asks_features, disconnected}
+use Rattle.own_channel_laws.specs.channel_model.proofs.Lookups.{own_of, Distinct, found-distinct}
+use Rattle.own_channel_laws.specs.OwnTalk.{spoken, command_with, asked_between, said_with_all}
+use Rattle.own_channel_laws.specs.Runs.{Occurrence, Comes, Connects, AsksFeatures, Disconnects, Sends, Gives, Fires, Tells, peer_at, said_by_carrier, said_as, said_in, Run, run_of}
+use Rattle.own_channel_laws.specs.Views.{peer_of}
+use Rattle.own_channel_laws.specs.Signals.{StandsIn}
+use Rattle.own_channel_laws.specs.Frames.{IsSpelled, IsUttered}
 use Rattle.channel_laws.specs.Pairs.{End, Pair, new_pair, Happening, Acts, Puts, Takes, Repeats, Loses, Damages, is_alone, occurs, with_near, puts, let_go, takes_first, repeats_first, loses_first, damages_first, happens_near, Side, Near, Far, turned, Turn, happens_at, pair_after, pair_of, IsRunOf}
 use Rattle.channel_laws.specs.Ends.{end_at, DoesSo}
 use Rattle.channel_laws.specs.Belonging.{said_at, AreRead}
@@ -32,14 +32,14 @@ use Rattle.channel_laws.specs.Consent.{IsShown, HasAccepted, HasPart, PeersHaveA
 use Rattle.channel_laws.proofs.Assents.{accepted-more, IsCarried as Carries_to, carried-accepted}
 use Rattle.channel_laws.proofs.Assenting.{successes-accept}
 use Rattle.channel_laws.proofs.Belonging.{pledges-were_said, wishes-wished}
-use Rattle.channel_laws.proofs.Both.{and-right}
-use Rattle.channel_laws.proofs.Entries.{or_right}
+use Rattle.own_channel_laws.proofs.Both.{and-right}
+use Rattle.own_channel_laws.proofs.Entries.{or_right}
 use Rattle.channel_laws.proofs.Pairing.{each-end_runs, end-policy}
-use Rattle.channel_laws.proofs.Passages.{spelled-frame}
-use Rattle.channel_laws.proofs.Running.{IsSound, all-sound}
-use Rattle.channel_laws.proofs.Saying.{stands-either}
+use Rattle.own_channel_laws.proofs.Passages.{spelled-frame}
+use Rattle.own_channel_laws.proofs.Running.{IsSound, all-sound}
+use Rattle.own_channel_laws.proofs.Saying.{stands-either}
 use Rattle.channel_laws.proofs.Shown.{grants-are_shown}
-use Rattle.channel_laws.proofs.Signalling.{is_carried, IsBare, bare-asked, bare-left, bare-with_all, bare-fired}
+use Rattle.own_channel_laws.proofs.Signalling.{is_carried, IsBare, bare-asked, bare-left, bare-with_all, bare-fired}
 
 -- ---- a PDU that comes in
 

@@ -1,13 +1,13 @@
 -- What is given is read as what it is.
 use Rattle.std.proofs.Common.{◌≤◌, [], ◌∷◌, ◌++◌, drop, length, eqb, sym, ap, subst, ◌∙◌, append-nil}
-use Rattle.talk_laws.specs.bt_base.proofs.OctetLemmas.{le16-number}
-use Rattle.talk_laws.specs.bt_base.specs.Octets.{le16}
-use Rattle.talk_laws.specs.acl_fragments.specs.Pieces.{channel_of}
-use Rattle.talk_laws.specs.ertm_frames.specs.Frames.{control_of, body_of}
-use Rattle.talk_laws.specs.l2cap_signal.specs.Commands.{spelling}
-use Rattle.talk_laws.specs.l2cap_signal.specs.Reading.{answers}
-use Rattle.talk_laws.specs.l2cap_signal.proofs.Payloads.{written_read}
-use Rattle.channel_model.specs.Giving.{Signal, Whole, Framed}
+use Rattle.own_channel_laws.specs.talk_laws.specs.bt_base.proofs.OctetLemmas.{le16-number}
+use Rattle.own_channel_laws.specs.talk_laws.specs.bt_base.specs.Octets.{le16}
+use Rattle.own_channel_laws.specs.talk_laws.specs.acl_fragments.specs.Pieces.{channel_of}
+use Rattle.own_channel_laws.specs.talk_laws.specs.ertm_frames.specs.Frames.{control_of, body_of}
+use Rattle.own_channel_laws.specs.talk_laws.specs.l2cap_signal.specs.Commands.{spelling}
+use Rattle.own_channel_laws.specs.talk_laws.specs.l2cap_signal.specs.Reading.{answers}
+use Rattle.own_channel_laws.specs.talk_laws.specs.l2cap_signal.proofs.Payloads.{written_read}
+use Rattle.own_channel_laws.specs.channel_model.specs.Giving.{Signal, Whole, Framed}
 use Rattle.channel_laws.specs.Belonging.{UtteredIsRead}
 
 pub uttered-is_read : UtteredIsRead

@@ -2,54 +2,54 @@
 use Rattle.std.proofs.Common.{◌≡◌, ℕ, List, [], ◌∷◌, ◌++◌, length, drop, fold, Bool, true, false, cond, eqb, ◌&&◌, Option, Some, None, Ok, Err, refl, sym, ap, subst, ◌∙◌, ◌⊎◌, inl, inr, append_assoc, append-nil}
 use Rattle.std.specs.Prelude.{nat_lt}
 use Rattle.std.proofs.lemmas.List.Sums.{fold-append}
-use Rattle.talk_laws.specs.acl_fragments.specs.Pieces.{channel_of}
-use Rattle.talk_laws.specs.capture.specs.Histories.{EachAfter}
-use Rattle.talk_laws.specs.capture.proofs.HistoryLaws.{each_after-more}
-use Rattle.talk_laws.specs.l2cap_config.specs.declared.wish.Agreed.{Agreed}
-use Rattle.talk_laws.specs.l2cap_config.specs.declared.wish.Mode.TheVariants.{Enhanced}
-use Rattle.talk_laws.specs.ertm_frames.specs.Frames.{PlainFrame, information, supervisory}
-use Rattle.talk_laws.specs.ertm_frames.specs.Segments.{Segment}
-use Rattle.talk_laws.specs.ertm_frames.specs.Joining.{Joint, Misplaced, Begins, Ends, joint}
-use Rattle.talk_laws.specs.ertm_frames.specs.Reading.{answer_in}
-use Rattle.talk_laws.specs.ertm_frames.specs.declared.refusal.FrameRefusal.TheVariants.{Short, BadFcs}
-use Rattle.channel_model.specs.ertm_model.specs.declared.reason.ErtmReason.{ErtmReason}
-use Rattle.channel_model.specs.ertm_model.specs.declared.reason.ErtmReason.TheVariants.{BadReqSeq, RetryLimit, TooLongSdu}
-use Rattle.channel_model.specs.ertm_model.specs.Value.{Ertm, Poll, NoPoll, Due, Waits, Receiver}
-use Rattle.channel_model.specs.ertm_model.specs.Hearing.{Place, Expected, Ahead, Other, stated, joint_fault, place_fault, place_in, segment_of, acknowledged, asks_again, is_spent, receiver_fault, or_else, fault, heard_by, open_heard, heard}
-use Rattle.channel_model.specs.ertm_model.specs.Pair.{Sent, hearing}
-use Rattle.channel_model.specs.ertm_model.specs.Order.{OnlyRetries}
-use Rattle.channel_model.specs.ertm_model.proofs.Hearing.{hearing-stands}
-use Rattle.channel_model.specs.ertm_model.proofs.Ordering.{front-flies}
-use Rattle.channel_model.specs.ertm_model.proofs.Standing.{swapped}
-use Rattle.talk_laws.specs.link_talk.specs.declared.channel.Channel.{Channel}
-use Rattle.talk_laws.specs.link_talk.specs.declared.party.Party.{Party}
-use Rattle.talk_laws.specs.link_talk.specs.Channels.{reading}
-use Rattle.talk_laws.specs.link_talk.specs.Sdus.{sdus}
-use Rattle.talk_laws.specs.capture.specs.declared.flow.Flow.TheVariants.{Into}
-use Rattle.channel_model.proofs.Lookups.{eqb-same}
-use Rattle.channel_model.specs.Value.{Carrier, Retransmitting, Setup, Held, Channels}
-use Rattle.channel_model.specs.Policies.{Policy}
-use Rattle.channel_model.specs.Changing.{held_at, is_open, setup_of}
-use Rattle.channel_model.specs.Calls.{carrier_at, has_fcs}
-use Rattle.channel_model.specs.Carrying.{machine_heard, read_by}
-use Rattle.channel_model.specs.Giving.{Given, next_given}
-use Rattle.channel_laws.specs.Runs.{Occurrence, Comes, Connects, AsksFeatures, Disconnects, Sends, Gives, Fires, Tells, Run, new_link, run_on, run_of, sdus_up}
-use Rattle.channel_laws.specs.Views.{read_at}
-use Rattle.channel_laws.specs.Endpoints.{IsOf}
-use Rattle.channel_laws.specs.Agreements.{IsOnHeard}
+use Rattle.own_channel_laws.specs.talk_laws.specs.acl_fragments.specs.Pieces.{channel_of}
+use Rattle.own_channel_laws.specs.talk_laws.specs.capture.specs.Histories.{EachAfter}
+use Rattle.own_channel_laws.specs.talk_laws.specs.capture.proofs.HistoryLaws.{each_after-more}
+use Rattle.own_channel_laws.specs.talk_laws.specs.l2cap_config.specs.declared.wish.Agreed.{Agreed}
+use Rattle.own_channel_laws.specs.talk_laws.specs.l2cap_config.specs.declared.wish.Mode.TheVariants.{Enhanced}
+use Rattle.own_channel_laws.specs.talk_laws.specs.ertm_frames.specs.Frames.{PlainFrame, information, supervisory}
+use Rattle.own_channel_laws.specs.talk_laws.specs.ertm_frames.specs.Segments.{Segment}
+use Rattle.own_channel_laws.specs.talk_laws.specs.ertm_frames.specs.Joining.{Joint, Misplaced, Begins, Ends, joint}
+use Rattle.own_channel_laws.specs.talk_laws.specs.ertm_frames.specs.Reading.{answer_in}
+use Rattle.own_channel_laws.specs.talk_laws.specs.ertm_frames.specs.declared.refusal.FrameRefusal.TheVariants.{Short, BadFcs}
+use Rattle.own_channel_laws.specs.channel_model.specs.ertm_model.specs.declared.reason.ErtmReason.{ErtmReason}
+use Rattle.own_channel_laws.specs.channel_model.specs.ertm_model.specs.declared.reason.ErtmReason.TheVariants.{BadReqSeq, RetryLimit, TooLongSdu}
+use Rattle.own_channel_laws.specs.channel_model.specs.ertm_model.specs.Value.{Ertm, Poll, NoPoll, Due, Waits, Receiver}
+use Rattle.own_channel_laws.specs.channel_model.specs.ertm_model.specs.Hearing.{Place, Expected, Ahead, Other, stated, joint_fault, place_fault, place_in, segment_of, acknowledged, asks_again, is_spent, receiver_fault, or_else, fault, heard_by, open_heard, heard}
+use Rattle.own_channel_laws.specs.channel_model.specs.ertm_model.specs.Pair.{Sent, hearing}
+use Rattle.own_channel_laws.specs.channel_model.specs.ertm_model.specs.Order.{OnlyRetries}
+use Rattle.own_channel_laws.specs.channel_model.specs.ertm_model.proofs.Hearing.{hearing-stands}
+use Rattle.own_channel_laws.specs.channel_model.specs.ertm_model.proofs.Ordering.{front-flies}
+use Rattle.own_channel_laws.specs.channel_model.specs.ertm_model.proofs.Standing.{swapped}
+use Rattle.own_channel_laws.specs.talk_laws.specs.link_talk.specs.declared.channel.Channel.{Channel}
+use Rattle.own_channel_laws.specs.talk_laws.specs.link_talk.specs.declared.party.Party.{Party}
+use Rattle.own_channel_laws.specs.talk_laws.specs.link_talk.specs.Channels.{reading}
+use Rattle.own_channel_laws.specs.talk_laws.specs.link_talk.specs.Sdus.{sdus}
+use Rattle.own_channel_laws.specs.talk_laws.specs.capture.specs.declared.flow.Flow.TheVariants.{Into}
+use Rattle.own_channel_laws.specs.channel_model.proofs.Lookups.{eqb-same}
+use Rattle.own_channel_laws.specs.channel_model.specs.Value.{Carrier, Retransmitting, Setup, Held, Channels}
+use Rattle.own_channel_laws.specs.channel_model.specs.Policies.{Policy}
+use Rattle.own_channel_laws.specs.channel_model.specs.Changing.{held_at, is_open, setup_of}
+use Rattle.own_channel_laws.specs.channel_model.specs.Calls.{carrier_at, has_fcs}
+use Rattle.own_channel_laws.specs.channel_model.specs.Carrying.{machine_heard, read_by}
+use Rattle.own_channel_laws.specs.channel_model.specs.Giving.{Given, next_given}
+use Rattle.own_channel_laws.specs.Runs.{Occurrence, Comes, Connects, AsksFeatures, Disconnects, Sends, Gives, Fires, Tells, Run, new_link, run_on, run_of, sdus_up}
+use Rattle.own_channel_laws.specs.Views.{read_at}
+use Rattle.own_channel_laws.specs.Endpoints.{IsOf}
+use Rattle.own_channel_laws.specs.Agreements.{IsOnHeard}
 use Rattle.channel_laws.specs.Pairs.{End, Pair, Happening, Acts, Puts, Takes, Repeats, Loses, Damages, is_alone, occurs, puts, let_go, takes_first, repeats_first, loses_first, damages_first, happens_near, with_near, new_pair, Side, Near, Far, turned, Turn, happens_at, pair_after, pair_of, IsRunOf}
 use Rattle.channel_laws.specs.Ends.{DoesSo, AreFair, end_at}
-use Rattle.channel_laws.specs.Frames.{IsUttered}
+use Rattle.own_channel_laws.specs.Frames.{IsUttered}
 use Rattle.channel_laws.specs.Belonging.{IsRead as IsReadAt, AreRead, said_at}
 use Rattle.channel_laws.specs.Common.{mirrored}
 use Rattle.channel_laws.specs.Modes.{policy_of}
 use Rattle.channel_laws.specs.Pipes.{IsSeen, IsCarried, AreCarried, HaveChannel, CanState, CanStateBoth}
-use Rattle.channel_laws.specs.Sdus.{StatesFrame}
+use Rattle.own_channel_laws.specs.Sdus.{StatesFrame}
 use Rattle.channel_laws.specs.Whole.{BringsNone, ClosesOnNone, ChannelsAreWhole}
-use Rattle.channel_laws.proofs.Keeping.{HeldKeeps}
+use Rattle.own_channel_laws.proofs.Keeping.{HeldKeeps}
 use Rattle.channel_laws.proofs.Pairing.{each-end_runs, end-policy}
 use Rattle.channel_laws.proofs.Sharing.{channels-are_common, run-grows}
-use Rattle.channel_laws.proofs.Agreements.{IsRead, accepted-heard}
+use Rattle.own_channel_laws.proofs.Agreements.{IsRead, accepted-heard}
 use Rattle.channel_laws.proofs.Binding.{IsBy, Binds, bound-later}
 use Rattle.channel_laws.proofs.Bonds.{runs-at, value_at, heard-within, Bond, bond-of}
 use Rattle.channel_laws.proofs.Partaking.{kept-on, frame-within, settle}

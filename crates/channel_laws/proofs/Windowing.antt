@@ -3,71 +3,71 @@ use Rattle.std.proofs.Common.{◌≡◌, ℕ, ◌+◌, ◌-◌, ◌≤◌, List,
 use Rattle.std.specs.Prelude.{option_map, option_to_list, is_some}
 use Rattle.std.proofs.lemmas.Bool.{eqb-true}
 use Rattle.std.proofs.lemmas.List.Sums.{fold-append}
-use Rattle.talk_laws.specs.acl_fragments.specs.Pieces.{channel_of}
-use Rattle.talk_laws.specs.capture.specs.Histories.{EachAfter, AtEach}
-use Rattle.talk_laws.specs.capture.proofs.HistoryLaws.{at_each-more, at_each-none}
-use Rattle.talk_laws.specs.capture.specs.declared.flow.Flow.TheVariants.{Out, Into}
-use Rattle.talk_laws.specs.l2cap_signal.specs.Reading.{answers}
-use Rattle.talk_laws.specs.l2cap_config.specs.declared.wish.Agreed.{Agreed}
-use Rattle.talk_laws.specs.l2cap_config.specs.declared.wish.Mode.{Mode}
-use Rattle.talk_laws.specs.l2cap_config.specs.declared.wish.Mode.TheVariants.{Enhanced}
-use Rattle.talk_laws.specs.ertm_frames.specs.declared.refusal.FrameRefusal.TheVariants.{Short, BadFcs}
-use Rattle.talk_laws.specs.ertm_frames.specs.Frames.{PlainFrame}
-use Rattle.talk_laws.specs.ertm_frames.specs.Reading.{answer_in, frame_by, frame_in}
-use Rattle.talk_laws.specs.ertm_frames.specs.Picking.{Passage, Out as Gave, In, outs, ins, picked, last_req, req_of}
-use Rattle.talk_laws.specs.ertm_frames.proofs.Telling.{outs-more, outs-same, req-more}
-use Rattle.channel_model.specs.ertm_model.specs.Value.{Ertm}
-use Rattle.channel_model.specs.ertm_model.specs.Giving.{Giving, giving, given_frame, frame_by as given_by, after_by, next_frame, after_frame}
-use Rattle.channel_model.specs.ertm_model.specs.Pair.{Sent, End as MachineEnd, Pair as Machines, gave}
-use Rattle.channel_model.specs.ertm_model.specs.Order.{Rises, Stands}
-use Rattle.channel_model.specs.ertm_model.proofs.Ordering.{front-flies}
-use Rattle.channel_model.specs.ertm_model.proofs.Queues.{rises-between}
-use Rattle.channel_model.specs.ertm_model.proofs.Saying.{gives-stands}
-use Rattle.channel_model.specs.ertm_model.proofs.Standing.{swapped}
-use Rattle.talk_laws.specs.link_talk.specs.declared.channel.Channel.{Channel}
-use Rattle.talk_laws.specs.link_talk.specs.declared.party.Party.{Party}
-use Rattle.talk_laws.specs.link_talk.specs.Sayings.{Saying, Carried}
-use Rattle.talk_laws.specs.link_talk.specs.Channels.{Entry, is_there, reading}
-use Rattle.talk_laws.specs.link_talk.specs.Carriages.{is_passed, entry_mode, mode_of}
-use Rattle.talk_laws.specs.link_talk.specs.Accounts.{frames_passed}
-use Rattle.channel_model.specs.Value.{Carrier, Plain, Retransmitting, Held, Channels}
-use Rattle.channel_model.specs.Policies.{Policy}
-use Rattle.channel_model.specs.Changing.{held_at, is_open}
-use Rattle.channel_model.specs.Carrying.{takes}
-use Rattle.channel_model.specs.Giving.{Given, Signal, Whole, Framed, carrier_gives, next_given}
-use Rattle.channel_model.specs.Calls.{has_fcs, connected, asks_features, disconnected}
-use Rattle.channel_laws.specs.OwnTalk.{asked_between, said_with_all}
-use Rattle.channel_laws.specs.Runs.{Occurrence, Comes, Connects, AsksFeatures, Disconnects, Sends, Gives, Fires, Tells, given_up, said_by_channels, said_as, said_in, sdus_up, Run}
-use Rattle.channel_laws.specs.Views.{read_at}
-use Rattle.channel_laws.specs.Frames.{IsSpelled, IsUttered}
+use Rattle.own_channel_laws.specs.talk_laws.specs.acl_fragments.specs.Pieces.{channel_of}
+use Rattle.own_channel_laws.specs.talk_laws.specs.capture.specs.Histories.{EachAfter, AtEach}
+use Rattle.own_channel_laws.specs.talk_laws.specs.capture.proofs.HistoryLaws.{at_each-more, at_each-none}
+use Rattle.own_channel_laws.specs.talk_laws.specs.capture.specs.declared.flow.Flow.TheVariants.{Out, Into}
+use Rattle.own_channel_laws.specs.talk_laws.specs.l2cap_signal.specs.Reading.{answers}
+use Rattle.own_channel_laws.specs.talk_laws.specs.l2cap_config.specs.declared.wish.Agreed.{Agreed}
+use Rattle.own_channel_laws.specs.talk_laws.specs.l2cap_config.specs.declared.wish.Mode.{Mode}
+use Rattle.own_channel_laws.specs.talk_laws.specs.l2cap_config.specs.declared.wish.Mode.TheVariants.{Enhanced}
+use Rattle.own_channel_laws.specs.talk_laws.specs.ertm_frames.specs.declared.refusal.FrameRefusal.TheVariants.{Short, BadFcs}
+use Rattle.own_channel_laws.specs.talk_laws.specs.ertm_frames.specs.Frames.{PlainFrame}
+use Rattle.own_channel_laws.specs.talk_laws.specs.ertm_frames.specs.Reading.{answer_in, frame_by, frame_in}
+use Rattle.own_channel_laws.specs.talk_laws.specs.ertm_frames.specs.Picking.{Passage, Out as Gave, In, outs, ins, picked, last_req, req_of}
+use Rattle.own_channel_laws.specs.talk_laws.specs.ertm_frames.proofs.Telling.{outs-more, outs-same, req-more}
+use Rattle.own_channel_laws.specs.channel_model.specs.ertm_model.specs.Value.{Ertm}
+use Rattle.own_channel_laws.specs.channel_model.specs.ertm_model.specs.Giving.{Giving, giving, given_frame, frame_by as given_by, after_by, next_frame, after_frame}
+use Rattle.own_channel_laws.specs.channel_model.specs.ertm_model.specs.Pair.{Sent, End as MachineEnd, Pair as Machines, gave}
+use Rattle.own_channel_laws.specs.channel_model.specs.ertm_model.specs.Order.{Rises, Stands}
+use Rattle.own_channel_laws.specs.channel_model.specs.ertm_model.proofs.Ordering.{front-flies}
+use Rattle.own_channel_laws.specs.channel_model.specs.ertm_model.proofs.Queues.{rises-between}
+use Rattle.own_channel_laws.specs.channel_model.specs.ertm_model.proofs.Saying.{gives-stands}
+use Rattle.own_channel_laws.specs.channel_model.specs.ertm_model.proofs.Standing.{swapped}
+use Rattle.own_channel_laws.specs.talk_laws.specs.link_talk.specs.declared.channel.Channel.{Channel}
+use Rattle.own_channel_laws.specs.talk_laws.specs.link_talk.specs.declared.party.Party.{Party}
+use Rattle.own_channel_laws.specs.talk_laws.specs.link_talk.specs.Sayings.{Saying, Carried}
+use Rattle.own_channel_laws.specs.talk_laws.specs.link_talk.specs.Channels.{Entry, is_there, reading}
+use Rattle.own_channel_laws.specs.talk_laws.specs.link_talk.specs.Carriages.{is_passed, entry_mode, mode_of}
+use Rattle.own_channel_laws.specs.talk_laws.specs.link_talk.specs.Accounts.{frames_passed}
+use Rattle.own_channel_laws.specs.channel_model.specs.Value.{Carrier, Plain, Retransmitting, Held, Channels}
+use Rattle.own_channel_laws.specs.channel_model.specs.Policies.{Policy}
+use Rattle.own_channel_laws.specs.channel_model.specs.Changing.{held_at, is_open}
+use Rattle.own_channel_laws.specs.channel_model.specs.Carrying.{takes}
+use Rattle.own_channel_laws.specs.channel_model.specs.Giving.{Given, Signal, Whole, Framed, carrier_gives, next_given}
+use Rattle.own_channel_laws.specs.channel_model.specs.Calls.{has_fcs, connected, asks_features, disconnected}
+use Rattle.own_channel_laws.specs.OwnTalk.{asked_between, said_with_all}
+use Rattle.own_channel_laws.specs.Runs.{Occurrence, Comes, Connects, AsksFeatures, Disconnects, Sends, Gives, Fires, Tells, given_up, said_by_channels, said_as, said_in, sdus_up, Run}
+use Rattle.own_channel_laws.specs.Views.{read_at}
+use Rattle.own_channel_laws.specs.Frames.{IsSpelled, IsUttered}
 use Rattle.channel_laws.specs.Pairs.{End, Pair, Happening, Acts, Puts, Takes, Repeats, Loses, Damages, is_alone, occurs, with_near, puts, let_go, takes_first, repeats_first, loses_first, damages_first, happens_near, new_pair, Side, Near, Far, turned, Turn, happens_at, pair_after, pair_of}
-use Rattle.channel_laws.specs.Endpoints.{IsOf}
+use Rattle.own_channel_laws.specs.Endpoints.{IsOf}
 use Rattle.channel_laws.specs.Ends.{DoesSo, AreFair, end_at}
 use Rattle.channel_laws.specs.Belonging.{AreRead, said_at}
 use Rattle.channel_laws.specs.Common.{mirrored}
 use Rattle.channel_laws.specs.Modes.{policy_of, OneWishes}
 use Rattle.channel_laws.specs.Pipes.{IsSeen, IsCarried, AreCarried, HaveChannel, CanStateBoth}
-use Rattle.channel_laws.specs.Sdus.{StatesFrame}
+use Rattle.own_channel_laws.specs.Sdus.{StatesFrame}
 use Rattle.channel_laws.specs.Windows.{HoldsWindow, HoldsWindows, WindowsHold}
-use Rattle.channel_laws.proofs.Attending.{gives-aside}
+use Rattle.own_channel_laws.proofs.Attending.{gives-aside}
 use Rattle.channel_laws.proofs.Bonds.{Bond, bond-of}
-use Rattle.channel_laws.proofs.Carriages.{counted_in}
+use Rattle.own_channel_laws.proofs.Carriages.{counted_in}
 use Rattle.channel_laws.proofs.Conveying.{flipped, peers-apart, Speaks}
 use Rattle.channel_laws.proofs.Flowing.{sound-of, turned-piped, Common, Fair, side_piped, first_piped, common_at, enhanced-accepted, other_wishes, terms_of, fair-by}
-use Rattle.channel_laws.proofs.Frames.{RunPasses, run-passes}
-use Rattle.channel_laws.proofs.Holding.{IsRead, is-read, set-is, kept-setup}
+use Rattle.own_channel_laws.proofs.Frames.{RunPasses, run-passes}
+use Rattle.own_channel_laws.proofs.Holding.{IsRead, is-read, set-is, kept-setup}
 use Rattle.channel_laws.proofs.Joining.{AreSpelled, Seen, Terms, other_terms, Joins, Holds, IsEnd}
-use Rattle.channel_laws.proofs.Keeping.{HeldKeeps}
-use Rattle.channel_laws.proofs.Outgoing.{open-stated}
+use Rattle.own_channel_laws.proofs.Keeping.{HeldKeeps}
+use Rattle.own_channel_laws.proofs.Outgoing.{open-stated}
 use Rattle.channel_laws.proofs.Pairing.{Runs, BothRun, at-runs, first-runs}
 use Rattle.channel_laws.proofs.Partaking.{frame-within, kept-on, settle}
-use Rattle.channel_laws.proofs.Passages.{GoesOut, bare-passes, into-other, into-own, out-own, spelled-frame}
-use Rattle.channel_laws.proofs.Passing.{Passing, CarrierPasses, Passed, ins_in, heard_in, passing-gives, passing-used}
+use Rattle.own_channel_laws.proofs.Passages.{GoesOut, bare-passes, into-other, into-own, out-own, spelled-frame}
+use Rattle.own_channel_laws.proofs.Passing.{Passing, CarrierPasses, Passed, ins_in, heard_in, passing-gives, passing-used}
 use Rattle.channel_laws.proofs.Piped.{under_way, Piped, passed-elsewhere, sends-passed}
 use Rattle.channel_laws.proofs.Piping.{Tells as PutSo, tells_many, tells-gives}
 use Rattle.channel_laws.proofs.Putting.{passed-small}
 use Rattle.channel_laws.proofs.Sharing.{channels-are_common, near_grows}
-use Rattle.channel_laws.proofs.Signalling.{IsBare, bare-asked, bare-left, bare-with_all, bare-fired}
+use Rattle.own_channel_laws.proofs.Signalling.{IsBare, bare-asked, bare-left, bare-with_all, bare-fired}
 use Rattle.channel_laws.proofs.Trusting.{Gives_out, queue-out}
 
 -- ---- two machines

@@ -1,21 +1,21 @@
 -- That a channel of one end of a link belongs to one of the other (Core 5.1, Volume 3 Part A, 4.2 and 4.3).
 use Rattle.std.specs.Prelude.{ℕ, ◌≡◌, ◌<◌, ◌≤◌, ◌==◌, Bool, true, false, length, List, [], ◌∷◌, drop, Option, Some, None, Ok, ◌⊎◌}
-use Rattle.talk_laws.specs.acl_fragments.specs.Pieces.{channel_of}
-use Rattle.talk_laws.specs.capture.specs.Histories.{EachAfter}
-use Rattle.talk_laws.specs.capture.specs.declared.flow.Flow.TheVariants.{Into}
-use Rattle.talk_laws.specs.l2cap_signal.specs.Commands.{Content, Command, reject, connection_request, connection_response, configuration_request, configuration_response, disconnection_request, disconnection_response, echo_request, echo_response, information_request, information_response, spelling, IsCommand}
-use Rattle.talk_laws.specs.l2cap_signal.specs.Reading.{answers}
-use Rattle.talk_laws.specs.link_talk.specs.declared.channel.Channel.{Channel}
-use Rattle.talk_laws.specs.link_talk.specs.Sayings.{Saying}
-use Rattle.talk_laws.specs.link_talk.specs.Sayings as sayings
-use Rattle.talk_laws.specs.link_talk.specs.Channels.{Entry, reading}
-use Rattle.channel_model.specs.Policies.{Policy}
-use Rattle.channel_model.specs.Giving.{Given, Signal, Whole, Framed, IsPdu, next_given}
-use Rattle.channel_laws.specs.OwnTalk.{spoken, command_with}
-use Rattle.channel_laws.specs.Views.{read_at}
+use Rattle.own_channel_laws.specs.talk_laws.specs.acl_fragments.specs.Pieces.{channel_of}
+use Rattle.own_channel_laws.specs.talk_laws.specs.capture.specs.Histories.{EachAfter}
+use Rattle.own_channel_laws.specs.talk_laws.specs.capture.specs.declared.flow.Flow.TheVariants.{Into}
+use Rattle.own_channel_laws.specs.talk_laws.specs.l2cap_signal.specs.Commands.{Content, Command, reject, connection_request, connection_response, configuration_request, configuration_response, disconnection_request, disconnection_response, echo_request, echo_response, information_request, information_response, spelling, IsCommand}
+use Rattle.own_channel_laws.specs.talk_laws.specs.l2cap_signal.specs.Reading.{answers}
+use Rattle.own_channel_laws.specs.talk_laws.specs.link_talk.specs.declared.channel.Channel.{Channel}
+use Rattle.own_channel_laws.specs.talk_laws.specs.link_talk.specs.Sayings.{Saying}
+use Rattle.own_channel_laws.specs.talk_laws.specs.link_talk.specs.Sayings as sayings
+use Rattle.own_channel_laws.specs.talk_laws.specs.link_talk.specs.Channels.{Entry, reading}
+use Rattle.own_channel_laws.specs.channel_model.specs.Policies.{Policy}
+use Rattle.own_channel_laws.specs.channel_model.specs.Giving.{Given, Signal, Whole, Framed, IsPdu, next_given}
+use Rattle.own_channel_laws.specs.OwnTalk.{spoken, command_with}
+use Rattle.own_channel_laws.specs.Views.{read_at}
 use Rattle.channel_laws.specs.Pairs.{End, Pair, Happening, Acts, Puts, Takes, Repeats, Loses, Damages, Side, turned, Turn, pair_of}
 use Rattle.channel_laws.specs.Ends.{end_at}
-use Rattle.channel_laws.specs.Signals.{StandsIn}
+use Rattle.own_channel_laws.specs.Signals.{StandsIn}
 
 -- ---- what is read of what is under way
 

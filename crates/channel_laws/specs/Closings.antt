@@ -1,14 +1,14 @@
 -- The channels whose closing a host is told, as its talk is read (Core 5.1, Volume 3 Part A, 4.6 and 4.7).
 use Rattle.std.specs.Prelude.{ℕ, List}
 use Rattle.std.specs.List.{AllByRecursion}
-use Rattle.talk_laws.specs.link_talk.specs.Channels.{Entry, reading}
-use Rattle.channel_model.specs.declared.event.ChannelEvent.{ChannelEvent}
-use Rattle.channel_model.specs.declared.event.ChannelEvent.TheVariants as events
-use Rattle.channel_model.specs.Policies.{Policy}
-use Rattle.channel_laws.specs.Endpoints.{IsOf}
-use Rattle.channel_laws.specs.Runs.{Occurrence, run_of}
+use Rattle.own_channel_laws.specs.talk_laws.specs.link_talk.specs.Channels.{Entry, reading}
+use Rattle.own_channel_laws.specs.channel_model.specs.declared.event.ChannelEvent.{ChannelEvent}
+use Rattle.own_channel_laws.specs.channel_model.specs.declared.event.ChannelEvent.TheVariants as events
+use Rattle.own_channel_laws.specs.channel_model.specs.Policies.{Policy}
+use Rattle.own_channel_laws.specs.Endpoints.{IsOf}
+use Rattle.own_channel_laws.specs.Runs.{Occurrence, run_of}
 use Rattle.channel_laws.specs.Singly.{AsksForNoChannel}
-use Rattle.channel_laws.specs.Views.{channel_by, read_at}
+use Rattle.own_channel_laws.specs.Views.{channel_by, read_at}
 
 -- a channel is read that has this PSM
 abbrev pub HasPsm : (own psm : ℕ) → List Entry → Type 0

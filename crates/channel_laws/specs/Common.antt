@@ -1,12 +1,12 @@
 -- That a channel of one end of a link is one of the other (Core 5.1, Volume 3 Part A, 4.2 to 4.5).
 use Rattle.std.specs.Prelude.{ℕ, ◌≡◌, true, List, is_some, Some}
-use Rattle.talk_laws.specs.link_talk.specs.declared.channel.Channel.{Channel}
-use Rattle.talk_laws.specs.link_talk.specs.Channels.{Entry, reading}
-use Rattle.channel_model.specs.Policies.{Policy}
-use Rattle.channel_laws.specs.Views.{read_at}
+use Rattle.own_channel_laws.specs.talk_laws.specs.link_talk.specs.declared.channel.Channel.{Channel}
+use Rattle.own_channel_laws.specs.talk_laws.specs.link_talk.specs.Channels.{Entry, reading}
+use Rattle.own_channel_laws.specs.channel_model.specs.Policies.{Policy}
+use Rattle.own_channel_laws.specs.Views.{read_at}
 use Rattle.channel_laws.specs.Pairs.{Side, turned, Turn, pair_of}
 use Rattle.channel_laws.specs.Belonging.{AreRead, said_at}
-use Rattle.channel_laws.specs.Endpoints.{IsOf}
+use Rattle.own_channel_laws.specs.Endpoints.{IsOf}
 
 -- as the other host has it
 abbrev pub mirrored : Channel → Channel

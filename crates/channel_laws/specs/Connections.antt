@@ -1,15 +1,15 @@
 -- That a request for a channel is responded to, and that the response ends its wait (Core 5.1, Volume 3 Part A, 4, 4.2 and 4.3).
 use Rattle.std.specs.Prelude.{ℕ, ◌≡◌, ◌≤◌, ◌+◌, Bool, false, List, [], ◌∷◌}
-use Rattle.talk_laws.specs.capture.specs.Histories.{EachAfter}
-use Rattle.talk_laws.specs.link_talk.specs.declared.call.Call.{Call}
-use Rattle.talk_laws.specs.link_talk.specs.Sayings.{Saying}
-use Rattle.channel_model.specs.declared.errand.Errand.TheVariants.{Connection}
-use Rattle.channel_model.specs.Policies.{Policy}
+use Rattle.own_channel_laws.specs.talk_laws.specs.capture.specs.Histories.{EachAfter}
+use Rattle.own_channel_laws.specs.talk_laws.specs.link_talk.specs.declared.call.Call.{Call}
+use Rattle.own_channel_laws.specs.talk_laws.specs.link_talk.specs.Sayings.{Saying}
+use Rattle.own_channel_laws.specs.channel_model.specs.declared.errand.Errand.TheVariants.{Connection}
+use Rattle.own_channel_laws.specs.channel_model.specs.Policies.{Policy}
 use Rattle.channel_laws.specs.Adverse.{AreRoomy}
 use Rattle.channel_laws.specs.Belonging.{AreRead, said_at, HasAsked}
 use Rattle.channel_laws.specs.Heeded.{AreMet}
 use Rattle.channel_laws.specs.Pairs.{Side, Turn, pair_of}
-use Rattle.channel_laws.specs.Runs.{Occurrence, Comes, Connects, AsksFeatures, Disconnects, Sends, Gives, Fires, Tells, run_of}
+use Rattle.own_channel_laws.specs.Runs.{Occurrence, Comes, Connects, AsksFeatures, Disconnects, Sends, Gives, Fires, Tells, run_of}
 use Rattle.channel_laws.specs.Singly.{AsksSo}
 
 -- An end asked for no two channels with one identifier: these come round after 255 requests, and one that is used again could be taken for

@@ -1,20 +1,20 @@
 -- That a host sends on a channel only where its peer has accepted its request for options (Core 5.1, Volume 3 Part A, 4.5, 6.1.3 and
 -- 6.1.4).
 use Rattle.std.specs.Prelude.{ℕ, ◌≡◌, ◌==◌, ◌%◌, true, List, Some, Ok, is_some, ◌⊎◌}
-use Rattle.talk_laws.specs.acl_fragments.specs.Pieces.{channel_of}
-use Rattle.talk_laws.specs.capture.specs.declared.flow.Flow.TheVariants.{Into}
-use Rattle.talk_laws.specs.l2cap_signal.specs.Commands.{configuration_request, configuration_response}
-use Rattle.talk_laws.specs.link_talk.specs.Sayings.{Saying, Carried}
-use Rattle.talk_laws.specs.link_talk.specs.Sayings as sayings
-use Rattle.talk_laws.specs.link_talk.specs.Channels.{Entry, reading}
-use Rattle.channel_model.specs.Value.{Granted, Setup, Carrier}
-use Rattle.channel_model.specs.Policies.{Policy}
-use Rattle.channel_model.specs.Changing.{held_at}
-use Rattle.channel_model.specs.Calls.{setup_on, carrier_at}
-use Rattle.channel_laws.specs.OwnTalk.{spoken, command_with}
-use Rattle.channel_laws.specs.Runs.{Occurrence, run_of}
-use Rattle.channel_laws.specs.Views.{read_at}
-use Rattle.channel_laws.specs.Signals.{StandsIn}
+use Rattle.own_channel_laws.specs.talk_laws.specs.acl_fragments.specs.Pieces.{channel_of}
+use Rattle.own_channel_laws.specs.talk_laws.specs.capture.specs.declared.flow.Flow.TheVariants.{Into}
+use Rattle.own_channel_laws.specs.talk_laws.specs.l2cap_signal.specs.Commands.{configuration_request, configuration_response}
+use Rattle.own_channel_laws.specs.talk_laws.specs.link_talk.specs.Sayings.{Saying, Carried}
+use Rattle.own_channel_laws.specs.talk_laws.specs.link_talk.specs.Sayings as sayings
+use Rattle.own_channel_laws.specs.talk_laws.specs.link_talk.specs.Channels.{Entry, reading}
+use Rattle.own_channel_laws.specs.channel_model.specs.Value.{Granted, Setup, Carrier}
+use Rattle.own_channel_laws.specs.channel_model.specs.Policies.{Policy}
+use Rattle.own_channel_laws.specs.channel_model.specs.Changing.{held_at}
+use Rattle.own_channel_laws.specs.channel_model.specs.Calls.{setup_on, carrier_at}
+use Rattle.own_channel_laws.specs.OwnTalk.{spoken, command_with}
+use Rattle.own_channel_laws.specs.Runs.{Occurrence, run_of}
+use Rattle.own_channel_laws.specs.Views.{read_at}
+use Rattle.own_channel_laws.specs.Signals.{StandsIn}
 use Rattle.channel_laws.specs.Pairs.{Side, turned, Turn, pair_of}
 use Rattle.channel_laws.specs.Ends.{end_at, AreFair}
 use Rattle.channel_laws.specs.Belonging.{AreRead, said_at}

@@ -1,14 +1,14 @@
 -- What comes up of an enhanced channel is what the other host's channel took, in its order (Core 5.1, Volume 3 Part A, 7.3 and 8.6).
 use Rattle.std.specs.Prelude.{ℕ, ◌≡◌, List}
-use Rattle.talk_laws.specs.l2cap_config.specs.declared.wish.Mode.TheVariants.{Enhanced}
-use Rattle.talk_laws.specs.link_talk.specs.declared.channel.Channel.{Channel}
-use Rattle.talk_laws.specs.link_talk.specs.declared.party.Party.{Party}
-use Rattle.talk_laws.specs.link_talk.specs.Carriages.{mode_of}
-use Rattle.channel_model.specs.Policies.{Policy}
-use Rattle.channel_model.specs.Carrying.{Up}
-use Rattle.channel_laws.specs.Runs.{Occurrence, Run, run_of, sdus_up}
-use Rattle.channel_laws.specs.Frames.{AreUttered}
-use Rattle.channel_laws.specs.Sdus.{StatesFrame}
+use Rattle.own_channel_laws.specs.talk_laws.specs.l2cap_config.specs.declared.wish.Mode.TheVariants.{Enhanced}
+use Rattle.own_channel_laws.specs.talk_laws.specs.link_talk.specs.declared.channel.Channel.{Channel}
+use Rattle.own_channel_laws.specs.talk_laws.specs.link_talk.specs.declared.party.Party.{Party}
+use Rattle.own_channel_laws.specs.talk_laws.specs.link_talk.specs.Carriages.{mode_of}
+use Rattle.own_channel_laws.specs.channel_model.specs.Policies.{Policy}
+use Rattle.own_channel_laws.specs.channel_model.specs.Carrying.{Up}
+use Rattle.own_channel_laws.specs.Runs.{Occurrence, Run, run_of, sdus_up}
+use Rattle.own_channel_laws.specs.Frames.{AreUttered}
+use Rattle.own_channel_laws.specs.Sdus.{StatesFrame}
 use Rattle.channel_laws.specs.Pairs.{Turn, pair_of}
 use Rattle.channel_laws.specs.Ends.{AreFair}
 use Rattle.channel_laws.specs.Belonging.{AreRead}

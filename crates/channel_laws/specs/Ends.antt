@@ -1,10 +1,10 @@
 -- What the two ends of a link utter (this project's own).
 use Rattle.std.specs.Prelude.{◌≡◌, List, []}
-use Rattle.talk_laws.specs.capture.specs.Histories.{EachAfter}
-use Rattle.channel_model.specs.Value.{Channels}
-use Rattle.channel_model.specs.Policies.{Policy}
-use Rattle.channel_laws.specs.Runs.{Occurrence, Gives, Run, run_of}
-use Rattle.channel_laws.specs.Frames.{IsUttered, AreUttered}
+use Rattle.own_channel_laws.specs.talk_laws.specs.capture.specs.Histories.{EachAfter}
+use Rattle.own_channel_laws.specs.channel_model.specs.Value.{Channels}
+use Rattle.own_channel_laws.specs.channel_model.specs.Policies.{Policy}
+use Rattle.own_channel_laws.specs.Runs.{Occurrence, Gives, Run, run_of}
+use Rattle.own_channel_laws.specs.Frames.{IsUttered, AreUttered}
 use Rattle.channel_laws.specs.Pairs.{End, Pair, Happening, Acts, Puts, Takes, Repeats, Loses, Damages, Side, Near, Far, Turn, pair_of}
 
 -- what an end does by itself is so

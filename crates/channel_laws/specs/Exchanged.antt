@@ -1,20 +1,20 @@
 -- What is spoken on a basic channel, both ways in one order (Core 5.1, Volume 3 Part A, 3.1).
 use Rattle.std.specs.Prelude.{ℕ, ◌≡◌, ◌==◌, List, [], ◌∷◌, ◌++◌, map, if◌then◌else◌}
-use Rattle.talk_laws.specs.capture.specs.declared.flow.Flow.TheVariants.{Out, Into}
-use Rattle.talk_laws.specs.capture.specs.Histories.{given_by}
-use Rattle.talk_laws.specs.l2cap_config.specs.declared.wish.Mode.TheVariants.{Basic}
-use Rattle.talk_laws.specs.link_talk.specs.declared.channel.Channel.{Channel}
-use Rattle.talk_laws.specs.link_talk.specs.declared.party.Party.{Party}
-use Rattle.talk_laws.specs.link_talk.specs.Channels.{reading}
-use Rattle.talk_laws.specs.link_talk.specs.Sdus.{Spoken, spoken_as, spoken}
-use Rattle.channel_model.specs.Carrying.{Up, Nothing, Received}
-use Rattle.channel_model.specs.Policies.{Policy}
-use Rattle.channel_model.specs.Value.{Channels}
-use Rattle.channel_laws.specs.Endpoints.{IsOf}
-use Rattle.channel_laws.specs.Frames.{AreUttered}
-use Rattle.channel_laws.specs.Runs.{Occurrence, up_with, run_of}
+use Rattle.own_channel_laws.specs.talk_laws.specs.capture.specs.declared.flow.Flow.TheVariants.{Out, Into}
+use Rattle.own_channel_laws.specs.talk_laws.specs.capture.specs.Histories.{given_by}
+use Rattle.own_channel_laws.specs.talk_laws.specs.l2cap_config.specs.declared.wish.Mode.TheVariants.{Basic}
+use Rattle.own_channel_laws.specs.talk_laws.specs.link_talk.specs.declared.channel.Channel.{Channel}
+use Rattle.own_channel_laws.specs.talk_laws.specs.link_talk.specs.declared.party.Party.{Party}
+use Rattle.own_channel_laws.specs.talk_laws.specs.link_talk.specs.Channels.{reading}
+use Rattle.own_channel_laws.specs.talk_laws.specs.link_talk.specs.Sdus.{Spoken, spoken_as, spoken}
+use Rattle.own_channel_laws.specs.channel_model.specs.Carrying.{Up, Nothing, Received}
+use Rattle.own_channel_laws.specs.channel_model.specs.Policies.{Policy}
+use Rattle.own_channel_laws.specs.channel_model.specs.Value.{Channels}
+use Rattle.own_channel_laws.specs.Endpoints.{IsOf}
+use Rattle.own_channel_laws.specs.Frames.{AreUttered}
+use Rattle.own_channel_laws.specs.Runs.{Occurrence, up_with, run_of}
 use Rattle.channel_laws.specs.Taken.{taken_in}
-use Rattle.channel_laws.specs.Views.{read_at}
+use Rattle.own_channel_laws.specs.Views.{read_at}
 
 -- an SDU that is handed up of the channel of an own endpoint
 abbrev pub heard_in : (own : ℕ) → Up → List Spoken

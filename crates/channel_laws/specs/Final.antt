@@ -1,21 +1,21 @@
 -- Which responses end the wait of a request of a host (Core 5.1, Volume 3 Part A, 4.3, 4.5, 4.7 and 4.11).
 use Rattle.std.specs.Prelude.{ℕ, ◌≡◌, ◌==◌, true, false, Option, Some, None, Result, Ok, Err}
-use Rattle.talk_laws.specs.l2cap_signal.specs.Commands.{Content, Command, reject, connection_request, connection_response, configuration_request, configuration_response, disconnection_request, disconnection_response, echo_request, echo_response, information_request, information_response}
-use Rattle.talk_laws.specs.l2cap_config.specs.declared.options.Options.{Options}
-use Rattle.talk_laws.specs.l2cap_config.specs.declared.options.ConfigRefusal.{ConfigRefusal}
-use Rattle.talk_laws.specs.l2cap_config.specs.declared.agreement.Settled.{Settled}
-use Rattle.talk_laws.specs.l2cap_config.specs.declared.agreement.Settled.TheVariants.{Accepted, Again, Wait, Never}
-use Rattle.talk_laws.specs.l2cap_config.specs.Reading.{options_read}
-use Rattle.talk_laws.specs.l2cap_config.specs.Agreement.{settled}
-use Rattle.channel_model.specs.declared.errand.Errand.{Errand}
-use Rattle.channel_model.specs.Value.{Request, Held, Channels}
-use Rattle.channel_model.specs.Policies.{Policy}
-use Rattle.channel_model.specs.Changing.{held_at, is_peer}
-use Rattle.channel_model.specs.Hearing.{hears_command}
-use Rattle.channel_model.specs.Responses.{is_fresh_endpoint}
+use Rattle.own_channel_laws.specs.talk_laws.specs.l2cap_signal.specs.Commands.{Content, Command, reject, connection_request, connection_response, configuration_request, configuration_response, disconnection_request, disconnection_response, echo_request, echo_response, information_request, information_response}
+use Rattle.own_channel_laws.specs.talk_laws.specs.l2cap_config.specs.declared.options.Options.{Options}
+use Rattle.own_channel_laws.specs.talk_laws.specs.l2cap_config.specs.declared.options.ConfigRefusal.{ConfigRefusal}
+use Rattle.own_channel_laws.specs.talk_laws.specs.l2cap_config.specs.declared.agreement.Settled.{Settled}
+use Rattle.own_channel_laws.specs.talk_laws.specs.l2cap_config.specs.declared.agreement.Settled.TheVariants.{Accepted, Again, Wait, Never}
+use Rattle.own_channel_laws.specs.talk_laws.specs.l2cap_config.specs.Reading.{options_read}
+use Rattle.own_channel_laws.specs.talk_laws.specs.l2cap_config.specs.Agreement.{settled}
+use Rattle.own_channel_laws.specs.channel_model.specs.declared.errand.Errand.{Errand}
+use Rattle.own_channel_laws.specs.channel_model.specs.Value.{Request, Held, Channels}
+use Rattle.own_channel_laws.specs.channel_model.specs.Policies.{Policy}
+use Rattle.own_channel_laws.specs.channel_model.specs.Changing.{held_at, is_peer}
+use Rattle.own_channel_laws.specs.channel_model.specs.Hearing.{hears_command}
+use Rattle.own_channel_laws.specs.channel_model.specs.Responses.{is_fresh_endpoint}
 use Rattle.channel_laws.specs.Adverse.{responds_to}
 use Rattle.channel_laws.specs.Heeded.{WaitsNoMore}
-use Rattle.channel_laws.specs.Tries.{request_of}
+use Rattle.own_channel_laws.specs.Tries.{request_of}
 
 -- a response to a request for options is not that another one follows; and where it suggests other options, the next request has another identifier
 abbrev pub IsDecided : Settled → (identifier next : ℕ) → Type 0

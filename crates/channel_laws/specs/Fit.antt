@@ -1,12 +1,12 @@
 -- What a host gives is fit for a link (Core 5.1, Volume 3 Part A, 2.1, 3.1 and 4).
 use Rattle.std.specs.Prelude.{ℕ, ◌≡◌, ◌^◌, ◌<◌, List, Some}
 use Rattle.std.specs.List.{AllByRecursion}
-use Rattle.talk_laws.specs.acl_fragments.specs.Pieces.{channel_of}
-use Rattle.talk_laws.specs.bt_base.specs.Octets.{IsOctets}
-use Rattle.channel_model.specs.Policies.{Policy}
-use Rattle.channel_model.specs.Giving.{Given, IsPdu, next_given}
+use Rattle.own_channel_laws.specs.talk_laws.specs.acl_fragments.specs.Pieces.{channel_of}
+use Rattle.own_channel_laws.specs.talk_laws.specs.bt_base.specs.Octets.{IsOctets}
+use Rattle.own_channel_laws.specs.channel_model.specs.Policies.{Policy}
+use Rattle.own_channel_laws.specs.channel_model.specs.Giving.{Given, IsPdu, next_given}
 use Rattle.channel_laws.specs.Belonging.{IsFit}
-use Rattle.channel_laws.specs.Runs.{Occurrence, Comes, Connects, AsksFeatures, Disconnects, Sends, Gives, Fires, Tells, run_of}
+use Rattle.own_channel_laws.specs.Runs.{Occurrence, Comes, Connects, AsksFeatures, Disconnects, Sends, Gives, Fires, Tells, run_of}
 
 -- what comes in on the signalling channel are octets; and of a PSM to which a channel is asked for this is so
 abbrev pub IsSoberFor : (ℕ → Type 0) → Occurrence → Type 0

@@ -1,9 +1,9 @@
 -- An endpoint is granted once (Core 5.1, Volume 3 Part A, 2.1 and 4.3).
 use Rattle.std.specs.Prelude.{ℕ, ◌≡◌, List, Option, Some, None}
-use Rattle.talk_laws.specs.link_talk.specs.Channels.{Entry, reading}
-use Rattle.channel_model.specs.Policies.{Policy}
-use Rattle.channel_laws.specs.Views.{read_at}
-use Rattle.channel_laws.specs.Runs.{Occurrence, run_of}
+use Rattle.own_channel_laws.specs.talk_laws.specs.link_talk.specs.Channels.{Entry, reading}
+use Rattle.own_channel_laws.specs.channel_model.specs.Policies.{Policy}
+use Rattle.own_channel_laws.specs.Views.{read_at}
+use Rattle.own_channel_laws.specs.Runs.{Occurrence, run_of}
 use Rattle.channel_laws.specs.Belonging.{HasAsked, HasGranted}
 
 -- a channel is read that is for this endpoint of the peer

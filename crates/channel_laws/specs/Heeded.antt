@@ -1,19 +1,19 @@
 -- That a request of a host is responded to, and that the response ends its wait (Core 5.1, Volume 3 Part A, 4.1 to 4.11).
 use Rattle.std.specs.Prelude.{ℕ, ◌≡◌, ◌==◌, false, true, List, [], ◌∷◌, drop, Option, Some, None, Ok}
-use Rattle.talk_laws.specs.acl_fragments.specs.Pieces.{channel_of}
-use Rattle.talk_laws.specs.capture.specs.Histories.{EachAfter}
-use Rattle.talk_laws.specs.l2cap_signal.specs.Commands.{Command}
-use Rattle.talk_laws.specs.l2cap_signal.specs.Reading.{answers}
-use Rattle.channel_model.specs.declared.errand.Errand.{Errand}
-use Rattle.channel_model.specs.Value.{Request, Channels}
-use Rattle.channel_model.specs.Policies.{Policy}
-use Rattle.channel_model.specs.Changing.{has_room}
-use Rattle.channel_model.specs.Hearing.{hears_command}
+use Rattle.own_channel_laws.specs.talk_laws.specs.acl_fragments.specs.Pieces.{channel_of}
+use Rattle.own_channel_laws.specs.talk_laws.specs.capture.specs.Histories.{EachAfter}
+use Rattle.own_channel_laws.specs.talk_laws.specs.l2cap_signal.specs.Commands.{Command}
+use Rattle.own_channel_laws.specs.talk_laws.specs.l2cap_signal.specs.Reading.{answers}
+use Rattle.own_channel_laws.specs.channel_model.specs.declared.errand.Errand.{Errand}
+use Rattle.own_channel_laws.specs.channel_model.specs.Value.{Request, Channels}
+use Rattle.own_channel_laws.specs.channel_model.specs.Policies.{Policy}
+use Rattle.own_channel_laws.specs.channel_model.specs.Changing.{has_room}
+use Rattle.own_channel_laws.specs.channel_model.specs.Hearing.{hears_command}
 use Rattle.channel_laws.specs.Adverse.{asks_for, responds_to, seen_from, AreHeeded}
 use Rattle.channel_laws.specs.Belonging.{AreRead}
-use Rattle.channel_laws.specs.OwnTalk.{reply_to}
+use Rattle.own_channel_laws.specs.OwnTalk.{reply_to}
 use Rattle.channel_laws.specs.Pairs.{Pair, Happening, Acts, Puts, Takes, Repeats, Loses, Damages, Side, Near, Far, Turn, pair_of}
-use Rattle.channel_laws.specs.Tries.{request_of}
+use Rattle.own_channel_laws.specs.Tries.{request_of}
 
 -- ---- one command that comes in
 

@@ -1,10 +1,10 @@
 -- In what mode the two ends of a link have a channel (Core 5.1, Volume 3 Part A, 5.4 and 7.1).
 use Rattle.std.specs.Prelude.{ℕ, ◌≡◌, List, Some, ◌⊎◌}
-use Rattle.talk_laws.specs.l2cap_config.specs.declared.wish.Mode.{Mode}
-use Rattle.talk_laws.specs.link_talk.specs.Channels.{Entry, reading}
-use Rattle.channel_model.specs.Policies.{Policy}
-use Rattle.channel_laws.specs.Runs.{Occurrence, run_of}
-use Rattle.channel_laws.specs.Views.{read_at}
+use Rattle.own_channel_laws.specs.talk_laws.specs.l2cap_config.specs.declared.wish.Mode.{Mode}
+use Rattle.own_channel_laws.specs.talk_laws.specs.link_talk.specs.Channels.{Entry, reading}
+use Rattle.own_channel_laws.specs.channel_model.specs.Policies.{Policy}
+use Rattle.own_channel_laws.specs.Runs.{Occurrence, run_of}
+use Rattle.own_channel_laws.specs.Views.{read_at}
 use Rattle.channel_laws.specs.Pairs.{Side, Near, Far, turned, Turn, pair_of}
 use Rattle.channel_laws.specs.Belonging.{AreRead, said_at}
 

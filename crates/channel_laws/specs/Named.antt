@@ -1,12 +1,12 @@
 -- The identifiers of the requests of a host that wait for their answers (Core 5.1, Volume 3 Part A, 4).
 use Rattle.std.specs.Prelude.{ℕ, ◌≡◌, ◌<◌, ◌≤◌, false, List, Some}
-use Rattle.talk_laws.specs.l2cap_signal.specs.Commands.{Command}
-use Rattle.channel_model.specs.declared.errand.Errand.{Errand}
-use Rattle.channel_model.specs.Giving.{command_of}
-use Rattle.channel_model.specs.Policies.{Policy}
-use Rattle.channel_model.specs.Value.{Channels}
+use Rattle.own_channel_laws.specs.talk_laws.specs.l2cap_signal.specs.Commands.{Command}
+use Rattle.own_channel_laws.specs.channel_model.specs.declared.errand.Errand.{Errand}
+use Rattle.own_channel_laws.specs.channel_model.specs.Giving.{command_of}
+use Rattle.own_channel_laws.specs.channel_model.specs.Policies.{Policy}
+use Rattle.own_channel_laws.specs.channel_model.specs.Value.{Channels}
 use Rattle.channel_laws.specs.Connections.{requests_for}
-use Rattle.channel_laws.specs.Runs.{Occurrence, run_of}
+use Rattle.own_channel_laws.specs.Runs.{Occurrence, run_of}
 
 -- each of them was given before the one that is given next, and no two requests that wait have one
 pub record HaveNames (v : Channels) : Type 0 where

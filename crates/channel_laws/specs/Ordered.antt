@@ -1,15 +1,15 @@
 -- A basic channel over a link that is ordered, or breaks, is a pipe of SDUs (Core 5.1, Volume 3 Part A, 2.1 and 3.1).
 use Rattle.std.specs.Prelude.{ℕ, ◌≡◌, Bool, true, false, List, [], ◌∷◌}
-use Rattle.talk_laws.specs.capture.specs.declared.flow.Flow.TheVariants.{Out}
-use Rattle.talk_laws.specs.l2cap_config.specs.declared.wish.Mode.TheVariants.{Basic}
-use Rattle.talk_laws.specs.link_talk.specs.declared.channel.Channel.{Channel}
-use Rattle.talk_laws.specs.link_talk.specs.declared.party.Party.{Party}
-use Rattle.talk_laws.specs.link_talk.specs.Sayings.{Saying}
-use Rattle.talk_laws.specs.link_talk.specs.Carriages.{mode_of}
-use Rattle.talk_laws.specs.link_talk.specs.Sdus.{sdus}
-use Rattle.channel_model.specs.Policies.{Policy}
-use Rattle.channel_model.specs.Carrying.{Up}
-use Rattle.channel_laws.specs.Runs.{sdus_up}
+use Rattle.own_channel_laws.specs.talk_laws.specs.capture.specs.declared.flow.Flow.TheVariants.{Out}
+use Rattle.own_channel_laws.specs.talk_laws.specs.l2cap_config.specs.declared.wish.Mode.TheVariants.{Basic}
+use Rattle.own_channel_laws.specs.talk_laws.specs.link_talk.specs.declared.channel.Channel.{Channel}
+use Rattle.own_channel_laws.specs.talk_laws.specs.link_talk.specs.declared.party.Party.{Party}
+use Rattle.own_channel_laws.specs.talk_laws.specs.link_talk.specs.Sayings.{Saying}
+use Rattle.own_channel_laws.specs.talk_laws.specs.link_talk.specs.Carriages.{mode_of}
+use Rattle.own_channel_laws.specs.talk_laws.specs.link_talk.specs.Sdus.{sdus}
+use Rattle.own_channel_laws.specs.channel_model.specs.Policies.{Policy}
+use Rattle.own_channel_laws.specs.channel_model.specs.Carrying.{Up}
+use Rattle.own_channel_laws.specs.Runs.{sdus_up}
 use Rattle.channel_laws.specs.Pairs.{Happening, Acts, Puts, Takes, Repeats, Loses, Damages, Side, Near, Far, Turn, pair_of}
 use Rattle.channel_laws.specs.Ends.{AreFair}
 use Rattle.channel_laws.specs.Belonging.{AreRead}

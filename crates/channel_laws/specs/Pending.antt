@@ -1,9 +1,9 @@
 -- A host that offers nothing and asks for one channel (Core 5.1, Volume 3 Part A, 4.2 and 4.3).
 use Rattle.std.specs.Prelude.{ℕ, ◌≡◌, false, List, ◌∷◌, ◌++◌, Some}
 use Rattle.std.specs.List.{AllByRecursion}
-use Rattle.channel_model.specs.Policies.{Policy}
-use Rattle.channel_model.specs.Calls.{peer_mtu}
-use Rattle.channel_laws.specs.Runs.{Occurrence, Connects, run_of}
+use Rattle.own_channel_laws.specs.channel_model.specs.Policies.{Policy}
+use Rattle.own_channel_laws.specs.channel_model.specs.Calls.{peer_mtu}
+use Rattle.own_channel_laws.specs.Runs.{Occurrence, Connects, run_of}
 use Rattle.channel_laws.specs.Singly.{NoneIsDue, AsksForNoChannel}
 
 abbrev pub OffersNothing : Policy → Type 0

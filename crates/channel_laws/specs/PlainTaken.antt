@@ -1,16 +1,16 @@
 -- That a basic channel carries what its host gave it, in its order (Core 5.1, Volume 3 Part A, 3.1).
 use Rattle.std.specs.Prelude.{◌≡◌, List}
-use Rattle.talk_laws.specs.capture.specs.declared.flow.Flow.TheVariants.{Out}
-use Rattle.talk_laws.specs.l2cap_config.specs.declared.wish.Mode.TheVariants.{Basic}
-use Rattle.talk_laws.specs.link_talk.specs.declared.channel.Channel.{Channel}
-use Rattle.talk_laws.specs.link_talk.specs.declared.party.Party.{Party}
-use Rattle.talk_laws.specs.link_talk.specs.Channels.{reading}
-use Rattle.talk_laws.specs.link_talk.specs.Sdus.{sdus}
-use Rattle.channel_model.specs.Policies.{Policy}
-use Rattle.channel_laws.specs.Runs.{Occurrence, run_of, sdus_up}
-use Rattle.channel_laws.specs.Views.{read_at}
-use Rattle.channel_laws.specs.Frames.{AreUttered}
-use Rattle.channel_laws.specs.Endpoints.{IsOf}
+use Rattle.own_channel_laws.specs.talk_laws.specs.capture.specs.declared.flow.Flow.TheVariants.{Out}
+use Rattle.own_channel_laws.specs.talk_laws.specs.l2cap_config.specs.declared.wish.Mode.TheVariants.{Basic}
+use Rattle.own_channel_laws.specs.talk_laws.specs.link_talk.specs.declared.channel.Channel.{Channel}
+use Rattle.own_channel_laws.specs.talk_laws.specs.link_talk.specs.declared.party.Party.{Party}
+use Rattle.own_channel_laws.specs.talk_laws.specs.link_talk.specs.Channels.{reading}
+use Rattle.own_channel_laws.specs.talk_laws.specs.link_talk.specs.Sdus.{sdus}
+use Rattle.own_channel_laws.specs.channel_model.specs.Policies.{Policy}
+use Rattle.own_channel_laws.specs.Runs.{Occurrence, run_of, sdus_up}
+use Rattle.own_channel_laws.specs.Views.{read_at}
+use Rattle.own_channel_laws.specs.Frames.{AreUttered}
+use Rattle.own_channel_laws.specs.Endpoints.{IsOf}
 use Rattle.channel_laws.specs.Pairs.{Near, Far, Turn, pair_of}
 use Rattle.channel_laws.specs.Ends.{AreFair}
 use Rattle.channel_laws.specs.Belonging.{AreRead}

@@ -1,14 +1,14 @@
 -- To which copies of a request of its peer a host replies with a response to it (Core 5.1, Volume 3 Part A, 4.2 to 4.11).
 use Rattle.std.specs.Prelude.{ℕ, ◌≡◌, ◌==◌, Bool, true, false, Option, Some, None, Ok}
-use Rattle.talk_laws.specs.l2cap_signal.specs.Commands.{Content, Command, connection_request, configuration_request, disconnection_request, information_request}
-use Rattle.channel_model.specs.declared.errand.Errand.{Errand}
-use Rattle.channel_model.specs.declared.errand.Errand.TheVariants.{Connection, Configuration, Disconnection, Features}
-use Rattle.channel_model.specs.Value.{Held, Remembered, Channels}
-use Rattle.channel_model.specs.Policies.{Policy}
-use Rattle.channel_model.specs.Changing.{held_at, is_peer, has_room}
+use Rattle.own_channel_laws.specs.talk_laws.specs.l2cap_signal.specs.Commands.{Content, Command, connection_request, configuration_request, disconnection_request, information_request}
+use Rattle.own_channel_laws.specs.channel_model.specs.declared.errand.Errand.{Errand}
+use Rattle.own_channel_laws.specs.channel_model.specs.declared.errand.Errand.TheVariants.{Connection, Configuration, Disconnection, Features}
+use Rattle.own_channel_laws.specs.channel_model.specs.Value.{Held, Remembered, Channels}
+use Rattle.own_channel_laws.specs.channel_model.specs.Policies.{Policy}
+use Rattle.own_channel_laws.specs.channel_model.specs.Changing.{held_at, is_peer, has_room}
 use Rattle.channel_laws.specs.Adverse.{responds_with, asks_for}
 use Rattle.channel_laws.specs.Heeded.{IsResponse}
-use Rattle.channel_laws.specs.OwnTalk.{reply_to}
+use Rattle.own_channel_laws.specs.OwnTalk.{reply_to}
 
 -- what is remembered of a request with the identifier is a response to this one
 abbrev pub Recalls : Errand → Option Content → Type 0

@@ -1,19 +1,19 @@
 -- That what one end of a link accepts is within what the other receives by (Core 5.1, Volume 3 Part A, 5.1, 5.4 and 7.1).
 use Rattle.std.specs.Prelude.{ℕ, ◌≡◌, List, ◌++◌, Some}
-use Rattle.talk_laws.specs.l2cap_config.specs.declared.options.Options.{Options}
-use Rattle.talk_laws.specs.l2cap_config.specs.declared.wish.Agreed.{Agreed}
-use Rattle.talk_laws.specs.l2cap_config.specs.declared.wish.Mode.TheVariants.{Enhanced}
-use Rattle.talk_laws.specs.l2cap_config.specs.declared.wish.Wish.{Wish}
-use Rattle.talk_laws.specs.l2cap_config.specs.Agreement.{agreed_on}
-use Rattle.talk_laws.specs.link_talk.specs.Channels.{Entry, reading}
-use Rattle.channel_model.specs.ertm_model.specs.Value.{Ertm}
-use Rattle.channel_model.specs.Value.{Retransmitting}
-use Rattle.channel_model.specs.Policies.{Policy}
-use Rattle.channel_model.specs.Calls.{carrier_at}
-use Rattle.channel_model.specs.Configuring.{bounded_agreement}
-use Rattle.channel_laws.specs.Runs.{Occurrence, run_of}
-use Rattle.channel_laws.specs.Views.{read_at}
-use Rattle.channel_laws.specs.Agreements.{IsOnHeard}
+use Rattle.own_channel_laws.specs.talk_laws.specs.l2cap_config.specs.declared.options.Options.{Options}
+use Rattle.own_channel_laws.specs.talk_laws.specs.l2cap_config.specs.declared.wish.Agreed.{Agreed}
+use Rattle.own_channel_laws.specs.talk_laws.specs.l2cap_config.specs.declared.wish.Mode.TheVariants.{Enhanced}
+use Rattle.own_channel_laws.specs.talk_laws.specs.l2cap_config.specs.declared.wish.Wish.{Wish}
+use Rattle.own_channel_laws.specs.talk_laws.specs.l2cap_config.specs.Agreement.{agreed_on}
+use Rattle.own_channel_laws.specs.talk_laws.specs.link_talk.specs.Channels.{Entry, reading}
+use Rattle.own_channel_laws.specs.channel_model.specs.ertm_model.specs.Value.{Ertm}
+use Rattle.own_channel_laws.specs.channel_model.specs.Value.{Retransmitting}
+use Rattle.own_channel_laws.specs.channel_model.specs.Policies.{Policy}
+use Rattle.own_channel_laws.specs.channel_model.specs.Calls.{carrier_at}
+use Rattle.own_channel_laws.specs.channel_model.specs.Configuring.{bounded_agreement}
+use Rattle.own_channel_laws.specs.Runs.{Occurrence, run_of}
+use Rattle.own_channel_laws.specs.Views.{read_at}
+use Rattle.own_channel_laws.specs.Agreements.{IsOnHeard}
 use Rattle.channel_laws.specs.Pairs.{Side, Turn, pair_of}
 use Rattle.channel_laws.specs.Belonging.{AreRead, said_at}
 use Rattle.channel_laws.specs.Modes.{policy_of}

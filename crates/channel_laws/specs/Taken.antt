@@ -1,19 +1,19 @@
 -- That an enhanced channel carries what its host gave it, in its order (Core 5.1, Volume 3 Part A, 7.3, 8.4 and 8.6).
 use Rattle.std.specs.Prelude.{ℕ, ◌≡◌, ◌==◌, ◌&&◌, not, Bool, false, List, [], ◌∷◌, Option, Some, None, if◌then◌else◌}
-use Rattle.talk_laws.specs.capture.specs.declared.flow.Flow.TheVariants.{Out}
-use Rattle.talk_laws.specs.capture.specs.Histories.{given_by}
-use Rattle.talk_laws.specs.l2cap_config.specs.declared.wish.Mode.TheVariants.{Enhanced}
-use Rattle.talk_laws.specs.link_talk.specs.declared.channel.Channel.{Channel}
-use Rattle.talk_laws.specs.link_talk.specs.declared.party.Party.{Party}
-use Rattle.talk_laws.specs.link_talk.specs.Carriages.{mode_of}
-use Rattle.talk_laws.specs.link_talk.specs.Sdus.{sdus}
-use Rattle.channel_model.specs.Value.{Carrier, Channels}
-use Rattle.channel_model.specs.Policies.{Policy}
-use Rattle.channel_model.specs.Calls.{carrier_at, carrier_waits}
-use Rattle.channel_laws.specs.Runs.{Occurrence, Comes, Connects, AsksFeatures, Disconnects, Sends, Gives, Fires, Tells, run_of}
-use Rattle.channel_laws.specs.Frames.{AreUttered}
+use Rattle.own_channel_laws.specs.talk_laws.specs.capture.specs.declared.flow.Flow.TheVariants.{Out}
+use Rattle.own_channel_laws.specs.talk_laws.specs.capture.specs.Histories.{given_by}
+use Rattle.own_channel_laws.specs.talk_laws.specs.l2cap_config.specs.declared.wish.Mode.TheVariants.{Enhanced}
+use Rattle.own_channel_laws.specs.talk_laws.specs.link_talk.specs.declared.channel.Channel.{Channel}
+use Rattle.own_channel_laws.specs.talk_laws.specs.link_talk.specs.declared.party.Party.{Party}
+use Rattle.own_channel_laws.specs.talk_laws.specs.link_talk.specs.Carriages.{mode_of}
+use Rattle.own_channel_laws.specs.talk_laws.specs.link_talk.specs.Sdus.{sdus}
+use Rattle.own_channel_laws.specs.channel_model.specs.Value.{Carrier, Channels}
+use Rattle.own_channel_laws.specs.channel_model.specs.Policies.{Policy}
+use Rattle.own_channel_laws.specs.channel_model.specs.Calls.{carrier_at, carrier_waits}
+use Rattle.own_channel_laws.specs.Runs.{Occurrence, Comes, Connects, AsksFeatures, Disconnects, Sends, Gives, Fires, Tells, run_of}
+use Rattle.own_channel_laws.specs.Frames.{AreUttered}
 use Rattle.channel_laws.specs.Pipes.{IsFront}
-use Rattle.channel_laws.specs.Sdus.{StatesFrame}
+use Rattle.own_channel_laws.specs.Sdus.{StatesFrame}
 
 -- ---- what a channel takes
 

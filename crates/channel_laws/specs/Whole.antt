@@ -1,21 +1,21 @@
 -- That all SDUs that come on a channel are handed up (Core 5.1, Volume 3 Part A, 7.3 and 8.6).
 use Rattle.std.specs.Prelude.{ℕ, ◌≡◌, List, [], Some, Ok, Err}
-use Rattle.talk_laws.specs.acl_fragments.specs.Pieces.{channel_of}
-use Rattle.talk_laws.specs.capture.specs.Histories.{EachAfter}
-use Rattle.talk_laws.specs.capture.specs.declared.flow.Flow.TheVariants.{Into}
-use Rattle.talk_laws.specs.ertm_frames.specs.Answers.{Answer}
-use Rattle.talk_laws.specs.ertm_frames.specs.Frames.{information, supervisory}
-use Rattle.channel_model.specs.ertm_model.specs.declared.reason.ErtmReason.{ErtmReason}
-use Rattle.channel_model.specs.ertm_model.specs.Value.{Ertm}
-use Rattle.talk_laws.specs.link_talk.specs.declared.channel.Channel.{Channel}
-use Rattle.talk_laws.specs.link_talk.specs.declared.party.Party.{Party}
-use Rattle.talk_laws.specs.link_talk.specs.Sdus.{sdus}
-use Rattle.channel_model.specs.Value.{Retransmitting, Setup, Held, Channels}
-use Rattle.channel_model.specs.Policies.{Policy}
-use Rattle.channel_model.specs.Changing.{held_at, setup_of}
-use Rattle.channel_model.specs.Carrying.{machine_heard, read_by}
-use Rattle.channel_laws.specs.Runs.{Occurrence, Comes, Connects, AsksFeatures, Disconnects, Sends, Gives, Fires, Tells, Run, run_of, sdus_up}
-use Rattle.channel_laws.specs.Sdus.{StatesFrame}
+use Rattle.own_channel_laws.specs.talk_laws.specs.acl_fragments.specs.Pieces.{channel_of}
+use Rattle.own_channel_laws.specs.talk_laws.specs.capture.specs.Histories.{EachAfter}
+use Rattle.own_channel_laws.specs.talk_laws.specs.capture.specs.declared.flow.Flow.TheVariants.{Into}
+use Rattle.own_channel_laws.specs.talk_laws.specs.ertm_frames.specs.Answers.{Answer}
+use Rattle.own_channel_laws.specs.talk_laws.specs.ertm_frames.specs.Frames.{information, supervisory}
+use Rattle.own_channel_laws.specs.channel_model.specs.ertm_model.specs.declared.reason.ErtmReason.{ErtmReason}
+use Rattle.own_channel_laws.specs.channel_model.specs.ertm_model.specs.Value.{Ertm}
+use Rattle.own_channel_laws.specs.talk_laws.specs.link_talk.specs.declared.channel.Channel.{Channel}
+use Rattle.own_channel_laws.specs.talk_laws.specs.link_talk.specs.declared.party.Party.{Party}
+use Rattle.own_channel_laws.specs.talk_laws.specs.link_talk.specs.Sdus.{sdus}
+use Rattle.own_channel_laws.specs.channel_model.specs.Value.{Retransmitting, Setup, Held, Channels}
+use Rattle.own_channel_laws.specs.channel_model.specs.Policies.{Policy}
+use Rattle.own_channel_laws.specs.channel_model.specs.Changing.{held_at, setup_of}
+use Rattle.own_channel_laws.specs.channel_model.specs.Carrying.{machine_heard, read_by}
+use Rattle.own_channel_laws.specs.Runs.{Occurrence, Comes, Connects, AsksFeatures, Disconnects, Sends, Gives, Fires, Tells, Run, run_of, sdus_up}
+use Rattle.own_channel_laws.specs.Sdus.{StatesFrame}
 use Rattle.channel_laws.specs.Pairs.{Turn, pair_of}
 use Rattle.channel_laws.specs.Ends.{AreFair}
 use Rattle.channel_laws.specs.Belonging.{AreRead}

@@ -1,22 +1,22 @@
 -- The windows of two hosts that have a channel in common, at each moment (Core 5.1, Volume 3 Part A, 8.3 and 8.6).
 use Rattle.std.specs.Prelude.{ℕ, ◌≡◌, ◌+◌, ◌%◌, ◌≤◌, List, length}
-use Rattle.talk_laws.specs.capture.specs.Histories.{AtEach}
-use Rattle.talk_laws.specs.ertm_frames.specs.Picking.{Passage, outs, ins, picked, last_req}
-use Rattle.talk_laws.specs.l2cap_config.specs.declared.wish.Mode.TheVariants.{Enhanced}
-use Rattle.talk_laws.specs.link_talk.specs.Accounts.{frames_passed}
-use Rattle.talk_laws.specs.link_talk.specs.Carriages.{mode_of}
-use Rattle.talk_laws.specs.link_talk.specs.Channels.{reading}
-use Rattle.talk_laws.specs.link_talk.specs.declared.channel.Channel.{Channel}
-use Rattle.talk_laws.specs.link_talk.specs.declared.party.Party.{Party}
-use Rattle.channel_model.specs.Policies.{Policy}
+use Rattle.own_channel_laws.specs.talk_laws.specs.capture.specs.Histories.{AtEach}
+use Rattle.own_channel_laws.specs.talk_laws.specs.ertm_frames.specs.Picking.{Passage, outs, ins, picked, last_req}
+use Rattle.own_channel_laws.specs.talk_laws.specs.l2cap_config.specs.declared.wish.Mode.TheVariants.{Enhanced}
+use Rattle.own_channel_laws.specs.talk_laws.specs.link_talk.specs.Accounts.{frames_passed}
+use Rattle.own_channel_laws.specs.talk_laws.specs.link_talk.specs.Carriages.{mode_of}
+use Rattle.own_channel_laws.specs.talk_laws.specs.link_talk.specs.Channels.{reading}
+use Rattle.own_channel_laws.specs.talk_laws.specs.link_talk.specs.declared.channel.Channel.{Channel}
+use Rattle.own_channel_laws.specs.talk_laws.specs.link_talk.specs.declared.party.Party.{Party}
+use Rattle.own_channel_laws.specs.channel_model.specs.Policies.{Policy}
 use Rattle.channel_laws.specs.Belonging.{AreRead}
-use Rattle.channel_laws.specs.Endpoints.{IsOf}
+use Rattle.own_channel_laws.specs.Endpoints.{IsOf}
 use Rattle.channel_laws.specs.Ends.{AreFair}
 use Rattle.channel_laws.specs.Pairs.{Turn, pair_of}
 use Rattle.channel_laws.specs.Pipes.{AreCarried, CanStateBoth}
-use Rattle.channel_laws.specs.Runs.{Run}
-use Rattle.channel_laws.specs.Sdus.{StatesFrame}
-use Rattle.channel_laws.specs.Views.{read_at}
+use Rattle.own_channel_laws.specs.Runs.{Run}
+use Rattle.own_channel_laws.specs.Sdus.{StatesFrame}
+use Rattle.own_channel_laws.specs.Views.{read_at}
 
 -- Of the I-frames that went out so many are acknowledged: the ReqSeq that came in last is that number modulo 64. They are no more than were given, and those
 -- behind them are no more than the window.

@@ -1,37 +1,37 @@
 //! Laws of the channels of one host.
 
-ghost use Rattle.channel_laws.specs.Acceptance.{SendsBehindAcceptance};
+ghost use Rattle.own_channel_laws.specs.Acceptance.{SendsBehindAcceptance};
 ghost use Rattle.channel_laws.specs.Adverse.{AdverseTurnsAreCounted, AdverseTurnsAreCountedSince, DisturbancesAreCounted, DisturbancesAreCountedSince, FeaturesAreHeeded};
-ghost use Rattle.channel_laws.specs.Agreements.{AgreementsAreOnHeard};
-ghost use Rattle.channel_laws.specs.Armed.{ArmedIsWhatWaits};
-ghost use Rattle.channel_laws.specs.Awaited.{FeaturesAreAwaited, OptionsAreAwaited, RequestsAreAwaited};
-ghost use Rattle.channel_laws.specs.CheckWords.{CheckWordsAreRead, CheckWordsAreWished};
+ghost use Rattle.own_channel_laws.specs.Agreements.{AgreementsAreOnHeard};
+ghost use Rattle.own_channel_laws.specs.Armed.{ArmedIsWhatWaits};
+ghost use Rattle.own_channel_laws.specs.Awaited.{FeaturesAreAwaited, OptionsAreAwaited, RequestsAreAwaited};
+ghost use Rattle.own_channel_laws.specs.CheckWords.{CheckWordsAreRead, CheckWordsAreWished};
 ghost use Rattle.channel_laws.specs.Connections.{ConnectionsAreMet, NamesAreApart};
 ghost use Rattle.channel_laws.specs.Consent.{GrantsAreShown, SuccessesAccept};
-ghost use Rattle.channel_laws.specs.Decisive.{AnswersAreDecisive};
-ghost use Rattle.channel_laws.specs.Endpoints.{EndpointsNameOneChannel};
-ghost use Rattle.channel_laws.specs.Endings.{EndsAreTold};
+ghost use Rattle.own_channel_laws.specs.Decisive.{AnswersAreDecisive};
+ghost use Rattle.own_channel_laws.specs.Endpoints.{EndpointsNameOneChannel};
+ghost use Rattle.own_channel_laws.specs.Endings.{EndsAreTold};
 ghost use Rattle.channel_laws.specs.Ends.{EachEndUtters};
 ghost use Rattle.channel_laws.specs.Final.{FinalResponsesEndWaits};
 ghost use Rattle.channel_laws.specs.Exchanged.{ExchangedIsSpoken};
 ghost use Rattle.channel_laws.specs.Fit.{GivenIsFit};
-ghost use Rattle.channel_laws.specs.Frames.{FramesAreHeld};
+ghost use Rattle.own_channel_laws.specs.Frames.{FramesAreHeld};
 ghost use Rattle.channel_laws.specs.Heeded.{MetIsHeeded};
-ghost use Rattle.channel_laws.specs.Laws.{ChannelsAreRead, EndpointsAreNew};
+ghost use Rattle.own_channel_laws.specs.Laws.{ChannelsAreRead, EndpointsAreNew};
 ghost use Rattle.channel_laws.specs.Modes.{ModesAreOwn};
 ghost use Rattle.channel_laws.specs.Named.{RequestsHaveNames};
-ghost use Rattle.channel_laws.specs.Pace.{OptionsKeepPace};
+ghost use Rattle.own_channel_laws.specs.Pace.{OptionsKeepPace};
 ghost use Rattle.channel_laws.specs.Pairs.{EachEndRuns};
 ghost use Rattle.channel_laws.specs.PlainTaken.{PlainTakenGoesOut};
-ghost use Rattle.channel_laws.specs.Repeats.{RepeatsAreAnswered};
+ghost use Rattle.own_channel_laws.specs.Repeats.{RepeatsAreAnswered};
 ghost use Rattle.channel_laws.specs.Responding.{CopiesHaveResponses};
-ghost use Rattle.channel_laws.specs.Sdus.{SdusAreRead};
-ghost use Rattle.channel_laws.specs.Services.{ChannelsAloneWait};
+ghost use Rattle.own_channel_laws.specs.Sdus.{SdusAreRead};
+ghost use Rattle.own_channel_laws.specs.Services.{ChannelsAloneWait};
 ghost use Rattle.channel_laws.specs.Belonging.{UtteredIsRead, PledgesWereSaid, ChannelsBelong};
-ghost use Rattle.channel_laws.specs.Signals.{AnswersAreSaid};
+ghost use Rattle.own_channel_laws.specs.Signals.{AnswersAreSaid};
 ghost use Rattle.channel_laws.specs.Taken.{TakenGoesOut};
 ghost use Rattle.channel_laws.specs.Whole.{SdusAreHandedUp};
-ghost use Rattle.channel_laws.specs.Tries.{FiringsAloneRepeat, FiringsAreCounted, FiringsAreCountedSince, TriesAreKept};
+ghost use Rattle.own_channel_laws.specs.Tries.{FiringsAloneRepeat, FiringsAreCounted, FiringsAreCountedSince, TriesAreKept};
 
 pub mod pipes;
 

@@ -54,13 +54,13 @@ some_none o e = absurd cc
 -- ---- a response that shows a fault
 
 response_code : (P : ℕ → ℕ → Type 0) (request : Request) (early : Bool) → (early ≡ true → P 5 153) → OnFault P (if is_success (success_of request) && early then Some unawaited_response else says (success_of request))
-response_code P requests.Connect early row = either_fault P early (Some unawaited_response) None row (λ e. tt)
-response_code P requests.FirstPut early row = either_fault P early (Some unawaited_response) None row (λ e. tt)
-response_code P requests.Put early row = either_fault P early (Some unawaited_response) None row (λ e. tt)
-response_code P requests.Stream early row = either_fault P early (Some unawaited_response) None row (λ e. tt)
-response_code P requests.FinalPut early row = either_fault P early (Some unawaited_response) (Some outcomes.Done) row (λ e. tt)
-response_code P requests.Abort early row = either_fault P early (Some unawaited_response) None row (λ e. tt)
-response_code P requests.Disconnect early row = either_fault P early (Some unawaited_response) None row (λ e. tt)
+response_code P requests.Connect early in_table = either_fault P early (Some unawaited_response) None in_table (λ e. tt)
+response_code P requests.FirstPut early in_table = either_fault P early (Some unawaited_response) None in_table (λ e. tt)
+response_code P requests.Put early in_table = either_fault P early (Some unawaited_response) None in_table (λ e. tt)
+response_code P requests.Stream early in_table = either_fault P early (Some unawaited_response) None in_table (λ e. tt)
+response_code P requests.FinalPut early in_table = either_fault P early (Some unawaited_response) (Some outcomes.Done) in_table (λ e. tt)
+response_code P requests.Abort early in_table = either_fault P early (Some unawaited_response) None in_table (λ e. tt)
+response_code P requests.Disconnect early in_table = either_fault P early (Some unawaited_response) None in_table (λ e. tt)
 
 early_is : (request : Request) (client : Client) → client.session.awaited ≡ Some request → is_early client ≡ is_unsent request client.going
 early_is request client is = ap (λ (awaited : Option Request). client.going || is_stream awaited) is
@@ -74,22 +74,22 @@ refused_row packet session going refusals.AboveMaximum r = blames.IsAboveMaximum
 refused_row packet session going refusals.BadVersion r = blames.HasBadVersion r
 
 pub response_faults : (P : ℕ → ℕ → Type 0) (packet : List ℕ) (client : Client) → ((reason : ℕ) → ResponseBlames packet client.session client.going reason → P 5 reason) → OnFault P (response_shows packet client)
-response_faults P packet client row = by client.session.awaited refl
+response_faults P packet client in_table = by client.session.awaited refl
   where
     coded : (request : Request) (read : PlainPacket) → client.session.awaited ≡ Some request → packet_in (phase_of request) client.session.maximum packet ≡ Ok read
         → (parameters matches : Bool) → (marks_of read.headers).parameters ≡ parameters → (read.code == awaited_code request) ≡ matches
         → OnFault P (answer_shows (Some (if parameters then Srmp else if matches then success_of request else Refused read.code)) client)
-    coded request read waits is true matches marked code = row 152 (blames.HasParameters request read (record { awaited = waits; is = is }) marked)
+    coded request read waits is true matches marked code = in_table 152 (blames.HasParameters request read (record { awaited = waits; is = is }) marked)
     coded request read waits is false true marked code = response_code P request (is_early client)
-        (λ early. row 153 (blames.IsEarly request read (record { awaited = waits; is = is }) marked (eqb-true read.code (awaited_code request) code) (sym (early_is request client waits) ∙ early)))
+        (λ early. in_table 153 (blames.IsEarly request read (record { awaited = waits; is = is }) marked (eqb-true read.code (awaited_code request) code) (sym (early_is request client waits) ∙ early)))
     coded request read waits is false false marked code = tt
 
     reading : (request : Request) → client.session.awaited ≡ Some request → (read : Result PlainPacket ObexRefusal) → packet_in (phase_of request) client.session.maximum packet ≡ read → OnFault P (answer_shows (Some (answer_read request read)) client)
     reading request waits (Ok read) is = coded request read waits is (marks_of read.headers).parameters (read.code == awaited_code request) refl refl
-    reading request waits (Err refusal) is = row (obex_number refusal) (refused_row packet client.session client.going refusal (record { request = request; awaited = waits; is = is }))
+    reading request waits (Err refusal) is = in_table (obex_number refusal) (refused_row packet client.session client.going refusal (record { request = request; awaited = waits; is = is }))
 
     by : (awaited : Option Request) → client.session.awaited ≡ awaited → OnFault P (answer_shows (answer_at awaited client.session packet) client)
-    by None is = row 153 (blames.IsUnawaited is)
+    by None is = in_table 153 (blames.IsUnawaited is)
     by (Some request) is = reading request is (packet_in (phase_of request) client.session.maximum packet) refl
 
 -- ---- a response that shows nothing
@@ -138,8 +138,8 @@ passes packet client = by client.session.awaited refl
 
 pub stream_faults : (P : ℕ → ℕ → Type 0) (count : ℕ) (stream : List ℕ) (client : Client) → ((reason : ℕ) → StreamBlames client.going reason stream client.session → P 5 reason) → OnFault P (stream_shows count stream client)
 unfolding stream_shows
-stream_faults P zero stream client row = tt
-stream_faults P (suc count) stream client row = by (front_of client.session.maximum stream) refl (λ rest next row. stream_faults P count rest next row)
+stream_faults P zero stream client in_table = tt
+stream_faults P (suc count) stream client in_table = by (front_of client.session.maximum stream) refl (λ rest next in_table. stream_faults P count rest next in_table)
   where
     alone : Client
     alone = record client { held = [] }
@@ -147,12 +147,12 @@ stream_faults P (suc count) stream client row = by (front_of client.session.maxi
     by : (front : Front) → front_of client.session.maximum stream ≡ front → ((rest : List ℕ) (next : Client) → ((reason : ℕ) → StreamBlames next.going reason rest next.session → P 5 reason) → OnFault P (stream_shows count rest next))
         → OnFault P (front_shows (λ rest next. stream_shows count rest next) front client)
     by Partial is more = tt
-    by (Broken refusal) is more = row (obex_number refusal) (blames.IsBroken stream client.session refusal is refl)
+    by (Broken refusal) is more = in_table (obex_number refusal) (blames.IsBroken stream client.session refusal is refl)
     by (Whole packet rest) is more =
-        first_fault P (response_shows packet alone) (stream_shows count rest (hears_response packet alone)) (response_faults P packet alone (λ reason b. row reason (blames.First stream client.session packet rest is b)))
+        first_fault P (response_shows packet alone) (stream_shows count rest (hears_response packet alone)) (response_faults P packet alone (λ reason b. in_table reason (blames.First stream client.session packet rest is b)))
         (λ quiet. let p = passes packet alone quiet in
         more rest (hears_response packet alone)
-        (λ reason b. row reason (blames.Later stream client.session packet rest p.request is p.waits p.goes p.sent
+        (λ reason b. in_table reason (blames.Later stream client.session packet rest p.request is p.waits p.goes p.sent
         (subst (λ (going : Bool). StreamBlames going reason rest (after_answer client.session p.request packet)) p.going (subst (λ (session : Asking). StreamBlames (hears_response packet alone).going reason rest session) p.session b)))))
 
 -- ---- what blames shows it

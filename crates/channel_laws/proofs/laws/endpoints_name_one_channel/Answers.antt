@@ -1,4 +1,4 @@
-use Rattle.channel_laws.proofs.Naming.{endpoints-name_one}
+use Rattle.own_channel_laws.proofs.Naming.{endpoints-name_one}
 use Rattle.channel_laws.proofs.laws.endpoints_name_one_channel.Goals as goal
 
 pub returns : goal.returns

@@ -1,4 +1,4 @@
-use Rattle.channel_laws.proofs.Informing.{features-are_awaited}
+use Rattle.own_channel_laws.proofs.Informing.{features-are_awaited}
 use Rattle.channel_laws.proofs.laws.features_are_awaited.Goals as goal
 
 pub returns : goal.returns

@@ -1,4 +1,4 @@
-use Rattle.channel_laws.proofs.Spending.{firings-alone_repeat}
+use Rattle.own_channel_laws.proofs.Spending.{firings-alone_repeat}
 use Rattle.channel_laws.proofs.laws.firings_alone_repeat.Goals as goal
 
 pub returns : goal.returns

@@ -1,4 +1,4 @@
-use Rattle.channel_laws.proofs.Spending.{firings-are_counted}
+use Rattle.own_channel_laws.proofs.Spending.{firings-are_counted}
 use Rattle.channel_laws.proofs.laws.firings_are_counted.Goals as goal
 
 pub returns : goal.returns

@@ -1,4 +1,4 @@
-use Rattle.channel_laws.proofs.Incoming.{sdus-are_read}
+use Rattle.own_channel_laws.proofs.Incoming.{sdus-are_read}
 use Rattle.channel_laws.proofs.laws.sdus_are_read.Goals as goal
 
 pub returns : goal.returns
