@@ -1,10 +1,8 @@
 -- What readers hold, apart from where its octets lie in memory.
-use Rattle.std.specs.Prelude.{List, map, reverse, option_map}
+use Rattle.std.specs.Prelude.{map, reverse, option_map}
 use Rattle.l2cap_signal.specs.Reading.{answer}
 use Rattle.link_readers.specs.declared.Saying.{Saying as LentSaying}
 use Rattle.link_readers.specs.declared.Saying.TheVariants as said
-use Rattle.link_readers.specs.declared.Forgone.{Forgone as LentForgone}
-use Rattle.link_readers.specs.declared.Forgone.TheVariants as given
 use Rattle.link_readers.specs.declared.sensing.Question.{Question as LentQuestion}
 use Rattle.link_readers.specs.declared.sensing.Question.TheVariants as question
 use Rattle.link_readers.specs.declared.sensing.Reply.{Reply as LentReply}
@@ -19,38 +17,18 @@ use Rattle.link_readers.specs.declared.meaning.Meaning.TheVariants as meaning
 use Rattle.link_readers.specs.declared.meaning.Requests.{Requests as LentRequests}
 use Rattle.link_readers.specs.declared.entries.Setup.{Setup as LentSetup}
 use Rattle.link_readers.specs.declared.entries.Entry.{Entry as LentEntry}
-use Rattle.link_readers.specs.declared.reading.Reading.{Reading as LentReading}
-use Rattle.link_readers.specs.declared.Carriage.{Carriage as LentCarriage}
-use Rattle.link_talk.specs.Carriages.{Carriage}
-use Rattle.link_readers.specs.declared.Spoken.{Spoken as LentSpoken}
-use Rattle.link_readers.specs.declared.joining.Segment.{Segment as LentSegment}
-use Rattle.link_readers.specs.declared.joining.Begun.{Begun as LentBegun}
-use Rattle.link_readers.specs.declared.joining.Joint.{Joint as LentJoint}
-use Rattle.link_readers.specs.declared.joining.Joint.TheVariants as joints
-use Rattle.ertm_frames.specs.Segments.{Segment}
-use Rattle.ertm_frames.specs.Joining.{Begun, Joint, Misplaced, Begins, Ends}
-use Rattle.link_talk.specs.Sdus.{Spoken}
-use Rattle.link_talk.specs.Sayings.{Saying, Command, Carried, GaveUp, Forgone, Connection, Disconnection, Information}
+use Rattle.link_talk.specs.Sayings.{Saying, Command, Carried}
 use Rattle.link_talk.specs.Senses as senses
 use Rattle.link_talk.specs.Senses.{Question, Reply, Sense}
 use Rattle.link_talk.specs.Requests.{Terms, Query, Requests}
 use Rattle.link_talk.specs.Meanings as meanings
 use Rattle.link_talk.specs.Meanings.{Part, Meaning}
 use Rattle.link_talk.specs.Setups.{Setup}
-use Rattle.link_talk.specs.Channels.{Entry, Reading}
-
-abbrev pub plain_forgone : LentForgone → Forgone
-plain_forgone (given.Connection identifier own) = Connection identifier own
-plain_forgone (given.Disconnection own peer) = Disconnection own peer
-plain_forgone (given.Information identifier) = Information identifier
+use Rattle.link_talk.specs.Channels.{Entry}
 
 abbrev pub plain_saying : LentSaying → Saying
 plain_saying (said.Command flow signal) = Command flow (answer signal)
 plain_saying (said.Carried flow pdu) = Carried flow pdu.now
-plain_saying (said.GaveUp forgone) = GaveUp (plain_forgone forgone)
-
-abbrev pub plain_sayings : List LentSaying → List Saying
-plain_sayings list = map plain_saying list
 
 abbrev pub plain_question : LentQuestion → Question
 plain_question (question.ForChannel psm source) = senses.ForChannel psm source
@@ -60,7 +38,6 @@ plain_question (question.Unread code) = senses.Unread code
 abbrev pub plain_reply : LentReply → Reply
 plain_reply (reply.OnChannel destination source answer) = senses.OnChannel destination source answer
 plain_reply (reply.OnOptions endpoint flags answer options) = senses.OnOptions endpoint flags answer options.now
-plain_reply (reply.Forgone own) = senses.Forgone own
 
 abbrev pub plain_sense : LentSense → Sense
 plain_sense (sense.Asks flow identifier what) = senses.Asks flow identifier (plain_question what)
@@ -69,7 +46,7 @@ plain_sense (sense.Ends word own peer) = senses.Ends word own peer
 plain_sense sense.Quiet = senses.Quiet
 
 abbrev pub plain_terms : LentTerms → Terms
-plain_terms terms = record { own = terms.own; options = terms.options.now }
+plain_terms terms = record { own = terms.own; options = terms.options.items }
 
 abbrev pub plain_query : LentQuery → Query
 plain_query query = record { identifier = query.identifier; terms = option_map plain_terms query.terms }
@@ -94,29 +71,3 @@ plain_setup setup = record { asked = setup.asked; parts = setup.parts.items; acc
 
 abbrev pub plain_entry : LentEntry → Entry
 plain_entry entry = record { channel = entry.channel; life = entry.life; setup = plain_setup entry.setup }
-
-abbrev pub plain_entries : List LentEntry → List Entry
-plain_entries list = map plain_entry list
-
-abbrev pub plain_reading : LentReading → Reading
-plain_reading held = record { requests = plain_requests held.requests; entries = plain_entries held.entries.items }
-
-abbrev pub plain_carriage : LentCarriage → Carriage
-plain_carriage carriage = record { flow = carriage.flow; pdu = carriage.pdu.now }
-
-abbrev pub plain_carriages : List LentCarriage → List Carriage
-plain_carriages list = map plain_carriage list
-
-abbrev pub plain_spoken : LentSpoken → Spoken
-plain_spoken one = record { flow = one.flow; octets = one.octets.items }
-
-abbrev pub plain_segment : LentSegment → Segment
-plain_segment segment = record { sar = segment.sar; total = segment.total; octets = segment.octets.now }
-
-abbrev pub plain_begun : LentBegun → Begun
-plain_begun begun = record { total = begun.total; octets = begun.octets.items }
-
-abbrev pub plain_joint : LentJoint → Joint
-plain_joint joints.Misplaced = Misplaced
-plain_joint (joints.Begins begun) = Begins (plain_begun begun)
-plain_joint (joints.Ends sdu) = Ends sdu.items

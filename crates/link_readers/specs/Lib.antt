@@ -1,4 +1,3 @@
 pub use Rattle.l2cap_config
 pub use Rattle.talk_laws
 pub mod Lent
-pub mod Frames

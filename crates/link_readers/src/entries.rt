@@ -1,10 +1,9 @@
 //! Channels, and what becomes of each.
 
-ghost use Rattle.std.specs.Prelude.{◌≡◌, ◌++◌, ◌∷◌, [], ◌==◌, ◌&&◌, ◌||◌, OnOk, IfOk, Some, None, fold, map, option_map, option_to_list};
-ghost use Rattle.std.specs.List.{list_any};
+ghost use Rattle.std.specs.Prelude.{◌≡◌, OnOk};
 ghost use Rattle.link_talk.specs.Setups.{mode_in, mode_numbered, no_setup, is_set, with_wish, with_answer, with_success, setup_after, term, is_enhanced, agreed_mode};
-ghost use Rattle.link_talk.specs.Channels.{word, life_after, is_alive, is_there, fresh, entry_after, is_owner, with_fresh, made_by, entries_after};
-ghost use Rattle.link_readers.specs.Lent.{plain_part, plain_meaning, plain_setup, plain_entry, plain_entries};
+ghost use Rattle.link_talk.specs.Channels.{word, life_after, is_alive, is_there, fresh, entry_after, is_owner, made_by};
+ghost use Rattle.link_readers.specs.Lent.{plain_part, plain_meaning, plain_setup, plain_entry};
 
 use crate::meaning::{Meaning, Part};
 use bt_base::NoMemory;
@@ -48,7 +47,7 @@ fn mode_in(options: &[u8]) -> Option<Mode>
     }
 }
 
-pub(crate) fn is_enhanced(mode: Option<Mode>) -> bool
+fn is_enhanced(mode: Option<Mode>) -> bool
     ensures { result ≡ is_enhanced mode }
 {
     matches!(mode, Some(Mode::Enhanced))
@@ -153,7 +152,8 @@ fn word_on(channel: &Channel, more: &Meaning<'_>) -> Option<Word>
     }
 }
 
-fn made_by(more: &Meaning<'_>) -> Option<Channel>
+/// The channel that a saying makes.
+pub fn made_by(more: &Meaning<'_>) -> Option<Channel>
     ensures { result ≡ made_by (plain_meaning more.now) }
 {
     match *more {
@@ -163,7 +163,8 @@ fn made_by(more: &Meaning<'_>) -> Option<Channel>
 }
 
 impl Entry {
-    fn new(alloc: Global, channel: Channel) -> Entry
+    /// A channel that has come to be.
+    pub fn new(alloc: Global, channel: Channel) -> Entry
         ensures { plain_entry result ≡ fresh channel }
     {
         Entry {
@@ -187,13 +188,15 @@ impl Entry {
         matches!(self.life, Life::Alive | Life::Leaving)
     }
 
-    fn is_owner(&self, channel: &Channel) -> bool
+    /// Whether another channel cannot come to be beside it, since one of its endpoints is taken.
+    pub fn is_owner(&self, channel: &Channel) -> bool
         ensures { result ≡ is_owner channel.now (plain_entry self.now) }
     {
         self.channel.own == channel.own || self.channel.peer == channel.peer && self.is_there()
     }
 
-    fn hear(&mut self, more: &Meaning<'_>) -> Result<(), NoMemory>
+    /// What becomes of it with one saying more. `NoMemory` is answered for want of memory alone.
+    pub fn hear(&mut self, more: &Meaning<'_>) -> Result<(), NoMemory>
         ensures { OnOk result (plain_entry self.new ≡ entry_after (plain_meaning more.now) (plain_entry self.old)) }
     {
         let there = self.is_there();
@@ -204,49 +207,4 @@ impl Entry {
         let channel = self.channel;
         self.setup.hear(&channel, more)
     }
-}
-
-fn is_owned(entries: &[Entry], channel: &Channel) -> bool
-    ensures { result ≡ list_any (is_owner channel.now) (plain_entries entries.now) }
-{
-    for entry in entries {
-        if entry.is_owner(channel) {
-            return true;
-        }
-    }
-    false
-}
-
-/// Adds a channel whose endpoints are free.
-fn add(alloc: Global, entries: &mut Vec<Entry>, channel: Channel) -> Result<(), NoMemory>
-    ensures { OnOk result (plain_entries entries.new.items ≡ with_fresh (plain_entries entries.old.items) channel) }
-{
-    if !is_owned(entries, &channel) {
-        entries.push(Entry::new(alloc, channel))?;
-    }
-    Ok(())
-}
-
-fn hear_each(entries: &mut [Entry], more: &Meaning<'_>) -> Result<(), NoMemory>
-    ensures { OnOk result (plain_entries entries.new ≡ map (entry_after (plain_meaning more.now)) (plain_entries entries.old)) }
-{
-    for entry in entries.iter_mut() {
-        entry.hear(more)?;
-    }
-    Ok(())
-}
-
-/// What becomes of all channels.
-pub(crate) fn hear_all(
-    alloc: Global,
-    entries: &mut Vec<Entry>,
-    more: &Meaning<'_>,
-) -> Result<(), NoMemory>
-    ensures { OnOk result (plain_entries entries.new.items ≡ entries_after (plain_entries entries.old.items) (plain_meaning more.now)) }
-{
-    hear_each(entries, more)?;
-    if let Some(channel) = made_by(more) {
-        add(alloc, entries, channel)?;
-    }
-    Ok(())
 }

@@ -1,37 +1,15 @@
-//! Plain readers of talk, for tests and tools: each computes a definition as it stands.
+//! What is said on a link, and what each saying means for its channels.
 #![tactic(auto)]
 
-mod carrying;
 mod entries;
-mod joining;
 mod meaning;
-mod multiplexing;
-mod objects;
-mod packing;
-mod reading;
-mod sdus;
 mod sensing;
 
 use capture::Flow;
-pub use carrying::{channel_of, mode_of, stretch};
-pub use entries::{Entry, Setup};
+pub use entries::{Entry, Setup, made_by};
 use l2cap_signal::{Signal, SignalRefusal};
-pub use meaning::Requests;
-pub use objects::link_objects;
-pub use packing::packets_heard;
-pub use reading::{Reading, reading_of};
-pub use sdus::sdus_of;
-
-/// A request that a host waits for no longer, without a word to its peer.
-#[derive(Clone, Copy, Debug)]
-pub enum Forgone {
-    /// For a channel, with the host's endpoint of it.
-    Connection { identifier: u8, own: u16 },
-    /// For the end of a channel, with both its endpoints.
-    Disconnection { own: u16, peer: u16 },
-    /// For information.
-    Information { identifier: u8 },
-}
+pub use meaning::{Meaning, Part, Requests};
+pub use sensing::{Question, Reply, Sense, sense_in};
 
 /// What is said on a link, as one of its hosts says and hears it
 /// (Core 5.1, Volume 3 Part A, 3.1 and 4).
@@ -41,20 +19,4 @@ pub enum Saying<'a> {
     Command(Flow, Result<Signal<'a>, SignalRefusal>),
     /// A PDU of another channel, whole.
     Carried(Flow, &'a [u8]),
-    /// What the host gave up, which nobody hears.
-    GaveUp(Forgone),
-}
-
-/// A PDU on a channel, whole, and which way it went.
-#[derive(Clone, Copy, Debug)]
-pub struct Carriage<'a> {
-    pub flow: Flow,
-    pub pdu: &'a [u8],
-}
-
-/// Octets that a host sent or heard on a channel: an SDU, or a packet.
-#[derive(Debug, Drop)]
-pub struct Spoken {
-    pub flow: Flow,
-    pub octets: Vec<u8>,
 }

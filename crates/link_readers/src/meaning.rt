@@ -27,32 +27,32 @@ const FIRST_ENDPOINT: u16 = 0x0040;
 const PENDING: u16 = 4;
 
 /// What the peer asks for on the channel of an endpoint of the host.
-#[derive(Clone, Copy, Debug)]
-pub(crate) struct Terms<'a> {
+#[derive(Debug, Drop)]
+pub(crate) struct Terms {
     own: u16,
-    options: &'a [u8],
+    options: Vec<u8>,
 }
 
 /// A request of the peer for options.
-#[derive(Clone, Copy, Debug)]
-pub(crate) struct Query<'a> {
+#[derive(Debug, Drop)]
+pub(crate) struct Query {
     identifier: u8,
-    terms: Option<Terms<'a>>,
+    terms: Option<Terms>,
 }
 
 /// A request of the peer for options, as the host answered it.
 #[derive(Clone, Copy, Debug)]
-pub(crate) struct Part<'a> {
-    pub(crate) own: u16,
-    pub(crate) peer: u16,
-    pub(crate) accepted: bool,
-    pub(crate) more: bool,
-    pub(crate) options: &'a [u8],
+pub struct Part<'a> {
+    pub own: u16,
+    pub peer: u16,
+    pub accepted: bool,
+    pub more: bool,
+    pub options: &'a [u8],
 }
 
 /// What a saying means for the channels of its link.
 #[derive(Clone, Copy, Debug)]
-pub(crate) enum Meaning<'a> {
+pub enum Meaning<'a> {
     Makes(Channel),
     Answers(Part<'a>),
     Wishes {
@@ -74,9 +74,9 @@ pub(crate) enum Meaning<'a> {
 
 /// The requests so far, the latest last.
 #[derive(Debug, Drop)]
-pub struct Requests<'a> {
+pub struct Requests {
     calls: Vec<Call>,
-    queries: Vec<Query<'a>>,
+    queries: Vec<Query>,
     failures: Vec<Failure>,
 }
 
@@ -98,22 +98,29 @@ fn call_of(flow: Flow, identifier: u8, question: &Question<'_>) -> Option<Call>
     }
 }
 
-fn query_of<'a>(identifier: u8, question: &Question<'a>) -> Option<Query<'a>>
-    ensures { option_map plain_query result ≡ queried identifier (plain_question question.now) }
+fn query_of(
+    alloc: Global,
+    identifier: u8,
+    question: &Question<'_>,
+) -> Result<Option<Query>, NoMemory>
+    ensures { IfOk result (λ query. option_map plain_query query ≡ queried identifier (plain_question question.now)) }
 {
     match *question {
-        Question::ForOptions { endpoint, options } => Some(Query {
-            identifier,
-            terms: Some(Terms {
-                own: endpoint,
-                options,
-            }),
-        }),
-        Question::Unread { code } if code == CONFIGURATION_REQUEST => Some(Query {
+        Question::ForOptions { endpoint, options } => {
+            let options = Vec::from_slice(alloc, options)?;
+            Ok(Some(Query {
+                identifier,
+                terms: Some(Terms {
+                    own: endpoint,
+                    options,
+                }),
+            }))
+        }
+        Question::Unread { code } if code == CONFIGURATION_REQUEST => Ok(Some(Query {
             identifier,
             terms: None,
-        }),
-        _ => None,
+        })),
+        _ => Ok(None),
     }
 }
 
@@ -125,7 +132,6 @@ fn failure_of(identifier: u8, reply: &Reply<'_>) -> Option<Failure>
             identifier,
             own: source,
         }),
-        Reply::Forgone { own } => Some(Failure { identifier, own }),
         _ => None,
     }
 }
@@ -143,16 +149,16 @@ fn call_in(sense: &Sense<'_>) -> Option<Call>
     }
 }
 
-fn query_in<'a>(sense: &Sense<'a>) -> Option<Query<'a>>
-    ensures { option_map plain_query result ≡ query (plain_sense sense.now) }
+fn query_in(alloc: Global, sense: &Sense<'_>) -> Result<Option<Query>, NoMemory>
+    ensures { IfOk result (λ found. option_map plain_query found ≡ query (plain_sense sense.now)) }
 {
     match sense {
         Sense::Asks {
             flow: Flow::Into,
             identifier,
             question,
-        } => query_of(*identifier, question),
-        _ => None,
+        } => query_of(alloc, *identifier, question),
+        _ => Ok(None),
     }
 }
 
@@ -191,8 +197,8 @@ fn granted<'a>(own: u16, peer: u16, wanted: Option<Wanted>) -> Meaning<'a>
     }
 }
 
-fn answered<'a>(peer: u16, flags: u16, answer: u16, terms: Option<Terms<'a>>) -> Meaning<'a>
-    ensures { plain_meaning result ≡ answered peer flags answer (option_map plain_terms terms.entry) }
+fn answered(peer: u16, flags: u16, answer: u16, terms: Option<&Terms>) -> Meaning<'_>
+    ensures { plain_meaning result ≡ answered peer flags answer (option_map (λ one. plain_terms one.now) terms.entry) }
 {
     match terms {
         Some(terms) => Meaning::Answers(Part {
@@ -200,7 +206,7 @@ fn answered<'a>(peer: u16, flags: u16, answer: u16, terms: Option<Terms<'a>>) ->
             peer,
             accepted: answer == 0,
             more: flags % 2 == 1,
-            options: terms.options,
+            options: &terms.options,
         }),
         None => Meaning::Nothing,
     }
@@ -250,8 +256,9 @@ fn is_own_among(calls: &[Call], identifier: u8, own: u16) -> bool
     false
 }
 
-impl<'a> Requests<'a> {
-    pub(crate) fn new(alloc: Global) -> Requests<'a>
+impl Requests {
+    /// No requests.
+    pub fn new(alloc: Global) -> Requests
         ensures { plain_requests result ≡ no_requests }
     {
         Requests {
@@ -282,29 +289,29 @@ impl<'a> Requests<'a> {
 
     /// The request for options that a response of the host answers: the first of the last run of
     /// requests with its identifier.
-    fn answered_query(&self, identifier: u8) -> Option<Terms<'a>>
-        ensures { option_map plain_terms result ≡ answered_query (plain_requests self.now) identifier }
+    fn answered_query(&self, identifier: u8) -> Option<&Terms>
+        ensures { option_map (λ terms. plain_terms terms.now) result ≡ answered_query (plain_requests self.now) identifier }
     {
-        let mut found: Option<Query<'a>> = None;
+        let mut found: Option<&Query> = None;
         let mut runs = false;
         for one in &self.queries {
             let fits = one.identifier == identifier;
             if fits && !runs {
-                found = Some(*one);
+                found = Some(one);
             }
             runs = fits;
         }
-        found?.terms
+        found?.terms.as_ref()
     }
 
     #[tactic(auto, using(crate::proofs::Runs::any_reverse))]
-    pub(crate) fn has_failed(&self, identifier: u8, own: u16) -> bool
+    fn has_failed(&self, identifier: u8, own: u16) -> bool
         ensures { result ≡ has_failed (plain_requests self.now) identifier own }
     {
         is_among(&self.failures, identifier, own)
     }
 
-    fn made(&self, flow: Flow, identifier: u8, destination: u16, source: u16) -> Meaning<'a>
+    fn made(&self, flow: Flow, identifier: u8, destination: u16, source: u16) -> Meaning<'static>
         ensures { plain_meaning result ≡ made (plain_requests self.now) flow identifier destination source }
     {
         match flow {
@@ -322,7 +329,7 @@ impl<'a> Requests<'a> {
         }
     }
 
-    fn replied(&self, flow: Flow, identifier: u8, reply: &Reply<'_>) -> Meaning<'a>
+    fn replied(&self, flow: Flow, identifier: u8, reply: &Reply<'_>) -> Meaning<'_>
         ensures { plain_meaning result ≡ replied (plain_requests self.now) flow identifier (plain_reply reply.now) }
     {
         match *reply {
@@ -345,12 +352,11 @@ impl<'a> Requests<'a> {
                 Flow::Out => answered(endpoint, flags, answer, self.answered_query(identifier)),
                 Flow::Into => settled(identifier, endpoint, answer, options),
             },
-            Reply::Forgone { .. } => Meaning::Nothing,
         }
     }
 
     /// What a saying means behind the requests so far.
-    pub(crate) fn meant(&self, sense: &Sense<'a>) -> Meaning<'a>
+    pub fn meant<'m>(&'m self, sense: &Sense<'m>) -> Meaning<'m>
         ensures { plain_meaning result ≡ meant (plain_requests self.now) (plain_sense sense.now) }
     {
         match sense {
@@ -371,13 +377,6 @@ impl<'a> Requests<'a> {
             },
             Sense::Quiet => Meaning::Nothing,
         }
-    }
-
-    /// The requests for channels, the latest last.
-    pub(crate) fn calls(&self) -> &[Call]
-        ensures { result.now ≡ self.now.calls.items }
-    {
-        &self.calls
     }
 
     /// Whether the request stands here that a refusal is for.
@@ -401,15 +400,16 @@ impl<'a> Requests<'a> {
         Ok(())
     }
 
-    /// Adds what a saying asks for, or what came to nothing by it.
-    pub(crate) fn hear(&mut self, sense: &Sense<'a>) -> Result<(), NoMemory>
+    /// Adds what a saying asks for, or what came to nothing by it. `NoMemory` is answered for want of memory
+    /// alone.
+    pub fn hear(&mut self, alloc: Global, sense: &Sense<'_>) -> Result<(), NoMemory>
         ensures { OnOk result (plain_requests self.new ≡ requests_after (plain_requests self.old) (plain_sense sense.now)) }
     {
         self.push_failure(failure_in(sense))?;
         if let Some(one) = call_in(sense) {
             self.calls.push(one)?;
         }
-        if let Some(one) = query_in(sense) {
+        if let Some(one) = query_in(alloc, sense)? {
             self.queries.push(one)?;
         }
         Ok(())

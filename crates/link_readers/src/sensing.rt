@@ -2,17 +2,17 @@
 
 ghost use Rattle.std.specs.Prelude.{◌≡◌};
 ghost use Rattle.l2cap_signal.specs.Commands.{content};
-ghost use Rattle.link_talk.specs.Senses.{farewell, farewell_answered, sense_of, unread, sense_refused, sense_forgone, sense};
-ghost use Rattle.link_readers.specs.Lent.{plain_forgone, plain_saying, plain_sense};
+ghost use Rattle.link_talk.specs.Senses.{farewell, farewell_answered, sense_of, unread, sense_refused, sense};
+ghost use Rattle.link_readers.specs.Lent.{plain_saying, plain_sense};
 
-use crate::{Forgone, Saying};
+use crate::Saying;
 use capture::Flow;
 use l2cap_signal::{SignalKind, SignalRefusal};
 use link_talk::Word;
 
 /// What a request asks for.
 #[derive(Clone, Copy, Debug)]
-pub(crate) enum Question<'a> {
+pub enum Question<'a> {
     ForChannel { psm: u16, source: u16 },
     ForOptions { endpoint: u16, options: &'a [u8] },
     Unread { code: u8 },
@@ -20,7 +20,7 @@ pub(crate) enum Question<'a> {
 
 /// What a response answers.
 #[derive(Clone, Copy, Debug)]
-pub(crate) enum Reply<'a> {
+pub enum Reply<'a> {
     OnChannel {
         destination: u16,
         source: u16,
@@ -32,14 +32,11 @@ pub(crate) enum Reply<'a> {
         answer: u16,
         options: &'a [u8],
     },
-    Forgone {
-        own: u16,
-    },
 }
 
 /// What a saying is for a channel.
 #[derive(Clone, Copy, Debug)]
-pub(crate) enum Sense<'a> {
+pub enum Sense<'a> {
     Asks {
         flow: Flow,
         identifier: u8,
@@ -166,32 +163,13 @@ fn sense_refused<'a>(flow: Flow, refusal: SignalRefusal) -> Sense<'a>
     }
 }
 
-fn sense_forgone<'a>(forgone: Forgone) -> Sense<'a>
-    ensures { plain_sense result ≡ sense_forgone (plain_forgone forgone) }
-{
-    match forgone {
-        Forgone::Connection { identifier, own } => Sense::Opens {
-            flow: Flow::Into,
-            identifier,
-            reply: Reply::Forgone { own },
-        },
-        Forgone::Disconnection { own, peer } => Sense::Ends {
-            word: Word::EndForgone,
-            own,
-            peer,
-        },
-        Forgone::Information { .. } => Sense::Quiet,
-    }
-}
-
 /// What a saying is for a channel (Core 5.1, Volume 3 Part A, 4).
-pub(crate) fn sense_in<'a>(saying: &Saying<'a>) -> Sense<'a>
+pub fn sense_in<'a>(saying: &Saying<'a>) -> Sense<'a>
     ensures { plain_sense result ≡ sense (plain_saying saying.now) }
 {
     match *saying {
         Saying::Command(flow, Ok(signal)) => sense_of(flow, signal.identifier, &signal.kind),
         Saying::Command(flow, Err(refusal)) => sense_refused(flow, refusal),
         Saying::Carried(..) => Sense::Quiet,
-        Saying::GaveUp(forgone) => sense_forgone(forgone),
     }
 }

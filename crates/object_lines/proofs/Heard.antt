@@ -18,65 +18,63 @@ use Rattle.capture.specs.Moves.{Move, move_of}
 use Rattle.capture.specs.Pdus.{piece_of}
 use Rattle.capture.proofs.EntryLaws.{one_capture}
 use Rattle.link_talk.specs.declared.party.Party.{Party}
-use Rattle.link_talk.specs.Sayings.{Saying, said_by}
-use Rattle.link_talk.specs.ObjectsHeard.{objects}
+use Rattle.link_talk.specs.Sayings.{said_by}
 use Rattle.link_talk.specs.Captures.{objects_heard}
-use Rattle.link_readers.specs.talk_laws.specs.Captures.{said_so_far}
 use Rattle.link_readers.specs.talk_laws.specs.CapturePass.{HeldLink, HeldLinks, completed_with, octets_with, link_after, new_link, made_with, links_after, states}
-use Rattle.link_readers.specs.talk_laws.proofs.Captures.{captures-look_back}
 use Rattle.link_readers.specs.talk_laws.proofs.CapturePass.{held-more}
 use Rattle.object_lines.specs.declared.links.HeldLink.{HeldLink as LentLink}
 use Rattle.object_lines.specs.declared.links.HeldLinks.{HeldLinks as LentLinks}
 use Rattle.object_lines.specs.declared.objects.Hearer.{Hearer}
 use Rattle.object_lines.specs.Tallies.{Told, told, plain_told}
-use Rattle.object_lines.specs.Held.{plain_talk, plain_link, plain_links, JoinsPdus, past_with}
-use Rattle.object_lines.specs.Heard.{talks_of_b, talks_told, IsHeard}
-use Rattle.object_lines.proofs.Telling.{all_told}
+use Rattle.object_lines.specs.Passes.{Telling, no_telling, telling_after, plain_telling}
+use Rattle.object_lines.specs.Held.{plain_link, plain_links, JoinsPdus, past_with}
+use Rattle.object_lines.specs.Heard.{links_of_b, told_on, IsHeard}
+use Rattle.object_lines.proofs.Telling.{captures_told}
 use Rattle.object_lines.proofs.Whole.{not_refused}
 
 -- ---- a packet
 
-abbrev held_link : ℕ → (out_ into : List ℕ) → List Saying → HeldLink (List Saying)
-held_link handle out_ into said = record { handle = handle; out_ = out_; into = into; state = said }
+abbrev held_link : ℕ → (out_ into : List ℕ) → Telling → HeldLink Telling
+held_link handle out_ into telling = record { handle = handle; out_ = out_; into = into; state = telling }
 
-abbrev pub out_with : HeldLink (List Saying) → Option Piece → HeldLink (List Saying)
-out_with link piece = held_link link.handle (octets_with Out link.out_ piece) link.into (fold said_so_far link.state (flat_map said_by (completed_with Out link.out_ piece)))
+abbrev pub out_with : Party → HeldLink Telling → Option Piece → HeldLink Telling
+out_with party link piece = held_link link.handle (octets_with Out link.out_ piece) link.into (fold (telling_after party) link.state (flat_map said_by (completed_with Out link.out_ piece)))
 
-abbrev pub into_with : HeldLink (List Saying) → Option Piece → HeldLink (List Saying)
-into_with link piece = held_link link.handle link.out_ (octets_with Into link.into piece) (fold said_so_far link.state (flat_map said_by (completed_with Into link.into piece)))
+abbrev pub into_with : Party → HeldLink Telling → Option Piece → HeldLink Telling
+into_with party link piece = held_link link.handle link.out_ (octets_with Into link.into piece) (fold (telling_after party) link.state (flat_map said_by (completed_with Into link.into piece)))
 
-pub after_out : (move : Move) (link : HeldLink (List Saying)) (piece : Option Piece) → move.flow ≡ Out → piece_of link.handle move.packet ≡ piece → out_with link piece ≡ link_after said_so_far move link
-after_out move link piece is one = ap (out_with link) (sym one) ∙ by move.flow move.packet is
+pub after_out : (party : Party) (move : Move) (link : HeldLink Telling) (piece : Option Piece) → move.flow ≡ Out → piece_of link.handle move.packet ≡ piece → out_with party link piece ≡ link_after (telling_after party) move link
+after_out party move link piece is one = ap (out_with party link) (sym one) ∙ by move.flow move.packet is
   where
-    by : (flow : Flow) (packet : Packet) → flow ≡ Out → out_with link (piece_of link.handle packet) ≡ link_after said_so_far (record { flow = flow; packet = packet }) link
+    by : (flow : Flow) (packet : Packet) → flow ≡ Out → out_with party link (piece_of link.handle packet) ≡ link_after (telling_after party) (record { flow = flow; packet = packet }) link
     by Out packet e = refl
     by Into packet e = absurd cc
 
-pub after_into : (move : Move) (link : HeldLink (List Saying)) (piece : Option Piece) → move.flow ≡ Into → piece_of link.handle move.packet ≡ piece → into_with link piece ≡ link_after said_so_far move link
-after_into move link piece is one = ap (into_with link) (sym one) ∙ by move.flow move.packet is
+pub after_into : (party : Party) (move : Move) (link : HeldLink Telling) (piece : Option Piece) → move.flow ≡ Into → piece_of link.handle move.packet ≡ piece → into_with party link piece ≡ link_after (telling_after party) move link
+after_into party move link piece is one = ap (into_with party link) (sym one) ∙ by move.flow move.packet is
   where
-    by : (flow : Flow) (packet : Packet) → flow ≡ Into → into_with link (piece_of link.handle packet) ≡ link_after said_so_far (record { flow = flow; packet = packet }) link
+    by : (flow : Flow) (packet : Packet) → flow ≡ Into → into_with party link (piece_of link.handle packet) ≡ link_after (telling_after party) (record { flow = flow; packet = packet }) link
     by Into packet e = refl
     by Out packet e = absurd cc
 
-pub after_none : (move : Move) (link : HeldLink (List Saying)) → piece_of link.handle move.packet ≡ None → link ≡ link_after said_so_far move link
-after_none move link none = by move.flow move.packet none
+pub after_none : (party : Party) (move : Move) (link : HeldLink Telling) → piece_of link.handle move.packet ≡ None → link ≡ link_after (telling_after party) move link
+after_none party move link none = by move.flow move.packet none
   where
-    by : (flow : Flow) (packet : Packet) → piece_of link.handle packet ≡ None → link ≡ link_after said_so_far (record { flow = flow; packet = packet }) link
-    by Out packet none = ap (out_with link) (sym none)
-    by Into packet none = ap (into_with link) (sym none)
+    by : (flow : Flow) (packet : Packet) → piece_of link.handle packet ≡ None → link ≡ link_after (telling_after party) (record { flow = flow; packet = packet }) link
+    by Out packet none = ap (out_with party link) (sym none)
+    by Into packet none = ap (into_with party link) (sym none)
 
-pub hears_out : (move : Move) (link : HeldLink (List Saying)) (piece : Piece) (octets : List ℕ) (said : List Saying) → move.flow ≡ Out → piece_of link.handle move.packet ≡ Some piece
-    → octets ≡ octets_with Out link.out_ (Some piece) → said ≡ fold said_so_far link.state (flat_map said_by (completed_with Out link.out_ (Some piece)))
-    → held_link link.handle octets link.into said ≡ link_after said_so_far move link
-hears_out move link piece octets said is one holds says =
-    ap (λ out_. held_link link.handle out_ link.into said) holds ∙ ap (held_link link.handle (octets_with Out link.out_ (Some piece)) link.into) says ∙ after_out move link (Some piece) is one
+pub hears_out : (party : Party) (move : Move) (link : HeldLink Telling) (piece : Piece) (octets : List ℕ) (telling : Telling) → move.flow ≡ Out → piece_of link.handle move.packet ≡ Some piece
+    → octets ≡ octets_with Out link.out_ (Some piece) → telling ≡ fold (telling_after party) link.state (flat_map said_by (completed_with Out link.out_ (Some piece)))
+    → held_link link.handle octets link.into telling ≡ link_after (telling_after party) move link
+hears_out party move link piece octets telling is one holds tells =
+    ap (λ out_. held_link link.handle out_ link.into telling) holds ∙ ap (held_link link.handle (octets_with Out link.out_ (Some piece)) link.into) tells ∙ after_out party move link (Some piece) is one
 
-pub hears_into : (move : Move) (link : HeldLink (List Saying)) (piece : Piece) (octets : List ℕ) (said : List Saying) → move.flow ≡ Into → piece_of link.handle move.packet ≡ Some piece
-    → octets ≡ octets_with Into link.into (Some piece) → said ≡ fold said_so_far link.state (flat_map said_by (completed_with Into link.into (Some piece)))
-    → held_link link.handle link.out_ octets said ≡ link_after said_so_far move link
-hears_into move link piece octets said is one holds says =
-    ap (λ into. held_link link.handle link.out_ into said) holds ∙ ap (held_link link.handle link.out_ (octets_with Into link.into (Some piece))) says ∙ after_into move link (Some piece) is one
+pub hears_into : (party : Party) (move : Move) (link : HeldLink Telling) (piece : Piece) (octets : List ℕ) (telling : Telling) → move.flow ≡ Into → piece_of link.handle move.packet ≡ Some piece
+    → octets ≡ octets_with Into link.into (Some piece) → telling ≡ fold (telling_after party) link.state (flat_map said_by (completed_with Into link.into (Some piece)))
+    → held_link link.handle link.out_ octets telling ≡ link_after (telling_after party) move link
+hears_into party move link piece octets telling is one holds tells =
+    ap (λ into. held_link link.handle link.out_ into telling) holds ∙ ap (held_link link.handle link.out_ (octets_with Into link.into (Some piece))) tells ∙ after_into party move link (Some piece) is one
 
 -- where a link is up no other is made
 never : (asked zero : Bool) → (asked && zero && false) ≡ false
@@ -85,68 +83,69 @@ never true false = refl
 never false true = refl
 never false false = refl
 
-pub none_made : (status handle : ℕ) (past : List (List Saying)) (links : LentLinks) → is_some links.up ≡ true → made_with [] status handle (plain_links past links) ≡ None
+pub none_made : (status handle : ℕ) (past : List Telling) (links : LentLinks) → is_some links.up ≡ true → made_with no_telling status handle (plain_links past links) ≡ None
 none_made status handle past links some = by links.asked links.up some
   where
-    by : (asked : Bool) (up : Option LentLink) → is_some up ≡ true → made_with [] status handle (record { asked = asked; past = past; up = option_map plain_link up }) ≡ None
+    by : (asked : Bool) (up : Option LentLink) → is_some up ≡ true → made_with no_telling status handle (record { asked = asked; past = past; up = option_map plain_link up }) ≡ None
     by asked None e = absurd cc
-    by asked (Some link) e = ap (λ test. cond test (Some (new_link [] handle)) None) (never asked (status == 0))
+    by asked (Some link) e = ap (λ test. cond test (Some (new_link no_telling handle)) None) (never asked (status == 0))
 
 -- ---- an entry
 
-none_more : (past : List Entry) (more : Entry) → move_of sides.B more ≡ None → talks_of_b (past ++ more ∷ []) ≡ talks_of_b past
-none_more past more none = held-more said_so_far [] sides.B past more ∙ ap (λ moved. fold (links_after said_so_far []) (talks_of_b past) (option_to_list moved)) none
+none_more : (party : Party) (past : List Entry) (more : Entry) → move_of sides.B more ≡ None → links_of_b party (past ++ more ∷ []) ≡ links_of_b party past
+none_more party past more none =
+    held-more (telling_after party) no_telling sides.B past more ∙ ap (λ moved. fold (links_after (telling_after party) no_telling) (links_of_b party past) (option_to_list moved)) none
 
-move_more : (past : List Entry) (more : Entry) (move : Move) → move_of sides.B more ≡ Some move → talks_of_b (past ++ more ∷ []) ≡ links_after said_so_far [] (talks_of_b past) move
-move_more past more move some = held-more said_so_far [] sides.B past more ∙ ap (λ moved. fold (links_after said_so_far []) (talks_of_b past) (option_to_list moved)) some
+move_more : (party : Party) (past : List Entry) (more : Entry) (move : Move) → move_of sides.B more ≡ Some move → links_of_b party (past ++ more ∷ []) ≡ links_after (telling_after party) no_telling (links_of_b party past) move
+move_more party past more move some =
+    held-more (telling_after party) no_telling sides.B past more ∙ ap (λ moved. fold (links_after (telling_after party) no_telling) (links_of_b party past) (option_to_list moved)) some
 
 pub heard_same : (party : Party) (past : List Entry) (more : Entry) (hearer : Hearer) → None ≡ move_of sides.B more → IsHeard party past hearer → IsHeard party (past ++ more ∷ []) hearer
 heard_same party past more hearer none heard = record {
-  links = ap (λ (now : HeldLinks (List Saying)). plain_links now.past hearer.links) (none_more past more (sym none)) ∙ heard.links ∙ sym (none_more past more (sym none));
-  told = heard.told ∙ ap (λ (now : HeldLinks (List Saying)). talks_told party now.past) (sym (none_more past more (sym none)));
+  links = ap (λ (now : HeldLinks Telling). plain_links now.past hearer.links) (none_more party past more (sym none)) ∙ heard.links ∙ sym (none_more party past more (sym none));
+  told = heard.told ∙ ap (λ (now : HeldLinks Telling). told_on now.past) (sym (none_more party past more (sym none)));
 }
 
 -- what is told where a link ends
-abbrev pub found_with : Party → List Told → Option LentLink → List Told
-found_with party found None = found
-found_with party found (Some link) = found ++ map told (objects party (plain_talk link.talk))
+abbrev pub found_with : List Told → Option LentLink → List Told
+found_with found None = found
+found_with found (Some link) = found ++ map plain_told link.pass.found.items
 
-talks_more : (party : Party) (past : List (List Saying)) (ended : Option LentLink) → found_with party (talks_told party past) ended ≡ talks_told party (past_with past ended)
-talks_more party past None = refl
-talks_more party past (Some link) =
-    let more = map told (objects party (plain_talk link.talk)) in
-    ap (λ found. talks_told party past ++ found) (sym (append-nil more)) ∙ sym (flat_map-append (λ (said : List Saying). map told (objects party said)) past (plain_talk link.talk ∷ []))
+told_more : (past : List Telling) (ended : Option LentLink) → found_with (told_on past) ended ≡ told_on (past_with past ended)
+told_more past None = refl
+told_more past (Some link) =
+    let more = map plain_told link.pass.found.items in
+    ap (λ found. told_on past ++ found) (sym (append-nil more)) ∙ sym (flat_map-append (λ (one : Telling). one.told) past (plain_telling link.pass ∷ []))
 
 pub heard_more : (party : Party) (past : List Entry) (more : Entry) (move : Move) (old new : Hearer) (ended : Option LentLink) → Some move ≡ move_of sides.B more
-    → ((talks : List (List Saying)) → plain_links (past_with talks ended) new.links ≡ links_after said_so_far [] (plain_links talks old.links) move)
-    → map plain_told new.found.items ≡ found_with party (map plain_told old.found.items) ended
+    → ((tellings : List Telling) → plain_links (past_with tellings ended) new.links ≡ links_after (telling_after party) no_telling (plain_links tellings old.links) move)
+    → map plain_told new.found.items ≡ found_with (map plain_told old.found.items) ended
     → IsHeard party past old → IsHeard party (past ++ more ∷ []) new
 heard_more party past more move old new ended moved hears tells heard =
-    let before = talks_of_b past in
-    let now : plain_links (past_with before.past ended) new.links ≡ talks_of_b (past ++ more ∷ []) =
-    hears before.past ∙ ap (λ links. links_after said_so_far [] links move) heard.links ∙ sym (move_more past more move (sym moved)) in
-    let ends : past_with before.past ended ≡ (talks_of_b (past ++ more ∷ [])).past = ap (λ (links : HeldLinks (List Saying)). links.past) now in
+    let before = links_of_b party past in
+    let now : plain_links (past_with before.past ended) new.links ≡ links_of_b party (past ++ more ∷ []) =
+    hears before.past ∙ ap (λ links. links_after (telling_after party) no_telling links move) heard.links ∙ sym (move_more party past more move (sym moved)) in
+    let ends : past_with before.past ended ≡ (links_of_b party (past ++ more ∷ [])).past = ap (λ (links : HeldLinks Telling). links.past) now in
     record {
-      links = ap (λ talks. plain_links talks new.links) (sym ends) ∙ now;
-      told = tells ∙ ap (λ found. found_with party found ended) heard.told ∙ talks_more party before.past ended ∙ ap (talks_told party) ends;
+      links = ap (λ tellings. plain_links tellings new.links) (sym ends) ∙ now;
+      told = tells ∙ ap (λ found. found_with found ended) heard.told ∙ told_more before.past ended ∙ ap told_on ends;
     }
 
 -- ---- the end
 
-all_talks : (past : List (List Saying)) (up : Option LentLink) → past_with past up ≡ past ++ option_to_list (option_map (λ (link : HeldLink (List Saying)). link.state) (option_map plain_link up))
-all_talks past None = sym (append-nil past)
-all_talks past (Some link) = refl
+all_tellings : (past : List Telling) (up : Option LentLink) → past_with past up ≡ past ++ option_to_list (option_map (λ (link : HeldLink Telling). link.state) (option_map plain_link up))
+all_tellings past None = sym (append-nil past)
+all_tellings past (Some link) = refl
 
-pub heard_all : (party : Party) (past : List Entry) (hearer : Hearer) (found : List Told) → found ≡ found_with party (map plain_told hearer.found.items) hearer.links.up → IsHeard party past hearer
+pub heard_all : (party : Party) (past : List Entry) (hearer : Hearer) (found : List Told) → found ≡ found_with (map plain_told hearer.found.items) hearer.links.up → IsHeard party past hearer
     → found ≡ map told (objects_heard party sides.B past)
 heard_all party past hearer found is heard =
-    let before = talks_of_b past in
+    let before = links_of_b party past in
     is
-    ∙ ap (λ found. found_with party found hearer.links.up) heard.told
-    ∙ talks_more party before.past hearer.links.up
-    ∙ ap (talks_told party) (all_talks before.past hearer.links.up ∙ ap states heard.links)
-    ∙ all_told party (states before)
-    ∙ ap (λ said. map told (flat_map (objects party) said)) (sym (captures-look_back.talks sides.B past))
+    ∙ ap (λ found. found_with found hearer.links.up) heard.told
+    ∙ told_more before.past hearer.links.up
+    ∙ ap told_on (all_tellings before.past hearer.links.up ∙ ap states heard.links)
+    ∙ captures_told party sides.B past
 
 -- ---- the octets of a capture
 

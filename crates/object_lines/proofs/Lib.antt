@@ -1,6 +1,6 @@
 pub mod Hearing
 pub mod Whole
-pub mod OneChannel
+pub mod InPlace
 pub mod Tallying
 pub mod Telling
 pub mod Mattering
@@ -8,4 +8,6 @@ pub mod Heard
 pub mod Earing
 pub mod Splitting
 pub mod Packeting
-pub mod Listened
+pub mod OnePass
+pub mod Coursing
+pub mod Stuck

@@ -22,14 +22,16 @@ use Rattle.link_talk.specs.Sayings.{Saying, Command, Carried, GaveUp}
 use Rattle.link_talk.specs.Channels.{Reading}
 use Rattle.link_talk.specs.Carriages.{Carriage, is_heard, is_on, taker}
 use Rattle.link_talk.specs.Sdus.{Spoken, spoken_as, spoken_way, spoken_one_way}
-use Rattle.link_talk.specs.Packets.{Carrier, OverL2cap, OverRfcomm, OverNothing, carrier}
+use Rattle.link_talk.specs.Packets.{Carrier, OverL2cap, OverRfcomm, OverNothing, carrier, role_of}
+use Rattle.link_talk.specs.Frames.{octets_heard}
 use Rattle.link_talk.specs.ObjectsHeard.{put_within}
 use Rattle.link_readers.specs.talk_laws.specs.Sdus.{Ear, Ears, nothing_heard, segment_of, ear_after, ears_after, sdus_with, spoken_now, spoken_from}
-use Rattle.link_readers.specs.talk_laws.specs.Packets.{Streams, no_streams, stream_with, streams_after, packets_now, packets_from}
+use Rattle.link_readers.specs.talk_laws.specs.Packets.{Streams, no_streams, frame_of, course_by, closed_by, stream_with, streams_after, packets_now, packets_from}
 use Rattle.link_readers.specs.talk_laws.specs.Spelling.{run_with, Hearing, hearing_with, objects_told}
 use Rattle.link_readers.specs.talk_laws.specs.Waits.{mode_held}
 use Rattle.object_lines.specs.Tallies.{told, Tally, tally_of, tally_after, told_by, told_from}
-use Rattle.object_lines.specs.Matters.{Matter, short_ear, short_ears, ears_with, puts_of, without_out, sdu_after, sdus_told, heard_with, matter_after, told_now, matter_passing, told_passing, matter_step, matter_told, matter_by, matter, MattersLead}
+use Rattle.object_lines.specs.Matters.{Matter, short_ear, short_ears, ears_with, puts_of, short_streams, sdu_after, sdus_told, heard_with, matter_after, told_now, matter_passing, told_passing, matter_step, matter_told, matter_by, matter, MattersLead}
+use Rattle.object_lines.proofs.Stuck.{short_packets, short_rest}
 use Rattle.object_lines.proofs.Tallying.{runs_tallied, tolds_are}
 
 -- ---- numbers modulo 64
@@ -86,31 +88,41 @@ none_out party (x ∷ xs) = none_out party xs
 abbrev matter_with : Ears → Streams → Tally → Matter
 matter_with ears streams tally = record { ears = ears; streams = streams; tally = tally }
 
-same_puts : (party : Party) (s : Streams) (sdu : Spoken) → puts_of party (packets_now party OverRfcomm (without_out s) sdu) ≡ puts_of party (packets_now party OverRfcomm s sdu)
+same_puts : (party : Party) (s : Streams) (sdu : Spoken) → puts_of party (packets_now party OverRfcomm (short_streams s) sdu) ≡ puts_of party (packets_now party OverRfcomm s sdu)
 same_puts party s sdu = by sdu.flow sdu.octets
   where
-    by : (flow : Flow) (octets : List ℕ) → let one : Spoken = spoken_as flow octets in puts_of party (packets_now party OverRfcomm (without_out s) one) ≡ puts_of party (packets_now party OverRfcomm s one)
-    by Into octets = refl
+    by : (flow : Flow) (octets : List ℕ) → let one : Spoken = spoken_as flow octets in puts_of party (packets_now party OverRfcomm (short_streams s) one) ≡ puts_of party (packets_now party OverRfcomm s one)
+    by Into octets = ap (λ ps. puts_of party (map (spoken_as Into) ps)) (short_packets s.into (octets_heard party.dlci (role_of party Into) s.course.lines (frame_of party s (spoken_as Into octets))))
     by Out octets =
         let one : Spoken = spoken_as Out octets in
-        none_out party (obex_packets (stream_with party Out (without_out s) one)) ∙ sym (none_out party (obex_packets (stream_with party Out s one)))
+        none_out party (obex_packets (stream_with party Out (short_streams s) one)) ∙ sym (none_out party (obex_packets (stream_with party Out s one)))
+
+-- behind an SDU no more matters than what mattered before it
+held_on : (party : Party) (s : Streams) (sdu : Spoken) → short_streams (streams_after party (short_streams s) sdu) ≡ short_streams (streams_after party s sdu)
+held_on party s sdu =
+    ap (λ into. let now : Streams = record { course = course_by party s.course (frame_of party s sdu); closed = closed_by party s.course s.closed (frame_of party s sdu); out_ = []; into = into } in now)
+    (short_rest s.into (octets_heard party.dlci (role_of party Into) s.course.lines (frame_of party s sdu)))
 
 over_rfcomm : (party : Party) (e : Ears) (s : Streams) (t : Tally) (sdus : List Spoken)
-    → fold (sdu_after party OverRfcomm) (matter_with e (without_out s) t) sdus ≡ matter_with e (without_out (fold (streams_after party) s sdus)) (fold tally_after t (puts_of party (packets_from party OverRfcomm s sdus)))
+    → fold (sdu_after party OverRfcomm) (matter_with e (short_streams s) t) sdus ≡ matter_with e (short_streams (fold (streams_after party) s sdus)) (fold tally_after t (puts_of party (packets_from party OverRfcomm s sdus)))
 over_rfcomm party e s t [] = refl
 over_rfcomm party e s t (sdu ∷ sdus) =
     let first = puts_of party (packets_now party OverRfcomm s sdu) in
-    ap (λ ps. fold (sdu_after party OverRfcomm) (matter_with e (without_out (streams_after party s sdu)) (fold tally_after t ps)) sdus) (same_puts party s sdu)
+    let held = puts_of party (packets_now party OverRfcomm (short_streams s) sdu) in
+    ap (λ (now : Streams). fold (sdu_after party OverRfcomm) (matter_with e now (fold tally_after t held)) sdus) (held_on party s sdu)
+    ∙ ap (λ ps. fold (sdu_after party OverRfcomm) (matter_with e (short_streams (streams_after party s sdu)) (fold tally_after t ps)) sdus) (same_puts party s sdu)
     ∙ over_rfcomm party e (streams_after party s sdu) (fold tally_after t first) sdus
-    ∙ ap (matter_with e (without_out (fold (streams_after party) s (sdu ∷ sdus))))
+    ∙ ap (matter_with e (short_streams (fold (streams_after party) s (sdu ∷ sdus))))
     (sym (fold-append tally_after t first (puts_of party (packets_from party OverRfcomm (streams_after party s sdu) sdus)))
     ∙ ap (fold tally_after t) (sym (puts_both party (packets_now party OverRfcomm s sdu) (packets_from party OverRfcomm (streams_after party s sdu) sdus))))
 
-told_rfcomm : (party : Party) (e : Ears) (s : Streams) (t : Tally) (sdus : List Spoken) → sdus_told party OverRfcomm (matter_with e (without_out s) t) sdus ≡ told_from t (puts_of party (packets_from party OverRfcomm s sdus))
+told_rfcomm : (party : Party) (e : Ears) (s : Streams) (t : Tally) (sdus : List Spoken) → sdus_told party OverRfcomm (matter_with e (short_streams s) t) sdus ≡ told_from t (puts_of party (packets_from party OverRfcomm s sdus))
 told_rfcomm party e s t [] = refl
 told_rfcomm party e s t (sdu ∷ sdus) =
     let first = puts_of party (packets_now party OverRfcomm s sdu) in
-    ap (λ ps. told_from t ps ++ sdus_told party OverRfcomm (matter_with e (without_out (streams_after party s sdu)) (fold tally_after t ps)) sdus) (same_puts party s sdu)
+    let held = puts_of party (packets_now party OverRfcomm (short_streams s) sdu) in
+    ap (λ (now : Streams). told_from t held ++ sdus_told party OverRfcomm (matter_with e now (fold tally_after t held)) sdus) (held_on party s sdu)
+    ∙ ap (λ ps. told_from t ps ++ sdus_told party OverRfcomm (matter_with e (short_streams (streams_after party s sdu)) (fold tally_after t ps)) sdus) (same_puts party s sdu)
     ∙ ap (λ ts. told_from t first ++ ts) (told_rfcomm party e (streams_after party s sdu) (fold tally_after t first) sdus)
     ∙ sym (told_both t first (puts_of party (packets_from party OverRfcomm (streams_after party s sdu) sdus)))
     ∙ ap (told_from t) (sym (puts_both party (packets_now party OverRfcomm s sdu) (packets_from party OverRfcomm (streams_after party s sdu) sdus)))
@@ -173,11 +185,11 @@ one_l2cap party mode h Into pdu =
 one_rfcomm : (party : Party) (mode : Mode) (h : Hearing) (c : Carriage) → matter_by OverRfcomm (hearing_by party OverRfcomm mode h (c ∷ [])) ≡ matter_after party OverRfcomm mode (matter_by OverRfcomm h) c
 one_rfcomm party mode h c =
     let sdus = spoken_now party mode h.ears c in
-    ap (λ ss. matter_with (short_ears (ears_after party h.ears c)) (without_out (fold (streams_after party) h.streams ss)) (tally_of (run_headers (fold run_with h.run (puts_of party (packets_from party OverRfcomm h.streams ss)))))) (append-nil sdus)
-    ∙ ap (matter_with (short_ears (ears_after party h.ears c)) (without_out (fold (streams_after party) h.streams sdus))) (runs_tallied h.run (puts_of party (packets_from party OverRfcomm h.streams sdus)))
+    ap (λ ss. matter_with (short_ears (ears_after party h.ears c)) (short_streams (fold (streams_after party) h.streams ss)) (tally_of (run_headers (fold run_with h.run (puts_of party (packets_from party OverRfcomm h.streams ss)))))) (append-nil sdus)
+    ∙ ap (matter_with (short_ears (ears_after party h.ears c)) (short_streams (fold (streams_after party) h.streams sdus))) (runs_tallied h.run (puts_of party (packets_from party OverRfcomm h.streams sdus)))
     ∙ sym (over_rfcomm party (short_ears (ears_after party h.ears c)) h.streams (tally_of (run_headers h.run)) sdus)
-    ∙ ap (λ ears. fold (sdu_after party OverRfcomm) (matter_with ears (without_out h.streams) (tally_of (run_headers h.run))) sdus) (ears_shorten party h.ears c.flow c.pdu)
-    ∙ ap (fold (sdu_after party OverRfcomm) (matter_with (ears_with party (short_ears h.ears) c) (without_out h.streams) (tally_of (run_headers h.run)))) (spoken_shorten party mode h.ears c.flow c.pdu)
+    ∙ ap (λ ears. fold (sdu_after party OverRfcomm) (matter_with ears (short_streams h.streams) (tally_of (run_headers h.run))) sdus) (ears_shorten party h.ears c.flow c.pdu)
+    ∙ ap (fold (sdu_after party OverRfcomm) (matter_with (ears_with party (short_ears h.ears) c) (short_streams h.streams) (tally_of (run_headers h.run)))) (spoken_shorten party mode h.ears c.flow c.pdu)
 
 one_more : (party : Party) (over : Carrier) (mode : Mode) (h : Hearing) (c : Carriage) → matter_by over (hearing_by party over mode h (c ∷ [])) ≡ matter_after party over mode (matter_by over h) c
 one_more party OverL2cap mode h c = one_l2cap party mode h c.flow c.pdu
@@ -204,7 +216,7 @@ tell_one party OverRfcomm mode h c =
     ap (λ ss. map told (objects_from h.run (puts_of party (packets_from party OverRfcomm h.streams ss)))) (append-nil sdus)
     ∙ tolds_are h.run (puts_of party (packets_from party OverRfcomm h.streams sdus))
     ∙ sym (told_rfcomm party (short_ears h.ears) h.streams (tally_of (run_headers h.run)) sdus)
-    ∙ ap (sdus_told party OverRfcomm (matter_with (short_ears h.ears) (without_out h.streams) (tally_of (run_headers h.run)))) (spoken_shorten party mode h.ears c.flow c.pdu)
+    ∙ ap (sdus_told party OverRfcomm (matter_with (short_ears h.ears) (short_streams h.streams) (tally_of (run_headers h.run)))) (spoken_shorten party mode h.ears c.flow c.pdu)
 tell_one party OverNothing mode h c = ap (λ ps. map told (objects_from h.run (puts_of party ps))) (no_packets party h.streams (spoken_from party mode h.ears (c ∷ [])))
 
 -- ---- a saying

@@ -11,10 +11,9 @@ use Rattle.link_talk.specs.Sdus.{spoken_as, spoken_one_way}
 use Rattle.link_talk.specs.Packets.{OverRfcomm}
 use Rattle.link_talk.specs.ObjectsHeard.{put_within}
 use Rattle.link_readers.specs.talk_laws.specs.Packets.{Streams, stream_with, packets_now, rest_of}
-use Rattle.link_readers.proofs.Multiplexed.{IsSplit, split_whole}
 use Rattle.object_lines.specs.Tallies.{Told, Tally, tally_after, told_by, told_from}
 use Rattle.object_lines.specs.Matters.{puts_of}
-use Rattle.object_lines.proofs.Splitting.{split_more}
+use Rattle.object_lines.proofs.Splitting.{IsSplit, split_whole, split_more}
 use Rattle.object_lines.proofs.Mattering.{told_both, none_out}
 
 -- these packets of a stream were told of, and the rest is left

@@ -1,9 +1,17 @@
--- A stream that is split after one packet more.
+-- How far a stream is split in packets.
 use Rattle.std.proofs.Common.{◌≡◌, ℕ, List, [], ◌∷◌, ◌++◌, take, drop, sym, ap, subst, ◌∙◌, append_assoc, append-nil}
 use Rattle.std.proofs.lemmas.List.{take-append-drop}
 use Rattle.std.specs.List.{flat_map, AllByRecursion}
-use Rattle.rfcomm_frames.specs.ObexPackets.{IsPacket}
-use Rattle.link_readers.proofs.Multiplexed.{IsSplit}
+use Rattle.rfcomm_frames.specs.ObexPackets.{IsPacket, HasNoPacket, obex_packets}
+use Rattle.rfcomm_frames.proofs.ObexSplits.{obex_packets-one}
+
+-- how far a stream is split
+pub record IsSplit (stream : List ℕ) (found : List (List ℕ)) (rest : List ℕ) : Type 0 where
+  pub whole : stream ≡ flat_map (λ packet. packet) found ++ rest
+  pub each : AllByRecursion IsPacket found
+
+pub split_whole : (stream : List ℕ) (found : List (List ℕ)) (rest : List ℕ) → IsSplit stream found rest → HasNoPacket rest → found ≡ obex_packets stream
+split_whole stream found rest split none = obex_packets-one stream found (record { rest = rest; whole = split.whole; each = split.each; no_more = none })
 
 all_both : {X : Type 0} (P : X → Type 0) (xs ys : List X) → AllByRecursion P xs → AllByRecursion P ys → AllByRecursion P (xs ++ ys)
 all_both P [] ys first second = second

@@ -316,14 +316,3 @@ tolds_are run (Some put ∷ puts) =
 pub lines_are_told : (objects : List Object) → told_lines (map told objects) ≡ lines_of objects
 lines_are_told [] = refl
 lines_are_told (object ∷ objects) = ap (λ text. object_line object ++ text) (lines_are_told objects)
-
-none_told : (objects : List Object) → [] ≡ map told objects → objects ≡ []
-none_told [] is = refl
-none_told (object ∷ objects) is = cc
-
-tolds_none : (found : List LentTold) → length found ≡ 0 → map plain_told found ≡ []
-tolds_none [] is = refl
-tolds_none (one ∷ found) is = absurd (omega (arith, is))
-
-pub nothing_told : (found : List LentTold) (len : ℕ) (objects : List Object) → len ≡ length found → eqb len 0 ≡ true → map plain_told found ≡ map told objects → objects ≡ []
-nothing_told found len objects same is told_is = none_told objects (sym (tolds_none found (sym same ∙ eqb-true len 0 is)) ∙ told_is)

@@ -1,6 +1,6 @@
 pub mod Lines
 pub mod Viewing
-pub mod Alone
+pub mod Passes
 pub mod Laws
 pub mod Tallies
 pub mod Matters

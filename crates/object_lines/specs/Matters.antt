@@ -1,10 +1,11 @@
 -- What matters of what is held of a channel: what its objects are told by (Core 5.1, Volume 3 Part A, 3.3, 7.3 and 8.4;
 -- RFCOMM 1.2, 5; IrOBEX 1.5, 3.4.3).
-use Rattle.std.specs.Prelude.{◌≡◌, ◌%◌, Option, Bool, true, false, if◌then◌else◌, List, [], ◌∷◌, ◌++◌, map, fold, find}
+use Rattle.std.specs.Prelude.{ℕ, ◌≡◌, ◌%◌, ◌&&◌, not, nat_lt, Option, Bool, true, false, if◌then◌else◌, List, [], ◌∷◌, ◌++◌, length, take, map, fold, find}
 use Rattle.std.specs.List.{flat_map}
 use Rattle.capture.specs.declared.flow.Flow.{Flow}
 use Rattle.capture.specs.declared.flow.Flow.TheVariants.{Out, Into}
 use Rattle.link_readers.specs.l2cap_config.specs.declared.wish.Mode.{Mode}
+use Rattle.rfcomm_frames.specs.ObexPackets.{stated_size}
 use Rattle.obex_headers.specs.Packets.{PlainPacket}
 use Rattle.obex_headers.specs.Runs.{run_headers}
 use Rattle.link_talk.specs.declared.channel.Channel.{Channel}
@@ -51,16 +52,24 @@ puts_of party packets = map (put_within party.packet) (spoken_one_way Into packe
 abbrev pub with_packets : Party → List Spoken → Matter → Matter
 with_packets party packets matter = record matter { tally = fold tally_after matter.tally (puts_of party packets) }
 
+-- the packet at the front of a stream states fewer octets than its own head has, so no packet ever stands there
+abbrev pub is_stuck : List ℕ → Bool
+is_stuck stream = not (nat_lt (length stream) 3) && nat_lt (stated_size stream) 3
+
+-- and that head is all that matters of it
+abbrev pub short_stream : List ℕ → List ℕ
+short_stream stream = if is_stuck stream then take 3 stream else stream
+
 -- what goes out is no packet that is heard, so of its octets nothing is held
-abbrev pub without_out : Streams → Streams
-without_out streams = record streams { out_ = [] }
+abbrev pub short_streams : Streams → Streams
+short_streams streams = record streams { out_ = []; into = short_stream streams.into }
 
 abbrev pub sdu_after : Party → Carrier → Matter → Spoken → Matter
 sdu_after party OverL2cap matter sdu = with_packets party (sdu ∷ []) matter
 sdu_after party OverRfcomm matter sdu =
     record {
       ears = matter.ears;
-      streams = without_out (streams_after party matter.streams sdu);
+      streams = short_streams (streams_after party matter.streams sdu);
       tally = fold tally_after matter.tally (puts_of party (packets_now party OverRfcomm matter.streams sdu));
     }
 sdu_after party OverNothing matter sdu = matter
@@ -128,7 +137,7 @@ pass_told party pass saying = flat_map (λ (one : KeptChannel Matter). matter_to
 
 abbrev pub matter_by : Carrier → Hearing → Matter
 matter_by OverL2cap hearing = record { ears = record (short_ears hearing.ears) { out_ = nothing_heard }; streams = no_streams; tally = tally_of (run_headers hearing.run) }
-matter_by OverRfcomm hearing = record { ears = short_ears hearing.ears; streams = without_out hearing.streams; tally = tally_of (run_headers hearing.run) }
+matter_by OverRfcomm hearing = record { ears = short_ears hearing.ears; streams = short_streams hearing.streams; tally = tally_of (run_headers hearing.run) }
 matter_by OverNothing hearing = no_matter
 
 abbrev pub matter : Channel → Hearing → Matter

@@ -1,20 +1,20 @@
 //! Captures as text, with a line for each object that the receiving host heard.
 #![tactic(auto)]
 
-mod alone;
 mod course;
 mod ears;
 pub mod laws;
 mod line;
 mod links;
-mod listening;
 mod matter;
 mod news;
 mod objects;
+mod octets;
+mod passing;
 mod piece;
 mod segments;
 mod streams;
-mod talk;
+mod taking;
 mod tally;
 mod viewing;
 

@@ -5,20 +5,17 @@ ghost use Rattle.capture.specs.Entries.{Entry, IsCapture};
 ghost use Rattle.capture.specs.Lent.{plain_entry, plain_move};
 ghost use Rattle.capture.specs.Moves.{move_of};
 ghost use Rattle.link_talk.specs.declared.party.Party.{Party as PlainParty};
-ghost use Rattle.link_talk.specs.ObjectsHeard.{objects};
 ghost use Rattle.link_talk.specs.Captures.{objects_heard};
 ghost use Rattle.push_terms.specs.declared.word.Side.TheVariants as sides;
 ghost use Rattle.object_lines.specs.Lines.{viewed, object_lines};
 ghost use Rattle.object_lines.specs.Tallies.{told, plain_told};
-ghost use Rattle.object_lines.specs.Held.{plain_talk, JoinsPdus};
+ghost use Rattle.object_lines.specs.Held.{JoinsPdus};
 ghost use Rattle.object_lines.specs.Heard.{IsHeard};
 
-use crate::alone::objects_said;
 use crate::line::push_objects;
-use crate::links::{HeldLink, HeldLinks};
+use crate::links::HeldLinks;
 use crate::tally::Told;
 use bt_base::NoMemory;
-use bumpalo::Bump;
 use capture::readers::Move;
 use capture::{Entry as Happening, entry_of};
 use link_talk::Party;
@@ -49,8 +46,8 @@ fn append(objects: &mut Vec<Told>, mut more: Vec<Told>) -> Result<(), NoMemory>
 
 /// What is told of the objects of a host, as the entries of its capture come: those of the links that ended, and its links.
 #[derive(Drop)]
-struct Hearer<'a> {
-    links: HeldLinks<'a>,
+struct Hearer {
+    links: HeldLinks,
     found: Vec<Told>,
 }
 
@@ -68,8 +65,8 @@ fn move_of<'a>(entry: &Happening<'a>) -> Option<Move<'a>>
     }
 }
 
-impl<'a> Hearer<'a> {
-    fn new(alloc: Global) -> Hearer<'a>
+impl Hearer {
+    fn new(alloc: Global) -> Hearer
         ensures heard { (party : PlainParty) → IsHeard party [] result }
         ensures joins { IfSome result.links.up JoinsPdus }
     {
@@ -79,32 +76,17 @@ impl<'a> Hearer<'a> {
         }
     }
 
-    /// A link has ended.
-    fn end(&mut self, alloc: Global, party: &Party, link: &HeldLink<'a>) -> Result<(), NoMemory>
-        ensures told { OnOk result (map plain_told self.new.found.items ≡ map plain_told self.old.found.items ++ map told (objects party.now (plain_talk link.now.talk))) }
-        ensures links { OnOk result (self.new.links ≡ self.old.links) }
-    {
-        let more = objects_said(alloc, party, &link.talk.said)?;
-        append(&mut self.found, more)
-    }
-
     /// One packet of the host more.
-    fn hear_move(
-        &mut self,
-        alloc: Global,
-        arena: &'a Bump,
-        party: &Party,
-        moved: &Move<'a>,
-    ) -> Result<(), NoMemory>
+    fn hear_move(&mut self, alloc: Global, party: &Party, moved: &Move<'_>) -> Result<(), NoMemory>
         requires { IfSome self.old.links.up JoinsPdus }
         ensures heard { OnOk result ((past : List Entry) (more : Entry) → Some (plain_move moved.now) ≡ move_of sides.B more → IsHeard party.now past self.old → IsHeard party.now (past ++ more ∷ []) self.new) }
         ensures joins { OnOk result (IfSome self.new.links.up JoinsPdus) }
     {
-        let ended = self.links.hear(alloc, arena, moved)?;
+        let ended = self.links.hear(alloc, party, moved)?;
         match ended {
             None => Ok(()),
             Some(link) => {
-                self.end(alloc, party, &link)?;
+                append(&mut self.found, link.pass.into_found())?;
                 Ok(())
             }
         }
@@ -112,32 +94,26 @@ impl<'a> Hearer<'a> {
 
     /// One entry more.
     #[tactic(auto, using(crate::proofs::Heard::heard_same))]
-    fn hear(
-        &mut self,
-        alloc: Global,
-        arena: &'a Bump,
-        party: &Party,
-        entry: &Happening<'a>,
-    ) -> Result<(), NoMemory>
+    fn hear(&mut self, alloc: Global, party: &Party, entry: &Happening<'_>) -> Result<(), NoMemory>
         requires { IfSome self.old.links.up JoinsPdus }
         ensures heard { OnOk result ((past : List Entry) → IsHeard party.now past self.old → IsHeard party.now (past ++ plain_entry entry.now ∷ []) self.new) }
         ensures joins { OnOk result (IfSome self.new.links.up JoinsPdus) }
     {
         match move_of(entry) {
             None => Ok(()),
-            Some(moved) => self.hear_move(alloc, arena, party, &moved),
+            Some(moved) => self.hear_move(alloc, party, &moved),
         }
     }
 
     /// The end: the objects of the link that is up are told of too.
-    fn finish(&mut self, alloc: Global, party: &Party) -> Result<(), NoMemory>
-        ensures { OnOk result ((past : List Entry) → IsHeard party.now past self.old → map plain_told self.new.found.items ≡ map told (objects_heard party.now sides.B past)) }
+    fn finish(&mut self) -> Result<(), NoMemory>
+        ensures { OnOk result ((party : PlainParty) (past : List Entry) → IsHeard party past self.old → map plain_told self.new.found.items ≡ map told (objects_heard party sides.B past)) }
     {
         let up = self.links.up.take();
         match up {
             None => Ok(()),
             Some(link) => {
-                self.end(alloc, party, &link)?;
+                append(&mut self.found, link.pass.into_found())?;
                 Ok(())
             }
         }
@@ -146,12 +122,7 @@ impl<'a> Hearer<'a> {
 
 /// What is told of the objects that the packets spell which host b heard in a capture, in the order of their last
 /// packets. Of octets that are no capture nothing is told.
-fn objects_heard<'a>(
-    alloc: Global,
-    arena: &'a Bump,
-    party: &Party,
-    octets: &'a [u8],
-) -> Result<Vec<Told>, NoMemory>
+fn objects_heard(alloc: Global, party: &Party, octets: &[u8]) -> Result<Vec<Told>, NoMemory>
     ensures { IfOk result (λ found. (entries : List Entry) → IsCapture octets.now entries → map plain_told found.items ≡ map told (objects_heard party.now sides.B entries)) }
 {
     let mut hearer = Hearer::new(alloc);
@@ -161,10 +132,10 @@ fn objects_heard<'a>(
             Ok(found) => found,
             Err(_refusal) => return Ok(Vec::new(alloc)),
         };
-        hearer.hear(alloc, arena, party, &entry)?;
+        hearer.hear(alloc, party, &entry)?;
         rest = &rest[used..];
     }
-    hearer.finish(alloc, party)?;
+    hearer.finish()?;
     Ok(hearer.found)
 }
 
@@ -173,8 +144,7 @@ fn objects_heard<'a>(
 pub(crate) fn object_lines(alloc: Global, octets: &[u8]) -> Result<Vec<u8>, NoMemory>
     ensures { (entries : List Entry) → IsCapture octets.now entries → IfOk result (λ text. text.items ≡ object_lines entries) }
 {
-    let arena = Bump::new(alloc);
-    let objects = objects_heard(alloc, &arena, &viewed(), octets)?;
+    let objects = objects_heard(alloc, &viewed(), octets)?;
     let mut text = Vec::new(alloc);
     push_objects(&mut text, &objects)?;
     Ok(text)

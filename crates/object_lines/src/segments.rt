@@ -7,7 +7,7 @@ ghost use Rattle.ertm_frames.specs.Joining.{begins, ends, joint};
 ghost use Rattle.link_talk.specs.Picks.{pick, pick_in};
 ghost use Rattle.object_lines.specs.Ears.{plain_segment, plain_begun, plain_joint, plain_sdu};
 
-use crate::talk::octet_at;
+use crate::octets::octet_at;
 use bt_base::NoMemory;
 use ertm_frames::{Frame, frame_of};
 use std::alloc::Global;

@@ -10,7 +10,7 @@ ghost use Rattle.link_talk.specs.Sdus.{spoken_as};
 ghost use Rattle.link_talk.specs.ObjectsHeard.{put_within};
 ghost use Rattle.link_readers.specs.talk_laws.specs.Packets.{no_streams, frame_of, course_by, closed_by, stream_with, streams_after, packets_now, rest_of};
 ghost use Rattle.object_lines.specs.Tallies.{tally_after, told_from, plain_told, plain_tally};
-ghost use Rattle.object_lines.specs.Matters.{without_out, puts_of};
+ghost use Rattle.object_lines.specs.Matters.{is_stuck, short_stream, short_streams, puts_of};
 ghost use Rattle.object_lines.specs.Streams.{plain_course, plain_connections, plain_framed, plain_streams};
 
 use crate::course::{Course, Framed, frame_in, is_data, role_of};
@@ -20,12 +20,22 @@ use capture::Flow;
 use link_talk::Party;
 use std::alloc::Global;
 
+/// How many octets the head of a packet has, which states how many it has in all.
+const HEAD: usize = 3;
+
 /// How far the multiplexer is, whether it was closed, and the octets into its host that are no whole packet yet.
 #[derive(Debug, Drop)]
 pub(crate) struct Streams {
     course: Course,
     closed: bool,
     into: Vec<u8>,
+}
+
+/// Whether the packet at the front of a stream states fewer octets than its head has, so that none ever stands there.
+fn is_stuck(stream: &[u8]) -> bool
+    ensures { result ≡ is_stuck stream.now }
+{
+    stream.len() >= HEAD && 256 * usize::from(stream[1]) + usize::from(stream[2]) < HEAD
 }
 
 /// How long the packet is at the front of a stream, if it is whole.
@@ -119,12 +129,15 @@ impl Streams {
         Ok(())
     }
 
-    /// Takes so many octets away from the front.
+    /// Takes so many octets away from the front. Of a stream on which no packet ever stands it holds no more than a head.
     fn cut(&mut self, end: usize)
         requires { end ≤ length self.old.into.items }
-        ensures { (self.new.into.items ≡ drop end self.old.into.items) × (self.new.course ≡ self.old.course) × (self.new.closed ≡ self.old.closed) }
+        ensures { (self.new.into.items ≡ short_stream (drop end self.old.into.items)) × (self.new.course ≡ self.old.course) × (self.new.closed ≡ self.old.closed) }
     {
-        let _packets = self.into.drain(..end);
+        drop(self.into.drain(..end));
+        if is_stuck(&self.into) {
+            self.into.truncate(HEAD);
+        }
     }
 
     /// An SDU more, and the packets that are whole with it.
@@ -137,7 +150,7 @@ impl Streams {
         flow: Flow,
         sdu: &[u8],
     ) -> Result<(), NoMemory>
-        ensures streams { OnOk result (plain_streams self.new ≡ without_out (streams_after party.now (plain_streams self.old) (spoken_as flow sdu.now))) }
+        ensures streams { OnOk result (plain_streams self.new ≡ short_streams (streams_after party.now (plain_streams self.old) (spoken_as flow sdu.now))) }
         ensures tally { OnOk result (plain_tally tally.new ≡ fold tally_after (plain_tally tally.old) (puts_of party.now (packets_now party.now OverRfcomm (plain_streams self.old) (spoken_as flow sdu.now)))) }
         ensures told { OnOk result (map plain_told found.new.items ≡ map plain_told found.old.items ++ told_from (plain_tally tally.old) (puts_of party.now (packets_now party.now OverRfcomm (plain_streams self.old) (spoken_as flow sdu.now)))) }
     {

@@ -4,12 +4,11 @@ ghost use Rattle.std.specs.Prelude.{◌≡◌, ◌==◌, ◌||◌, ◌++◌, Lis
 ghost use Rattle.std.specs.List.{AllByRecursion};
 ghost use Rattle.obex_headers.specs.Packets.{PlainHeader, PlainPacket, IsHeader, IsText, units_of, headers_octets, plain_header, Shows};
 ghost use Rattle.obex_headers.specs.Runs.{name_text, body_of, is_long};
-ghost use Rattle.obex_headers.specs.Reader.{IsPut, objects_seen};
+ghost use Rattle.obex_headers.specs.Reader.{IsPut};
 ghost use Rattle.link_talk.specs.ObjectsHeard.{put_within};
 ghost use Rattle.object_lines.specs.Tallies.{told, no_tally, with_name, with_body, tally_header, is_broken, is_lacking, tally_after, told_of, left_of, told_as, told_by, plain_told, plain_tally};
 
 use bt_base::NoMemory;
-use obex_headers::runs::SpelledObject;
 use obex_headers::{Header, HeaderValue, Packet, Phase, headers_of, name_units, packet_of};
 use std::alloc::Global;
 
@@ -213,17 +212,4 @@ impl Tally {
         self.add_headers(alloc, &packet)?;
         self.end(alloc, found, packet.code == FINAL_PUT)
     }
-}
-
-/// What is told of objects.
-pub(crate) fn told_all(alloc: Global, objects: &[SpelledObject]) -> Result<Vec<Told>, NoMemory>
-    ensures { IfOk result (λ found. map plain_told found.items ≡ map told (objects_seen objects.now)) }
-{
-    let mut found = Vec::new(alloc);
-    for object in objects {
-        let name = Vec::from_slice(alloc, &object.name)?;
-        let size = object.octets.len();
-        found.push(Told { name, size })?;
-    }
-    Ok(found)
 }

@@ -1,6 +1,6 @@
 use Rattle.std.proofs.Common.{Ok, Err, arith}
 use Rattle.rfcomm_frames.specs.Frames.{plain}
-use Rattle.link_readers.proofs.Multiplexed.{frame_is}
+use Rattle.object_lines.proofs.Coursing.{frame_is}
 use Rattle.object_lines.proofs.course.frame_in.Goals as goal
 
 pub returns-in-Ok : goal.returns-in-Ok

@@ -14,4 +14,4 @@ returns-in-Err c entries is =
 pub returns : goal.returns
 returns c entries is =
     at_last c.args.party.now c.args.octets.now c.loop-rest.rest.now c.loop-rest.hearer entries (map plain_told c.finish.new.self.found.items)
-    (sym c.is_empty.ensures ∙ c.loop-rest-test.false) c.loop-rest.invariant is c.in_ok-finish.ensures
+    (sym c.is_empty.ensures ∙ c.loop-rest-test.false) c.loop-rest.invariant is (c.in_ok-finish.ensures c.args.party.now)

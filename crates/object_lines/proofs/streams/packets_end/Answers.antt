@@ -1,6 +1,5 @@
 use Rattle.std.proofs.Common.{[], ◌∷◌, ◌++◌, take, refl, subst, arith}
-use Rattle.link_readers.proofs.Multiplexed.{IsSplit}
-use Rattle.object_lines.proofs.Splitting.{split_more}
+use Rattle.object_lines.proofs.Splitting.{IsSplit, split_more}
 use Rattle.object_lines.proofs.Packeting.{tail_is, end_is}
 use Rattle.object_lines.proofs.streams.packets_end.Goals as goal
 

@@ -1,5 +1,5 @@
 use Rattle.std.proofs.Common.{List, ℕ, length}
-use Rattle.link_readers.proofs.Multiplexed.{IsSplit}
+use Rattle.object_lines.proofs.Splitting.{IsSplit}
 use Rattle.object_lines.proofs.streams.packets_end.Given as goal
 
 abbrev pub invariant-packets : goal.invariant-packets

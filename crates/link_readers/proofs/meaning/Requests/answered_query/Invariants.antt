@@ -7,6 +7,6 @@ use Rattle.link_readers.proofs.meaning.Requests.answered_query.Given as goal
 
 abbrev pub invariant-loop-one : goal.invariant-loop-one
 invariant-loop-one l = record {
-  found_is : option_map plain_query l.found ≡ last_run (has_identifier l.identifier) (reverse (map plain_query (take l.one-index l.self.queries.items)));
+  found_is : option_map (λ one. plain_query one.now) l.found ≡ last_run (has_identifier l.identifier) (reverse (map plain_query (take l.one-index l.self.queries.items)));
   runs_is : l.runs ≡ runs_at (has_identifier l.identifier) (reverse (map plain_query (take l.one-index l.self.queries.items)));
 }
