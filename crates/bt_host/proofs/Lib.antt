@@ -7,6 +7,7 @@ pub mod Going
 pub mod Hearings
 pub mod Servers
 pub mod Sayings
+pub mod Stepping
 pub mod Reacting
 pub mod Resting
 pub mod PieceReading

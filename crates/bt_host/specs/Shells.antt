@@ -1,5 +1,5 @@
 -- A host in code (this project's own).
-use Rattle.std.specs.Prelude.{ℕ, ◌≡◌, List, Option, Result, Ok, Err, MatchOption}
+use Rattle.std.specs.Prelude.{ℕ, ◌≡◌, ◌⊎◌, true, List, Option, Some, None, Result, Ok, Err, MatchOption, is_err}
 use Rattle.h4_framing.specs.Framing.{Framing}
 use Rattle.h4_framing.specs.Packets.{Packet}
 use Rattle.shelf_model.specs.host_model.specs.Circumstances.{Circumstance}
@@ -58,3 +58,11 @@ Feeds A Answers Lacked pushing piece old new port port' result =
     MatchOption old.refusal
     (FeedsOn A Answers Lacked pushing piece old.framing new.framing (record { stack = old.stack; port = port }) (record { stack = new.stack; port = port' }) result × (new.refusal ≡ refusal_in result))
     (λ refusal. (result ≡ Err refusal) × (new ≡ old) × (port' ≡ port))
+
+-- it refused nothing, but may have found no memory once
+abbrev pub RefusedNone : {E : Type 0} → Shelled E → Type 0
+RefusedNone host = (host.refusal ≡ None) ⊎ (host.refusal ≡ Some NoMemory)
+
+-- A host that found no memory once answers so for good, and then nothing changes, nor is its port asked.
+abbrev pub StaysFailed : {E P X : Type 0} → (old new : Shelled E) → (port port' : P) → Result (Unit {0}) X → Type 0
+StaysFailed old new port port' result = old.refusal ≡ Some NoMemory → (is_err result ≡ true) × (new ≡ old) × (port' ≡ port)

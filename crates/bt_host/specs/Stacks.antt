@@ -1,5 +1,5 @@
 -- A host in code without its framer: its line, and what stands above (this project's own).
-use Rattle.std.specs.Prelude.{ℕ, ◌≡◌, ◌⊎◌, ◌<◌, ◌||◌, ◌&&◌, Bool, true, false, List, [], ◌∷◌, ◌++◌, length, is_some, Some, None, Result, Ok, Err}
+use Rattle.std.specs.Prelude.{ℕ, zero, suc, ◌≡◌, ◌⊎◌, ◌<◌, ◌||◌, ◌&&◌, not, Bool, true, false, List, [], ◌∷◌, ◌++◌, length, is_some, Option, Some, None, Result, Ok, Err, if◌then◌else◌}
 use Rattle.std.specs.List.{list_any}
 use Rattle.h4_framing.specs.Packets.{Packet}
 use Rattle.host_link.specs.Lines.{Line}
@@ -84,13 +84,62 @@ abbrev pub DoesAll : {S : Type 0} → Profile S → List Deed → Standing S →
 DoesAll A [] old new = new ≡ old
 DoesAll {S} A (deed ∷ deeds) old new = (mid : Standing S) × DoesDeed A deed old mid × DoesAll A deeds mid new
 
--- A change comes to a host, and it goes on by itself. Its port gave the answers `used`; whatever it answers later, the host is where
--- these and those lead.
-pub record Reacts {S P : Type 0} (A : Profile S) (Answers : P → List Circumstance → P → Type 0) (before after : List Circumstance → Standing S) (port port' : P) : Type 0 where
+-- ---- the order of its deeds
+
+abbrev pub with_line : {S : Type 0} → (Line → Line) → Standing S → Standing S
+with_line change now = record now { line = change now.line }
+
+-- where a PDU may be taken, the next one of its channels is said; behind it the profile was asked for steps only until they had one
+abbrev pub said_then : {S : Type 0} → (Standing S → Standing S) → Standing S → Option (List ℕ × Host S) → Standing S
+said_then more now None = now
+said_then more now (Some (pdu, host)) = more (record now { line = take_pdu pdu now.line; host = host })
+
+abbrev pub says_then : {S : Type 0} → Profile S → (Standing S → Standing S) → Standing S → Standing S
+says_then A more now = if can_take_pdu now.line then said_then more now (next A now.host) else now
+
+unfoldable pub says_up_to : {S : Type 0} → Profile S → (count : ℕ) → Standing S → Standing S
+says_up_to A zero now = now
+says_up_to A (suc count) now = says_then A (λ mid. says_up_to A count mid) now
+
+-- one PDU
+abbrev pub says_one : {S : Type 0} → Profile S → Standing S → Standing S
+says_one A now = says_then A (λ mid. mid) now
+
+-- PDU after PDU, as long as there is one that may be taken
+abbrev pub says_all : {S : Type 0} → Profile S → Standing S → Standing S
+says_all A now = says_up_to A now.host.may_say now
+
+abbrev pub leaves_now : {S : Type 0} → Profile S → Standing S → Bool
+leaves_now A now = may_end now.line && (not (is_waiting now.line) && (not (has_more now.host) && A.leaves_link now.host.profile))
+
+-- the end of the link waits to be put out, where the profile ends it and nothing is to be said
+abbrev pub leaves : {S : Type 0} → Profile S → Standing S → Standing S
+leaves A now = if leaves_now A now then with_line (λ line. leaving line.link line) now else now
+
+abbrev pub pages_now : {S : Type 0} → Profile S → Standing S → Bool
+pages_now A now = not (is_some now.line.link) && (not (is_asking now.line) && A.wants_link now.host.profile)
+
+-- a link is asked for, where none is up or asked for and the profile wants one
+abbrev pub pages : {S : Type 0} → Profile S → Standing S → Standing S
+pages A now = if pages_now A now then with_line (connecting now.paged) now else now
+
+-- What a host does by itself, in this order: the pieces that wait go out, then the PDUs that it says, then a command; the end of its link, or
+-- a link, is asked for, and so may be the command that goes out last.
+abbrev pub goes_out : {S : Type 0} → Profile S → Standing S → Standing S
+goes_out A now = with_line put_command (pages A (leaves A (with_line put_command (says_all A (with_line put_pieces now)))))
+
+-- A change comes to a host, and it takes a step by itself. Its port gave the answers `used`; whatever it answers later, the host is where
+-- these and those lead: by these deeds, and exactly where the step leads.
+pub record Leads {S P : Type 0} (A : Profile S) (Answers : P → List Circumstance → P → Type 0) (step : Profile S → Standing S → Standing S) (before after : List Circumstance → Standing S) (port port' : P) : Type 0 where
   pub used : List Circumstance
   pub answered : Answers port used port'
   pub deeds : List Deed
   pub reacts : (rest : List Circumstance) → DoesAll A deeds (before (used ++ rest)) (after rest)
+  pub exactly : (rest : List Circumstance) → step A (before (used ++ rest)) ≡ after rest
+
+-- it goes on by itself
+abbrev pub Reacts : {S P : Type 0} → (A : Profile S) (Answers : P → List Circumstance → P → Type 0) (before after : List Circumstance → Standing S) (port port' : P) → Type 0
+Reacts A Answers before after port port' = Leads A Answers goes_out before after port port'
 
 -- ---- where it has done all that it can
 
@@ -145,6 +194,10 @@ pub record Moment (E P : Type 0) : Type 0 where
 -- whatever its port answers later, the host has done all that it can
 abbrev pub IsResting : {E S P : Type 0} → Profile S → (E → P → List Circumstance → S) → Moment E P → Type 0
 IsResting A pushing now = (rest : List Circumstance) → Rests A (standing pushing now.port now.stack rest)
+
+-- it takes a step by itself
+abbrev pub Steps : {E S P : Type 0} → Profile S → (P → List Circumstance → P → Type 0) → (E → P → List Circumstance → S) → (Profile S → Standing S → Standing S) → Moment E P → Moment E P → Type 0
+Steps A Answers pushing step old new = Leads A Answers step (standing pushing old.port old.stack) (standing pushing new.port new.stack) old.port new.port
 
 -- it goes on by itself
 abbrev pub GoesOn : {E S P : Type 0} → Profile S → (P → List Circumstance → P → Type 0) → (E → P → List Circumstance → S) → Moment E P → Moment E P → Type 0

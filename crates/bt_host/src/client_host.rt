@@ -75,7 +75,7 @@ impl ClientHost {
     ghost use Rattle.bt_host.specs.Pushing.{Pushes, Lacks};
     ghost use Rattle.bt_host.specs.NotedHosts.{noted_client, client_noting};
     ghost use Rattle.bt_host.specs.PushingLaws.{Answers};
-    ghost use Rattle.bt_host.specs.Shells.{settings_of, moment_of, ComesToRest, Feeds};
+    ghost use Rattle.bt_host.specs.Shells.{settings_of, moment_of, ComesToRest, Feeds, RefusedNone, StaysFailed};
 
     /// A client with no push, whose first command stands in `out`. It reserves all memory that it ever needs; `NoMemory` where
     /// that cannot be had.
@@ -110,52 +110,64 @@ impl ClientHost {
     }
 
     /// The timer fires: requests that wait for their responses are given once more, or given up. `NoMemory` where the shelf
-    /// had none, and then the host goes on no more. It needs a host that refused nothing.
+    /// had none; then the same is answered for good, and the host stays as it is. It needs a host that refused nothing else.
     pub fn on_timer<F: Shelf>(&mut self, shelf: &mut F) -> Result<(), NoMemory>
-        requires sound { self.old.refusal ≡ None }
-        requires works { Pushes self.old.stack.upper.end.end }
+        requires sound { RefusedNone self.old }
+        requires works { self.old.refusal ≡ None → Pushes self.old.stack.upper.end.end }
         ensures hears { OnOk result (HearsNews (noted_client (settings_of self.old)) (Answers F.content F.faults F.shortages) (client_noting F.content) TimerFired (moment_of self.old shelf.old) (moment_of self.new shelf.new)) }
         ensures rests { OnOk result (ComesToRest noted_client (client_noting F.content) self.old self.new shelf.new) }
         ensures stays { OnOk result (self.new ≡ record self.old { stack = self.new.stack }) }
         ensures works { OnOk result (Pushes self.new.stack.upper.end.end) }
-        ensures lacked { OnErr result (Lacks F.shortages shelf.old shelf.new) }
+        ensures lacked { self.old.refusal ≡ None → OnErr result (Lacks F.shortages shelf.old shelf.new) }
         ensures refused { OnErr result (self.new.refusal ≡ Some refusals.NoMemory) }
+        ensures failed { StaysFailed self.old self.new shelf.old shelf.new result }
     {
+        if self.refusal.is_some() {
+            return Err(NoMemory);
+        }
         noted(self.stack.fire(shelf), &mut self.refusal)
     }
 
     /// Begins the push of the object of that name, and goes on: it asks for a link, where none is up. Where the shelf fails the push
-    /// ends at once. `NoMemory` where the shelf had none, and then the host goes on no more.
+    /// ends at once. `NoMemory` where the shelf had none; then the same is answered for good, and the host stays as it is.
     ///
-    /// It needs a host that refused nothing and pushes nothing, and a name of at most 100 UTF-16 units (Object Push Profile 1.2, 4.3).
+    /// It needs a host that refused nothing else and pushes nothing, and a name of at most 100 UTF-16 units (Object Push Profile 1.2, 4.3).
     pub fn push<F: Shelf>(&mut self, name: &str, shelf: &mut F) -> Result<(), NoMemory>
-        requires sound { self.old.refusal ≡ None }
-        requires works { Pushes self.old.stack.upper.end.end }
+        requires sound { RefusedNone self.old }
+        requires works { self.old.refusal ≡ None → Pushes self.old.stack.upper.end.end }
         requires idle { is_idle self.old.stack.upper.end.end.client ≡ true }
         requires few { length (units_in name.now) ≤ 100 }
         ensures hears { OnOk result (HearsNews (noted_client (settings_of self.old)) (Answers F.content F.faults F.shortages) (client_noting F.content) (Opening name.now) (moment_of self.old shelf.old) (moment_of self.new shelf.new)) }
         ensures rests { OnOk result (ComesToRest noted_client (client_noting F.content) self.old self.new shelf.new) }
         ensures stays { OnOk result (self.new ≡ record self.old { stack = self.new.stack }) }
         ensures works { OnOk result (Pushes self.new.stack.upper.end.end) }
-        ensures lacked { OnErr result (Lacks F.shortages shelf.old shelf.new) }
+        ensures lacked { self.old.refusal ≡ None → OnErr result (Lacks F.shortages shelf.old shelf.new) }
         ensures refused { OnErr result (self.new.refusal ≡ Some refusals.NoMemory) }
+        ensures failed { StaysFailed self.old self.new shelf.old shelf.new result }
     {
+        if self.refusal.is_some() {
+            return Err(NoMemory);
+        }
         noted(self.stack.begin(name, shelf), &mut self.refusal)
     }
 
-    /// Gives up the push, and goes on. `NoMemory` where the shelf had none, and then the host goes on no more. It needs a host that
-    /// refused nothing, and a push that may be given up.
+    /// Gives up the push, and goes on. `NoMemory` where the shelf had none; then the same is answered for good, and
+    /// the host stays as it is. It needs a host that refused nothing else, and a push that may be given up.
     pub fn cancel<F: Shelf>(&mut self, shelf: &mut F) -> Result<(), NoMemory>
-        requires sound { self.old.refusal ≡ None }
-        requires works { Pushes self.old.stack.upper.end.end }
+        requires sound { RefusedNone self.old }
+        requires works { self.old.refusal ≡ None → Pushes self.old.stack.upper.end.end }
         requires may { may_cancel self.old.stack.upper.end.end.client ≡ true }
         ensures hears { OnOk result (HearsNews (noted_client (settings_of self.old)) (Answers F.content F.faults F.shortages) (client_noting F.content) Cancelled (moment_of self.old shelf.old) (moment_of self.new shelf.new)) }
         ensures rests { OnOk result (ComesToRest noted_client (client_noting F.content) self.old self.new shelf.new) }
         ensures stays { OnOk result (self.new ≡ record self.old { stack = self.new.stack }) }
         ensures works { OnOk result (Pushes self.new.stack.upper.end.end) }
-        ensures lacked { OnErr result (Lacks F.shortages shelf.old shelf.new) }
+        ensures lacked { self.old.refusal ≡ None → OnErr result (Lacks F.shortages shelf.old shelf.new) }
         ensures refused { OnErr result (self.new.refusal ≡ Some refusals.NoMemory) }
+        ensures failed { StaysFailed self.old self.new shelf.old shelf.new result }
     {
+        if self.refusal.is_some() {
+            return Err(NoMemory);
+        }
         noted(self.stack.cancel(shelf), &mut self.refusal)
     }
 
@@ -166,18 +178,22 @@ impl ClientHost {
         self.stack.paged = address;
     }
 
-    /// Puts out what was held back for want of room in `out`, and goes on. `NoMemory` where the shelf had none, and then the host
-    /// goes on no more. It needs a host that refused nothing.
+    /// Puts out what was held back for want of room in `out`, and goes on. `NoMemory` where the shelf had none; then the
+    /// same is answered for good, and the host stays as it is. It needs a host that refused nothing else.
     pub fn put_out<F: Shelf>(&mut self, shelf: &mut F) -> Result<(), NoMemory>
-        requires sound { self.old.refusal ≡ None }
-        requires works { Pushes self.old.stack.upper.end.end }
+        requires sound { RefusedNone self.old }
+        requires works { self.old.refusal ≡ None → Pushes self.old.stack.upper.end.end }
         ensures goes { OnOk result (GoesOn (noted_client (settings_of self.old)) (Answers F.content F.faults F.shortages) (client_noting F.content) (moment_of self.old shelf.old) (moment_of self.new shelf.new)) }
         ensures rests { OnOk result (ComesToRest noted_client (client_noting F.content) self.old self.new shelf.new) }
         ensures stays { OnOk result (self.new ≡ record self.old { stack = self.new.stack }) }
         ensures works { OnOk result (Pushes self.new.stack.upper.end.end) }
-        ensures lacked { OnErr result (Lacks F.shortages shelf.old shelf.new) }
+        ensures lacked { self.old.refusal ≡ None → OnErr result (Lacks F.shortages shelf.old shelf.new) }
         ensures refused { OnErr result (self.new.refusal ≡ Some refusals.NoMemory) }
+        ensures failed { StaysFailed self.old self.new shelf.old shelf.new result }
     {
+        if self.refusal.is_some() {
+            return Err(NoMemory);
+        }
         noted(self.stack.put_out(shelf), &mut self.refusal)
     }
 

@@ -71,7 +71,7 @@ impl ServerHost {
     ghost use Rattle.bt_host.specs.Stacks.{GoesOn, HearsNews};
     ghost use Rattle.bt_host.specs.Serving.{Works, Asks, Lacks};
     ghost use Rattle.bt_host.specs.NotedHosts.{noted_server, server_noting};
-    ghost use Rattle.bt_host.specs.Shells.{settings_of, moment_of, ComesToRest, Feeds};
+    ghost use Rattle.bt_host.specs.Shells.{settings_of, moment_of, ComesToRest, Feeds, RefusedNone, StaysFailed};
 
     /// A server whose first command stands in `out`. It reserves all memory that it ever needs; `NoMemory` where that cannot
     /// be had.
@@ -108,32 +108,40 @@ impl ServerHost {
     }
 
     /// The timer fires: requests that wait for their responses are given once more, or given up. `NoMemory` where the inbox
-    /// had none, and then the host goes on no more. It needs a host that refused nothing.
+    /// had none; then the same is answered for good, and the host stays as it is. It needs a host that refused nothing else.
     pub fn on_timer<B: Inbox>(&mut self, inbox: &mut B) -> Result<(), NoMemory>
-        requires sound { self.old.refusal ≡ None }
-        requires works { Works self.old.stack.upper.end.end (B.is_pending inbox.old) }
+        requires sound { RefusedNone self.old }
+        requires works { self.old.refusal ≡ None → Works self.old.stack.upper.end.end (B.is_pending inbox.old) }
         ensures hears { OnOk result (HearsNews (noted_server (settings_of self.old)) (Asks B.faults B.shortages) (server_noting B.content) TimerFired (moment_of self.old inbox.old) (moment_of self.new inbox.new)) }
         ensures rests { OnOk result (ComesToRest noted_server (server_noting B.content) self.old self.new inbox.new) }
         ensures stays { OnOk result (self.new ≡ record self.old { stack = self.new.stack }) }
         ensures works { OnOk result (Works self.new.stack.upper.end.end (B.is_pending inbox.new)) }
-        ensures lacked { OnErr result (Lacks B.shortages inbox.old inbox.new) }
+        ensures lacked { self.old.refusal ≡ None → OnErr result (Lacks B.shortages inbox.old inbox.new) }
         ensures refused { OnErr result (self.new.refusal ≡ Some refusals.NoMemory) }
+        ensures failed { StaysFailed self.old self.new inbox.old inbox.new result }
     {
+        if self.refusal.is_some() {
+            return Err(NoMemory);
+        }
         noted(self.stack.fire(inbox), &mut self.refusal)
     }
 
-    /// Puts out what was held back for want of room in `out`, and goes on. `NoMemory` where the inbox had none, and then the host
-    /// goes on no more. It needs a host that refused nothing.
+    /// Puts out what was held back for want of room in `out`, and goes on. `NoMemory` where the inbox had none; then the
+    /// same is answered for good, and the host stays as it is. It needs a host that refused nothing else.
     pub fn put_out<B: Inbox>(&mut self, inbox: &mut B) -> Result<(), NoMemory>
-        requires sound { self.old.refusal ≡ None }
-        requires works { Works self.old.stack.upper.end.end (B.is_pending inbox.old) }
+        requires sound { RefusedNone self.old }
+        requires works { self.old.refusal ≡ None → Works self.old.stack.upper.end.end (B.is_pending inbox.old) }
         ensures goes { OnOk result (GoesOn (noted_server (settings_of self.old)) (Asks B.faults B.shortages) (server_noting B.content) (moment_of self.old inbox.old) (moment_of self.new inbox.new)) }
         ensures rests { OnOk result (ComesToRest noted_server (server_noting B.content) self.old self.new inbox.new) }
         ensures stays { OnOk result (self.new ≡ record self.old { stack = self.new.stack }) }
         ensures works { OnOk result (Works self.new.stack.upper.end.end (B.is_pending inbox.new)) }
-        ensures lacked { OnErr result (Lacks B.shortages inbox.old inbox.new) }
+        ensures lacked { self.old.refusal ≡ None → OnErr result (Lacks B.shortages inbox.old inbox.new) }
         ensures refused { OnErr result (self.new.refusal ≡ Some refusals.NoMemory) }
+        ensures failed { StaysFailed self.old self.new inbox.old inbox.new result }
     {
+        if self.refusal.is_some() {
+            return Err(NoMemory);
+        }
         noted(self.stack.put_out(inbox), &mut self.refusal)
     }
 

@@ -7,7 +7,7 @@ ghost use Rattle.shelf_model.specs.world_model.specs.Machines.{TimerFired};
 ghost use Rattle.host_link.specs.PuttingOut.{can_take_pdu};
 ghost use Rattle.shelf_model.specs.host_model.specs.Circumstances.{Circumstance};
 ghost use Rattle.bt_host.specs.Uppers.{says, IsOf};
-ghost use Rattle.bt_host.specs.Stacks.{standing, usual_peer, can_put_piece, GoesOn, HasSaid, HearsNews, HearsOne, IsLeft, IsPaged, IsResting, KeepsLink, AsksForLink};
+ghost use Rattle.bt_host.specs.Stacks.{standing, usual_peer, can_put_piece, says_one, says_all, leaves, pages, Steps, GoesOn, HasSaid, HearsNews, HearsOne, IsLeft, IsPaged, IsResting, KeepsLink, AsksForLink};
 
 use crate::end::End;
 use crate::feed_refusal::FeedRefusal;
@@ -62,7 +62,7 @@ fn say_into<P, E: End<P>>(
     requires may { can_take_pdu link.old ≡ true }
     requires says { says upper.old ≡ true }
     requires room { vec_len room.old ≡ 32775 }
-    ensures goes { OnOk result ((paged : List ℕ) → GoesOn (E.profile upper.old.machine.settings) E.answers E.pushing (record { stack = record { line = link.old; upper = upper.old; paged = paged }; port = port.old }) (record { stack = record { line = link.new; upper = upper.new; paged = paged }; port = port.new })) }
+    ensures goes { OnOk result ((paged : List ℕ) → Steps (E.profile upper.old.machine.settings) E.answers E.pushing says_one (record { stack = record { line = link.old; upper = upper.old; paged = paged }; port = port.old }) (record { stack = record { line = link.new; upper = upper.new; paged = paged }; port = port.new })) }
     ensures pieces { OnOk result (can_put_piece link.new ≡ false) }
     ensures machine { upper.new.machine ≡ with_channels upper.old.machine upper.new.machine.channels }
     ensures told { OnOk result (upper.new.machine.channels.events ≡ []) }
@@ -108,7 +108,7 @@ impl<E: Drop> Stack<E> {
         requires of { IsOf E.is_server self.old.upper }
         requires may { can_take_pdu self.old.line ≡ true }
         requires says { says self.old.upper ≡ true }
-        ensures goes { OnOk result (GoesOn (E.profile self.old.upper.machine.settings) E.answers E.pushing (record { stack = self.old; port = port.old }) (record { stack = self.new; port = port.new })) }
+        ensures goes { OnOk result (Steps (E.profile self.old.upper.machine.settings) E.answers E.pushing says_one (record { stack = self.old; port = port.old }) (record { stack = self.new; port = port.new })) }
         ensures machine { self.new.upper.machine ≡ with_channels self.old.upper.machine self.new.upper.machine.channels }
         ensures paged { self.new.paged ≡ self.old.paged }
         ensures of { OnOk result (IsOf E.is_server self.new.upper) }
@@ -128,7 +128,7 @@ impl<E: Drop> Stack<E> {
         requires sound { E.is_sound self.old.upper.end port.old }
         requires of { IsOf E.is_server self.old.upper }
         requires pieces { can_put_piece self.old.line ≡ false }
-        ensures goes { OnOk result (GoesOn (E.profile self.old.upper.machine.settings) E.answers E.pushing (record { stack = self.old; port = port.old }) (record { stack = self.new; port = port.new })) }
+        ensures goes { OnOk result (Steps (E.profile self.old.upper.machine.settings) E.answers E.pushing says_all (record { stack = self.old; port = port.old }) (record { stack = self.new; port = port.new })) }
         ensures machine { self.new.upper.machine ≡ with_channels self.old.upper.machine self.new.upper.machine.channels }
         ensures paged { self.new.paged ≡ self.old.paged }
         ensures said { OnOk result (HasSaid self.new) }
@@ -151,7 +151,7 @@ impl<E: Drop> Stack<E> {
     fn leave<P>(&mut self, port: &P)
     where
         E: End<P>,
-        ensures goes { GoesOn (E.profile self.old.upper.machine.settings) E.answers E.pushing (record { stack = self.old; port = port.now }) (record { stack = self.new; port = port.now }) }
+        ensures goes { Steps (E.profile self.old.upper.machine.settings) E.answers E.pushing leaves (record { stack = self.old; port = port.now }) (record { stack = self.new; port = port.now }) }
         ensures stack { self.new ≡ record self.old { line = self.new.line } }
         ensures line { IsLeft self.old.line self.new.line }
         ensures keeps { (rest : List Circumstance) → KeepsLink (E.profile self.old.upper.machine.settings) (standing E.pushing port.now self.new rest) }
@@ -175,7 +175,7 @@ impl<E: Drop> Stack<E> {
     fn page<P>(&mut self, port: &P)
     where
         E: End<P>,
-        ensures goes { GoesOn (E.profile self.old.upper.machine.settings) E.answers E.pushing (record { stack = self.old; port = port.now }) (record { stack = self.new; port = port.now }) }
+        ensures goes { Steps (E.profile self.old.upper.machine.settings) E.answers E.pushing pages (record { stack = self.old; port = port.now }) (record { stack = self.new; port = port.now }) }
         ensures stack { self.new ≡ record self.old { line = self.new.line } }
         ensures line { IsPaged self.old.paged self.old.line self.new.line }
         ensures asks { (rest : List Circumstance) → AsksForLink (E.profile self.old.upper.machine.settings) (standing E.pushing port.now self.new rest) }

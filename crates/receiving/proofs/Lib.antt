@@ -10,3 +10,4 @@ pub mod Beginning
 pub mod Received
 pub mod Serving
 pub mod HeardStreams
+pub mod Exactness

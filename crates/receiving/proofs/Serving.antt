@@ -31,7 +31,7 @@ at pushing now = standing pushing now.port now.stack
 
 module _ {E S P : Type 0} (A : Profile S) (Answers : P → List Circumstance → P → Type 0) (pushing : E → P → List Circumstance → S) where
   moves_of : (before after : Stand S) (port port' : P) → Reacts A Answers before after port port' → Moves A before after
-  moves_of before after port port' reacts = record { used = reacts.used; deeds = reacts.deeds; does = reacts.reacts }
+  moves_of before after port port' reacts = record { used = reacts.used; deeds = reacts.deeds; does = reacts.reacts; exactly = reacts.exactly }
 
   hears_each : (packets : List Packet) (old new : Moment E P) → HearsAll A Answers pushing packets old new → HearsEach A packets (at pushing old) (at pushing new)
   hears_each [] old new is = ap (λ (m : Moment E P). at pushing m) is

@@ -8,7 +8,8 @@ use Rattle.bt_host.specs.Refusals.{acl_limit}
 use Rattle.receiving.specs.declared.fault.StreamRefusal.TheVariants as refusals
 use Rattle.receiving.specs.declared.fault.ListenFault.{ListenFault}
 use Rattle.receiving.specs.declared.fault.ListenFault.TheVariants.{Refused, ReadFault, WriteFault, NoMemory}
-use Rattle.receiving.specs.Turns.{Stand, Begun, Moves, HasRest, emptied, is_full, packets_in}
+use Rattle.receiving.specs.Turns.{Stand, Posture, Begun, Turn, Moves, HasRest, HasTurns, emptied, is_full, packets_in}
+use Rattle.receiving.specs.Exactness.{prompts_of, AreExact}
 use Rattle.receiving.specs.Coming.{input_limit, Beside, Comes}
 
 -- A host that has done all that it can, and had room for all that it said, does nothing by itself once that was taken.
@@ -32,3 +33,7 @@ abbrev pub StreamsAreHeard : Type 0 → Type 0
 StreamsAreHeard S =
     (A : Profile S) (first : Begun S) (all : List ℕ) (packets : List Packet) (left : Option (List ℕ)) (before after : Beside) (stands : Stand S) (result : Result (Unit {0}) ListenFault) → Reads acl_limit all packets Whole → length all ≤ input_limit
     → (comes : Comes A first (Some all) left stands before after result) → IsHeard packets (packets_in comes.halts.turns) result
+
+-- Turn for turn a host puts out what its packets and the answers of its port lead to, and nothing else.
+abbrev pub TurnsAreExact : Type 0 → Type 0
+TurnsAreExact S = (A : Profile S) (turns : List Turn) (old new : Posture S) (has : HasTurns A turns old new) → AreExact A turns (prompts_of A turns old new has) old.stands new.stands

@@ -10,6 +10,7 @@ pub use Rattle.bt_host.specs.host_model
 pub use Rattle.bt_host.specs.push_terms
 pub use Rattle.bt_host.specs.run_laws
 pub mod Turns
+pub mod Exactness
 pub mod Feeding
 pub mod Coming
 pub mod Faring

@@ -5,17 +5,19 @@ use Rattle.h4_framing.specs.Packets.{Packet}
 use Rattle.bt_host.specs.host_link.specs.Hearing.{fault_of}
 use Rattle.bt_host.specs.host_model.specs.Circumstances.{Circumstance}
 use Rattle.bt_host.specs.host_model.specs.Profiles.{Profile}
-use Rattle.bt_host.specs.Stacks.{Standing, Deed, DoesAll, Rests, after_packet}
+use Rattle.bt_host.specs.Stacks.{Standing, Deed, DoesAll, goes_out, Rests, after_packet}
 
 -- a host, for all that its port may answer from now on
 abbrev pub Stand : Type 0 → Type 0
 Stand S = List Circumstance → Standing S
 
--- It goes on by itself. Its port gave the answers `used`; whatever it answers later, the host is where these and those lead.
+-- It goes on by itself. Its port gave the answers `used`; whatever it answers later, the host is where these and those lead, by these deeds and in
+-- their one order.
 pub record Moves {S : Type 0} (A : Profile S) (before after : Stand S) : Type 0 where
   pub used : List Circumstance
   pub deeds : List Deed
   pub does : (rest : List Circumstance) → DoesAll A deeds (before (used ++ rest)) (after rest)
+  pub exactly : (rest : List Circumstance) → goes_out A (before (used ++ rest)) ≡ after rest
 
 -- A packet at which no command failed is heard, and it goes on by itself.
 pub record HearsOne {S : Type 0} (A : Profile S) (packet : Packet) (before after : Stand S) : Type 0 where

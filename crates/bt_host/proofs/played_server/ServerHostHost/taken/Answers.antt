@@ -1,4 +1,4 @@
-use Rattle.std.proofs.Common.{◌∙◌, ap, arith}
+use Rattle.std.proofs.Common.{◌∙◌, inl, ap, arith}
 use Rattle.push_terms.specs.declared.word.Side.TheVariants.{B}
 use Rattle.bt_host.specs.Serving.{Asks, Served}
 use Rattle.bt_host.specs.Noting.{Noted}
@@ -14,7 +14,7 @@ taken-requires g c =
     omega (arith, same)
 
 pub put_out-requires-clause-sound : goal.put_out-requires-clause-sound
-put_out-requires-clause-sound g c = ap (λ (h : Shelled (Noted Served)). h.refusal) c.taken.ensures ∙ c.requires.sound.0
+put_out-requires-clause-sound g c = inl (ap (λ (h : Shelled (Noted Served)). h.refusal) c.taken.ensures ∙ c.requires.sound.0)
 
 pub returns-clause-goes : goal.returns-clause-goes
 returns-clause-goes g c =

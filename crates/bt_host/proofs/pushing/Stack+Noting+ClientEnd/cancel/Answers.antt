@@ -3,7 +3,7 @@ use Rattle.l2cap_channels.specs.Machine.{Machine}
 use Rattle.shelf_model.specs.world_model.specs.Machines.{Cancelled}
 use Rattle.shelf_model.specs.host_model.specs.Hosts.{hear}
 use Rattle.bt_host.specs.Uppers.{asking}
-use Rattle.bt_host.specs.Stacks.{Stacked, standing}
+use Rattle.bt_host.specs.Stacks.{Stacked, standing, goes_out}
 use Rattle.bt_host.specs.NotedHosts.{noted_client, client_noting}
 use Rattle.bt_host.specs.PushingLaws.{Answers, joins}
 use Rattle.bt_host.proofs.Reacting.{reacts_by, resting_by, told_reacts, does_by}
@@ -21,4 +21,4 @@ returns-clause-hears g c =
     told_reacts (noted_client c.args.self.now.upper.machine.settings) answers (joins g.F.Shelf.content g.F.Shelf.faults g.F.Shelf.shortages) (client_noting g.F.Shelf.content) (λ rest host. hear (noted_client c.args.self.now.upper.machine.settings) rest Cancelled host)
     c.self.inside.link c.self.inside.upper c.cancel.new.self c.self.inside.paged c.args.self.now (standing (client_noting g.F.Shelf.content) c.put_out.new.port c.put_out.new.self) c.args.shelf.now c.cancel.new.shelf c.put_out.new.port c.self.view_is
     (does_by noted_client answers c.self.inside.upper.machine.settings c.args.self.now.upper.machine.settings Cancelled (asking (client_noting g.F.Shelf.content) c.args.shelf.now c.self.inside.upper) (asking (client_noting g.F.Shelf.content) c.cancel.new.shelf c.cancel.new.self) c.args.shelf.now c.cancel.new.shelf same c.in_ok-cancel.ensures.does)
-    (reacts_by noted_client answers _ _ _ _ c.cancel.new.shelf c.put_out.new.port (ap (λ (m : Machine). m.settings) c.cancel.ensures.machine ∙ same) c.in_ok-put_out.ensures.goes)
+    (reacts_by noted_client answers goes_out _ _ _ _ c.cancel.new.shelf c.put_out.new.port (ap (λ (m : Machine). m.settings) c.cancel.ensures.machine ∙ same) c.in_ok-put_out.ensures.goes)
