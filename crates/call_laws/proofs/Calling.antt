@@ -55,11 +55,11 @@ module _ {E S P : Type 0} (profile : Settings → Profile S) (Answered : P → L
     unfinished : IsUnfinished acl_limit old.framing.held → IsUnfinished acl_limit new.framing.held
     settings : settings_of new ≡ settings_of old
 
-  abbrev done : Result (Unit {0}) FeedRefusal
+  abbrev pub done : Result (Unit {0}) FeedRefusal
   done = Ok tt
 
   -- nothing is refused
-  fed_by : (Fed Same Left : Type 0) (refusal : Option FeedRefusal) → MatchOption refusal Fed (λ r. (done ≡ Err r) × Same × Left) → Fed
+  pub fed_by : (Fed Same Left : Type 0) (refusal : Option FeedRefusal) → MatchOption refusal Fed (λ r. (done ≡ Err r) × Same × Left) → Fed
   fed_by Fed Same Left None fed = fed
   fed_by Fed Same Left (Some refusal) (never, same, left) = absurd cc
 

@@ -4,10 +4,14 @@ use Rattle.std.specs.Prelude.{option_map}
 use Rattle.channel_laws.specs.l2cap_config.specs.declared.wish.Wish.{Wish}
 use Rattle.channel_laws.specs.link_talk.specs.declared.channel.Channel.{Channel}
 use Rattle.channel_laws.specs.link_talk.specs.declared.party.Party.{Party}
+use Rattle.channel_laws.specs.link_talk.specs.Sayings.{Saying}
 use Rattle.channel_laws.specs.link_talk.specs.Channels.{Entry, is_alive, is_there, reading}
+use Rattle.channel_laws.specs.link_talk.specs.declared.life.Life.{Life}
+use Rattle.channel_laws.specs.link_talk.specs.declared.life.Life.TheVariants as lives
+use Rattle.channel_laws.specs.link_talk.specs.Setups.{is_set}
 use Rattle.channel_laws.specs.link_talk.specs.Waits.{options_wait}
 use Rattle.channel_laws.specs.channel_model.specs.Calls.{setup_on, own_waits, carrier_if, open_carrier, carrier_mtu}
-use Rattle.channel_laws.specs.channel_model.specs.Changing.{held_at, is_granted, is_open, setup_of}
+use Rattle.channel_laws.specs.channel_model.specs.Changing.{held_at, is_granted, is_open, is_leaving, setup_of}
 use Rattle.channel_laws.specs.channel_model.specs.Policies.{Policy}
 use Rattle.channel_laws.specs.channel_model.specs.Value.{Own, Unasked, Asking, Granted, Carrier, Setup, Stage, Requested, Connected, Leaving, Closing, Crossed, Held}
 use Rattle.channel_laws.specs.Runs.{Occurrence, Run, run_of}
@@ -15,7 +19,7 @@ use Rattle.channel_laws.specs.Sdus.{StatesFrame}
 use Rattle.channel_laws.specs.Views.{peer_of, life_of, asked_mode, carrier_mode, Standing, Agreeing, standing, IsSetUp, IsSetUpIf, IsRead, IsReadBy, read_at}
 use Rattle.channel_laws.proofs.Options.{options-are_awaited}
 use Rattle.channel_laws.proofs.Running.{channels-are_read}
-use Rattle.opening_laws.specs.Opening.{reads_open_by, reads_open, is_living, OpensAsSaid, OpenIsWhatIsSaid}
+use Rattle.opening_laws.specs.Opening.{reads_open_by, reads_open, says_open_by, is_left_at, is_living, OpensAsSaid, OpenIsWhatIsSaid}
 
 -- ---- of what is held
 
@@ -62,6 +66,53 @@ read_lives policy None None read alive = cc
 read_lives policy None (Some entry) read alive = let never : false ≡ true = sym (ap is_alive read) ∙ alive in absurd cc
 read_lives policy (Some held) found read alive = stage_lives policy held held.stage found refl read alive
 
+-- ---- one that stays open
+
+-- its host asked for its end, or closed it
+none_stays : (is so : Bool) (life : Life) → is_alive life ≡ false → ((is && is_alive life) && so) ≡ false
+none_stays true so life off = ap (λ (b : Bool). b && so) off
+none_stays false so life off = refl
+
+nor_left : (b : Bool) → (b && false) ≡ false
+nor_left true = refl
+nor_left false = refl
+
+as_it_is : (b : Bool) → (b && true) ≡ b
+as_it_is true = refl
+as_it_is false = refl
+
+module _ (policy : Policy) (party : Party) (said : List Saying) (channel : Channel) where
+  abbrev opened : Option Setup → Bool
+  opened setup = is_some (option_map carrier_mtu (open_carrier setup))
+
+  not_alive : (entry : Entry) (life : Life) → entry.life ≡ life → is_alive life ≡ false → says_open_by party said channel (Some entry) ≡ false
+  not_alive entry life is off = none_stays (is_set entry.setup) (not (options_wait party said channel)) entry.life (ap is_alive is ∙ off)
+
+  alive_stays : (entry : Entry) → entry.life ≡ lives.Alive → reads_open_by party said channel (Some entry) ≡ says_open_by party said channel (Some entry)
+  alive_stays entry alive =
+      let waits = not (options_wait party said channel) in
+      ap (λ (l : Life). (is_set entry.setup && is_there l) && waits) alive ∙ sym (ap (λ (l : Life). (is_set entry.setup && is_alive l) && waits) alive)
+
+  stays_by : (held : Held) (stage : Stage) (found : Option Entry) → held.stage ≡ stage → IsReadBy policy held (peer_of stage) found → (is_living found ≡ true → opened (setup_of stage) ≡ reads_open_by party said channel found)
+      → (opened (setup_of stage) && not (is_leaving stage)) ≡ says_open_by party said channel found
+  stays_by held (Requested request) None at read opens = refl
+  stays_by held (Requested request) (Some entry) at read opens = absurd read
+  stays_by held (Connected peer setup) None at read opens = absurd read
+  stays_by held (Connected peer setup) (Some entry) at read opens =
+      let alive = read.0.life_is ∙ ap life_of at in
+      as_it_is (opened (Some setup)) ∙ (opens (ap is_alive alive) ∙ alive_stays entry alive)
+  stays_by held (Leaving peer setup request) None at read opens = absurd read
+  stays_by held (Leaving peer setup request) (Some entry) at read opens = nor_left (opened (Some setup)) ∙ sym (not_alive entry lives.Leaving (read.0.life_is ∙ ap life_of at) refl)
+  stays_by held (Closing peer request checked) None at read opens = absurd read
+  stays_by held (Closing peer request checked) (Some entry) at read opens = sym (not_alive entry lives.Leaving (read.0.life_is ∙ ap life_of at) refl)
+  stays_by held (Crossed peer request) None at read opens = absurd read
+  stays_by held (Crossed peer request) (Some entry) at read opens = sym (not_alive entry lives.Crossed (read.0.life_is ∙ ap life_of at) refl)
+
+  stays_at : (held : Option Held) (found : Option Entry) → IsRead policy held found → (is_living found ≡ true → opened (setup_on held) ≡ reads_open_by party said channel found) → (opened (setup_on held) && not (is_left_at held)) ≡ says_open_by party said channel found
+  stays_at None None read opens = refl
+  stays_at None (Some entry) read opens = sym (not_alive entry lives.Over read refl)
+  stays_at (Some held) found read opens = stays_by held held.stage found refl read opens
+
 -- ---- the law
 
 module _ (policy : Policy) (party : Party) (list : List Occurrence) (channel : Channel) (states : StatesFrame policy party) where
@@ -100,11 +151,16 @@ module _ (policy : Policy) (party : Party) (list : List Occurrence) (channel : C
   opened_at None at = refl
   opened_at (Some held) at = opened_on held (setup_of held.stage) at refl
 
+  living : is_living found_of ≡ true → is_some (option_map carrier_mtu (open_carrier (setup_on (held_at channel.own run.value)))) ≡ reads_open party run.said channel
+  living alive =
+      opened_at (held_at channel.own run.value) refl
+      ∙ ap (λ b. b && reads_open party run.said channel) (read_lives policy (held_at channel.own run.value) found_of (channels-are_read policy list channel.own) alive)
+
   opens : OpensAsSaid party run channel
   opens = record {
-    living_is = λ alive. opened_at (held_at channel.own run.value) refl
-        ∙ ap (λ b. b && reads_open party run.said channel) (read_lives policy (held_at channel.own run.value) found_of (channels-are_read policy list channel.own) alive);
+    living_is = living;
     held_is = opened_at (held_at channel.own run.value) refl;
+    stays_is = stays_at policy party run.said channel (held_at channel.own run.value) found_of (channels-are_read policy list channel.own) living;
   }
 
 pub open-is_what_is_said : OpenIsWhatIsSaid

@@ -1,5 +1,5 @@
 -- The channels of a host are those that its units say.
-use Rattle.std.proofs.Common.{◌≡◌, true, false, is_some, List, [], ◌∷◌, ◌++◌, map, filter_map, Option, Some, None, refl, sym, ap, subst, ◌∙◌, append_assoc}
+use Rattle.std.proofs.Common.{◌≡◌, ◌&&◌, Bool, true, false, is_some, List, [], ◌∷◌, ◌++◌, map, filter_map, Option, Some, None, refl, sym, ap, subst, ◌∙◌, append_assoc}
 use Rattle.std.specs.List.{AllByRecursion, AllZip, flat_map}
 use Rattle.std.proofs.lemmas.List.{append-nil, append_cancel_left}
 use Rattle.std.proofs.lemmas.List.Concat.{flat_map-append}
@@ -10,20 +10,22 @@ use Rattle.scenario_laws.specs.capture.specs.Pdus.{Pdu, pdus}
 use Rattle.scenario_laws.specs.link_talk.specs.declared.party.Party.{Party}
 use Rattle.scenario_laws.specs.link_talk.specs.Channels.{reading}
 use Rattle.scenario_laws.specs.link_talk.specs.Sayings.{Saying, said_by, talk}
-use Rattle.scenario_laws.specs.channel_model.specs.Calls.{peer_mtu}
+use Rattle.scenario_laws.specs.channel_model.specs.Calls.{setup_on, peer_mtu}
 use Rattle.scenario_laws.specs.channel_model.specs.Changing.{held_at}
 use Rattle.scenario_laws.specs.channel_model.specs.Value.{Channels, no_channels}
 use Rattle.scenario_laws.specs.channel_laws.specs.Runs.{Occurrence, run_of}
 use Rattle.scenario_laws.specs.channel_laws.specs.Sdus.{StatesFrame}
 use Rattle.scenario_laws.specs.channel_laws.specs.Views.{IsRead, read_at}
 use Rattle.scenario_laws.specs.channel_laws.proofs.Running.{channels-are_read}
-use Rattle.opening_laws.specs.Opening.{reads_open}
+use Rattle.opening_laws.specs.Opening.{reads_open, says_open, stays_open}
 use Rattle.opening_laws.proofs.Opening.{open-is_what_is_said}
 use Rattle.scenario_laws.specs.world_model.specs.Talks.{Talk}
 use Rattle.scenario_laws.specs.host_model.specs.Circumstances.{Circumstance}
 use Rattle.scenario_laws.specs.host_model.specs.Hosts.{Host}
 use Rattle.scenario_laws.specs.host_model.specs.Machines.{upper}
+use Rattle.scenario_laws.specs.host_model.specs.Clients.{client_profile}
 use Rattle.scenario_laws.specs.host_model.specs.Profiles.{Profile}
+use Rattle.scenario_laws.specs.host_model.specs.Servers.{server_profile}
 use Rattle.scenario_laws.specs.host_laws.specs.Calls.{Asks}
 use Rattle.scenario_laws.specs.host_laws.specs.Lives.{Span}
 use Rattle.scenario_laws.specs.host_laws.specs.OverLinks.{parts, moved_in, GoesOut, IsTalkOf}
@@ -35,9 +37,11 @@ use Rattle.scenario_laws.specs.host_laws.proofs.OverLinks.{part_pdus}
 use Rattle.scenario_laws.specs.Coming.{out_of, LastIsUp}
 use Rattle.scenario_laws.specs.Parties.{party_of}
 use Rattle.scenario_laws.proofs.Gaining.{all-out, both_out}
+use Rattle.scenario_laws.proofs.Parting.{past_from, now_from, parts_are}
 use Rattle.scenario_laws.proofs.Wishes.{states_frame}
 use Rattle.unit_laws.specs.Units.{Lined, Occasion, units, lone_capture, HasSaidAll}
-use Rattle.unit_laws.specs.Holding.{AreChannelsOf, AreChannelsAt, ChannelsAreSeen}
+use Rattle.unit_laws.specs.Holding.{AreChannelsOf, AreChannelsAt, AreOfRun, ChannelsAreSeen, ChannelsAreTimed}
+use Rattle.unit_laws.specs.Timed.{ticks, timed}
 use Rattle.unit_laws.proofs.Living.{LivedCalmly, clients_lived, servers_lived}
 use Rattle.unit_laws.proofs.Running.{LastIsWhole}
 
@@ -55,6 +59,10 @@ all_last : {X : Type 0} (R : X → Type 0) (xs : List X) (x : X) → AllByRecurs
 all_last R [] x all = all.0
 all_last R (y ∷ xs) x all = all_last R xs x all.1
 
+second_is : (a b : Bool) → (a && b) ≡ true → b ≡ true
+second_is true b both = both
+second_is false b both = cc
+
 module _ {P : Type 0} (A : Profile P) (asks : Asks A) (party : Party) (states : StatesFrame A.policy party) (side : Side) (occasions : List (Occasion Circumstance)) (now : Lined (Host P)) (lived : LivedCalmly A asks side occasions now) where
   abbrev now_list : List Occurrence
   now_list = lived.lives.fed.so.lives.now
@@ -64,6 +72,16 @@ module _ {P : Type 0} (A : Profile P) (asks : Asks A) (party : Party) (states : 
       let so = lived.lives.fed.so in
       zip_last (IsTalkOf A.policy) (map (λ (span : Span). span.list) so.lives.spans) before now_list part
       (subst (λ (ps : List (List Talk)). AllZip (IsTalkOf A.policy) (map (λ (span : Span). span.list) so.lives.spans ++ now_list ∷ []) ps) parts_are so.talks_are)
+
+  -- its channels are those of a run, to which its units and its timer happened
+  of_run : AreOfRun A.policy (HasSaidAll (upper A) now) (timed (ticks occasions)) now.upper.channels
+  of_run = record {
+    list = now_list;
+    unsent = lived.unsent;
+    happened_is = (said_last (past_from [] lived.came.talk) (now_from [] lived.came.talk) (parts_are [] lived.came.talk)).outer_is ∙ lived.timed_is;
+    sent = λ quiet. lived.sent quiet.pieces;
+    run = lived.lives.fed.so.lives.channels_run;
+  }
 
   quiet_now : HasSaidAll (upper A) now → IsQuiet (run_of A.policy now_list).value
   quiet_now quiet = subst IsQuiet lived.lives.fed.so.lives.channels_run (lived.back quiet.none_next)
@@ -106,7 +124,10 @@ module _ {P : Type 0} (A : Profile P) (asks : Asks A) (party : Party) (states : 
         none = on.none;
         go_out = on.go_out;
         read = λ own. subst (λ (v : Channels). IsRead A.policy (held_at own v) (read_at own (reading run.said).entries)) channels_are (channels-are_read A.policy now_list own);
-        opens = λ channel alive. subst (λ (v : Channels). is_some (peer_mtu channel.own v) ≡ reads_open party run.said channel) channels_are ((open-is_what_is_said A.policy party now_list channel states).living_is alive);
+        opens = λ channel. subst (λ (v : Channels). stays_open channel.own v ≡ says_open party run.said channel) channels_are (open-is_what_is_said A.policy party now_list channel states).stays_is;
+        only = λ channel takes.
+            let held = subst (λ (v : Channels). is_some (peer_mtu channel.own v) ≡ (is_some (setup_on (held_at channel.own v)) && reads_open party run.said channel)) channels_are (open-is_what_is_said A.policy party now_list channel states).held_is in
+            second_is (is_some (setup_on (held_at channel.own now.upper.channels))) (reads_open party run.said channel) (sym held ∙ takes);
       }
 
   channels_at : (up : Option Link) → link_up side (lone_capture side (units occasions)) ≡ up → LastIsUp (parts lived.came.talk) up → AreChannelsAt A.policy party (HasSaidAll (upper A) now) up now.upper.channels
@@ -121,4 +142,14 @@ channels_are_seen = record {
   servers = λ settings content occasions now did have.
       let lived = servers_lived settings content (hosts_ask.servers settings content) occasions now did have in
       channels_at _ _ (party_of settings sides.B) (states_frame settings true sides.B) sides.B occasions now lived (link_up sides.B (lone_capture sides.B (units occasions))) refl lived.came.last;
+}
+
+pub channels_are_timed : ChannelsAreTimed
+channels_are_timed = record {
+  clients = λ settings occasions now did have.
+      let asks = hosts_ask.clients settings in
+      of_run (client_profile settings) asks (party_of settings sides.A) (states_frame settings false sides.A) sides.A occasions now (clients_lived settings asks occasions now did have);
+  servers = λ settings content occasions now did have.
+      let asks = hosts_ask.servers settings content in
+      of_run (server_profile settings content) asks (party_of settings sides.B) (states_frame settings true sides.B) sides.B occasions now (servers_lived settings content asks occasions now did have);
 }

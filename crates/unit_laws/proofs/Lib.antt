@@ -1,6 +1,7 @@
 pub mod Shown
 pub mod Hearing
 pub mod Lining
+pub mod Timing
 pub mod Running
 pub mod Capacity
 pub mod Taking

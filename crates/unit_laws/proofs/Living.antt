@@ -1,7 +1,7 @@
 -- Both hosts live through what their units say.
-use Rattle.std.proofs.Common.{◌≡◌, false, List, [], ◌∷◌, map, Option, None, refl}
+use Rattle.std.proofs.Common.{◌≡◌, ℕ, false, List, [], ◌∷◌, ◌++◌, map, Option, None, refl}
 use Rattle.scenario_laws.specs.capture.specs.Entries.{Entry}
-use Rattle.std.specs.List.{AllByRecursion}
+use Rattle.std.specs.List.{AllByRecursion, flat_map}
 use Rattle.scenario_laws.specs.bt_base.specs.declared.settings.Settings.{Settings}
 use Rattle.scenario_laws.specs.bt_base.specs.Objects.{Contents}
 use Rattle.scenario_laws.specs.push_terms.specs.declared.word.Side.{Side}
@@ -22,11 +22,13 @@ use Rattle.scenario_laws.specs.host_laws.specs.Acts.{Act, Hears, Says, Acting}
 use Rattle.scenario_laws.specs.host_laws.specs.Calls.{Asks}
 use Rattle.scenario_laws.specs.host_laws.specs.Calm.{HoldsNothingBack}
 use Rattle.scenario_laws.specs.host_laws.specs.Free.{HoldsBackNothing}
-use Rattle.scenario_laws.specs.host_laws.specs.OverLinks.{parts, AreGentleUp}
+use Rattle.scenario_laws.specs.host_laws.specs.OverLinks.{parts, talk_outer, AreGentleUp}
 use Rattle.scenario_laws.specs.host_laws.specs.Read.{IsActSo, IsSoberPdu}
 use Rattle.scenario_laws.specs.host_laws.specs.Seen.{IsOneCommand, FiresPlainly}
 use Rattle.scenario_laws.specs.host_laws.proofs.Fitting.{IsProper, KeepsFit, AnyServer, IsLowClient}
 use Rattle.scenario_laws.specs.host_laws.proofs.Freeing.{hosts_hold_back_nothing, servers_fire_plainly, clients_fire_plainly}
+use Rattle.scenario_laws.specs.channel_laws.specs.Runs.{Gives}
+use Rattle.scenario_laws.proofs.Parting.{now_from}
 use Rattle.scenario_laws.specs.Coming.{CameOver}
 use Rattle.scenario_laws.proofs.FreeServers.{always-free}
 use Rattle.scenario_laws.proofs.Freeing.{all_one}
@@ -35,6 +37,7 @@ use Rattle.scenario_laws.proofs.Unlinked.{Keeps, acts_off}
 use Rattle.scenario_laws.proofs.UnlinkedClients.{HasNoLink, clients_keep}
 use Rattle.scenario_laws.proofs.UnlinkedServers.{KnowsNone, servers_keep}
 use Rattle.unit_laws.specs.Laws.{FiresNone, IsUnfired}
+use Rattle.unit_laws.specs.Timed.{ticks, timed}
 use Rattle.unit_laws.specs.Units.{Lined, Occasion, units, lone_capture}
 use Rattle.unit_laws.specs.Living.{Did, HasCommand, HaveCommands, LivesBy, HostsLiveByUnits}
 use Rattle.unit_laws.proofs.Calming.{AreGiven, LivesCalmly, lives-calmly}
@@ -59,6 +62,10 @@ pub record LivedCalmly {P : Type 0} (A : Profile P) (asks : Asks A) (side : Side
   -- where it says nothing next, its channels have nothing to give
   pub back : HoldsNothingBack A now.upper
   pub unfired : AllByRecursion FiresNone occasions → AllByRecursion IsUnfired came.talk
+  -- what happened on its last link, with the firings of its timer, and behind it what it did not put out
+  pub unsent : List (List ℕ)
+  pub timed_is : flat_map talk_outer (now_from [] came.talk) ≡ timed (ticks occasions) ++ map Gives unsent
+  pub sent : now.line.pieces ≡ [] → unsent ≡ []
 
 all_unit : {P : Type 0} (A : Profile P) (asks : Asks A) (acts : List (Act Circumstance)) → AreGiven A asks (λ (gift : List Circumstance). Unit {0}) acts
 all_unit A asks [] = tt
@@ -88,6 +95,9 @@ module _ {P : Type 0} (A : Profile P) (Q R : P → Type 0) (keeps : KeepsFit A I
         off = λ none. (acts_off A R away came.over.acts false (first_host A) now.upper came.over.acting came.over.in_turn (λ down. record { channels_are = refl; profile_is = away.first }) (talked.off none)).channels_are;
         back = back came.over.acts now.upper heard came.over.acting;
         unfired = talked.so.unfired;
+        unsent = talked.unsent;
+        timed_is = talked.timed_is;
+        sent = talked.sent;
       }
 
 pub lives_by : {P : Type 0} (A : Profile P) (asks : Asks A) (side : Side) (occasions : List (Occasion Circumstance)) (now : Lined (Host P)) → LivedCalmly A asks side occasions now → LivesBy A asks side (lone_capture side (units occasions)) now.upper

@@ -5,5 +5,6 @@ pub mod Laws
 pub mod Calls
 pub mod Capacity
 pub mod Living
+pub mod Timed
 pub mod Holding
 pub mod Gaining

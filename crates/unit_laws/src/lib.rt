@@ -5,7 +5,7 @@
 ghost use Rattle.unit_laws.specs.Calls.{CallsAreRuns};
 ghost use Rattle.unit_laws.specs.Capacity.{BuffersAreRead};
 ghost use Rattle.unit_laws.specs.Gaining.{ClientsCome};
-ghost use Rattle.unit_laws.specs.Holding.{ChannelsAreSeen};
+ghost use Rattle.unit_laws.specs.Holding.{ChannelsAreSeen, ChannelsAreTimed};
 ghost use Rattle.unit_laws.specs.Laws.{LinesAreRead, UnitsAreTalk};
 ghost use Rattle.unit_laws.specs.Living.{HostsLiveByUnits};
 ghost use Rattle.scenario_laws.specs.world_model.specs.Machines.{Upper};
@@ -37,11 +37,18 @@ pub fn hosts_live_by_units()
     ensures { HostsLiveByUnits }
 {}
 
-/// The channels of both are those that their own units say, each as far as it says there; and each that its host has neither closed nor asked to end is
-/// open exactly where they say so; where the host has said all, by what moved alone, but for what it gave up.
+/// The channels of both are those that their own units say, each as far as it says there; each stays open exactly where they say so, and one whose end its
+/// host asked for is open only where they had it open; where the host has said all, by what moved alone, but for what it gave up.
 #[tactic(auto, using(crate::proofs::Holding::channels_are_seen))]
 pub fn channels_are_seen()
     ensures { ChannelsAreSeen }
+{}
+
+/// And they are those of a run to which happened what moved on the link, and where the timer fired between, each in its place: so what the host gave up
+/// is of that run.
+#[tactic(auto, using(crate::proofs::Holding::channels_are_timed))]
+pub fn channels_are_timed()
+    ensures { ChannelsAreTimed }
 {}
 
 /// A client is what it is of what happened to it on the links that its own units have.
