@@ -1,3 +1,4 @@
+pub mod Heeding
 pub mod Owing
 pub mod Replying
 pub mod Serving

@@ -21,11 +21,12 @@ use Rattle.push_laws.specs.rfcomm_laws.proofs.Turning.{Fit, still_fit}
 use Rattle.push_laws.specs.rfcomm_laws.proofs.Harmless.{SoundIn, word_to, heard_step}
 use Rattle.push_laws.specs.rfcomm_laws.proofs.Telling.{flow_in, Tells, SaysWell, says_well}
 use Rattle.push_laws.specs.Premises.{is_answer, may_overtake}
-use Rattle.push_laws.proofs.Conceding.{R, r_frame, SaysBack, SaidBack, back_answers}
+use Rattle.push_laws.proofs.Conceding.{R, SaysBack, SaidBack, back_answers}
 use Rattle.push_laws.proofs.Frames.{mux_said, frame_said}
-use Rattle.push_laws.proofs.Ordering.{command_of, answer_of, AllPlain, Back, Forth}
+use Rattle.push_laws.proofs.Ordering.{command_of, answer_of, AllPlain, Back}
 use Rattle.carried_laws.specs.Standing.{Standing, start, turns, agrees, is_acceptance, accepts, informs, comes, goes}
 use Rattle.carried_laws.specs.Orderly.{IsAllowed, Keeps}
+use Rattle.carried_laws.proofs.Heeding.{SaysPlain, r_heard}
 
 -- ---- the same counts
 
@@ -92,12 +93,12 @@ keeps_sound agreed own Dm f more k = tt
 keeps_sound agreed own Disc f more k = tt
 keeps_sound agreed own Uih f more k = λ here. all_sound (messages f.octets) (k (eqb-true f.dlci 0 here))
 
-keeps_forth : (agreed : Bool) (kind : MuxKind) (f : PlainFrame) → Keeps agreed kind f → Forth kind f
-keeps_forth agreed Sabm f k = tt
-keeps_forth agreed Ua f k = absurd k
-keeps_forth agreed Dm f k = absurd k
-keeps_forth agreed Disc f k = tt
-keeps_forth agreed Uih f k = λ here. all_plain (messages f.octets) (k (eqb-true f.dlci 0 here))
+keeps_plain : (agreed : Bool) (kind : MuxKind) (f : PlainFrame) → Keeps agreed kind f → SaysPlain kind f
+keeps_plain agreed Sabm f k = tt
+keeps_plain agreed Ua f k = tt
+keeps_plain agreed Dm f k = tt
+keeps_plain agreed Disc f k = tt
+keeps_plain agreed Uih f k = λ here. all_plain (messages f.octets) (k (eqb-true f.dlci 0 here))
 
 -- a response to PN is said by a side that agreed
 accepted_message : (own : Bool) (list : List MessageAnswer) → SoundMessages own list → list_any is_acceptance list ≡ true → own ≡ true
@@ -223,7 +224,7 @@ heard_owes s m frame f o keeps answered few paid fits =
       owes = record {
         fit = still_fit (word_to true m f) (bonus_of 18 f) (cost_of f) 18 m x st o.fit;
         count = o.count + command_of f.kind;
-        side = r_frame o.count m.closed f m (keeps_forth s.agreed f.kind f keeps) o.side;
+        side = r_heard o.count m.closed f m (keeps_plain s.agreed f.kind f keeps) o.side;
         asked = omega (arith, asked, turned);
         back = o.back;
         room = omega (arith, room, more);

@@ -44,11 +44,11 @@ IsAllowed (Ok (nsc kind)) = ⊥
 IsAllowed (Ok (other kind value)) = ⊥
 IsAllowed (Err refusal) = ⊥
 
--- the client asks for the user channel once the server accepted its terms; it answers no SABM and no DISC, since the server sends none
+-- the client asks for the user channel once the server accepted its terms; UA and DM answer nothing of the server, which sends no SABM and no DISC
 abbrev pub Keeps : Bool → MuxKind → PlainFrame → Type 0
 Keeps agreed Sabm f = f.dlci ≡ user_dlci → agreed ≡ true
-Keeps agreed Ua f = ⊥
-Keeps agreed Dm f = ⊥
+Keeps agreed Ua f = Unit {0}
+Keeps agreed Dm f = Unit {0}
 Keeps agreed Disc f = Unit {0}
 Keeps agreed Uih f = f.dlci ≡ 0 → AllByRecursion IsAllowed (messages f.octets)
 

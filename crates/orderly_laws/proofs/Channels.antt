@@ -21,7 +21,7 @@ use Rattle.request_laws.specs.channel_model.specs.Value.{Setup, Stage, Requested
 use Rattle.request_laws.specs.channel_laws.specs.Runs.{Occurrence, run_of}
 use Rattle.request_laws.specs.channel_laws.specs.Views.{peer_of, life_of, IsReadBy, IsRead, read_at}
 use Rattle.request_laws.specs.channel_laws.proofs.Running.{channels-are_read}
-use Rattle.unit_laws.specs.opening_laws.specs.Opening.{reads_open_by, reads_open, is_living, OpensAsSaid}
+use Rattle.unit_laws.specs.opening_laws.specs.Opening.{reads_open_by, reads_open, says_open_by, is_living, OpensAsSaid}
 use Rattle.unit_laws.specs.opening_laws.proofs.Opening.{open-is_what_is_said}
 use Rattle.request_laws.specs.host_model.specs.Circumstances.{Circumstance}
 use Rattle.request_laws.specs.host_model.specs.Hosts.{Host, first_host}
@@ -48,7 +48,7 @@ use Rattle.unit_laws.specs.scenario_laws.proofs.Wishes.{states_frame}
 use Rattle.unit_laws.specs.Units.{Lined, Occasion, units, lone_capture, HasSaidAll}
 use Rattle.unit_laws.proofs.Holding.{TalksOn, talks-on}
 use Rattle.unit_laws.proofs.Living.{LivedCalmly, servers_lived}
-use Rattle.orderly_laws.specs.Channels.{says_open_by, AreAsSaid, AreOfLink, AreOfLinkUp, ServersHoldWhatMoved}
+use Rattle.orderly_laws.specs.Channels.{AreAsSaid, AreOfLink, AreOfLinkUp, ServersHoldWhatMoved}
 use Rattle.orderly_laws.proofs.Falling.{parted}
 use Rattle.orderly_laws.proofs.Given.{nothing-given_up}
 

@@ -1,5 +1,6 @@
 -- On the one channel of the object of a link no more responses are due than were taken, wherever a request comes that has one.
 use Rattle.std.proofs.Common.{◌≡◌, ◌≤◌, ℕ, Bool, true, false, cond, eqb, List, [], ◌∷◌, ◌++◌, length, drop, filter_map, find, Option, Some, None, refl, sym, ap, ap₂, subst, ◌∙◌, append_assoc, append-nil, arith, inl, inr, length-append}
+use Rattle.std.specs.Prelude.{◌⊎◌}
 use Rattle.std.specs.List.{AllByRecursion, cons_option}
 use Rattle.std.proofs.lemmas.Bool.{eq-eqb}
 use Rattle.std.proofs.lemmas.List.Elements.{filter_map-append}
@@ -50,7 +51,8 @@ use Rattle.request_laws.specs.HandedUp.{up_for, handed_for}
 use Rattle.request_laws.proofs.Accepted.{Accepted, accepted-stays, Opened, OpenedUp, opened-up, up-stays, all-opened}
 use Rattle.request_laws.proofs.Sole.{is_of, for_of, IsSole, sole}
 use Rattle.request_laws.proofs.Takes.{run_more, grown}
-use Rattle.orderly_laws.specs.Answered.{responses_on, fresh_session, responses_due, LastIsDue, ComesBehind, IsAnswered, AreAnswered}
+use Rattle.orderly_laws.specs.Answered.{responses_on, fresh_session, responses_due, LastIsDue, ShowsOpen, ComesBehind, IsAnswered, AreAnswered}
+use Rattle.orderly_laws.proofs.Behind.{all-shown}
 use Rattle.orderly_laws.proofs.Due.{due_front, due_one, no_last}
 use Rattle.orderly_laws.proofs.Modes.{IsWished, none-or_wished}
 use Rattle.orderly_laws.proofs.Moments.{of-stays, stands, unopened_out, unopened_in, fewer_said, more_responses, answered-at}
@@ -263,12 +265,15 @@ module _ (settings : Settings) (list : List Occurrence) (talk outs : List Saying
           let same : entry.channel ≡ one = (for_of one entry.channel (run_of own list).said one.own alone there).same (eq-eqb entry.channel.own one.own (read-own one.own (reading talk).entries entry at)) in
           subst (λ (c : Channel). IsOf c (read_at one.own entries)) same there
 
-  last_due : LastIsDue settings (sdus party one Into (run_of own list).said)
-  last_due = subst (LastIsDue settings) (sym at_end) (by (has_opened (find (has_own one) (reading talk).entries)) refl)
+  last_taken : LastIsDue settings (sdus party one Into (run_of own list).said) ⊎ ShowsOpen party talk one
+  last_taken = by (has_opened (find (has_own one) (reading talk).entries)) refl
     where
-      by : (opened : Bool) → has_opened (find (has_own one) (reading talk).entries) ≡ opened → LastIsDue settings (sdus party one Into talk)
-      by false shut = no_last settings (sdus party one Into talk) (unopened_in party one talk shut)
-      by true open' = (talk_answered open').last
+      by : (opened : Bool) → has_opened (find (has_own one) (reading talk).entries) ≡ opened → LastIsDue settings (sdus party one Into (run_of own list).said) ⊎ ShowsOpen party talk one
+      by false shut = inl (subst (LastIsDue settings) (sym at_end) (no_last settings (sdus party one Into talk) (unopened_in party one talk shut)))
+      by true open' = elim (talk_answered open').last [
+        | inl due ↦ inl (subst (LastIsDue settings) (sym at_end) due)
+        | inr shows ↦ inr shows
+      ]
 
   -- where no more was taken than is due to what was handed up
   read_few : length (filter_map said (taken_of own one.own list)) ≤ responses_due settings (handed_for object_psm (run_of own list).up) → responses_due settings (sdus party one Into (run_of own list).said) ≤ responses_due settings (sdus_up one.own (run_of own list).up)
@@ -297,7 +302,11 @@ module _ (settings : Settings) (list : List Occurrence) (talk outs : List Saying
           ]
 
   pub hands-all_up : length (filter_map said (taken_of (policy settings true) one.own list)) ≤ responses_due settings (handed_for object_psm (run_of (policy settings true) list).up) → (run_of (policy settings true) list).value.events ≡ [] → HandsAllUp (policy settings true) list one
-  hands-all_up few none broken other has =
-      let short = read_few few in
-      let ups = ap (responses_due settings) (sdus_run own one.own list) in
-      same_frame other has ∙ read_all settings _ (sdus_told one.own (told_on own list)) (sdus party one Into (run_of own list).said) last_due (sdus-so own party list states none one) (omega (arith, short, ups))
+  hands-all_up few none broken other has = same_frame other has ∙ by last_taken
+    where
+      by : LastIsDue settings (sdus party one Into (run_of own list).said) ⊎ ShowsOpen party talk one → sdus party one Into (run_of own list).said ≡ sdus_told one.own (told_on own list)
+      by (inl due) =
+          let short = read_few few in
+          let ups = ap (responses_due settings) (sdus_run own one.own list) in
+          read_all settings _ (sdus_told one.own (told_on own list)) (sdus party one Into (run_of own list).said) due (sdus-so own party list states none one) (omega (arith, short, ups))
+      by (inr shows) = all-shown own party one list talk outs states said_is shows at_end ∙ sdus_run own one.own list

@@ -1,4 +1,5 @@
 pub mod Due
+pub mod Behind
 pub mod Counting
 pub mod Following
 pub mod Moments

@@ -1,5 +1,5 @@
 -- What is so of a channel at one moment of a talk, and later on.
-use Rattle.std.proofs.Common.{◌≡◌, ◌≤◌, ℕ, Bool, true, false, cond, eqb, List, [], ◌∷◌, ◌++◌, length, map, filter_map, fold, find, Option, Some, None, refl, sym, ap, subst, ◌∙◌, append_assoc, append-nil, length-append, arith}
+use Rattle.std.proofs.Common.{◌≡◌, ◌≤◌, ℕ, Bool, true, false, cond, eqb, List, [], ◌∷◌, ◌++◌, length, map, filter_map, fold, find, Option, Some, None, refl, sym, ap, subst, ◌∙◌, append_assoc, append-nil, length-append, arith, inl}
 use Rattle.std.specs.Prelude.{option_map, option_to_list}
 use Rattle.std.specs.Option.{option_or}
 use Rattle.std.specs.List.{list_any}
@@ -162,7 +162,7 @@ shut_answered settings party talk channel shut =
     record {
       in_turn = shut_in_turn settings party channel [] talk shut;
       each = omega (arith, none);
-      last = no_last settings (sdus party channel Into talk) nothing;
+      last = inl (no_last settings (sdus party channel Into talk) nothing);
     }
 
 pub answered-at : (settings : Settings) (party : Party) (talk more : List Saying) (channel : Channel) → channel.psm ≡ 0x1001 → AreAnswered settings party talk → IsOf channel (read_at channel.own (reading (talk ++ more)).entries) → IsAnswered settings party talk channel

@@ -1,5 +1,5 @@
 -- The channels of a server whose timer never fired, and which of them are open, as what moved says (Core 5.1, Volume 3 Part A, 4.4, 4.5, 6.1.4 and 7.1).
-use Rattle.std.specs.Prelude.{ℕ, ◌≡◌, ◌&&◌, Bool, true, false, not, is_some, List, ◌++◌, Option, Some, None}
+use Rattle.std.specs.Prelude.{ℕ, ◌≡◌, true, is_some, List, ◌++◌, Option, Some, None}
 use Rattle.std.specs.List.{AllByRecursion}
 use Rattle.request_laws.specs.bt_base.specs.declared.settings.Settings.{Settings}
 use Rattle.request_laws.specs.bt_base.specs.Objects.{Contents}
@@ -7,10 +7,8 @@ use Rattle.request_laws.specs.push_terms.specs.declared.word.Side.TheVariants as
 use Rattle.request_laws.specs.capture.specs.Links.{Link, link_up}
 use Rattle.request_laws.specs.link_talk.specs.declared.channel.Channel.{Channel}
 use Rattle.request_laws.specs.link_talk.specs.declared.party.Party.{Party}
-use Rattle.request_laws.specs.link_talk.specs.Carriages.{is_open}
-use Rattle.request_laws.specs.link_talk.specs.Channels.{Entry, reading}
+use Rattle.request_laws.specs.link_talk.specs.Channels.{reading}
 use Rattle.request_laws.specs.link_talk.specs.Sayings.{Saying, talk}
-use Rattle.request_laws.specs.link_talk.specs.Waits.{options_wait}
 use Rattle.request_laws.specs.channel_model.specs.Calls.{peer_mtu}
 use Rattle.request_laws.specs.channel_model.specs.Changing.{held_at}
 use Rattle.request_laws.specs.channel_model.specs.Policies.{Policy, policy}
@@ -23,20 +21,10 @@ use Rattle.request_laws.specs.host_model.specs.Machines.{upper}
 use Rattle.request_laws.specs.host_model.specs.Servers.{ServerProfile, server_profile}
 use Rattle.request_laws.specs.host_laws.specs.OverLinks.{GoesOut}
 use Rattle.unit_laws.specs.scenario_laws.specs.Parties.{party_of}
+use Rattle.unit_laws.specs.opening_laws.specs.Opening.{says_open}
 use Rattle.unit_laws.specs.Laws.{FiresNone}
 use Rattle.unit_laws.specs.Living.{Did, HaveCommands}
 use Rattle.unit_laws.specs.Units.{Lined, Occasion, units, lone_capture, HasSaidAll}
-
--- ---- an open channel
-
--- The talk has the channel; its host asked for its options and accepted those of the peer, waits for no answer to its own request, and has neither asked for its
--- end nor closed it.
-abbrev pub says_open_by : Party → List Saying → Channel → Option Entry → Bool
-says_open_by party said channel None = false
-says_open_by party said channel (Some entry) = is_open entry && not (options_wait party said channel)
-
-abbrev pub says_open : Party → List Saying → Channel → Bool
-says_open party said channel = says_open_by party said channel (read_at channel.own (reading said).entries)
 
 -- ---- as sayings have them
 

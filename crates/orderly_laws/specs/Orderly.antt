@@ -24,7 +24,8 @@ use Rattle.unit_laws.specs.Units.{Lined, Occasion, units, lone_capture}
 use Rattle.orderly_laws.specs.Answered.{AreAnswered}
 
 -- A PDU on the signalling channel has one command; on each link the client asks for one channel that may carry packets, besides that of service
--- discovery; and on that each request that is not passed over in silence comes behind the response to the one before, and has a response; and the last of all is none that is passed over.
+-- discovery; and on that each request that is not passed over in silence comes behind the response to the one before, and has a response; and where the last of
+-- all is passed over it is seen that it was taken.
 pub record IsOrderlyInput (settings : Settings) (capture : List Entry) : Type 0 where
   pub commands : HaveCommands sides.B capture
   pub one_channel : AllByRecursion (AsksForOneObject L2cap) (talks sides.B capture)
