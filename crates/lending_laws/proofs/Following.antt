@@ -13,14 +13,15 @@ use Rattle.call_laws.specs.bt_host.specs.host_link.specs.Lines.{Line, fresh}
 use Rattle.call_laws.specs.bt_host.specs.host_link.specs.PuttingOut.{put_pieces, started}
 use Rattle.call_laws.specs.bt_host.specs.host_link.specs.Stands.{into, out_of}
 use Rattle.call_laws.specs.bt_host.specs.host_link.specs.declared.role.Role.{Role}
-use Rattle.call_laws.specs.unit_laws.specs.scenario_laws.specs.world_model.specs.Machines.{News, Linked, Up, Down, Failed, Heard, Upper}
+use Rattle.call_laws.specs.unit_laws.specs.scenario_laws.specs.world_model.specs.Machines.{News, Linked, Up, Down, Failed, Heard, TimerFired, Cancelled, Opening, Upper}
 use Rattle.call_laws.specs.bt_host.specs.host_model.specs.Circumstances.{Circumstance}
 use Rattle.call_laws.specs.bt_host.specs.host_model.specs.Hosts.{Host, hear, next, has_more}
 use Rattle.call_laws.specs.bt_host.specs.host_model.specs.Profiles.{Profile}
 use Rattle.call_laws.specs.bt_host.specs.Refusals.{acl_limit}
 use Rattle.call_laws.specs.bt_host.specs.Stacks.{Stacked, Standing, Moment, Deed, Putting, Saying, Ending, Paging, Commanding, DoesDeed, DoesAll, standing, after_packet, with_host}
 use Rattle.call_laws.specs.bt_host.specs.Uppers.{asking, told_of, hears_told}
-use Rattle.call_laws.specs.unit_laws.specs.Units.{Lined, starting, Occasion, Learns as Hits, Waits, units_of, units, IsOwnNews, Runs, HasSaidAll, IsToldInTurn, ComesInTurn, hears_line}
+use Rattle.call_laws.specs.unit_laws.specs.Timed.{Tick, Moves, news_ticks, ticks_of, ticks}
+use Rattle.call_laws.specs.unit_laws.specs.Units.{Lined, starting, Occasion, Comes, Learns as Hits, Says, Puts, Commands, Waits, units_of, units, IsOwnNews, Runs, HasSaidAll, IsToldInTurn, ComesInTurn, hears_line}
 use Rattle.call_laws.specs.unit_laws.specs.Laws.{IsUntimed, FiresNone}
 use Rattle.call_laws.specs.unit_laws.specs.Calls.{IsWritable, GoesBy, SaysInOctets, CallsGo}
 use Rattle.call_laws.specs.unit_laws.proofs.Doing.{runs_then, goes_none, calls_are_runs}
@@ -35,33 +36,68 @@ pub record Follows {S T : Type 0} (A : Profile S) (U : Upper T Circumstance) (Is
   pub says : (host : Host S) (there : T) (pdu : List ℕ) (after : Host S) → IsAs host there → next A host ≡ Some (pdu, after) → (now : T) × (U.next there ≡ Some (pdu, now)) × IsAs after now
   pub silent : (host : Host S) (there : T) → IsAs host there → has_more host ≡ false → U.next there ≡ None
 
-both_untimed : (one two : List (Occasion Circumstance)) → AllByRecursion FiresNone one → AllByRecursion FiresNone two → AllByRecursion FiresNone (one ++ two)
+pub both_untimed : (one two : List (Occasion Circumstance)) → AllByRecursion FiresNone one → AllByRecursion FiresNone two → AllByRecursion FiresNone (one ++ two)
 both_untimed [] two first second = second
 both_untimed (occasion ∷ one) two first second = (first.0, both_untimed one two first.1 second)
 
+-- the timer fires with an impulse
+abbrev pub impulse_ticks : Impulse → List Tick
+impulse_ticks (Hears packet) = []
+impulse_ticks (Learns news) = news_ticks news
+impulse_ticks GoesOn = []
+impulse_ticks (Gives count) = []
+impulse_ticks (Pages address) = []
+
+-- where no timer fires units alone tick
+untimed_one : (occasion : Occasion Circumstance) → FiresNone occasion → ticks_of occasion ≡ map Moves (units_of occasion)
+untimed_one (Comes gifts unit) calm = refl
+untimed_one (Hits gifts (Linked event)) calm = refl
+untimed_one (Hits gifts (Failed status)) calm = refl
+untimed_one (Hits gifts (Heard pdu)) calm = refl
+untimed_one (Hits gifts TimerFired) calm = absurd calm
+untimed_one (Hits gifts Cancelled) calm = refl
+untimed_one (Hits gifts (Opening name)) calm = refl
+untimed_one (Says pdu) calm = refl
+untimed_one (Puts handle piece) calm = refl
+untimed_one (Commands command) calm = refl
+untimed_one Waits calm = refl
+
+untimed_ticks : (occasions : List (Occasion Circumstance)) → AllByRecursion FiresNone occasions → ticks occasions ≡ map Moves (units occasions)
+untimed_ticks [] calm = refl
+untimed_ticks (occasion ∷ occasions) calm = ap₂ (λ (x y : List Tick). x ++ y) (untimed_one occasion calm.0) (untimed_ticks occasions calm.1) ∙ sym (map-append Moves (units_of occasion) (units occasions))
+
+-- one run behind the other
+ticks_then : (begun : List Tick) (one two : List (Occasion Circumstance)) → ticks one ≡ begun ++ map Moves (units one) → ticks two ≡ map Moves (units two) → ticks (one ++ two) ≡ begun ++ map Moves (units (one ++ two))
+ticks_then begun one two first second =
+    flat_map-append ticks_of one two
+    ∙ (ap₂ (λ (x y : List Tick). x ++ y) first second
+    ∙ (append_assoc begun (map Moves (units one)) (map Moves (units two))
+    ∙ ap (λ (more : List Tick). begun ++ more) (sym (map-append Moves (units one) (units two)) ∙ ap (λ (moves : List Move). map Moves moves) (sym (flat_map-append units_of one two)))))
+
 module _ {S T : Type 0} (A : Profile S) (U : Upper T Circumstance) (IsAs : Host S → T → Type 0) (follows : Follows A U IsAs) where
-  abbrev lined : Line → T → Lined T
+  abbrev pub lined : Line → T → Lined T
   lined line there = record { line = line; upper = there }
 
   -- ---- a run
 
   -- these packets came in, and behind them packets went out, whose octets `out` gained
-  -- and where this is so no timer fired
-  record Ran (calm : Type 0) (came : List Packet) (old new : Lined T) : Type 0 where
-    occasions : List (Occasion Circumstance)
-    untimed : calm → AllByRecursion FiresNone occasions
-    runs : Runs U (ComesInTurn U) occasions old new
-    went : List Packet
-    each : AllByRecursion (IsPacket 1021) went
-    units_are : units occasions ≡ map into came ++ map out_of went
-    out : new.line.out ≡ old.line.out ++ spellings went
-    writable : IsWritable new.line
+  -- and where this is so no timer fired; what ticked before they moved
+  pub record Ran (calm : Type 0) (begun : List Tick) (came : List Packet) (old new : Lined T) : Type 0 where
+    pub occasions : List (Occasion Circumstance)
+    pub untimed : calm → AllByRecursion FiresNone occasions
+    pub runs : Runs U (ComesInTurn U) occasions old new
+    pub went : List Packet
+    pub each : AllByRecursion (IsPacket 1021) went
+    pub units_are : units occasions ≡ map into came ++ map out_of went
+    pub ticks_are : ticks occasions ≡ begun ++ map Moves (units occasions)
+    pub out : new.line.out ≡ old.line.out ++ spellings went
+    pub writable : IsWritable new.line
 
-  ran_by : (calm : Type 0) (gifts : List (List Circumstance)) (came : List Packet) (old new : Lined T) → GoesBy U gifts came old new → Ran calm came old new
-  ran_by calm gifts came old new goes = record { occasions = goes.occasions; untimed = λ so. goes.untimed; runs = goes.runs; went = goes.went; each = goes.each; units_are = goes.units_are; out = goes.out; writable = goes.writable }
+  ran_by : (calm : Type 0) (gifts : List (List Circumstance)) (came : List Packet) (old new : Lined T) → GoesBy U gifts came old new → Ran calm [] came old new
+  ran_by calm gifts came old new goes = record { occasions = goes.occasions; untimed = λ so. goes.untimed; runs = goes.runs; went = goes.went; each = goes.each; units_are = goes.units_are; ticks_are = untimed_ticks goes.occasions goes.untimed; out = goes.out; writable = goes.writable }
 
-  ran_then : (calm : Type 0) (came : List Packet) (old mid new : Lined T) → Ran calm came old mid → Ran calm [] mid new → Ran calm came old new
-  ran_then calm came old mid new first second = record {
+  ran_then : (calm : Type 0) (begun : List Tick) (came : List Packet) (old mid new : Lined T) → Ran calm begun came old mid → Ran calm [] [] mid new → Ran calm begun came old new
+  ran_then calm begun came old mid new first second = record {
     occasions = first.occasions ++ second.occasions;
     untimed = λ so. both_untimed first.occasions second.occasions (first.untimed so) (second.untimed so);
     runs = runs_then U (ComesInTurn U) first.occasions second.occasions old mid new first.runs second.runs;
@@ -70,6 +106,7 @@ module _ {S T : Type 0} (A : Profile S) (U : Upper T Circumstance) (IsAs : Host 
     units_are = flat_map-append units_of first.occasions second.occasions
         ∙ (ap₂ (λ (x y : List Move). x ++ y) first.units_are second.units_are
         ∙ (append_assoc (map into came) (map out_of first.went) (map out_of second.went) ∙ ap (λ (more : List Move). map into came ++ more) (sym (map-append out_of first.went second.went))));
+    ticks_are = ticks_then begun first.occasions second.occasions first.ticks_are second.ticks_are;
     out = second.out
         ∙ (ap (λ (out : List ℕ). out ++ spellings second.went) first.out
         ∙ (append_assoc old.line.out (spellings first.went) (spellings second.went) ∙ ap (λ (more : List ℕ). old.line.out ++ more) (sym (spellings_append first.went second.went))));
@@ -80,47 +117,56 @@ module _ {S T : Type 0} (A : Profile S) (U : Upper T Circumstance) (IsAs : Host 
   calls_at line there writable = (calls_are_runs U).calls (lined line there) follows.octets writable
 
   -- the other is where the one is
-  record Leads (calm : Type 0) (came : List Packet) (old : Standing S) (there : T) (new : Standing S) : Type 0 where
+  record Leads (calm : Type 0) (begun : List Tick) (came : List Packet) (old : Standing S) (there : T) (new : Standing S) : Type 0 where
     after : T
     alike : IsAs new.host after
-    ran : Ran calm came (lined old.line there) (lined new.line after)
+    ran : Ran calm begun came (lined old.line there) (lined new.line after)
     paged : new.paged ≡ old.paged
 
   -- ---- what it does by itself
 
-  deed_leads : (calm : Type 0) (deed : Deed) (old new : Standing S) (there : T) → DoesDeed A deed old new → IsAs old.host there → IsWritable old.line → IsDevice old.paged → Leads calm [] old there new
+  deed_leads : (calm : Type 0) (deed : Deed) (old new : Standing S) (there : T) → DoesDeed A deed old new → IsAs old.host there → IsWritable old.line → IsDevice old.paged → Leads calm [] [] old there new
   deed_leads calm Putting old new there does alike writable device =
-      subst (λ (s : Standing S). Leads calm [] old there s) (sym does) (record { after = there; alike = alike; ran = ran_by calm [] [] (lined old.line there) _ (calls_at old.line there writable).puts; paged = refl })
+      subst (λ (s : Standing S). Leads calm [] [] old there s) (sym does) (record { after = there; alike = alike; ran = ran_by calm [] [] (lined old.line there) _ (calls_at old.line there writable).puts; paged = refl })
   deed_leads calm (Saying pdu) old new there does alike writable device =
       let (now, said, again) = follows.says old.host there pdu new.host alike does.next in
       record {
         after = now;
         alike = again;
-        ran = subst (λ (l : Line). Ran calm [] (lined old.line there) (lined l now)) (sym does.line) (ran_by calm [] [] (lined old.line there) _ ((calls_at old.line there writable).says pdu now does.may said));
+        ran = subst (λ (l : Line). Ran calm [] [] (lined old.line there) (lined l now)) (sym does.line) (ran_by calm [] [] (lined old.line there) _ ((calls_at old.line there writable).says pdu now does.may said));
         paged = does.paged;
       }
   deed_leads calm Ending old new there does alike writable device =
-      subst (λ (s : Standing S). Leads calm [] old there s) (sym does.1) (record { after = there; alike = alike; ran = ran_by calm [] [] (lined old.line there) _ (calls_at old.line there writable).ends; paged = refl })
+      subst (λ (s : Standing S). Leads calm [] [] old there s) (sym does.1) (record { after = there; alike = alike; ran = ran_by calm [] [] (lined old.line there) _ (calls_at old.line there writable).ends; paged = refl })
   deed_leads calm Paging old new there does alike writable device =
-      subst (λ (s : Standing S). Leads calm [] old there s) (sym does.1)
+      subst (λ (s : Standing S). Leads calm [] [] old there s) (sym does.1)
       (record { after = there; alike = alike; ran = ran_by calm [] [] (lined old.line there) _ ((calls_at old.line there writable).pages old.paged device.six device.octets); paged = refl })
   deed_leads calm Commanding old new there does alike writable device =
-      subst (λ (s : Standing S). Leads calm [] old there s) (sym does) (record { after = there; alike = alike; ran = ran_by calm [] [] (lined old.line there) _ (calls_at old.line there writable).commands; paged = refl })
+      subst (λ (s : Standing S). Leads calm [] [] old there s) (sym does) (record { after = there; alike = alike; ran = ran_by calm [] [] (lined old.line there) _ (calls_at old.line there writable).commands; paged = refl })
 
-  leads_then : (calm : Type 0) (came : List Packet) (old : Standing S) (there : T) (mid new : Standing S) (first : Leads calm came old there mid) → Leads calm [] mid first.after new → Leads calm came old there new
-  leads_then calm came old there mid new first second = record {
+  leads_then : (calm : Type 0) (begun : List Tick) (came : List Packet) (old : Standing S) (there : T) (mid new : Standing S) (first : Leads calm begun came old there mid) → Leads calm [] [] mid first.after new → Leads calm begun came old there new
+  leads_then calm begun came old there mid new first second = record {
     after = second.after;
     alike = second.alike;
-    ran = ran_then calm came (lined old.line there) (lined mid.line first.after) (lined new.line second.after) first.ran second.ran;
+    ran = ran_then calm begun came (lined old.line there) (lined mid.line first.after) (lined new.line second.after) first.ran second.ran;
     paged = second.paged ∙ first.paged;
   }
 
-  all_lead : (calm : Type 0) (deeds : List Deed) (old new : Standing S) (there : T) → DoesAll A deeds old new → IsAs old.host there → IsWritable old.line → IsDevice old.paged → Leads calm [] old there new
+  all_lead : (calm : Type 0) (deeds : List Deed) (old new : Standing S) (there : T) → DoesAll A deeds old new → IsAs old.host there → IsWritable old.line → IsDevice old.paged → Leads calm [] [] old there new
   all_lead calm [] old new there does alike writable device =
-      subst (λ (s : Standing S). Leads calm [] old there s) (sym does) (record { after = there; alike = alike; ran = ran_by calm [] [] (lined old.line there) _ (goes_none U (lined old.line there) writable); paged = refl })
+      subst (λ (s : Standing S). Leads calm [] [] old there s) (sym does) (record { after = there; alike = alike; ran = ran_by calm [] [] (lined old.line there) _ (goes_none U (lined old.line there) writable); paged = refl })
   all_lead calm (deed ∷ deeds) old new there (mid, one, more) alike writable device =
       let first = deed_leads calm deed old mid there one alike writable device in
-      leads_then calm [] old there mid new first (all_lead calm deeds mid new first.after more first.alike first.ran.writable (subst IsDevice (sym first.paged) device))
+      leads_then calm [] [] old there mid new first (all_lead calm deeds mid new first.after more first.alike first.ran.writable (subst IsDevice (sym first.paged) device))
+
+  -- ---- the beginning
+
+  pub starts : (role : Role) → Ran (Unit {0}) [] [] (lined (fresh role) U.first) (lined (started role) U.first)
+  starts role =
+      let there = U.first in
+      let puts = ran_by (Unit {0}) [] [] (lined (fresh role) there) _ (calls_at (fresh role) there ((calls_are_runs U).fresh role)).puts in
+      let mid = put_pieces (fresh role) in
+      ran_then (Unit {0}) [] [] (lined (fresh role) there) (lined mid there) (lined (started role) there) puts (ran_by (Unit {0}) [] [] (lined mid there) _ (calls_at mid there puts.writable).commands)
 
   -- ---- what comes to it
 
@@ -132,7 +178,7 @@ module _ {S T : Type 0} (A : Profile S) (U : Upper T Circumstance) (IsAs : Host 
   told_as (Pdu channel octets) answers host there alike = follows.hears answers (Heard octets) host there alike
 
   module _ {E P : Type 0} (Answers : P → List Circumstance → P → Type 0) (pushing : E → P → List Circumstance → S) where
-    abbrev at : P → Stacked E → List Circumstance → Standing S
+    abbrev pub at : P → Stacked E → List Circumstance → Standing S
     at port stack rest = standing pushing port stack rest
 
     all_said : (old : Stacked E) (port : P) (rest : List Circumstance) (there : T) → IsAs (at port old rest).host there → AllIsSaid old → HasSaidAll U (lined old.line there)
@@ -146,7 +192,7 @@ module _ {S T : Type 0} (A : Profile S) (U : Upper T Circumstance) (IsAs : Host 
     in_turn (Pdu channel octets) old port rest there alike told = all_said old port rest there alike told
 
     unit_leads : (calm : Type 0) (packet : Packet) (old : Stacked E) (port : P) (rest : List Circumstance) (there : T) → IsPacket acl_limit packet → fault_of packet old.line ≡ None → IsToldQuietly (news_of packet old.line) old → IsAs (at port old rest).host there → IsWritable old.line
-        → Leads calm (packet ∷ []) (at port old rest) there (after_packet A packet rest (at port old rest))
+        → Leads calm [] (packet ∷ []) (at port old rest) there (after_packet A packet rest (at port old rest))
     unit_leads calm packet old port rest there is fault told alike writable =
         let (gifts, again) = told_as (news_of packet old.line) rest (at port old rest).host there alike in
         record {
@@ -157,7 +203,7 @@ module _ {S T : Type 0} (A : Profile S) (U : Upper T Circumstance) (IsAs : Host 
         }
 
     news_leads : (news : News) (old : Stacked E) (port : P) (rest : List Circumstance) (there : T) → IsOwnNews news → AllIsSaid old → IsAs (at port old rest).host there → IsWritable old.line
-        → Leads (IsUntimed news) [] (at port old rest) there (with_host (hear A rest news (asking pushing port old.upper rest)) (at port old rest))
+        → Leads (IsUntimed news) (news_ticks news) [] (at port old rest) there (with_host (hear A rest news (asking pushing port old.upper rest)) (at port old rest))
     news_leads news old port rest there own said alike writable =
         let (gifts, again) = follows.hears rest news (at port old rest).host there alike in
         let after = lined old.line (U.hear gifts news there) in
@@ -171,6 +217,7 @@ module _ {S T : Type 0} (A : Profile S) (U : Upper T Circumstance) (IsAs : Host 
             went = [];
             each = tt;
             units_are = refl;
+            ticks_are = refl;
             out = sym (append-nil old.line.out);
             writable = writable;
           };
@@ -178,7 +225,7 @@ module _ {S T : Type 0} (A : Profile S) (U : Upper T Circumstance) (IsAs : Host 
         }
 
     -- what its port answered with an impulse
-    abbrev used_of : (impulse : Impulse) (old new : Moment E P) → Happens A Answers pushing impulse old new → List Circumstance
+    abbrev pub used_of : (impulse : Impulse) (old new : Moment E P) → Happens A Answers pushing impulse old new → List Circumstance
     used_of (Hears packet) old new one = one.1.reacts.used
     used_of (Learns news) old new one = one.1.used
     used_of GoesOn old new one = one.used
@@ -190,17 +237,18 @@ module _ {S T : Type 0} (A : Profile S) (U : Upper T Circumstance) (IsAs : Host 
     used_in (impulse ∷ impulses) old new (mid, before, after, one, more) = used_of impulse (record { stack = old; port = before }) (record { stack = mid; port = after }) one ++ used_in impulses mid new more
 
     -- where an impulse leads, and what moves with it
-    record Led (impulse : Impulse) (old : Stacked E) (there : T) (new : Stacked E) (host : Host S) : Type 0 where
-      occasions : List (Occasion Circumstance)
-      untimed : FiresNot impulse → AllByRecursion FiresNone occasions
-      after : T
-      alike : IsAs host after
-      runs : Runs U (ComesInTurn U) occasions (lined old.line there) (lined new.line after)
-      move : MovesWith impulse old new (units occasions)
-      writable : IsWritable new.line
-      device : IsDevice new.paged
+    pub record Led (impulse : Impulse) (old : Stacked E) (there : T) (new : Stacked E) (host : Host S) : Type 0 where
+      pub occasions : List (Occasion Circumstance)
+      pub untimed : FiresNot impulse → AllByRecursion FiresNone occasions
+      pub after : T
+      pub alike : IsAs host after
+      pub runs : Runs U (ComesInTurn U) occasions (lined old.line there) (lined new.line after)
+      pub move : MovesWith impulse old new (units occasions)
+      pub ticks_are : ticks occasions ≡ impulse_ticks impulse ++ map Moves (units occasions)
+      pub writable : IsWritable new.line
+      pub device : IsDevice new.paged
 
-    led_by : (impulse : Impulse) (old new : Stacked E) (there : T) (before : P) (rest : List Circumstance) (last : Standing S) → left_of impulse old.line.out ≡ old.line.out → last.line ≡ new.line → last.paged ≡ new.paged → IsDevice old.paged → Leads (FiresNot impulse) (heard_of impulse) (at before old rest) there last
+    led_by : (impulse : Impulse) (old new : Stacked E) (there : T) (before : P) (rest : List Circumstance) (last : Standing S) → left_of impulse old.line.out ≡ old.line.out → last.line ≡ new.line → last.paged ≡ new.paged → IsDevice old.paged → Leads (FiresNot impulse) (impulse_ticks impulse) (heard_of impulse) (at before old rest) there last
         → Led impulse old there new last.host
     led_by impulse old new there before rest last none line paged device leads =
         let ran = leads.ran in
@@ -217,23 +265,24 @@ module _ {S T : Type 0} (A : Profile S) (U : Upper T Circumstance) (IsAs : Host 
             spelled = record { each = ran.each; octets_are = refl };
             moves_are = ran.units_are;
           };
+          ticks_are = ran.ticks_are;
           writable = subst IsWritable line ran.writable;
           device = subst IsDevice (sym leads.paged ∙ paged) device;
         }
 
-    impulse_led : (impulse : Impulse) (old new : Stacked E) (before after : P) (one : Happens A Answers pushing impulse (record { stack = old; port = before }) (record { stack = new; port = after })) (rest : List Circumstance) (there : T) → ComesQuietly impulse old → LeavesPort impulse before after
+    pub impulse_led : (impulse : Impulse) (old new : Stacked E) (before after : P) (one : Happens A Answers pushing impulse (record { stack = old; port = before }) (record { stack = new; port = after })) (rest : List Circumstance) (there : T) → ComesQuietly impulse old → LeavesPort impulse before after
         → IsAs (at before old (used_of impulse (record { stack = old; port = before }) (record { stack = new; port = after }) one ++ rest)).host there → IsWritable old.line → IsDevice old.paged → Led impulse old there new (at after new rest).host
     impulse_led (Hears packet) old new before after (is, hears) rest there quiet leaves alike writable device =
         let all = hears.reacts.used ++ rest in
         let first = unit_leads (Unit {0}) packet old before all there is hears.fault quiet alike writable in
         let behind = all_lead (Unit {0}) hears.reacts.deeds (after_packet A packet all (at before old all)) (at after new rest) first.after (hears.reacts.reacts rest) first.alike first.ran.writable device in
-        led_by (Hears packet) old new there before all (at after new rest) refl refl refl device (leads_then (Unit {0}) (packet ∷ []) (at before old all) there (after_packet A packet all (at before old all)) (at after new rest) first behind)
+        led_by (Hears packet) old new there before all (at after new rest) refl refl refl device (leads_then (Unit {0}) [] (packet ∷ []) (at before old all) there (after_packet A packet all (at before old all)) (at after new rest) first behind)
     impulse_led (Learns news) old new before after (own, hears) rest there quiet leaves alike writable device =
         let all = hears.used ++ rest in
         let first = news_leads news old before all there own quiet alike writable in
         let mid = with_host (hear A all news (asking pushing before old.upper all)) (at before old all) in
         let behind = all_lead (IsUntimed news) hears.deeds mid (at after new rest) first.after (hears.reacts rest) first.alike first.ran.writable device in
-        led_by (Learns news) old new there before all (at after new rest) refl refl refl device (leads_then (IsUntimed news) [] (at before old all) there mid (at after new rest) first behind)
+        led_by (Learns news) old new there before all (at after new rest) refl refl refl device (leads_then (IsUntimed news) (news_ticks news) [] (at before old all) there mid (at after new rest) first behind)
     impulse_led GoesOn old new before after goes rest there quiet leaves alike writable device =
         let all = goes.used ++ rest in
         led_by GoesOn old new there before all (at after new rest) refl refl refl device (all_lead (Unit {0}) goes.deeds (at before old all) (at after new rest) there (goes.reacts rest) alike writable device)
@@ -249,6 +298,7 @@ module _ {S T : Type 0} (A : Profile S) (U : Upper T Circumstance) (IsAs : Host 
           alike = alike;
           runs = (lined line there, tt, record { upper_is = refl; line_is = refl; awaited_is = refl }, refl);
           move = record { gained = []; out = sym (append-nil out); went = []; spelled = record { each = tt; octets_are = refl }; moves_are = refl };
+          ticks_are = refl;
           writable = writable_taken old.line out writable;
           device = device;
         }))
@@ -262,6 +312,7 @@ module _ {S T : Type 0} (A : Profile S) (U : Upper T Circumstance) (IsAs : Host 
           alike = alike;
           runs = refl;
           move = record { gained = []; out = sym (append-nil old.line.out); went = []; spelled = record { each = tt; octets_are = refl }; moves_are = refl };
+          ticks_are = refl;
           writable = writable;
           device = paged;
         }))
@@ -320,10 +371,7 @@ module _ {S T : Type 0} (A : Profile S) (U : Upper T Circumstance) (IsAs : Host 
         → ((rest : List Circumstance) → IsAs (at port old rest).host U.first) → IsRunOf role impulses old new has
     impulses_run role impulses old new has port quiet is device alike =
         let there = U.first in
-        let fresh_writes = (calls_are_runs U).fresh role in
-        let puts = ran_by (Unit {0}) [] [] (lined (fresh role) there) _ (calls_at (fresh role) there fresh_writes).puts in
-        let mid = put_pieces (fresh role) in
-        let start = ran_then (Unit {0}) [] (lined (fresh role) there) (lined mid there) (lined (started role) there) puts (ran_by (Unit {0}) [] [] (lined mid there) _ (calls_at mid there puts.writable).commands) in
+        let start = starts role in
         let along = led_along impulses old new has port there quiet (alike (used_in impulses old new has ++ [])) (subst IsWritable (sym is) start.writable) device in
         record {
           occasions = start.occasions ++ along.occasions;

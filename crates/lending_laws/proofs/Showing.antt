@@ -43,16 +43,16 @@ use Rattle.lending_laws.proofs.Servers.{servers_follow}
 
 -- ---- where a host has said all
 
-seen_where : (rules : Policy) (party : Party) (there here : Type 0) → (here → there) → (up : Option Link) (channels : Channels) → AreChannelsAt rules party there up channels → AreChannelsAt rules party here up channels
+pub seen_where : (rules : Policy) (party : Party) (there here : Type 0) → (here → there) → (up : Option Link) (channels : Channels) → AreChannelsAt rules party there up channels → AreChannelsAt rules party here up channels
 seen_where rules party there here so None channels are = are
 seen_where rules party there here so (Some link) channels are =
-    record { said = are.said; waits = are.waits; talk_is = are.talk_is; none = λ said. are.none (so said); go_out = are.go_out; read = are.read; opens = are.opens }
+    record { said = are.said; waits = are.waits; talk_is = are.talk_is; none = λ said. are.none (so said); go_out = are.go_out; read = are.read; opens = are.opens; only = are.only }
 
-held_where : (rules : Policy) (party : Party) (there here : Type 0) → (here → there) → (up : Option Link) (channels : Channels) → AreOfLinkUp rules party there up channels → AreOfLinkUp rules party here up channels
+pub held_where : (rules : Policy) (party : Party) (there here : Type 0) → (here → there) → (up : Option Link) (channels : Channels) → AreOfLinkUp rules party there up channels → AreOfLinkUp rules party here up channels
 held_where rules party there here so None channels are = are
 held_where rules party there here so (Some link) channels are = record { waits = are.waits; go_out = are.go_out; so = are.so; moved = λ said. are.moved (so said) }
 
-said_there : {E S T P : Type 0} (A : Profile S) (U : Upper T Circumstance) (IsAs : Host S → T → Type 0) (follows : Follows A U IsAs) (pushing : E → P → List Circumstance → S) (port : P) (now : Stacked E) (there : T)
+pub said_there : {E S T P : Type 0} (A : Profile S) (U : Upper T Circumstance) (IsAs : Host S → T → Type 0) (follows : Follows A U IsAs) (pushing : E → P → List Circumstance → S) (port : P) (now : Stacked E) (there : T)
     → IsAs (standing pushing port now []).host there → AllIsSaid now → HasSaidAll U (record { line = now.line; upper = there })
 said_there A U IsAs follows pushing port now there alike said = record { pieces = said.pieces; none_next = follows.silent (standing pushing port now []).host there alike said.none_more }
 
@@ -63,7 +63,7 @@ module _ {P : Type 0} (content : P → Option (List Object)) (faults shortages :
   new_twins : (rest : List Circumstance) → AreTwins client_machine (plain_client (set_to settings (standing (client_noting content) shelf (fresh_client settings).stack rest).host)) (set_to settings (upper (client_profile settings)).first)
   new_twins rest = record { hear = λ answers news. refl; next = refl; wants_link = refl; leaves_link = refl; is_idle = refl; outcome = refl; armed = refl; may_cancel = refl; has_check = λ own. refl }
 
-  new_client_is : (rest : List Circumstance) → IsClient settings (standing (client_noting content) shelf (fresh_client settings).stack rest).host (upper (client_profile settings)).first
+  pub new_client_is : (rest : List Circumstance) → IsClient settings (standing (client_noting content) shelf (fresh_client settings).stack rest).host (upper (client_profile settings)).first
   new_client_is rest = (new_twins rest, refl)
 
   client_run : (calls : List HostCall) (now : Shelled (Noted ClientProfile)) (impulses : List Impulse)
@@ -88,12 +88,12 @@ clients_show {P} content faults shortages settings shelf calls now impulses come
 
 -- ---- a server
 
-same_channels : (settings : Settings) (content : Option Contents) (host : Host (Noted ServerProfile)) (there : Host ServerProfile) → IsAlike settings content host there → there.channels ≡ host.channels
+pub same_channels : (settings : Settings) (content : Option Contents) (host : Host (Noted ServerProfile)) (there : Host ServerProfile) → IsAlike settings content host there → there.channels ≡ host.channels
 same_channels settings content host there (inl same) = ap (λ (h : Host ServerProfile). h.channels) same
 same_channels settings content host there (inr new) = ap (λ (h : Host ServerProfile). h.channels) new.there_is ∙ sym (ap (λ (h : Host ServerProfile). h.channels) new.host_is)
 
 module _ {P : Type 0} (content : P → Option Contents) (faults shortages : P → ℕ) (settings : Settings) (inbox : P) where
-  new_server_is : (rest : List Circumstance) → IsAlike settings (content inbox) (standing (server_noting content) inbox (fresh_server settings).stack rest).host (upper (server_profile settings (content inbox))).first
+  pub new_server_is : (rest : List Circumstance) → IsAlike settings (content inbox) (standing (server_noting content) inbox (fresh_server settings).stack rest).host (upper (server_profile settings (content inbox))).first
   new_server_is rest = inr (record { there_is = refl; answers = answers_in rest; host_is = refl })
 
   server_run : (calls : List HostCall) (now : Shelled (Noted Served)) (impulses : List Impulse)

@@ -37,6 +37,7 @@ use Rattle.receiving.specs.bt_host.specs.NotedHosts.{noted_server}
 use Rattle.receiving.specs.bt_host.specs.Refusals.{acl_limit}
 use Rattle.receiving.specs.bt_host.specs.Stacks.{Standing, usual_peer}
 use Rattle.orderly_laws.specs.unit_laws.specs.Laws.{FiresNone}
+use Rattle.orderly_laws.specs.unit_laws.specs.Timed.{ticks, timed}
 use Rattle.orderly_laws.specs.unit_laws.specs.Units.{units, ComesInTurn}
 use Rattle.orderly_laws.specs.unit_laws.proofs.Running.{TalksAt, all_talks}
 use Rattle.orderly_laws.specs.unit_laws.proofs.Taking.{ReadAt, takes_so, first_read, runs_read}
@@ -56,14 +57,14 @@ use Rattle.receive_laws.proofs.Streams.{first_there, fresh_at, opens}
 
 -- ---- what a packet tells, on a link that is up and on none
 
-abbrev TellsSo : Link → Packet → PlainNews → Type 0
+abbrev pub TellsSo : Link → Packet → PlainNews → Type 0
 TellsSo link packet Nothing = Unit {0}
 TellsSo link packet LinkUp = Unit {0}
 TellsSo link packet (LinkFailed status) = TellsOn link packet
 TellsSo link packet (LinkDown reason) = Unit {0}
 TellsSo link packet (Pdu channel octets) = TellsOn link packet
 
-abbrev BringsNone : PlainNews → Type 0
+abbrev pub BringsNone : PlainNews → Type 0
 BringsNone Nothing = Unit {0}
 BringsNone LinkUp = Unit {0}
 BringsNone (LinkFailed status) = Unit {0}
@@ -126,7 +127,7 @@ event_tells code params line Q none down made =
 
 -- ---- any packet
 
-packet_tells : (link : Link) (packet : Packet) (line : Line) → line.link ≡ Some link.handle → line.joining ≡ open_after longest_pdu (pieces Into link.handle link.moves) → TellsSo link packet (news_of packet line)
+pub packet_tells : (link : Link) (packet : Packet) (line : Line) → line.link ≡ Some link.handle → line.joining ≡ open_after longest_pdu (pieces Into link.handle link.moves) → TellsSo link packet (news_of packet line)
 packet_tells link (Command opcode params) line on joins = subst (λ (l : Option ℕ). TellsSo link (Command opcode params) (piece_news (piece_on l (Command opcode params)) line)) (sym on) tt
 packet_tells link (Acl word octets) line on joins =
     subst (λ (l : Option ℕ). TellsSo link (Acl word octets) (piece_news (piece_on l (Acl word octets)) line)) (sym on)
@@ -143,7 +144,7 @@ made_none status line = by line.asked (status == 0) (is_none line.link)
     by true true true = tt
     by true true false = tt
 
-brings_none : (packet : Packet) (line : Line) → line.link ≡ None → BringsNone (news_of packet line)
+pub brings_none : (packet : Packet) (line : Line) → line.link ≡ None → BringsNone (news_of packet line)
 brings_none (Command opcode params) line off = subst (λ (l : Option ℕ). BringsNone (piece_news (piece_on l (Command opcode params)) line)) (sym off) tt
 brings_none (Acl word octets) line off = subst (λ (l : Option ℕ). BringsNone (piece_news (piece_on l (Acl word octets)) line)) (sym off) tt
 brings_none (Sync word octets) line off = subst (λ (l : Option ℕ). BringsNone (piece_news (piece_on l (Sync word octets)) line)) (sym off) tt
@@ -164,6 +165,12 @@ told_off LinkUp now none all = tt
 told_off (LinkFailed status) now none all = all
 told_off (LinkDown reason) now none all = tt
 told_off (Pdu channel octets) now none all = absurd none
+
+-- ---- what moves turn after turn
+
+pub one_more : (ahead : List Turn) (turn : Turn) (xs ys : List Move) → MoveInTurns ahead xs → MovesWith turn ys → MoveInTurns (ahead ++ turn ∷ []) (xs ++ ys)
+one_more [] turn xs ys none moves = (ys, [], moves, refl, ap (λ (l : List Move). l ++ ys) none ∙ sym (append-nil ys))
+one_more (other ∷ ahead) turn xs ys (one, rest, is, more, all) moves = (one, rest ++ ys, is, one_more ahead turn rest ys more moves, ap (λ (l : List Move). l ++ ys) all ∙ append_assoc one rest ys)
 
 module _ (settings : Settings) (before : List Object) where
   abbrev A : Profile ServerProfile
@@ -211,10 +218,6 @@ module _ (settings : Settings) (before : List Object) where
         then_runs settings (holding before) (opening said) [] (fresh_at settings before rest) (first_there settings before) now now first (rests_there settings (holding before) now first.after first.alike first.writable first.taken);
   }
 
-  one_more : (ahead : List Turn) (turn : Turn) (xs ys : List Move) → MoveInTurns ahead xs → MovesWith turn ys → MoveInTurns (ahead ++ turn ∷ []) (xs ++ ys)
-  one_more [] turn xs ys none moves = (ys, [], moves, refl, ap (λ (l : List Move). l ++ ys) none ∙ sym (append-nil ys))
-  one_more (other ∷ ahead) turn xs ys (one, rest, is, more, all) moves = (one, rest ++ ys, is, one_more ahead turn rest ys more moves, ap (λ (l : List Move). l ++ ys) all ∙ append_assoc one rest ys)
-
   then_reached : (ahead : List Turn) (turn : Turn) (old new : Posture (Noted ServerProfile)) (one : HasTurn N turn old new) → Reached ahead old.stands → old.full ≡ false → TakesInTurn turn.packet old.stands → AllByRecursion (IsPacket acl_limit) (option_to_list turn.packet) → Reached (ahead ++ turn ∷ []) new.stands
   then_reached ahead turn old new one reached off takes each =
       let here = answers_heard N turn.packet old.full one.between one.after one.hears in
@@ -243,7 +246,7 @@ module _ (settings : Settings) (before : List Object) where
           read : ReadAt past (stands rest).line
           read = runs_read (upper A) (ComesInTurn (upper A)) [] run.occasions _ _ run.runs (first_read Server)
 
-          talks : TalksAt (upper A) (AllByRecursion FiresNone run.occasions) past (lined (stands rest).line run.after)
+          talks : TalksAt (upper A) (AllByRecursion FiresNone run.occasions) past (timed (ticks run.occasions)) (lined (stands rest).line run.after)
           talks = all_talks (upper A) (AllByRecursion FiresNone run.occasions) (says_frames A) Server run.occasions _ (λ still. still) run.runs
 
           silent : (stands rest).line.link ≡ None → SaidAll (stands rest)
