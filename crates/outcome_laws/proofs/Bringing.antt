@@ -207,7 +207,7 @@ module _ (settings : Settings) where
   line_lame gifts (LinkDown reason) host lame = lame_hear settings gifts (Linked (Down reason)) host lame
   line_lame gifts (Pdu channel octets) host lame = lame_hear settings gifts (Heard octets) host lame
 
-  one_lame : (one : One) (old new : Lined (Host ClientProfile)) → Happens (upper (client_profile settings)) one old new → failed_at old ≡ true → failed_at new ≡ true
+  pub one_lame : (one : One) (old new : Lined (Host ClientProfile)) → Happens (upper (client_profile settings)) one old new → failed_at old ≡ true → failed_at new ≡ true
   one_lame (Comes gifts unit) old new (fault, is) lame = ap (λ (s : Lined (Host ClientProfile)). failed_at s) is ∙ line_lame gifts (news_of unit old.line) old.upper lame
   one_lame (Learns gifts news) old new (own, is) lame = ap (λ (s : Lined (Host ClientProfile)). failed_at s) is ∙ lame_hear settings gifts news old.upper lame
   one_lame (Says_occasion pdu) old new says lame = lame_next settings old.upper pdu new.upper says.next_is lame
@@ -215,7 +215,7 @@ module _ (settings : Settings) where
   one_lame (Commands command) old new puts lame = ap (λ (h : Host ClientProfile). h.profile.client.failed) puts.upper_is ∙ lame
   one_lame Waits old new waits lame = ap (λ (h : Host ClientProfile). h.profile.client.failed) waits.upper_is ∙ lame
 
-  run_lame : (list : List One) (old new : Lined (Host ClientProfile)) → Runs (upper (client_profile settings)) Whatever list old new → failed_at old ≡ true → failed_at new ≡ true
+  pub run_lame : (list : List One) (old new : Lined (Host ClientProfile)) → Runs (upper (client_profile settings)) Whatever list old new → failed_at old ≡ true → failed_at new ≡ true
   run_lame [] old new is lame = ap (λ (s : Lined (Host ClientProfile)). failed_at s) is ∙ lame
   run_lame (one ∷ list) old new (mid, so, happens, rest) lame = run_lame list mid new rest (one_lame one old mid happens lame)
 

@@ -2,3 +2,8 @@ pub mod FirstCause
 pub mod Units
 pub mod Telling
 pub mod Bringing
+pub mod Links
+pub mod Deciding
+pub mod Growing
+pub mod Saying
+pub mod Ending

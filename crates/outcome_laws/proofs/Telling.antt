@@ -65,7 +65,7 @@ module _ (settings : Settings) where
       let said : next C before ≡ Some (pdu_of given, after_said C count before) = ap (λ (n : ℕ). says C (Some given) n before) may in
       subst (λ (n : ℕ). Came is_shelf host.profile.client.cause (drives C n host).profile.client.cause) many (next_shelf settings before (pdu_of given) (after_said C count before) none said)
 
-  hears_so : (q : Outcome → Bool) → ((outcome : Outcome) → is_shelf outcome ≡ true → q outcome ≡ true) → (old : Option Outcome) (host : Host ClientProfile) → host.may_say ≡ most_said → host.channels.events ≡ [] → Came q old host.profile.client.cause
+  pub hears_so : (q : Outcome → Bool) → ((outcome : Outcome) → is_shelf outcome ≡ true → q outcome ≡ true) → (old : Option Outcome) (host : Host ClientProfile) → host.may_say ≡ most_said → host.channels.events ≡ [] → Came q old host.profile.client.cause
       → Came q old (drives (client_profile settings) most_steps host).profile.client.cause
   hears_so q more old host may none came =
       came_then q old host.profile.client.cause (drives C most_steps host).profile.client.cause came

@@ -2,3 +2,4 @@ pub use Rattle.cause_laws
 pub use Rattle.unit_laws
 pub mod FirstCause
 pub mod BroughtAbout
+pub mod SaidWith
