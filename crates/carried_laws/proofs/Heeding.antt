@@ -1,10 +1,10 @@
--- A responder that asks for its signal alone answers each SABM and DISC once, whatever keeps to the rules: UA and DM, which it asked for by nothing, too.
+-- A responder that asks for its signal alone answers each SABM and DISC once, and by DM each PN for another channel, whatever comes: UA and DM, which it
+-- asked for by nothing, too.
 use Rattle.std.proofs.Common.{◌≡◌, ◌+◌, ℕ, Bool, true, false, cond, ◌==◌, Option, Some, None, refl, sym, subst, arith}
 use Rattle.push_laws.specs.push_model.specs.rfcomm_frames.specs.declared.frame.MuxKind.{MuxKind}
 use Rattle.push_laws.specs.push_model.specs.rfcomm_frames.specs.declared.frame.MuxKind.TheVariants.{Sabm, Ua, Dm, Disc, Uih}
 use Rattle.push_laws.specs.push_model.specs.rfcomm_frames.specs.Connections.{other_role, turned}
 use Rattle.push_laws.specs.push_model.specs.rfcomm_frames.specs.Frames.{PlainFrame}
-use Rattle.push_laws.specs.push_model.specs.rfcomm_frames.specs.FrameReading.{messages}
 use Rattle.push_laws.specs.push_model.specs.rfcomm_model.specs.declared.state.Asks.{Asks}
 use Rattle.push_laws.specs.push_model.specs.rfcomm_model.specs.declared.state.Asks.TheVariants.{Nothing, Due, Awaited}
 use Rattle.push_laws.specs.push_model.specs.rfcomm_model.specs.declared.state.Command.TheVariants.{OpenControl, Agree, OpenUser, Signal, LeaveUser, LeaveControl}
@@ -12,16 +12,9 @@ use Rattle.push_laws.specs.push_model.specs.rfcomm_model.specs.declared.state.Mu
 use Rattle.push_laws.specs.push_model.specs.rfcomm_model.specs.declared.state.MuxReason.TheVariants as reasons
 use Rattle.push_laws.specs.push_model.specs.rfcomm_model.specs.Hearing.{control_answered, user_answered, hears_ua, control_refused, user_refused, hears_dm, hears_kind, hears_settled, hears_frame}
 use Rattle.push_laws.specs.push_model.specs.rfcomm_model.specs.Machine.{Mux, closes}
-use Rattle.push_laws.proofs.Conceding.{R, r_frame}
-use Rattle.push_laws.proofs.Ordering.{command_of, AllPlain, Forth, IsSignal}
-
--- of UIH on the control channel the messages are plain
-abbrev pub SaysPlain : MuxKind → PlainFrame → Type 0
-SaysPlain Sabm f = Unit {0}
-SaysPlain Ua f = Unit {0}
-SaysPlain Dm f = Unit {0}
-SaysPlain Disc f = Unit {0}
-SaysPlain Uih f = (f.dlci == 0) ≡ true → AllPlain (messages f.octets)
+use Rattle.push_laws.proofs.Conceding.{R, r_frame, r_uih}
+use Rattle.push_laws.proofs.Ordering.{command_of, Forth, IsSignal}
+use Rattle.carried_laws.specs.Standing.{turns}
 
 r_if : (t : ℕ) (b : Bool) (x y : Mux) → R t x → R t y → R t (cond b x y)
 r_if t true x y p q = p
@@ -90,26 +83,26 @@ r_dm t n m s = r_if t (n == 0) (control_refused m.asks m) (cond (n == m.dlci) (u
 r_more : (t k : ℕ) (m : Mux) → R t m → R (t + k) m
 r_more t k m s = let few = s.few in record { role_is = s.role_is; dlci_is = s.dlci_is; answers = s.answers; few = omega (arith, few); wish = s.wish }
 
-r_kind : (t : ℕ) (kind : MuxKind) (f : PlainFrame) (m : Mux) → f.kind ≡ kind → SaysPlain kind f → R t m → R (t + command_of kind) (hears_kind kind f m)
-r_kind t Ua f m is plain s = r_more t 0 _ (r_if t f.pf (hears_ua f.dlci m) m (r_ua t f.dlci m s) s)
-r_kind t Dm f m is plain s = r_more t 0 _ (r_dm t f.dlci m s)
-r_kind t Sabm f m is plain s = subst (λ (k : MuxKind). R (t + command_of k) (hears_kind k f m)) is (r_frame t None f m (subst (λ (k : MuxKind). Forth k f) (sym is) tt) s)
-r_kind t Disc f m is plain s = subst (λ (k : MuxKind). R (t + command_of k) (hears_kind k f m)) is (r_frame t None f m (subst (λ (k : MuxKind). Forth k f) (sym is) tt) s)
-r_kind t Uih f m is plain s = subst (λ (k : MuxKind). R (t + command_of k) (hears_kind k f m)) is (r_frame t None f m (subst (λ (k : MuxKind). Forth k f) (sym is) plain) s)
+r_kind : (t : ℕ) (kind : MuxKind) (f : PlainFrame) (m : Mux) → f.kind ≡ kind → R t m → R (t + turns kind f) (hears_kind kind f m)
+r_kind t Ua f m is s = r_more t 0 _ (r_if t f.pf (hears_ua f.dlci m) m (r_ua t f.dlci m s) s)
+r_kind t Dm f m is s = r_more t 0 _ (r_dm t f.dlci m s)
+r_kind t Sabm f m is s = subst (λ (k : MuxKind). R (t + command_of k) (hears_kind k f m)) is (r_frame t None f m (subst (λ (k : MuxKind). Forth k f) (sym is) tt) s)
+r_kind t Disc f m is s = subst (λ (k : MuxKind). R (t + command_of k) (hears_kind k f m)) is (r_frame t None f m (subst (λ (k : MuxKind). Forth k f) (sym is) tt) s)
+r_kind t Uih f m is s = r_uih t f m s
 
 -- closed by DM it hears as where it is closed by DISC
-r_settled : (t : ℕ) (kind : MuxKind) (f : PlainFrame) (m : Mux) → f.kind ≡ kind → R t m → R (t + command_of kind) (hears_settled kind f m)
+r_settled : (t : ℕ) (kind : MuxKind) (f : PlainFrame) (m : Mux) → f.kind ≡ kind → R t m → R (t + turns kind f) (hears_settled kind f m)
 r_settled t Ua f m is s = r_more t 0 m s
 r_settled t Dm f m is s = r_more t 0 m s
-r_settled t Uih f m is s = r_more t 0 m s
+r_settled t Uih f m is s = r_more t (turns Uih f) m s
 r_settled t Sabm f m is s = subst (λ (k : MuxKind). R (t + command_of k) (hears_settled k f m)) is (r_frame t (Some reasons.Disc) f m (subst (λ (k : MuxKind). Forth k f) (sym is) tt) s)
 r_settled t Disc f m is s = subst (λ (k : MuxKind). R (t + command_of k) (hears_settled k f m)) is (r_frame t (Some reasons.Disc) f m (subst (λ (k : MuxKind). Forth k f) (sym is) tt) s)
 
-pub r_heard : (t : ℕ) (closed : Option MuxReason) (f : PlainFrame) (m : Mux) → SaysPlain f.kind f → R t m → R (t + command_of f.kind) (hears_frame closed f m)
-r_heard t None f m plain s = r_kind t f.kind f m refl plain s
-r_heard t (Some reasons.Dm) f m plain s = r_settled t f.kind f m refl s
-r_heard t (Some reasons.Disc) f m plain s = r_settled t f.kind f m refl s
-r_heard t (Some reasons.NoCreditFlow) f m plain s = r_more t (command_of f.kind) m s
-r_heard t (Some reasons.Overdrawn) f m plain s = r_more t (command_of f.kind) m s
-r_heard t (Some reasons.BadFrame) f m plain s = r_more t (command_of f.kind) m s
-r_heard t (Some reasons.CreditOverflow) f m plain s = r_more t (command_of f.kind) m s
+pub r_heard : (t : ℕ) (closed : Option MuxReason) (f : PlainFrame) (m : Mux) → R t m → R (t + turns f.kind f) (hears_frame closed f m)
+r_heard t None f m s = r_kind t f.kind f m refl s
+r_heard t (Some reasons.Dm) f m s = r_settled t f.kind f m refl s
+r_heard t (Some reasons.Disc) f m s = r_settled t f.kind f m refl s
+r_heard t (Some reasons.NoCreditFlow) f m s = r_more t (turns f.kind f) m s
+r_heard t (Some reasons.Overdrawn) f m s = r_more t (turns f.kind f) m s
+r_heard t (Some reasons.BadFrame) f m s = r_more t (turns f.kind f) m s
+r_heard t (Some reasons.CreditOverflow) f m s = r_more t (turns f.kind f) m s

@@ -1,12 +1,11 @@
 -- What the multiplexer of a server has still to give, against what stands by the frames that passed.
-use Rattle.std.proofs.Common.{arith, inl, inr, ◌≡◌, ◌⊎◌, ◌≤◌, ◌<◌, ◌+◌, ◌-◌, ◌==◌, ◌/◌, ◌%◌, ◌&&◌, ◌||◌, ℕ, Bool, true, false, cond, eqb, List, [], ◌∷◌, length, take, Option, Some, None, Ok, Err, refl, sym, subst, ◌∙◌}
+use Rattle.std.proofs.Common.{arith, inl, inr, ◌≡◌, ◌⊎◌, ◌≤◌, ◌<◌, ◌+◌, ◌-◌, ◌==◌, ◌&&◌, ◌||◌, ℕ, Bool, true, false, cond, eqb, List, [], ◌∷◌, length, take, Option, Some, None, Ok, refl, sym, subst, ◌∙◌}
 use Rattle.std.specs.Prelude.{not, ◌^◌, nat_lt}
 use Rattle.std.specs.List.{AllByRecursion, list_any}
-use Rattle.std.proofs.lemmas.Bool.{cond_both, eq-eqb, eqb-true, le-ltb}
+use Rattle.std.proofs.lemmas.Bool.{cond_both, eqb-true}
 use Rattle.push_laws.specs.push_model.specs.rfcomm_frames.specs.declared.connection.Role.TheVariants.{Responder}
 use Rattle.push_laws.specs.push_model.specs.rfcomm_frames.specs.declared.frame.MuxKind.{MuxKind}
 use Rattle.push_laws.specs.push_model.specs.rfcomm_frames.specs.declared.frame.MuxKind.TheVariants.{Sabm, Ua, Dm, Disc, Uih}
-use Rattle.push_laws.specs.push_model.specs.rfcomm_frames.specs.Controls.{pn, msc, test, rpn, rls, nsc, other}
 use Rattle.push_laws.specs.push_model.specs.rfcomm_frames.specs.Frames.{PlainFrame, carries}
 use Rattle.push_laws.specs.push_model.specs.rfcomm_frames.specs.FrameReading.{MessageAnswer, messages, is_empty}
 use Rattle.push_laws.specs.push_model.specs.rfcomm_model.specs.ClosedSides.{IsOrderly}
@@ -14,28 +13,23 @@ use Rattle.push_laws.specs.push_model.specs.rfcomm_model.specs.Hearing.{hears_an
 use Rattle.push_laws.specs.push_model.specs.rfcomm_model.specs.Machine.{Mux, new_mux, taken_count, sends}
 use Rattle.push_laws.specs.push_model.specs.rfcomm_model.specs.Saying.{Said, next}
 use Rattle.push_laws.specs.push_model.specs.rfcomm_model.specs.Sides.{asks_of, AnswerFindsRoom}
-use Rattle.push_laws.specs.push_model.specs.rfcomm_model.proofs.Flooding.{waiting, answer_waits, answer_finds, SaysWaits, says_waits}
+use Rattle.push_laws.specs.push_model.specs.rfcomm_model.proofs.Flooding.{waiting, answer_finds, SaysWaits, says_waits}
+use Rattle.push_laws.specs.rfcomm_laws.specs.Messages.{IsAllowed, is_acceptance}
 use Rattle.push_laws.specs.rfcomm_laws.specs.Totals.{bonus_of, cost_of}
-use Rattle.push_laws.specs.rfcomm_laws.proofs.Harm.{bonuses_of, rank, SoundMessage, SoundMessages, AllWait, SoundAsks, Step}
+use Rattle.push_laws.specs.rfcomm_laws.proofs.Answering.{frames-are_answered_once}
+use Rattle.push_laws.specs.rfcomm_laws.proofs.Harm.{bonuses_of, rank, SoundMessages, AllWait, SoundAsks, Step}
 use Rattle.push_laws.specs.rfcomm_laws.proofs.Turning.{Fit, still_fit}
 use Rattle.push_laws.specs.rfcomm_laws.proofs.Harmless.{SoundIn, word_to, heard_step}
 use Rattle.push_laws.specs.rfcomm_laws.proofs.Telling.{flow_in, Tells, SaysWell, says_well}
-use Rattle.push_laws.specs.Premises.{is_answer, may_overtake}
+use Rattle.push_laws.specs.Premises.{is_answer, leaves_or_controls, may_overtake}
 use Rattle.push_laws.proofs.Conceding.{R, SaysBack, SaidBack, back_answers}
 use Rattle.push_laws.proofs.Frames.{mux_said, frame_said}
-use Rattle.push_laws.proofs.Ordering.{command_of, answer_of, AllPlain, Back}
-use Rattle.carried_laws.specs.Standing.{Standing, start, turns, agrees, is_acceptance, accepts, informs, comes, goes}
-use Rattle.carried_laws.specs.Orderly.{IsAllowed, Keeps}
-use Rattle.carried_laws.proofs.Heeding.{SaysPlain, r_heard}
+use Rattle.push_laws.proofs.Ordering.{answer_of, Back}
+use Rattle.carried_laws.specs.Standing.{Standing, start, turns, agrees, accepts, informs, comes, goes}
+use Rattle.carried_laws.specs.Orderly.{Keeps}
+use Rattle.carried_laws.proofs.Heeding.{r_heard}
 
 -- ---- the same counts
-
-turns_are : (kind : MuxKind) → turns kind ≡ command_of kind
-turns_are Sabm = refl
-turns_are Ua = refl
-turns_are Dm = refl
-turns_are Disc = refl
-turns_are Uih = refl
 
 agrees_are : (kind : MuxKind) → agrees kind ≡ answer_of kind
 agrees_are Sabm = refl
@@ -59,32 +53,9 @@ flow_is Uih f = by (eqb f.dlci 18) refl (eqb f.dlci 0) refl
 
 -- ---- what keeps to the rules
 
-allowed_sound : (message : MessageAnswer) → IsAllowed message → SoundMessage true message
-allowed_sound (Ok (pn true dlci flow priority timer frame retransmissions credits)) a = (eq-eqb (flow / 16) 15 a.2, le-ltb frame 23 a.3)
-allowed_sound (Ok (pn false dlci flow priority timer frame retransmissions credits)) a = let never : false ≡ true = a.0 in cc
-allowed_sound (Ok (msc command dlci signals)) a = tt
-allowed_sound (Ok (test command octets)) a = absurd a
-allowed_sound (Ok (rpn command value)) a = absurd a
-allowed_sound (Ok (rls command value)) a = absurd a
-allowed_sound (Ok (nsc kind)) a = absurd a
-allowed_sound (Ok (other kind value)) a = absurd a
-allowed_sound (Err refusal) a = absurd a
-
-all_sound : (list : List MessageAnswer) → AllByRecursion IsAllowed list → SoundMessages true list
+all_sound : (list : List MessageAnswer) → AllByRecursion (IsAllowed 18) list → SoundMessages true 18 list
 all_sound [] all = tt
-all_sound (message ∷ rest) all = (allowed_sound message all.0, all_sound rest all.1)
-
-all_plain : (list : List MessageAnswer) → AllByRecursion IsAllowed list → AllPlain list
-all_plain [] all = tt
-all_plain (Ok (pn true dlci flow priority timer frame retransmissions credits) ∷ rest) all = (eq-eqb (dlci % 64) 18 all.0.1, all_plain rest all.1)
-all_plain (Ok (pn false dlci flow priority timer frame retransmissions credits) ∷ rest) all = let never : false ≡ true = all.0.0 in cc
-all_plain (Ok (msc command dlci signals) ∷ rest) all = (tt, all_plain rest all.1)
-all_plain (Ok (test command octets) ∷ rest) all = absurd all.0
-all_plain (Ok (rpn command value) ∷ rest) all = absurd all.0
-all_plain (Ok (rls command value) ∷ rest) all = absurd all.0
-all_plain (Ok (nsc kind) ∷ rest) all = absurd all.0
-all_plain (Ok (other kind value) ∷ rest) all = absurd all.0
-all_plain (Err refusal ∷ rest) all = absurd all.0
+all_sound (message ∷ rest) all = ((all.0, λ accepts. refl), all_sound rest all.1)
 
 keeps_sound : (agreed own : Bool) (kind : MuxKind) (f : PlainFrame) → (agreed ≡ true → own ≡ true) → Keeps agreed kind f → SoundIn true own 18 kind f
 keeps_sound agreed own Sabm f more k = λ here. more (k (eqb-true f.dlci 18 here))
@@ -93,25 +64,15 @@ keeps_sound agreed own Dm f more k = tt
 keeps_sound agreed own Disc f more k = tt
 keeps_sound agreed own Uih f more k = λ here. all_sound (messages f.octets) (k (eqb-true f.dlci 0 here))
 
-keeps_plain : (agreed : Bool) (kind : MuxKind) (f : PlainFrame) → Keeps agreed kind f → SaysPlain kind f
-keeps_plain agreed Sabm f k = tt
-keeps_plain agreed Ua f k = tt
-keeps_plain agreed Dm f k = tt
-keeps_plain agreed Disc f k = tt
-keeps_plain agreed Uih f k = λ here. all_plain (messages f.octets) (k (eqb-true f.dlci 0 here))
+or_parts : (a b : Bool) → (a || b) ≡ true → (a ≡ true) ⊎ (b ≡ true)
+or_parts true b is = inl refl
+or_parts false b is = inr is
 
 -- a response to PN is said by a side that agreed
-accepted_message : (own : Bool) (list : List MessageAnswer) → SoundMessages own list → list_any is_acceptance list ≡ true → own ≡ true
+accepted_message : (own : Bool) (list : List MessageAnswer) → SoundMessages own 18 list → list_any is_acceptance list ≡ true → own ≡ true
 accepted_message own [] sound is = let never : false ≡ true = is in cc
-accepted_message own (Ok (pn true dlci flow priority timer frame retransmissions credits) ∷ rest) sound is = accepted_message own rest sound.1 is
-accepted_message own (Ok (pn false dlci flow priority timer frame retransmissions credits) ∷ rest) sound is = sound.0.2
-accepted_message own (Ok (msc command dlci signals) ∷ rest) sound is = accepted_message own rest sound.1 is
-accepted_message own (Ok (test command octets) ∷ rest) sound is = absurd sound.0
-accepted_message own (Ok (rpn command value) ∷ rest) sound is = absurd sound.0
-accepted_message own (Ok (rls command value) ∷ rest) sound is = absurd sound.0
-accepted_message own (Ok (nsc kind) ∷ rest) sound is = absurd sound.0
-accepted_message own (Ok (other kind value) ∷ rest) sound is = absurd sound.0
-accepted_message own (Err refusal ∷ rest) sound is = absurd sound.0
+accepted_message own (message ∷ rest) sound is =
+    elim (or_parts (is_acceptance message) (list_any is_acceptance rest) is) [ inl this ↦ sound.0.1 this | inr later ↦ accepted_message own rest sound.1 later ]
 
 both_true : (a b : Bool) → (a && b) ≡ true → (a ≡ true) × (b ≡ true)
 both_true true b is = (refl, is)
@@ -187,11 +148,13 @@ new_owes largest cap least most = record {
 
 -- ---- a frame of the client comes
 
--- no UA or DM waits where none is asked for
-overtakes_kind : (kind : MuxKind) (f : PlainFrame) (apart : Bool) → Back kind f → agrees kind ≤ 0 → (carries kind || (is_answer kind && apart)) ≡ true
+-- behind UA or DM there come but DISC and messages on the control channel; where none is asked for, none waits
+overtakes_kind : (kind : MuxKind) (f : PlainFrame) (apart : Bool) → Back kind f → (apart ≡ false → agrees kind ≤ 0) → (carries kind || (is_answer kind && apart)) ≡ true
 overtakes_kind Sabm f apart back none = absurd back
-overtakes_kind Ua f apart back none = absurd (omega (arith, none))
-overtakes_kind Dm f apart back none = absurd (omega (arith, none))
+overtakes_kind Ua f true back none = refl
+overtakes_kind Ua f false back none = absurd (let few = none refl in omega (arith, few))
+overtakes_kind Dm f true back none = refl
+overtakes_kind Dm f false back none = absurd (let few = none refl in omega (arith, few))
 overtakes_kind Disc f apart back none = absurd back
 overtakes_kind Uih f apart back none = refl
 
@@ -201,31 +164,30 @@ pub record Heard (s : Standing) (m : Mux) (frame : Option PlainFrame) (f : Plain
   pub owes : Owes (comes f s) (hears_answer (Ok f) m) frame
   pub step : Step (word_to true m f) (bonus_of 18 f) (cost_of f) m (hears_answer (Ok f) m)
 
-pub heard_owes : (s : Standing) (m : Mux) (frame : Option PlainFrame) (f : PlainFrame) → Owes s m frame → Keeps s.agreed f.kind f → s.asked ≡ 0 → s.owed + asks_of f.kind f ≤ 15 → s.client_spent + cost_of f ≤ s.client_granted
+pub heard_owes : (s : Standing) (m : Mux) (frame : Option PlainFrame) (f : PlainFrame) → Owes s m frame → Keeps s.agreed f.kind f → (leaves_or_controls f ≡ false → s.asked ≡ 0) → s.owed + asks_of f.kind f ≤ 15 → s.client_spent + cost_of f ≤ s.client_granted
     → s.server_granted + bonus_of 18 f ≤ 65535 + s.server_spent → Heard s m frame f
 heard_owes s m frame f o keeps answered few paid fits =
     let x : Mux = hears_answer (Ok f) m in
     let on : m.dlci ≡ 18 = o.fit.dlci in
     let sound : SoundIn true m.agreed m.dlci f.kind f = subst (λ (d : ℕ). SoundIn true m.agreed d f.kind f) (sym on) (keeps_sound s.agreed m.agreed f.kind f o.agreed keeps) in
     let st : Step (word_to true m f) (bonus_of 18 f) (cost_of f) m x = heard_step true 18 f m o.fit sound in
-    let more = answer_waits (Ok f) m in
+    let more = frames-are_answered_once f m in
     let owed : bonuses_of 18 x.answers + own_credits x ≤ bonuses_of 18 m.answers + own_credits m = subst (λ (d : ℕ). bonuses_of d x.answers + own_credits x ≤ bonuses_of d m.answers + own_credits m) on st.owed in
     let room = o.room in
     let one = spare_few frame in
     let held = o.held in
     let peer = o.peer in
     let asked = o.asked in
-    let turned = turns_are f.kind in
     let grown = st.held in
     let less = st.peer in
     record {
       room = answer_finds (Ok f) m (omega (arith, room, one, few));
-      behind = overtakes frame o.back (omega (arith, asked, answered));
+      behind = overtakes frame o.back (λ apart. let none = answered apart in omega (arith, asked, none));
       owes = record {
         fit = still_fit (word_to true m f) (bonus_of 18 f) (cost_of f) 18 m x st o.fit;
-        count = o.count + command_of f.kind;
-        side = r_heard o.count m.closed f m (keeps_plain s.agreed f.kind f keeps) o.side;
-        asked = omega (arith, asked, turned);
+        count = o.count + turns f.kind f;
+        side = r_heard o.count m.closed f m o.side;
+        asked = omega (arith, asked);
         back = o.back;
         room = omega (arith, room, more);
         waits = subst (λ (d : ℕ). AllWait x.agreed (rank x.user) d x.answers) on (st.waits (subst (λ (d : ℕ). AllWait m.agreed (rank m.user) d m.answers) (sym on) o.waits));
@@ -243,9 +205,9 @@ heard_owes s m frame f o keeps answered few paid fits =
     spare_few None = omega arith
     spare_few (Some g) = omega arith
 
-    overtakes : (frame : Option PlainFrame) → IsBack frame → agrees_with frame ≤ 0 → may_overtake (Ok f) frame ≡ true
+    overtakes : (frame : Option PlainFrame) → IsBack frame → (leaves_or_controls f ≡ false → agrees_with frame ≤ 0) → may_overtake (Ok f) frame ≡ true
     overtakes None back none = refl
-    overtakes (Some g) back none = overtakes_kind g.kind g _ back none
+    overtakes (Some g) back none = overtakes_kind g.kind g (leaves_or_controls f) back none
 
 -- ---- the next frame of the server waits
 
@@ -282,10 +244,6 @@ said_owes s m (Some said) is o =
     }
 
 -- ---- it goes
-
-or_parts : (a b : Bool) → (a || b) ≡ true → (a ≡ true) ⊎ (b ≡ true)
-or_parts true b is = inl refl
-or_parts false b is = inr is
 
 pub went_owes : (s : Standing) (m : Mux) (f : PlainFrame) → Owes s m (Some f) → Owes (goes f s) m None
 went_owes s m f o =

@@ -24,7 +24,7 @@ use Rattle.push_laws.specs.rfcomm_laws.specs.Totals.{bonus_of, cost_of}
 use Rattle.push_laws.specs.Readings.{user_dlci}
 use Rattle.carried_laws.specs.Standing.{standing}
 use Rattle.carried_laws.specs.Orderly.{Keeps, requests_in, responses_in, BeginsWell, AsksInTurn, ComesInOrder}
-use Rattle.carried_laws.specs.Sample.{client_says, sabm_control, ua_control, pn_command, pn_response, sabm_user, ua_user, msc_command, msc_response, server_command, client_response, connect, connected, put, stored, disc_user, APushIsInOrder}
+use Rattle.carried_laws.specs.Sample.{client_says, sabm_control, ua_control, pn_command, pn_response, sabm_user, ua_user, msc_command, msc_response, server_command, client_response, connect, connected, put, stored, test_command, test_response, pn_elsewhere, dm_elsewhere, disc_user, APushIsInOrder}
 
 -- ---- what is found by computing
 
@@ -71,7 +71,7 @@ module _ (settings : Settings) (most_is : settings.obex ≡ 1024) where
     frame = frame;
     read = fit.read;
     keeps = fit.keeps;
-    answered = fit.answered;
+    answered = λ apart. fit.answered;
     few = ltb-false 15 ((standing past).owed + asks_of frame.kind frame) fit.few;
     paid = ltb-false (standing past).client_granted ((standing past).client_spent + cost_of frame) fit.paid;
     fits = ltb-false (65535 + (standing past).server_spent) ((standing past).server_granted + bonus_of user_dlci frame) fit.fits;
@@ -105,7 +105,7 @@ module _ (settings : Settings) (most_is : settings.obex ≡ 1024) where
   unfolding frame_answer low_bits divided added reduced messages messages_within message_answer obex_packets packets_within
   pn_command_comes =
       comes _ pn_command.sdu (frame_of 0 Uih false (0x83 ∷ 0x11 ∷ 0x12 ∷ 0xf0 ∷ 0x00 ∷ 0x00 ∷ 0x7f ∷ 0x00 ∷ 0x00 ∷ 0x07 ∷ []))
-      (record { octets = refl; read = refl; keeps = λ is. ((refl, refl, refl, ltb-false 127 23 refl), tt); answered = refl; few = refl; paid = refl; fits = refl })
+      (record { octets = refl; read = refl; keeps = λ is. ((ltb-false 127 23 refl, λ here. refl), tt); answered = refl; few = refl; paid = refl; fits = refl })
       (asks_none _ pn_command.sdu refl refl)
 
   sabm_user_comes : ComesInOrder settings (sabm_control ∷ ua_control ∷ pn_command ∷ pn_response ∷ []) sabm_user.sdu
@@ -143,7 +143,23 @@ module _ (settings : Settings) (most_is : settings.obex ≡ 1024) where
       (record { octets = refl; read = refl; keeps = λ is. cc; answered = refl; few = refl; paid = refl; fits = refl })
       (asks_one _ put.sdu (0x82 ∷ 0x00 ∷ 0x0e ∷ 0x01 ∷ 0x00 ∷ 0x07 ∷ 0x00 ∷ 0x61 ∷ 0x00 ∷ 0x00 ∷ 0x49 ∷ 0x00 ∷ 0x04 ∷ 0x78 ∷ []) refl refl refl refl)
 
-  disc_user_comes : ComesInOrder settings (sabm_control ∷ ua_control ∷ pn_command ∷ pn_response ∷ sabm_user ∷ ua_user ∷ msc_command ∷ msc_response ∷ server_command ∷ client_response ∷ connect ∷ connected ∷ put ∷ stored ∷ []) disc_user.sdu
+  test_command_comes : ComesInOrder settings (sabm_control ∷ ua_control ∷ pn_command ∷ pn_response ∷ sabm_user ∷ ua_user ∷ msc_command ∷ msc_response ∷ server_command ∷ client_response ∷ connect ∷ connected ∷ put ∷ stored ∷ []) test_command.sdu
+  unfolding frame_answer low_bits divided added reduced messages messages_within message_answer obex_packets packets_within
+  test_command_comes =
+      comes _ test_command.sdu (frame_of 0 Uih false (0x23 ∷ 0x05 ∷ 0x61 ∷ 0x62 ∷ []))
+      (record { octets = refl; read = refl; keeps = λ is. (tt, tt); answered = refl; few = refl; paid = refl; fits = refl })
+      (asks_none _ test_command.sdu refl refl)
+
+  pn_elsewhere_comes : ComesInOrder settings (sabm_control ∷ ua_control ∷ pn_command ∷ pn_response ∷ sabm_user ∷ ua_user ∷ msc_command ∷ msc_response ∷ server_command ∷ client_response ∷ connect ∷ connected ∷ put ∷ stored ∷ test_command ∷ test_response ∷ [])
+      pn_elsewhere.sdu
+  unfolding frame_answer low_bits divided added reduced messages messages_within message_answer obex_packets packets_within
+  pn_elsewhere_comes =
+      comes _ pn_elsewhere.sdu (frame_of 0 Uih false (0x83 ∷ 0x11 ∷ 0x14 ∷ 0x00 ∷ 0x00 ∷ 0x00 ∷ 0x7f ∷ 0x00 ∷ 0x00 ∷ 0x00 ∷ []))
+      (record { octets = refl; read = refl; keeps = λ is. ((ltb-false 127 23 refl, λ here. let never : 20 ≡ 18 = here in absurd (omega (arith, never))), tt); answered = refl; few = refl; paid = refl; fits = refl })
+      (asks_none _ pn_elsewhere.sdu refl refl)
+
+  disc_user_comes : ComesInOrder settings (sabm_control ∷ ua_control ∷ pn_command ∷ pn_response ∷ sabm_user ∷ ua_user ∷ msc_command ∷ msc_response ∷ server_command ∷ client_response ∷ connect ∷ connected ∷ put ∷ stored ∷ test_command ∷ test_response ∷ pn_elsewhere ∷ dm_elsewhere ∷ [])
+      disc_user.sdu
   unfolding frame_answer low_bits divided added reduced messages messages_within message_answer obex_packets packets_within
   disc_user_comes =
       comes _ disc_user.sdu (frame_of 18 Disc true ([]))
@@ -153,4 +169,4 @@ module _ (settings : Settings) (most_is : settings.obex ≡ 1024) where
 -- ---- the law
 
 pub a_push_is_in_order : APushIsInOrder
-a_push_is_in_order settings is = (sabm_control_comes settings is, (tt, (pn_command_comes settings is, (tt, (sabm_user_comes settings is, (tt, (msc_command_comes settings is, (tt, (tt, (client_response_comes settings is, (connect_comes settings is, (tt, (put_comes settings is, (tt, (disc_user_comes settings is, (tt, tt))))))))))))))))
+a_push_is_in_order settings is = (sabm_control_comes settings is, (tt, (pn_command_comes settings is, (tt, (sabm_user_comes settings is, (tt, (msc_command_comes settings is, (tt, (tt, (client_response_comes settings is, (connect_comes settings is, (tt, (put_comes settings is, (tt, (test_command_comes settings is, (tt, (pn_elsewhere_comes settings is, (tt, (disc_user_comes settings is, (tt, tt))))))))))))))))))))

@@ -1,6 +1,6 @@
 -- A client over RFCOMM that keeps to the rules, one frame behind the other, and then a server loses nothing of what comes (TS 07.10, 5.4; RFCOMM 1.2, 5 and
 -- 6.5; IrOBEX 1.5, 3.1 and 3.2; Object Push Profile 1.2, 4.3).
-use Rattle.std.specs.Prelude.{ℕ, ◌+◌, ◌/◌, ◌%◌, ◌≡◌, ◌≤◌, Bool, true, false, List, [], ◌∷◌, ◌++◌, length, Ok, Err}
+use Rattle.std.specs.Prelude.{ℕ, ◌+◌, ◌≡◌, ◌≤◌, Bool, true, false, List, [], ◌∷◌, ◌++◌, length, Ok}
 use Rattle.std.specs.List.{AllByRecursion, filter_map, flat_map}
 use Rattle.push_laws.specs.link_talk.specs.bt_base.specs.declared.settings.Settings.{Settings}
 use Rattle.push_laws.specs.link_talk.specs.bt_base.specs.declared.settings.Transport.TheVariants.{Rfcomm}
@@ -11,9 +11,8 @@ use Rattle.push_laws.specs.push_model.specs.rfcomm_frames.specs.declared.connect
 use Rattle.push_laws.specs.push_model.specs.rfcomm_frames.specs.declared.connection.Role.TheVariants.{Initiator, Responder}
 use Rattle.push_laws.specs.push_model.specs.rfcomm_frames.specs.declared.frame.MuxKind.{MuxKind}
 use Rattle.push_laws.specs.push_model.specs.rfcomm_frames.specs.declared.frame.MuxKind.TheVariants.{Sabm, Ua, Dm, Disc, Uih}
-use Rattle.push_laws.specs.push_model.specs.rfcomm_frames.specs.Controls.{pn, msc, test, rpn, rls, nsc, other}
 use Rattle.push_laws.specs.push_model.specs.rfcomm_frames.specs.Frames.{PlainFrame}
-use Rattle.push_laws.specs.push_model.specs.rfcomm_frames.specs.FrameReading.{MessageAnswer, frame_answer, messages}
+use Rattle.push_laws.specs.push_model.specs.rfcomm_frames.specs.FrameReading.{frame_answer, messages}
 use Rattle.push_laws.specs.push_model.specs.rfcomm_frames.specs.Multiplexing.{Passed}
 use Rattle.push_laws.specs.push_model.specs.rfcomm_frames.specs.ObexPackets.{stated_size, obex_packets}
 use Rattle.push_laws.specs.push_model.specs.rfcomm_frames.specs.UserChannel.{user_octets}
@@ -23,34 +22,25 @@ use Rattle.push_laws.specs.push_model.specs.obex_headers.specs.Reading.{packet_i
 use Rattle.push_laws.specs.push_model.specs.Client.{own_maximum}
 use Rattle.push_laws.specs.push_model.specs.Listening.{has_bad_length}
 use Rattle.push_laws.specs.push_model.specs.Server.{Reacted, rfcomm_psm}
+use Rattle.push_laws.specs.rfcomm_laws.specs.Messages.{IsAllowed}
 use Rattle.push_laws.specs.rfcomm_laws.specs.Totals.{bonus_of, cost_of}
 use Rattle.push_laws.specs.Dialogs.{NoPacket}
 use Rattle.push_laws.specs.Laws.{new_over}
 use Rattle.push_laws.specs.Occurrences.{Occurrence, Came, done, IsOwn}
-use Rattle.push_laws.specs.Premises.{AllGranted, AnswersAre, AllMayCome}
+use Rattle.push_laws.specs.Premises.{AllGranted, AnswersAre, AllMayCome, leaves_or_controls}
 use Rattle.push_laws.specs.Readings.{since, passed_by, user_dlci}
 use Rattle.carried_laws.specs.Standing.{standing}
 
 -- ---- frames
 
--- of messages on the control channel PN commands, with credits and for the user channel, whose frames have 23 octets or more; and MSC
-abbrev pub IsAllowed : MessageAnswer → Type 0
-IsAllowed (Ok (pn command dlci flow priority timer frame retransmissions credits)) = (command ≡ true) × (dlci % 64 ≡ user_dlci) × (flow / 16 ≡ 0xF) × (23 ≤ frame)
-IsAllowed (Ok (msc command dlci signals)) = Unit {0}
-IsAllowed (Ok (test command octets)) = ⊥
-IsAllowed (Ok (rpn command value)) = ⊥
-IsAllowed (Ok (rls command value)) = ⊥
-IsAllowed (Ok (nsc kind)) = ⊥
-IsAllowed (Ok (other kind value)) = ⊥
-IsAllowed (Err refusal) = ⊥
-
--- the client asks for the user channel once the server accepted its terms; UA and DM answer nothing of the server, which sends no SABM and no DISC
+-- the client asks for the user channel once the server accepted its terms; UA and DM answer nothing of the server, which sends no SABM and no DISC; and of
+-- messages on the control channel each may come that the server does not refuse
 abbrev pub Keeps : Bool → MuxKind → PlainFrame → Type 0
 Keeps agreed Sabm f = f.dlci ≡ user_dlci → agreed ≡ true
 Keeps agreed Ua f = Unit {0}
 Keeps agreed Dm f = Unit {0}
 Keeps agreed Disc f = Unit {0}
-Keeps agreed Uih f = f.dlci ≡ 0 → AllByRecursion IsAllowed (messages f.octets)
+Keeps agreed Uih f = f.dlci ≡ 0 → AllByRecursion (IsAllowed user_dlci) (messages f.octets)
 
 -- ---- packets
 
@@ -76,14 +66,15 @@ pub record AsksInTurn (settings : Settings) (past : List Passed) (sdu : List ℕ
 
 -- ---- both
 
--- An SDU of the client comes in order behind what passed: it is a frame that keeps to the rules; each SABM and DISC was answered, and no more than 15 answers
--- are owed; it has a credit for its information, and the server's credits stay within 65,535; and it asks in turn.
+-- An SDU of the client comes in order behind what passed: it is a frame that keeps to the rules; each SABM and DISC, and each PN for another channel, was
+-- answered, unless it is DISC or has messages for the control channel; no more than 15 answers are owed; it has a credit for its information, and the server's
+-- credits stay within 65,535; and it asks in turn.
 pub record ComesInOrder (settings : Settings) (past : List Passed) (sdu : List ℕ) : Type 0 where
   pub octets : IsOctets sdu
   pub frame : PlainFrame
   pub read : frame_answer sdu ≡ Ok frame
   pub keeps : Keeps (standing past).agreed frame.kind frame
-  pub answered : (standing past).asked ≡ 0
+  pub answered : leaves_or_controls frame ≡ false → (standing past).asked ≡ 0
   pub few : (standing past).owed + asks_of frame.kind frame ≤ 15
   pub paid : (standing past).client_spent + cost_of frame ≤ (standing past).client_granted
   pub fits : (standing past).server_granted + bonus_of user_dlci frame ≤ 65535 + (standing past).server_spent

@@ -59,12 +59,28 @@ put = client_says (0x4b ∷ 0xef ∷ 0x1d ∷ 0x82 ∷ 0x00 ∷ 0x0e ∷ 0x01 �
 abbrev pub stored : Passed
 stored = server_says (0x49 ∷ 0xef ∷ 0x07 ∷ 0xa0 ∷ 0x00 ∷ 0x03 ∷ 0x14 ∷ [])
 
+-- TEST with the octets 0x61 and 0x62, and its response
+abbrev pub test_command : Passed
+test_command = client_says (0x03 ∷ 0xef ∷ 0x09 ∷ 0x23 ∷ 0x05 ∷ 0x61 ∷ 0x62 ∷ 0x70 ∷ [])
+
+abbrev pub test_response : Passed
+test_response = server_says (0x01 ∷ 0xef ∷ 0x09 ∷ 0x21 ∷ 0x05 ∷ 0x61 ∷ 0x62 ∷ 0xaa ∷ [])
+
+-- PN for DLCI 20, and DM there
+abbrev pub pn_elsewhere : Passed
+pn_elsewhere = client_says (0x03 ∷ 0xef ∷ 0x15 ∷ 0x83 ∷ 0x11 ∷ 0x14 ∷ 0x00 ∷ 0x00 ∷ 0x00 ∷ 0x7f ∷ 0x00 ∷ 0x00 ∷ 0x00 ∷ 0x70 ∷ [])
+
+abbrev pub dm_elsewhere : Passed
+dm_elsewhere = server_says (0x53 ∷ 0x1f ∷ 0x01 ∷ 0xd7 ∷ [])
+
 -- DISC on DLCI 18; UA is that of SABM again
 abbrev pub disc_user : Passed
 disc_user = client_says (0x4b ∷ 0x53 ∷ 0x01 ∷ 0xd3 ∷ [])
 
 abbrev pub push : List Passed
-push = sabm_control ∷ ua_control ∷ pn_command ∷ pn_response ∷ sabm_user ∷ ua_user ∷ msc_command ∷ msc_response ∷ server_command ∷ client_response ∷ connect ∷ connected ∷ put ∷ stored ∷ disc_user ∷ ua_user ∷ []
+push =
+    sabm_control ∷ ua_control ∷ pn_command ∷ pn_response ∷ sabm_user ∷ ua_user ∷ msc_command ∷ msc_response ∷ server_command ∷ client_response ∷ connect ∷ connected ∷ put ∷ stored ∷ test_command ∷ test_response ∷ pn_elsewhere ∷ dm_elsewhere ∷ disc_user
+    ∷ ua_user ∷ []
 
 -- It is in order, where the server takes packets of 1,024 octets.
 abbrev pub APushIsInOrder : Type 0

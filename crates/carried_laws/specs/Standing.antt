@@ -1,24 +1,24 @@
 -- How the conversation of a client and a server stands on the channel of their multiplexers, by the frames that passed there alone (TS 07.10, 5.4;
 -- RFCOMM 1.2, 5 and 6.5).
-use Rattle.std.specs.Prelude.{ℕ, ◌+◌, ◌-◌, ◌==◌, ◌&&◌, ◌||◌, Bool, true, false, List, [], ◌∷◌, ◌++◌, Ok, Err, if◌then◌else◌}
+use Rattle.std.specs.Prelude.{ℕ, ◌+◌, ◌-◌, ◌==◌, ◌&&◌, ◌||◌, Bool, false, List, [], ◌∷◌, ◌++◌, Ok, Err, if◌then◌else◌}
 use Rattle.std.specs.List.{list_any}
 use Rattle.push_laws.specs.push_model.specs.rfcomm_frames.specs.declared.connection.Role.{Role}
 use Rattle.push_laws.specs.push_model.specs.rfcomm_frames.specs.declared.connection.Role.TheVariants.{Initiator, Responder}
 use Rattle.push_laws.specs.push_model.specs.rfcomm_frames.specs.declared.frame.MuxKind.{MuxKind}
 use Rattle.push_laws.specs.push_model.specs.rfcomm_frames.specs.declared.frame.MuxKind.TheVariants.{Sabm, Ua, Dm, Disc, Uih}
 use Rattle.push_laws.specs.push_model.specs.rfcomm_frames.specs.Answers.{Answer}
-use Rattle.push_laws.specs.push_model.specs.rfcomm_frames.specs.Controls.{pn, msc, test, rpn, rls, nsc, other}
 use Rattle.push_laws.specs.push_model.specs.rfcomm_frames.specs.Frames.{PlainFrame}
-use Rattle.push_laws.specs.push_model.specs.rfcomm_frames.specs.FrameReading.{MessageAnswer, frame_answer, messages}
+use Rattle.push_laws.specs.push_model.specs.rfcomm_frames.specs.FrameReading.{frame_answer, messages}
 use Rattle.push_laws.specs.push_model.specs.rfcomm_frames.specs.Multiplexing.{Passed}
-use Rattle.push_laws.specs.push_model.specs.rfcomm_model.specs.Sides.{asks_of}
+use Rattle.push_laws.specs.rfcomm_laws.specs.Messages.{is_acceptance, all_elsewhere}
+use Rattle.push_laws.specs.rfcomm_laws.specs.SingleAnswers.{due_in}
 use Rattle.push_laws.specs.rfcomm_laws.specs.Totals.{bonus_of, cost_of}
 use Rattle.push_laws.specs.Readings.{user_dlci}
 
 pub record Standing : Type 0 where
-  -- answers that may still be to come; each frame of the server counts as one
+  -- answers that may still be to come, one to each SABM, DISC and command; each frame of the server counts as one
   pub owed : ℕ
-  -- SABM and DISC of the client without UA or DM of the server
+  -- SABM and DISC of the client, and PN for other channels than the user channel, without UA or DM of the server
   pub asked : ℕ
   -- the server accepted the terms of the user channel
   pub agreed : Bool
@@ -35,13 +35,13 @@ start = record { owed = 0; asked = 0; agreed = false; client_granted = 0; client
 
 -- ---- what a frame is
 
--- it opens or closes a connection; or answers such a frame
-abbrev pub turns : MuxKind → ℕ
-turns Sabm = 1
-turns Ua = 0
-turns Dm = 0
-turns Disc = 1
-turns Uih = 0
+-- it opens or closes a connection, or has PN for other channels, each answered by DM; or it answers such a frame
+abbrev pub turns : MuxKind → PlainFrame → ℕ
+turns Sabm f = 1
+turns Ua f = 0
+turns Dm f = 0
+turns Disc f = 1
+turns Uih f = if f.dlci == 0 then all_elsewhere user_dlci (messages f.octets) else 0
 
 abbrev pub agrees : MuxKind → ℕ
 agrees Sabm = 0
@@ -50,17 +50,7 @@ agrees Dm = 1
 agrees Disc = 0
 agrees Uih = 0
 
--- a response to PN
-abbrev pub is_acceptance : MessageAnswer → Bool
-is_acceptance (Ok (pn command dlci flow priority timer frame retransmissions credits)) = if command then false else true
-is_acceptance (Ok (msc command dlci signals)) = false
-is_acceptance (Ok (test command octets)) = false
-is_acceptance (Ok (rpn command value)) = false
-is_acceptance (Ok (rls command value)) = false
-is_acceptance (Ok (nsc kind)) = false
-is_acceptance (Ok (other kind value)) = false
-is_acceptance (Err refusal) = false
-
+-- a response to PN is in it
 abbrev pub accepts : MuxKind → PlainFrame → Bool
 accepts Sabm f = false
 accepts Ua f = false
@@ -81,8 +71,8 @@ informs Uih f = if f.dlci == user_dlci then f.octets else []
 -- of the client, and of the server
 abbrev pub comes : PlainFrame → Standing → Standing
 comes f s = record s {
-  owed = s.owed + asks_of f.kind f;
-  asked = s.asked + turns f.kind;
+  owed = s.owed + due_in f.kind f;
+  asked = s.asked + turns f.kind f;
   client_spent = s.client_spent + cost_of f;
   server_granted = s.server_granted + bonus_of user_dlci f;
 }

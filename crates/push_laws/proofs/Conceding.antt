@@ -19,7 +19,7 @@ use Rattle.push_model.specs.rfcomm_model.specs.Machine.{Mux, may_pass, is_ready,
 use Rattle.push_model.specs.rfcomm_model.specs.Hearing.{has_room, answering, says_dm, signals_next, opens_control, opens_user, hears_sabm, ends, hears_disc, hears_uih, hears_kind, hears_settled, hears_frame}
 use Rattle.push_model.specs.rfcomm_model.specs.Saying.{Said, says, says_data, says_grant, first_of, says_command, says_answer}
 use Rattle.push_model.specs.rfcomm_model.specs.Written.{response_frame, grant_frame, data_frame}
-use Rattle.push_laws.proofs.Ordering.{AllPlain, Back, Each, Forth, IsSignal, OfResponder, Side, Signals, answer_of, answers_in, answers_side, closes_side, command_of, more_room, msc_plain, side_if, signalling_only, uih_side}
+use Rattle.push_laws.proofs.Ordering.{AllPlain, Back, Each, Forth, IsSignal, OfResponder, Side, Signals, answer_of, answers_in, answers_side, closes_side, command_of, counted_side, dm_side, elsewhere_in, more_room, msc_plain, side_if, signalling_only, uih_side}
 
 -- ---- the responder hears
 
@@ -42,7 +42,7 @@ r_answers : (t : ℕ) (f : PlainFrame) (m : Mux) → OfResponder f.kind f → R 
 r_answers t f m q s = answers_side OfResponder Signals signalling_only controls_r Responder t f m q s
 
 r_dm : (t n : ℕ) (m : Mux) → R t m → R (t + 1) (says_dm n m)
-r_dm t n m s = r_if (t + 1) (has_room m) (answering (response_frame m.role Dm n) m) m (r_answers t (response_frame m.role Dm n) m tt s) (r_more t (t + 1) m (omega arith) s)
+r_dm t n m s = dm_side OfResponder Signals signalling_only controls_r Responder t n m tt s
 
 r_control : (t : ℕ) (m : Mux) → R t m → R (t + 1) (opens_control m)
 r_control t m s =
@@ -90,6 +90,10 @@ r_disc t n m s =
     r_if (t + 1) ((n == 0) && is_left from m.control) left_control (cond ((n == m.dlci) && is_left from m.user) left_user (says_dm n m))
     (r_left t 0 m x s (record { role_is = s.role_is; dlci_is = s.dlci_is; answers = s.answers; few = s.few; wish = s.wish }))
     (r_if (t + 1) ((n == m.dlci) && is_left from m.user) left_user (says_dm n m) (r_left t m.dlci m y s (record { role_is = s.role_is; dlci_is = s.dlci_is; answers = s.answers; few = s.few; wish = s.wish })) (r_dm t n m s))
+
+-- it answers each PN for another channel by DM
+pub r_uih : (t : ℕ) (f : PlainFrame) (m : Mux) → R t m → R (t + elsewhere_in f) (hears_uih f m)
+r_uih t f m s = counted_side OfResponder Signals signalling_only controls_r Responder t f m (λ some g. tt) s
 
 r_kind : (t : ℕ) (kind : MuxKind) (f : PlainFrame) (m : Mux) → Forth kind f → R t m → R (t + command_of kind) (hears_kind kind f m)
 r_kind t Sabm f m forth s = r_if (t + 1) f.pf (hears_sabm m.role f.dlci m) m (r_sabm t m.role f.dlci m s) (r_more t (t + 1) m (omega arith) s)

@@ -16,8 +16,10 @@ use Rattle.push_model.specs.rfcomm_model.specs.declared.state.Command.TheVariant
 use Rattle.push_model.specs.rfcomm_model.specs.declared.state.Asks.{Asks}
 use Rattle.push_model.specs.rfcomm_model.specs.declared.state.Asks.TheVariants.{Nothing, Due, Awaited}
 use Rattle.push_model.specs.rfcomm_model.specs.Machine.{Mux, may_pass, closes}
-use Rattle.push_model.specs.rfcomm_model.specs.Hearing.{has_room, answering, credited, charged, if_stands, with_credits, hears_data, counts, pn_credited, lesser, own_credits, hears_offer, terms_agreed, hears_acceptance, hears_other_offer, peer_answered, signals_answered, hears_message, hears_messages, hears_uih}
-use Rattle.push_model.specs.rfcomm_model.specs.Written.{control_frame}
+use Rattle.push_model.specs.rfcomm_model.specs.Hearing.{has_room, answering, says_dm, tells, credited, charged, if_stands, with_credits, hears_data, counts, pn_credited, lesser, own_credits, hears_offer, terms_agreed, hears_acceptance, hears_other_offer, peer_answered, signals_answered, settings_of, hears_message, hears_messages, hears_uih}
+use Rattle.push_model.specs.rfcomm_model.specs.Written.{response_frame, control_frame}
+use Rattle.rfcomm_laws.specs.Messages.{asks_elsewhere, all_elsewhere}
+use Rattle.rfcomm_laws.proofs.Opening.{IsRead, test_read, rpn_read, rls_read, nsc_read, tells_keeps}
 use Rattle.push_laws.specs.Premises.{leaves_or_controls}
 
 -- ---- what is counted
@@ -67,29 +69,26 @@ ordered_more n (g ∷ fs) f o soft = (o.0, ordered_more (n + command_of g.kind) 
 
 -- ---- frames of a kind
 
-abbrev Plain : MessageAnswer → Type 0
-Plain (Ok (pn true dlci flow priority timer frame retransmissions credits)) = (dlci % 64 == 18) ≡ true
-Plain (Ok (pn false dlci flow priority timer frame retransmissions credits)) = Unit {0}
-Plain (Ok (msc command address signals)) = Unit {0}
-Plain (Ok (test command octets)) = ⊥
-Plain (Ok (rpn command value)) = ⊥
-Plain (Ok (rls command value)) = ⊥
-Plain (Ok (nsc kind)) = ⊥
-Plain (Ok (other kind value)) = ⊥
-Plain (Err refusal) = ⊥
-
+-- no message asks for another channel than the user channel
 abbrev pub AllPlain : List MessageAnswer → Type 0
-AllPlain [] = Unit {0}
-AllPlain (message ∷ rest) = Plain message × AllPlain rest
+AllPlain list = all_elsewhere 18 list ≡ 0
 
 pub msc_plain : (command : Bool) (address signals : ℕ) → AllPlain (messages (written (msc command address signals)))
 unfolding messages messages_within message_answer
-msc_plain true address signals = (tt, tt)
-msc_plain false address signals = (tt, tt)
+msc_plain true address signals = refl
+msc_plain false address signals = refl
 
 pub pn_plain : (flow priority timer frame retransmissions credits : ℕ) → AllPlain (messages (written (pn false 18 flow priority timer frame retransmissions credits))) × AllPlain (messages (written (pn true 18 flow priority timer frame retransmissions credits)))
 unfolding messages messages_within message_answer
-pn_plain flow priority timer frame retransmissions credits = ((tt, tt), (refl, tt))
+pn_plain flow priority timer frame retransmissions credits = (refl, refl)
+
+-- so many DM answer a UIH frame
+abbrev pub elsewhere_in : PlainFrame → ℕ
+elsewhere_in f = cond (f.dlci == 0) (all_elsewhere 18 (messages f.octets)) 0
+
+none_in : (control : Bool) (n : ℕ) → (control ≡ true → n ≡ 0) → cond control n 0 ≡ 0
+none_in true n none = none refl
+none_in false n none = refl
 
 -- on their way from the initiator, and from the responder; and answers of the two
 abbrev pub Forth : MuxKind → PlainFrame → Type 0
@@ -234,6 +233,10 @@ module _ (Q : MuxKind → PlainFrame → Type 0) (W : Option MuxReason → Asks 
   side_true t true x y is p = p
   side_true t false x y is p = absurd (let f : false ≡ true = is in cc)
 
+  side_false : (t : ℕ) (b : Bool) (x y : Mux) → b ≡ false → S t y → S t (cond b x y)
+  side_false t true x y is p = absurd (let f : true ≡ false = is in cc)
+  side_false t false x y is p = p
+
   pub more_room : (t k : ℕ) (m : Mux) → t ≤ k → S t m → S k m
   more_room t k m less s = record { role_is = s.role_is; dlci_is = s.dlci_is; answers = s.answers; few = omega (arith, less, s.few); wish = s.wish }
 
@@ -314,34 +317,73 @@ module _ (Q : MuxKind → PlainFrame → Type 0) (W : Option MuxReason → Asks 
     wish = asking.signalling m.closed m.user (subst (λ (a : Asks). W m.closed a m.user) is s.wish);
   }
 
-  message_side : (t : ℕ) (message : MessageAnswer) (m : Mux) → Plain message → S t m → S t (hears_message message m)
-  message_side t (Ok (pn true dlci flow priority timer frame retransmissions credits)) m plain s =
-      side_true t (dlci % 64 == m.dlci) (hears_offer flow priority frame credits m) (hears_other_offer true (dlci % 64) frame m) (ap (λ (n : ℕ). dlci % 64 == n) s.dlci_is ∙ plain) (offer_side t flow priority frame credits m s)
-  message_side t (Ok (pn false dlci flow priority timer frame retransmissions credits)) m plain s =
-      side_if t (dlci % 64 == m.dlci) (hears_acceptance flow frame credits m) (hears_other_offer false (dlci % 64) frame m) (acceptance_side t flow frame credits m s)
-      (side_if t (nat_lt frame 23) (closes reasons.BadFrame m) m (closes_side t reasons.BadFrame m s) s)
-  message_side t (Ok (msc true address signals)) m plain s =
+  same_side : (t : ℕ) (m : Mux) → S t m → S (t + 0) m
+  same_side t m s = more_room t (t + 0) m (omega arith) s
+
+  pub dm_side : (t n : ℕ) (m : Mux) → Q Dm (response_frame m.role Dm n) → S t m → S (t + 1) (says_dm n m)
+  dm_side t n m q s = side_if (t + 1) (has_room m) (answering (response_frame m.role Dm n) m) m (answers_side t (response_frame m.role Dm n) m q s) (more_room t (t + 1) m (omega arith) s)
+
+  -- TEST, RPN and RLS, and what is not understood
+  told_side : (t : ℕ) (asked : Bool) (control : PlainControl) (m : Mux) → IsRead control → asks_elsewhere 18 (Ok control) ≡ 0 → S t m → S (t + 0) (cond asked (tells control m) m)
+  told_side t asked control m read none s =
+      same_side t (cond asked (tells control m) m)
+      (side_if t asked (tells control m) m
+      (tells_keeps (λ (x : Mux). S t x) control m read s
+      (λ is. tells_side t control m (let sum : all_elsewhere 18 (messages (written control)) ≡ asks_elsewhere 18 (Ok control) + 0 = ap (all_elsewhere 18) is in omega (arith, sum, none)) s))
+      s)
+
+  -- a side that may answer by DM
+  message_side : (t : ℕ) (message : MessageAnswer) (m : Mux) → (0 < asks_elsewhere 18 message → (f : PlainFrame) → Q Dm f) → S t m → S (t + asks_elsewhere 18 message) (hears_message message m)
+  message_side t (Ok (pn true dlci flow priority timer frame retransmissions credits)) m dms s = by (dlci % 64 == 18) refl dms
+    where
+      offer : Mux
+      offer = hears_offer flow priority frame credits m
+
+      other_offer : Mux
+      other_offer = hears_other_offer true (dlci % 64) frame m
+
+      by : (here : Bool) → (dlci % 64 == 18) ≡ here → (0 < cond (not here) 1 0 → (f : PlainFrame) → Q Dm f) → S (t + cond (not here) 1 0) (cond (dlci % 64 == m.dlci) offer other_offer)
+      by true is none = same_side t (cond (dlci % 64 == m.dlci) offer other_offer) (side_true t (dlci % 64 == m.dlci) offer other_offer (ap (λ (n : ℕ). dlci % 64 == n) s.dlci_is ∙ is) (offer_side t flow priority frame credits m s))
+      by false is some =
+          side_false (t + 1) (dlci % 64 == m.dlci) offer other_offer (ap (λ (n : ℕ). dlci % 64 == n) s.dlci_is ∙ is)
+          (side_if (t + 1) (nat_lt frame 23) (closes reasons.BadFrame m) (says_dm (dlci % 64) m) (more_room t (t + 1) (closes reasons.BadFrame m) (omega arith) (closes_side t reasons.BadFrame m s))
+          (dm_side t (dlci % 64) m (some (omega arith) (response_frame m.role Dm (dlci % 64))) s))
+  message_side t (Ok (pn false dlci flow priority timer frame retransmissions credits)) m dms s =
+      same_side t (cond (dlci % 64 == m.dlci) (hears_acceptance flow frame credits m) (hears_other_offer false (dlci % 64) frame m))
+      (side_if t (dlci % 64 == m.dlci) (hears_acceptance flow frame credits m) (hears_other_offer false (dlci % 64) frame m) (acceptance_side t flow frame credits m s)
+      (side_if t (nat_lt frame 23) (closes reasons.BadFrame m) m (closes_side t reasons.BadFrame m s) s))
+  message_side t (Ok (msc true address signals)) m dms s =
       let x : Mux = cond (address / 4 == m.dlci) (record m { ready = peer_answered m.ready }) m in
       let set : S t x = side_if t (address / 4 == m.dlci) (record m { ready = peer_answered m.ready }) m (record { role_is = s.role_is; dlci_is = s.dlci_is; answers = s.answers; few = s.few; wish = s.wish }) s in
-      side_if t (has_room m) (answering (control_frame m.role (msc false address signals)) x) m
-      (more_room (t + 0) t (answering (control_frame m.role (msc false address signals)) x) (omega arith) (answers_side t (control_frame m.role (msc false address signals)) x (controls (control_frame m.role (msc false address signals)) refl (msc_plain false address signals)) set))
-      s
-  message_side t (Ok (msc false address signals)) m plain s = side_if t (address / 4 == m.dlci) (signals_answered m.asks m) m (signals_side t m.asks m refl s) s
-  message_side t (Ok (test command octets)) m plain s = absurd plain
-  message_side t (Ok (rpn command value)) m plain s = absurd plain
-  message_side t (Ok (rls command value)) m plain s = absurd plain
-  message_side t (Ok (nsc kind)) m plain s = absurd plain
-  message_side t (Ok (other kind value)) m plain s = absurd plain
-  message_side t (Err refusal) m plain s = absurd plain
+      side_if (t + 0) (has_room m) (answering (control_frame m.role (msc false address signals)) x) m
+      (answers_side t (control_frame m.role (msc false address signals)) x (controls (control_frame m.role (msc false address signals)) refl (msc_plain false address signals)) set)
+      (same_side t m s)
+  message_side t (Ok (msc false address signals)) m dms s =
+      same_side t (cond (address / 4 == m.dlci) (signals_answered m.asks m) m) (side_if t (address / 4 == m.dlci) (signals_answered m.asks m) m (signals_side t m.asks m refl s) s)
+  message_side t (Ok (test command octets)) m dms s = told_side t command (test false octets) m (test_read octets) refl s
+  message_side t (Ok (rpn command value)) m dms s = told_side t command (rpn false (settings_of value)) m (rpn_read (settings_of value)) refl s
+  message_side t (Ok (rls command value)) m dms s = told_side t command (rls false value) m (rls_read value) refl s
+  message_side t (Ok (nsc kind)) m dms s = same_side t m s
+  message_side t (Ok (other kind value)) m dms s = told_side t (kind / 2 % 2 == 1) (nsc kind) m (nsc_read kind) refl s
+  message_side t (Err refusal) m dms s = same_side t (closes reasons.BadFrame m) (closes_side t reasons.BadFrame m s)
 
-  messages_side : (t : ℕ) (list : List MessageAnswer) (m : Mux) → AllPlain list → S t m → S t (hears_messages list m)
-  messages_side t [] m plain s = s
-  messages_side t (message ∷ rest) m plain s =
-      messages_side t rest (if_stands (hears_message message) m.closed m) plain.1 (stands_side t (hears_message message) m.closed m (message_side t message m plain.0 s) s)
+  messages_side : (t : ℕ) (list : List MessageAnswer) (m : Mux) → (0 < all_elsewhere 18 list → (f : PlainFrame) → Q Dm f) → S t m → S (t + all_elsewhere 18 list) (hears_messages list m)
+  messages_side t [] m dms s = same_side t m s
+  messages_side t (message ∷ rest) m dms s =
+      let n : ℕ = asks_elsewhere 18 message in
+      let x : Mux = if_stands (hears_message message) m.closed m in
+      let one : S (t + n) x = stands_side (t + n) (hears_message message) m.closed m (message_side t message m (λ some. dms (omega (arith, some))) s) (more_room t (t + n) m (omega arith) s) in
+      more_room ((t + n) + all_elsewhere 18 rest) (t + (n + all_elsewhere 18 rest)) (hears_messages rest x) (omega arith) (messages_side (t + n) rest x (λ some. dms (omega (arith, some))) one)
+
+  pub counted_side : (t : ℕ) (f : PlainFrame) (m : Mux) → (0 < elsewhere_in f → (g : PlainFrame) → Q Dm g) → S t m → S (t + elsewhere_in f) (hears_uih f m)
+  counted_side t f m dms s = by (f.dlci == 0) dms
+    where
+      by : (control : Bool) → (0 < cond control (all_elsewhere 18 (messages f.octets)) 0 → (g : PlainFrame) → Q Dm g)
+          → S (t + cond control (all_elsewhere 18 (messages f.octets)) 0) (cond control (hears_messages (messages f.octets) m) (cond ((f.dlci == m.dlci) && may_pass m) (hears_data f m) m))
+      by true some = messages_side t (messages f.octets) m some s
+      by false some = same_side t (cond ((f.dlci == m.dlci) && may_pass m) (hears_data f m) m) (side_if t ((f.dlci == m.dlci) && may_pass m) (hears_data f m) m (data_side t f m s) s)
 
   pub uih_side : (t : ℕ) (f : PlainFrame) (m : Mux) → ((f.dlci == 0) ≡ true → AllPlain (messages f.octets)) → S t m → S t (hears_uih f m)
-  uih_side t f m plain s = by (f.dlci == 0) refl
-    where
-      by : (control : Bool) → (f.dlci == 0) ≡ control → S t (cond control (hears_messages (messages f.octets) m) (cond ((f.dlci == m.dlci) && may_pass m) (hears_data f m) m))
-      by true is = messages_side t (messages f.octets) m (plain is) s
-      by false is = side_if t ((f.dlci == m.dlci) && may_pass m) (hears_data f m) m (data_side t f m s) s
+  uih_side t f m plain s =
+      let none : elsewhere_in f ≡ 0 = none_in (f.dlci == 0) (all_elsewhere 18 (messages f.octets)) plain in
+      more_room (t + elsewhere_in f) t (hears_uih f m) (omega (arith, none)) (counted_side t f m (λ some. absurd (omega (arith, some, none))) s)

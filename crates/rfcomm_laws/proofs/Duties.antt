@@ -1,6 +1,7 @@
 -- The commands that a side may still say, and the answers that it owes: what it hears adds no more than the answers to that.
-use Rattle.std.proofs.Common.{arith, ◌≡◌, ◌≤◌, ℕ, ◌==◌, ◌+◌, ◌/◌, ◌%◌, ◌-◌, Bool, true, false, ◌&&◌, cond, List, [], ◌∷◌, Option, Some, None, Ok, Err, refl, ap}
-use Rattle.std.specs.Prelude.{not, nat_lt}
+use Rattle.std.proofs.Common.{arith, ◌≡◌, ◌≤◌, ℕ, ◌==◌, ◌+◌, ◌/◌, ◌%◌, ◌-◌, Bool, true, false, ◌&&◌, cond, List, [], ◌∷◌, length, Option, Some, None, Ok, Err, refl, ap}
+use Rattle.std.specs.Prelude.{not, nat_lt, nat_le}
+use Rattle.std.proofs.lemmas.Bool.{leb-true}
 use Rattle.rfcomm_frames.specs.declared.frame.MuxKind.{MuxKind}
 use Rattle.rfcomm_frames.specs.declared.frame.MuxKind.TheVariants.{Sabm, Ua, Dm, Disc, Uih}
 use Rattle.rfcomm_frames.specs.declared.connection.Role.{Role}
@@ -8,7 +9,7 @@ use Rattle.rfcomm_frames.specs.declared.connection.Role.TheVariants.{Initiator, 
 use Rattle.rfcomm_frames.specs.declared.connection.Dlc.{Dlc}
 use Rattle.rfcomm_frames.specs.declared.connection.Dlc.TheVariants.{Idle, Asked, Open, Ended}
 use Rattle.rfcomm_frames.specs.Frames.{PlainFrame, bit}
-use Rattle.rfcomm_frames.specs.Controls.{PlainControl, pn, msc, test, rpn, rls, nsc, other}
+use Rattle.rfcomm_frames.specs.Controls.{PlainControl, pn, msc, test, rpn, rls, nsc, other, written}
 use Rattle.rfcomm_frames.specs.FrameReading.{MessageAnswer, messages}
 use Rattle.rfcomm_frames.specs.Connections.{other_role, turned, asked, agreed, is_ended, is_left}
 use Rattle.rfcomm_model.specs.declared.state.MuxReason.{MuxReason}
@@ -18,11 +19,11 @@ use Rattle.rfcomm_model.specs.declared.state.Asks.{Asks}
 use Rattle.rfcomm_model.specs.declared.state.Asks.TheVariants.{Nothing, Due, Awaited}
 use Rattle.rfcomm_model.specs.Machine.{Mux, closes, may_pass}
 use Rattle.rfcomm_model.specs.Written.{response_frame, control_frame}
-use Rattle.rfcomm_model.specs.Hearing.{has_room, answering, says_dm, signals_next, opens_control, opens_user, hears_sabm, control_answered, user_answered, hears_ua, control_refused, user_refused, hears_dm, ends, hears_disc, credited, charged, if_stands, with_credits, hears_data, counts, pn_credited, lesser, own_credits, hears_offer, terms_agreed, hears_acceptance, hears_other_offer, hears_pn, peer_answered, signals_answered, hears_msc, hears_message, hears_messages, hears_kind, hears_settled, hears_frame, hears_answer}
+use Rattle.rfcomm_model.specs.Hearing.{has_room, answering, says_dm, tells, signals_next, opens_control, opens_user, hears_sabm, control_answered, user_answered, hears_ua, control_refused, user_refused, hears_dm, ends, hears_disc, credited, charged, if_stands, with_credits, hears_data, counts, pn_credited, lesser, own_credits, hears_offer, terms_agreed, hears_acceptance, hears_other_offer, hears_pn, peer_answered, signals_answered, hears_msc, settings_of, hears_message, hears_messages, hears_kind, hears_settled, hears_frame, hears_answer}
 use Rattle.rfcomm_model.specs.Loads.{answered_once, answers_to, weight, weights}
 use Rattle.rfcomm_model.proofs.Loading.{weights_more, pn_weight, msc_weight}
-use Rattle.rfcomm_laws.proofs.Harm.{SoundMessage, SoundMessages}
-use Rattle.rfcomm_laws.proofs.Harmless.{SoundIn}
+use Rattle.rfcomm_laws.specs.SingleAnswers.{told_to, due_to, all_due, due_in}
+use Rattle.rfcomm_laws.proofs.Opening.{IsRead, test_read, rpn_read, rls_read, nsc_read}
 
 -- ---- what a side has to do
 
@@ -57,14 +58,6 @@ signals Responder Ended = 0
 
 abbrev pub duty : Mux → ℕ
 duty m = commands m.closed m.asks + (signals m.role m.user + weights m.answers)
-
--- the answers that a frame is given; information has none
-abbrev pub due_in : MuxKind → PlainFrame → ℕ
-due_in Sabm f = 1
-due_in Ua f = 0
-due_in Dm f = 0
-due_in Disc f = 1
-due_in Uih f = cond (f.dlci == 0) (answers_to (messages f.octets)) 0
 
 abbrev pub dues : List PlainFrame → ℕ
 dues [] = 0
@@ -316,41 +309,55 @@ heard_msc_duty false address octet m =
     let less = signals_duty m.asks m refl in
     duty_if (duty m + 0) (address / 4 == m.dlci) (signals_answered m.asks m) m (omega (arith, less)) (omega arith)
 
-message_duty : (terms : Bool) (message : MessageAnswer) (m : Mux) → SoundMessage terms message → duty (hears_message message m) ≤ duty m + answered_once message
-message_duty terms (Ok (pn command dlci flow priority timer frame retransmissions credits)) m sound = heard_pn_duty command dlci flow priority frame credits m
-message_duty terms (Ok (msc command address octet)) m sound = heard_msc_duty command address octet m
-message_duty terms (Ok (test command octets)) m sound = absurd sound
-message_duty terms (Ok (rpn command value)) m sound = absurd sound
-message_duty terms (Ok (rls command value)) m sound = absurd sound
-message_duty terms (Ok (nsc kind)) m sound = absurd sound
-message_duty terms (Ok (other kind value)) m sound = absurd sound
-message_duty terms (Err refusal) m sound = absurd sound
+-- TEST, RPN and RLS, and what is not understood
+told_duty : (asked : Bool) (control : PlainControl) (m : Mux) → IsRead control → answered_once (Ok control) ≡ 0 → duty (cond asked (tells control m) m) ≤ duty m + told_to asked control
+told_duty true control m read none = by (nat_le (length (written control)) 40) refl
+  where
+    answer : PlainFrame
+    answer = control_frame m.role control
 
-pub one_message_duty : (terms : Bool) (message : MessageAnswer) (m : Mux) → SoundMessage terms message → duty (if_stands (hears_message message) m.closed m) ≤ duty m + answered_once message
-one_message_duty terms message m sound = stands_duty (duty m + answered_once message) (hears_message message) m.closed m (message_duty terms message m sound) (omega arith)
+    by : (short : Bool) → nat_le (length (written control)) 40 ≡ short → duty (cond (short && has_room m) (answering answer m) m) ≤ duty m + cond short 1 0
+    by true is =
+        let brings : answers_to (messages (written control)) ≡ answered_once (Ok control) + 0 = ap answers_to (read (leb-true (length (written control)) 40 is)) in
+        duty_if (duty m + 1) (has_room m) (answering answer m) m (told control m m (omega (arith, brings, none)) (omega arith)) (omega arith)
+    by false is = omega arith
+told_duty false control m read none = omega arith
 
-messages_duty : (terms : Bool) (list : List MessageAnswer) (m : Mux) → SoundMessages terms list → duty (hears_messages list m) ≤ duty m + answers_to list
-messages_duty terms [] m sound = omega arith
-messages_duty terms (message ∷ rest) m sound =
-    let one = one_message_duty terms message m sound.0 in
-    let others = messages_duty terms rest (if_stands (hears_message message) m.closed m) sound.1 in
+message_duty : (message : MessageAnswer) (m : Mux) → duty (hears_message message m) ≤ duty m + due_to message
+message_duty (Ok (pn command dlci flow priority timer frame retransmissions credits)) m = heard_pn_duty command dlci flow priority frame credits m
+message_duty (Ok (msc command address octet)) m = heard_msc_duty command address octet m
+message_duty (Ok (test command octets)) m = told_duty command (test false octets) m (test_read octets) refl
+message_duty (Ok (rpn command value)) m = told_duty command (rpn false (settings_of value)) m (rpn_read (settings_of value)) refl
+message_duty (Ok (rls command value)) m = told_duty command (rls false value) m (rls_read value) refl
+message_duty (Ok (nsc kind)) m = omega arith
+message_duty (Ok (other kind value)) m = told_duty (kind / 2 % 2 == 1) (nsc kind) m (nsc_read kind) refl
+message_duty (Err refusal) m = omega arith
+
+pub one_message_duty : (message : MessageAnswer) (m : Mux) → duty (if_stands (hears_message message) m.closed m) ≤ duty m + due_to message
+one_message_duty message m = stands_duty (duty m + due_to message) (hears_message message) m.closed m (message_duty message m) (omega arith)
+
+messages_duty : (list : List MessageAnswer) (m : Mux) → duty (hears_messages list m) ≤ duty m + all_due list
+messages_duty [] m = omega arith
+messages_duty (message ∷ rest) m =
+    let one = one_message_duty message m in
+    let others = messages_duty rest (if_stands (hears_message message) m.closed m) in
     omega (arith, one, others)
 
 -- ---- a frame
 
-uih_if : (n : ℕ) (here there : Bool) (x y m : Mux) → (here ≡ true → duty x ≤ duty m + n) → duty y ≤ duty m → duty (cond here x (cond there y m)) ≤ duty m + cond here n 0
-uih_if n true there x y m p q = p refl
+uih_if : (n : ℕ) (here there : Bool) (x y m : Mux) → duty x ≤ duty m + n → duty y ≤ duty m → duty (cond here x (cond there y m)) ≤ duty m + cond here n 0
+uih_if n true there x y m p q = p
 uih_if n false true x y m p q = omega (arith, q)
 uih_if n false false x y m p q = omega arith
 
-kind_duty : (terms own : Bool) (d : ℕ) (kind : MuxKind) (f : PlainFrame) (m : Mux) → SoundIn terms own d kind f → m.closed ≡ None → duty (hears_kind kind f m) ≤ duty m + due_in kind f
-kind_duty terms own d Sabm f m sound standing = duty_if (duty m + 1) f.pf (hears_sabm m.role f.dlci m) m (sabm_duty m.role f.dlci m refl standing) (omega arith)
-kind_duty terms own d Ua f m sound standing = let less = ua_duty f.dlci m in duty_if (duty m + 0) f.pf (hears_ua f.dlci m) m (omega (arith, less)) (omega arith)
-kind_duty terms own d Dm f m sound standing = let less = heard_dm_duty f.dlci m in omega (arith, less)
-kind_duty terms own d Disc f m sound standing = duty_if (duty m + 1) f.pf (hears_disc f.dlci m) m (disc_duty f.dlci m) (omega arith)
-kind_duty terms own d Uih f m sound standing =
-    uih_if (answers_to (messages f.octets)) (f.dlci == 0) ((f.dlci == m.dlci) && may_pass m) (hears_messages (messages f.octets) m) (hears_data f m) m
-    (λ here. messages_duty terms (messages f.octets) m (sound here)) (data_duty f m)
+kind_duty : (kind : MuxKind) (f : PlainFrame) (m : Mux) → m.closed ≡ None → duty (hears_kind kind f m) ≤ duty m + due_in kind f
+kind_duty Sabm f m standing = duty_if (duty m + 1) f.pf (hears_sabm m.role f.dlci m) m (sabm_duty m.role f.dlci m refl standing) (omega arith)
+kind_duty Ua f m standing = let less = ua_duty f.dlci m in duty_if (duty m + 0) f.pf (hears_ua f.dlci m) m (omega (arith, less)) (omega arith)
+kind_duty Dm f m standing = let less = heard_dm_duty f.dlci m in omega (arith, less)
+kind_duty Disc f m standing = duty_if (duty m + 1) f.pf (hears_disc f.dlci m) m (disc_duty f.dlci m) (omega arith)
+kind_duty Uih f m standing =
+    uih_if (all_due (messages f.octets)) (f.dlci == 0) ((f.dlci == m.dlci) && may_pass m) (hears_messages (messages f.octets) m) (hears_data f m) m
+    (messages_duty (messages f.octets) m) (data_duty f m)
 
 settled_duty : (kind : MuxKind) (f : PlainFrame) (m : Mux) → duty (hears_settled kind f m) ≤ duty m + due_in kind f
 settled_duty Sabm f m = duty_if (duty m + 1) f.pf (says_dm f.dlci m) m (dm_duty f.dlci m) (omega arith)
@@ -359,15 +366,15 @@ settled_duty Dm f m = omega arith
 settled_duty Disc f m = duty_if (duty m + 1) f.pf (hears_disc f.dlci m) m (disc_duty f.dlci m) (omega arith)
 settled_duty Uih f m = omega arith
 
-frame_duty : (terms own : Bool) (d : ℕ) (closed : Option MuxReason) (f : PlainFrame) (m : Mux) → SoundIn terms own d f.kind f → m.closed ≡ closed → duty (hears_frame closed f m) ≤ duty m + due_in f.kind f
-frame_duty terms own d None f m sound is = kind_duty terms own d f.kind f m sound is
-frame_duty terms own d (Some reasons.Dm) f m sound is = settled_duty f.kind f m
-frame_duty terms own d (Some reasons.Disc) f m sound is = settled_duty f.kind f m
-frame_duty terms own d (Some reasons.NoCreditFlow) f m sound is = omega arith
-frame_duty terms own d (Some reasons.Overdrawn) f m sound is = omega arith
-frame_duty terms own d (Some reasons.BadFrame) f m sound is = omega arith
-frame_duty terms own d (Some reasons.CreditOverflow) f m sound is = omega arith
+frame_duty : (closed : Option MuxReason) (f : PlainFrame) (m : Mux) → m.closed ≡ closed → duty (hears_frame closed f m) ≤ duty m + due_in f.kind f
+frame_duty None f m is = kind_duty f.kind f m is
+frame_duty (Some reasons.Dm) f m is = settled_duty f.kind f m
+frame_duty (Some reasons.Disc) f m is = settled_duty f.kind f m
+frame_duty (Some reasons.NoCreditFlow) f m is = omega arith
+frame_duty (Some reasons.Overdrawn) f m is = omega arith
+frame_duty (Some reasons.BadFrame) f m is = omega arith
+frame_duty (Some reasons.CreditOverflow) f m is = omega arith
 
--- a sound frame adds no more than its answers
-pub heard_duty : (terms own : Bool) (d : ℕ) (f : PlainFrame) (m : Mux) → SoundIn terms own d f.kind f → duty (hears_answer (Ok f) m) ≤ duty m + due_in f.kind f
-heard_duty terms own d f m sound = frame_duty terms own d m.closed f m sound refl
+-- a frame adds no more than its answers
+pub heard_duty : (f : PlainFrame) (m : Mux) → duty (hears_answer (Ok f) m) ≤ duty m + due_in f.kind f
+heard_duty f m = frame_duty m.closed f m refl

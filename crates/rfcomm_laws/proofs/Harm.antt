@@ -1,12 +1,11 @@
 -- What a side hears of a peer that keeps the rules does no harm: a step of a multiplexer, with what it owes.
-use Rattle.std.proofs.Common.{arith, ◌≡◌, ◌⊎◌, inl, inr, ◌≤◌, ℕ, ◌==◌, ◌+◌, ◌/◌, Bool, true, false, ◌||◌, cond, List, [], ◌∷◌, ◌++◌, Some, None, Ok, Err, refl, sym, subst, ◌∙◌}
-use Rattle.std.specs.Prelude.{nat_lt, is_some}
+use Rattle.std.proofs.Common.{arith, ◌≡◌, ◌⊎◌, inl, inr, ◌≤◌, ℕ, ◌==◌, ◌+◌, Bool, true, false, ◌||◌, cond, List, [], ◌∷◌, ◌++◌, Some, None, refl, sym, subst, ◌∙◌}
+use Rattle.std.specs.Prelude.{is_some}
 use Rattle.rfcomm_frames.specs.declared.frame.MuxKind.{MuxKind}
 use Rattle.rfcomm_frames.specs.declared.frame.MuxKind.TheVariants.{Sabm, Ua, Dm, Disc, Uih}
 use Rattle.rfcomm_frames.specs.declared.connection.Dlc.{Dlc}
 use Rattle.rfcomm_frames.specs.declared.connection.Dlc.TheVariants.{Idle, Asked, Open, Ended}
 use Rattle.rfcomm_frames.specs.Frames.{PlainFrame}
-use Rattle.rfcomm_frames.specs.Controls.{pn, msc, test, rpn, rls, nsc, other}
 use Rattle.rfcomm_frames.specs.FrameReading.{MessageAnswer, messages}
 use Rattle.rfcomm_frames.specs.Connections.{is_ended}
 use Rattle.rfcomm_model.specs.declared.state.MuxReason.{MuxReason}
@@ -17,6 +16,7 @@ use Rattle.rfcomm_model.specs.declared.state.Readiness.{Readiness}
 use Rattle.rfcomm_model.specs.Machine.{Mux, first_credits, closes}
 use Rattle.rfcomm_model.specs.ClosedSides.{IsOrderly}
 use Rattle.rfcomm_model.specs.Hearing.{answering, own_credits}
+use Rattle.rfcomm_laws.specs.Messages.{IsAllowed, is_acceptance}
 use Rattle.rfcomm_laws.specs.Totals.{bonus_of, cost_of}
 
 -- ---- what frames bring and cost
@@ -51,21 +51,17 @@ is_over m = is_some m.closed || (is_ended m.user || is_ended m.control)
 
 -- ---- messages and answers that keep the rules
 
--- the messages of an opening, by a speaker that agreed to the terms or not
-abbrev pub SoundMessage : Bool → MessageAnswer → Type 0
-SoundMessage terms (Ok (pn true dlci flow priority timer frame retransmissions credits)) = ((flow / 16 == 0xF) ≡ true) × (nat_lt frame 23 ≡ false)
-SoundMessage terms (Ok (pn false dlci flow priority timer frame retransmissions credits)) = ((flow / 16 == 0xE) ≡ true) × (nat_lt frame 23 ≡ false) × (terms ≡ true)
-SoundMessage terms (Ok (msc command dlci signals)) = Unit {0}
-SoundMessage terms (Ok (test command octets)) = ⊥
-SoundMessage terms (Ok (rpn command value)) = ⊥
-SoundMessage terms (Ok (rls command value)) = ⊥
-SoundMessage terms (Ok (nsc kind)) = ⊥
-SoundMessage terms (Ok (other kind value)) = ⊥
-SoundMessage terms (Err refusal) = ⊥
+-- what is not refused, by a speaker that agreed to the terms or not
+abbrev pub SoundMessage : Bool → ℕ → MessageAnswer → Type 0
+SoundMessage terms d message = IsAllowed d message × (is_acceptance message ≡ true → terms ≡ true)
 
-abbrev pub SoundMessages : Bool → List MessageAnswer → Type 0
-SoundMessages terms [] = Unit {0}
-SoundMessages terms (message ∷ rest) = SoundMessage terms message × SoundMessages terms rest
+-- what is no response to PN is sound whoever says it
+pub whoever : (terms : Bool) → false ≡ true → terms ≡ true
+whoever terms accepts = cc
+
+abbrev pub SoundMessages : Bool → ℕ → List MessageAnswer → Type 0
+SoundMessages terms d [] = Unit {0}
+SoundMessages terms d (message ∷ rest) = SoundMessage terms d message × SoundMessages terms d rest
 
 -- an answer that waits: UA for the user channel only where that was asked for
 abbrev pub WaitsIn : Bool → ℕ → ℕ → MuxKind → PlainFrame → Type 0
@@ -73,7 +69,7 @@ WaitsIn terms k d Sabm f = ⊥
 WaitsIn terms k d Ua f = (f.dlci == d) ≡ true → 1 ≤ k
 WaitsIn terms k d Dm f = Unit {0}
 WaitsIn terms k d Disc f = ⊥
-WaitsIn terms k d Uih f = (f.dlci ≡ 0) × SoundMessages terms (messages f.octets)
+WaitsIn terms k d Uih f = (f.dlci ≡ 0) × SoundMessages terms d (messages f.octets)
 
 abbrev pub AllWait : Bool → ℕ → ℕ → List PlainFrame → Type 0
 AllWait terms k d [] = Unit {0}
@@ -92,27 +88,16 @@ SoundAsks terms (Awaited command) = Unit {0}
 
 -- ---- more is true later
 
-message_later : (a b : Bool) (message : MessageAnswer) → (a ≡ true → b ≡ true) → SoundMessage a message → SoundMessage b message
-message_later a b (Ok (pn true dlci flow priority timer frame retransmissions credits)) more s = s
-message_later a b (Ok (pn false dlci flow priority timer frame retransmissions credits)) more s = (s.0, s.1, more s.2)
-message_later a b (Ok (msc command dlci signals)) more s = tt
-message_later a b (Ok (test command octets)) more s = absurd s
-message_later a b (Ok (rpn command value)) more s = absurd s
-message_later a b (Ok (rls command value)) more s = absurd s
-message_later a b (Ok (nsc kind)) more s = absurd s
-message_later a b (Ok (other kind value)) more s = absurd s
-message_later a b (Err refusal) more s = absurd s
-
-pub messages_later : (a b : Bool) (list : List MessageAnswer) → (a ≡ true → b ≡ true) → SoundMessages a list → SoundMessages b list
-messages_later a b [] more s = tt
-messages_later a b (message ∷ rest) more s = (message_later a b message more s.0, messages_later a b rest more s.1)
+pub messages_later : (a b : Bool) (d : ℕ) (list : List MessageAnswer) → (a ≡ true → b ≡ true) → SoundMessages a d list → SoundMessages b d list
+messages_later a b d [] more s = tt
+messages_later a b d (message ∷ rest) more s = ((s.0.0, λ accepts. more (s.0.1 accepts)), messages_later a b d rest more s.1)
 
 waits_later : (a b : Bool) (k n d : ℕ) (kind : MuxKind) (f : PlainFrame) → (a ≡ true → b ≡ true) → k ≤ n → WaitsIn a k d kind f → WaitsIn b n d kind f
 waits_later a b k n d Sabm f more most w = absurd w
 waits_later a b k n d Ua f more most w = λ here. let some = w here in omega (arith, some)
 waits_later a b k n d Dm f more most w = tt
 waits_later a b k n d Disc f more most w = absurd w
-waits_later a b k n d Uih f more most w = (w.0, messages_later a b (messages f.octets) more w.1)
+waits_later a b k n d Uih f more most w = (w.0, messages_later a b d (messages f.octets) more w.1)
 
 pub all_later : (a b : Bool) (k n d : ℕ) (fs : List PlainFrame) → (a ≡ true → b ≡ true) → k ≤ n → AllWait a k d fs → AllWait b n d fs
 all_later a b k n d [] more most w = tt

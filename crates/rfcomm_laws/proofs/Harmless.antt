@@ -1,7 +1,7 @@
 -- Control messages, and whatever frame keeps the rules, do a side no harm.
 use Rattle.std.proofs.Common.{arith, ◌≡◌, ◌<◌, ◌≤◌, ℕ, ◌==◌, ◌+◌, ◌/◌, ◌%◌, ◌^◌, Bool, true, false, ◌&&◌, cond, List, [], ◌∷◌, Option, Some, None, Ok, Err, refl, sym, ap, subst, ◌∙◌}
 use Rattle.std.specs.Prelude.{not, nat_lt, nat_le}
-use Rattle.std.proofs.lemmas.Bool.{le-ltb, ltb-false, leb-false}
+use Rattle.std.proofs.lemmas.Bool.{le-ltb, ltb-false, leb-false, eqb-true, eq-eqb}
 use Rattle.rfcomm_frames.specs.declared.frame.MuxKind.{MuxKind}
 use Rattle.rfcomm_frames.specs.declared.frame.MuxKind.TheVariants.{Sabm, Ua, Dm, Disc, Uih}
 use Rattle.rfcomm_frames.specs.declared.connection.Role.{Role}
@@ -19,10 +19,11 @@ use Rattle.rfcomm_model.specs.declared.state.Asks.TheVariants.{Nothing, Due, Awa
 use Rattle.rfcomm_model.specs.declared.state.Readiness.{Readiness}
 use Rattle.rfcomm_model.specs.Machine.{Mux, closes, may_pass}
 use Rattle.rfcomm_model.specs.Written.{control_frame}
-use Rattle.rfcomm_model.specs.Hearing.{has_room, answering, says_dm, hears_sabm, hears_ua, hears_disc, credited, if_stands, hears_data, counts, pn_credited, lesser, own_credits, hears_offer, terms_agreed, hears_acceptance, hears_other_offer, hears_pn, peer_answered, own_answered, signals_answered, hears_msc, hears_message, hears_messages, hears_kind, hears_settled, hears_frame, hears_answer}
-use Rattle.rfcomm_laws.proofs.Opening.{msc_read, pn_read}
+use Rattle.rfcomm_model.specs.Hearing.{has_room, answering, says_dm, tells, hears_sabm, hears_ua, hears_disc, credited, if_stands, hears_data, counts, pn_credited, lesser, own_credits, hears_offer, terms_agreed, hears_acceptance, hears_other_offer, hears_pn, peer_answered, own_answered, signals_answered, hears_msc, settings_of, hears_message, hears_messages, hears_kind, hears_settled, hears_frame, hears_answer}
+use Rattle.rfcomm_laws.proofs.Opening.{IsRead, msc_read, pn_read, test_read, rpn_read, rls_read, nsc_read, tells_keeps}
+use Rattle.rfcomm_laws.specs.Messages.{IsAllowed, is_acceptance}
 use Rattle.rfcomm_laws.specs.Totals.{stated_sum, bonus_in, bonus_of, cost_in, cost_of}
-use Rattle.rfcomm_laws.proofs.Harm.{SoundMessage, SoundMessages, SoundAsks, Word, Step, step_sets, step_same, step_then, step_more, step_if, step_answers}
+use Rattle.rfcomm_laws.proofs.Harm.{SoundMessage, SoundMessages, whoever, SoundAsks, Word, Step, step_sets, step_same, step_then, step_more, step_if, step_answers}
 use Rattle.rfcomm_laws.proofs.Turning.{Fit, still_fit, disagrees, dm_step, sabm_step, ua_step, heard_dm_step, disc_step, credited_step, data_step, stands_step}
 
 -- ---- control messages
@@ -50,7 +51,7 @@ offer_answers w d priority frame m fit long =
     let brings : stated_sum m.dlci (messages (written control)) ≡ stated_by m.dlci (Ok control) + 0 = ap (stated_sum m.dlci) read in
     let few = stated_few (m.dlci % 64 == m.dlci) in
     step_answers w 0 0 m x (control_frame m.role control) s (omega (arith, brings, few))
-    (refl, subst (SoundMessages true) (sym read) ((refl, le-ltb n 23 within.0, refl), tt))
+    (refl, subst (SoundMessages true m.dlci) (sym read) (((within.0, λ here. refl), λ accepts. refl), tt))
   where
     stated_few : (t : Bool) → cond t (own_credits m % 8) 0 ≤ own_credits m
     stated_few true = omega arith
@@ -91,20 +92,22 @@ acceptance_step w flow frame credits m grants long is =
     (step_then w 0 0 (credits % 8) 0 m x (pn_credited credits x) s (pn_credited_step w credits x))))
 
 -- for the user channel, or for another
-by_channel : (w : Word) (t : Bool) (n : ℕ) (m x y : Mux) → Step w n 0 m x → Step w 0 0 m y → Step w (cond t n 0) 0 m (cond t x y)
-by_channel w true n m x y p q = p
+by_channel : (w : Word) (t : Bool) (n : ℕ) (m x y : Mux) → (t ≡ true → Step w n 0 m x) → Step w 0 0 m y → Step w (cond t n 0) 0 m (cond t x y)
+by_channel w true n m x y p q = p refl
 by_channel w false n m x y p q = q
 
-heard_pn_step : (w : Word) (d : ℕ) (command : Bool) (dlci flow priority timer frame retransmissions credits : ℕ) (m : Mux) → Fit d m → SoundMessage w.terms (Ok (pn command dlci flow priority timer frame retransmissions credits))
+heard_pn_step : (w : Word) (d : ℕ) (command : Bool) (dlci flow priority timer frame retransmissions credits : ℕ) (m : Mux) → Fit d m → SoundMessage w.terms d (Ok (pn command dlci flow priority timer frame retransmissions credits))
     → Step w (cond (dlci % 64 == m.dlci) (credits % 8) 0) 0 m (hears_pn command dlci flow priority frame credits m)
 heard_pn_step w d true dlci flow priority timer frame retransmissions credits m fit sound =
+    let long = le-ltb frame 23 sound.0.0 in
     by_channel w (dlci % 64 == m.dlci) (credits % 8) m (hears_offer flow priority frame credits m) (hears_other_offer true (dlci % 64) frame m)
-    (offer_step w d flow priority frame credits m fit sound.0 sound.1)
-    (step_if w 0 0 m (nat_lt frame 23) (closes reasons.BadFrame m) (says_dm (dlci % 64) m) (λ t. absurd (short_excluded frame sound.1 t)) (λ t. dm_step w 0 0 (dlci % 64) m))
+    (λ here. offer_step w d flow priority frame credits m fit (eq-eqb (flow / 16) 0xF (sound.0.1 (eqb-true (dlci % 64) m.dlci here ∙ fit.dlci))) long)
+    (step_if w 0 0 m (nat_lt frame 23) (closes reasons.BadFrame m) (says_dm (dlci % 64) m) (λ t. absurd (short_excluded frame long t)) (λ t. dm_step w 0 0 (dlci % 64) m))
 heard_pn_step w d false dlci flow priority timer frame retransmissions credits m fit sound =
+    let long = le-ltb frame 23 sound.0.0 in
     by_channel w (dlci % 64 == m.dlci) (credits % 8) m (hears_acceptance flow frame credits m) (hears_other_offer false (dlci % 64) frame m)
-    (acceptance_step w flow frame credits m sound.0 sound.1 sound.2)
-    (step_if w 0 0 m (nat_lt frame 23) (closes reasons.BadFrame m) m (λ t. absurd (short_excluded frame sound.1 t)) (λ t. step_same w 0 0 m))
+    (λ here. acceptance_step w flow frame credits m (eq-eqb (flow / 16) 0xE (sound.0.1 (eqb-true (dlci % 64) m.dlci here ∙ fit.dlci))) long (sound.1 refl))
+    (step_if w 0 0 m (nat_lt frame 23) (closes reasons.BadFrame m) m (λ t. absurd (short_excluded frame long t)) (λ t. step_same w 0 0 m))
 
 -- MSC
 step_ready : (w : Word) (m : Mux) (asks : Asks) (ready : Readiness) → (SoundAsks w.terms m.asks → SoundAsks w.terms asks) → Step w 0 0 m (record m { asks = asks; ready = ready })
@@ -125,10 +128,10 @@ noted_step w address signals m t =
     let answer : PlainFrame = control_frame m.role (msc false address signals) in
     let read : messages (written (msc false address signals)) ≡ Ok (msc false address signals) ∷ [] = msc_read false address signals in
     let brings : stated_sum m.dlci (messages (written (msc false address signals))) ≡ 0 = ap (stated_sum m.dlci) read in
-    let sound : SoundMessages m.agreed (messages (written (msc false address signals))) = subst (SoundMessages m.agreed) (sym read) (tt, tt) in
+    let sound : SoundMessages m.agreed m.dlci (messages (written (msc false address signals))) = subst (SoundMessages m.agreed m.dlci) (sym read) ((tt, whoever m.agreed), tt) in
     by_address answer brings sound t
   where
-    by_address : (answer : PlainFrame) → bonus_of m.dlci (control_frame m.role (msc false address signals)) ≡ 0 → SoundMessages m.agreed (messages (written (msc false address signals))) → (t : Bool)
+    by_address : (answer : PlainFrame) → bonus_of m.dlci (control_frame m.role (msc false address signals)) ≡ 0 → SoundMessages m.agreed m.dlci (messages (written (msc false address signals))) → (t : Bool)
         → Step w 0 0 m (answering (control_frame m.role (msc false address signals)) (cond t (record m { ready = peer_answered m.ready }) m))
     by_address answer brings sound true =
         step_answers w 0 0 m (record m { ready = peer_answered m.ready }) (control_frame m.role (msc false address signals)) (step_ready w m m.asks (peer_answered m.ready) (λ a. a)) (omega (arith, brings)) (refl, sound)
@@ -141,17 +144,29 @@ heard_msc_step w true address signals m =
 heard_msc_step w false address signals m =
     step_if w 0 0 m (address / 4 == m.dlci) (signals_answered m.asks m) m (λ t. signals_step w m.asks m) (λ t. step_same w 0 0 m)
 
-message_step : (w : Word) (d : ℕ) (message : MessageAnswer) (m : Mux) → Fit d m → SoundMessage w.terms message → Step w (stated_by m.dlci message) 0 m (hears_message message m)
+-- TEST, RPN and RLS, and what is not understood
+told_step : (w : Word) (control : PlainControl) (m : Mux) → IsRead control → IsAllowed m.dlci (Ok control) → is_acceptance (Ok control) ≡ false → stated_by m.dlci (Ok control) ≡ 0 → Step w 0 0 m (tells control m)
+told_step w control m read allowed plain none =
+    tells_keeps (Step w 0 0 m) control m read (step_same w 0 0 m)
+    (λ is.
+    let brings : stated_sum m.dlci (messages (written control)) ≡ stated_by m.dlci (Ok control) + 0 = ap (stated_sum m.dlci) is in
+    step_answers w 0 0 m m (control_frame m.role control) (step_same w 0 0 m) (omega (arith, brings, none))
+    (refl, subst (SoundMessages m.agreed m.dlci) (sym is) ((allowed, λ accepts. whoever m.agreed (sym plain ∙ accepts)), tt)))
+
+told_if : (w : Word) (asked : Bool) (control : PlainControl) (m : Mux) → IsRead control → IsAllowed m.dlci (Ok control) → is_acceptance (Ok control) ≡ false → stated_by m.dlci (Ok control) ≡ 0 → Step w 0 0 m (cond asked (tells control m) m)
+told_if w asked control m read allowed plain none = step_if w 0 0 m asked (tells control m) m (λ t. told_step w control m read allowed plain none) (λ t. step_same w 0 0 m)
+
+message_step : (w : Word) (d : ℕ) (message : MessageAnswer) (m : Mux) → Fit d m → SoundMessage w.terms d message → Step w (stated_by m.dlci message) 0 m (hears_message message m)
 message_step w d (Ok (pn command dlci flow priority timer frame retransmissions credits)) m fit sound = heard_pn_step w d command dlci flow priority timer frame retransmissions credits m fit sound
 message_step w d (Ok (msc command address signals)) m fit sound = heard_msc_step w command address signals m
-message_step w d (Ok (test command octets)) m fit sound = absurd sound
-message_step w d (Ok (rpn command value)) m fit sound = absurd sound
-message_step w d (Ok (rls command value)) m fit sound = absurd sound
-message_step w d (Ok (nsc kind)) m fit sound = absurd sound
-message_step w d (Ok (other kind value)) m fit sound = absurd sound
-message_step w d (Err refusal) m fit sound = absurd sound
+message_step w d (Ok (test command octets)) m fit sound = told_if w command (test false octets) m (test_read octets) tt refl refl
+message_step w d (Ok (rpn command value)) m fit sound = told_if w command (rpn false (settings_of value)) m (rpn_read (settings_of value)) tt refl refl
+message_step w d (Ok (rls command value)) m fit sound = told_if w command (rls false value) m (rls_read value) tt refl refl
+message_step w d (Ok (nsc kind)) m fit sound = step_same w 0 0 m
+message_step w d (Ok (other kind value)) m fit sound = told_if w (kind / 2 % 2 == 1) (nsc kind) m (nsc_read kind) tt refl refl
+message_step w d (Err refusal) m fit sound = absurd sound.0
 
-messages_step : (w : Word) (d : ℕ) (list : List MessageAnswer) (m : Mux) → Fit d m → SoundMessages w.terms list → Step w (stated_sum d list) 0 m (hears_messages list m)
+messages_step : (w : Word) (d : ℕ) (list : List MessageAnswer) (m : Mux) → Fit d m → SoundMessages w.terms d list → Step w (stated_sum d list) 0 m (hears_messages list m)
 messages_step w d [] m fit sound = step_same w 0 0 m
 messages_step w d (message ∷ rest) m fit sound =
     let x : Mux = if_stands (hears_message message) m.closed m in
@@ -167,7 +182,7 @@ SoundIn terms own d Sabm f = (f.dlci == d) ≡ true → own ≡ true
 SoundIn terms own d Ua f = Unit {0}
 SoundIn terms own d Dm f = Unit {0}
 SoundIn terms own d Disc f = Unit {0}
-SoundIn terms own d Uih f = (f.dlci == 0) ≡ true → SoundMessages terms (messages f.octets)
+SoundIn terms own d Uih f = (f.dlci == 0) ≡ true → SoundMessages terms d (messages f.octets)
 
 abbrev pub is_responder : Role → Bool
 is_responder Initiator = false
@@ -215,7 +230,7 @@ kind_step terms d Disc f m fit sound =
 kind_step terms d Uih f m fit sound =
     let w : Word = word_of terms (other_role m.role) m.dlci Uih f in
     uih_if w (stated_sum d (messages f.octets)) (credit_octet f.credits) (cond (is_empty f.octets) 0 1) (f.dlci == 0) ((f.dlci == m.dlci) && may_pass m) (hears_messages (messages f.octets) m) (hears_data f m) m
-    (λ t. messages_step w d (messages f.octets) m fit (sound t)) (data_step w f m)
+    (λ t. messages_step w d (messages f.octets) m fit (subst (λ (n : ℕ). SoundMessages terms n (messages f.octets)) fit.dlci (sound t))) (data_step w f m)
 
 settled_step : (w : Word) (d : ℕ) (kind : MuxKind) (f : PlainFrame) (m : Mux) → Fit d m → Step w (bonus_in d kind f) (cost_in kind f) m (hears_settled kind f m)
 settled_step w d Sabm f m fit = step_if w 0 0 m f.pf (says_dm f.dlci m) m (λ t. dm_step w 0 0 f.dlci m) (λ t. step_same w 0 0 m)

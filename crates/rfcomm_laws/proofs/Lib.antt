@@ -18,3 +18,5 @@ pub mod Turning
 pub mod Coming
 pub mod Duties
 pub mod Rooms
+pub mod Refusing
+pub mod Answering

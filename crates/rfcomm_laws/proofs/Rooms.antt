@@ -1,6 +1,6 @@
 -- No more than nine answers wait at a side, so each frame that comes finds room for its own.
-use Rattle.std.proofs.Common.{arith, ◌≡◌, ◌<◌, ◌≤◌, ℕ, ◌==◌, ◌+◌, ◌-◌, ◌*◌, Bool, true, false, ◌&&◌, cond, List, [], ◌∷◌, ◌++◌, length, map, take, Option, Some, None, refl, sym, ap, subst}
-use Rattle.std.specs.Prelude.{not, nat_lt, is_none}
+use Rattle.std.proofs.Common.{arith, ◌≡◌, ◌<◌, ◌≤◌, ℕ, ◌==◌, ◌+◌, ◌-◌, ◌*◌, ◌/◌, ◌%◌, Bool, true, false, ◌&&◌, cond, List, [], ◌∷◌, ◌++◌, length, map, take, Option, Some, None, Ok, Err, refl, sym, ap, subst}
+use Rattle.std.specs.Prelude.{not, nat_lt, nat_le, is_none}
 use Rattle.std.proofs.lemmas.Bool.{lt-ltb, ne_eqb}
 use Rattle.rfcomm_frames.specs.declared.frame.MuxKind.{MuxKind}
 use Rattle.rfcomm_frames.specs.declared.frame.MuxKind.TheVariants.{Sabm, Ua, Dm, Disc, Uih}
@@ -8,7 +8,8 @@ use Rattle.rfcomm_frames.specs.declared.connection.Role.{Role}
 use Rattle.rfcomm_frames.specs.declared.connection.Role.TheVariants.{Initiator, Responder}
 use Rattle.rfcomm_frames.specs.declared.connection.Dlc.{Dlc}
 use Rattle.rfcomm_frames.specs.declared.connection.Dlc.TheVariants.{Idle, Asked, Open, Ended}
-use Rattle.rfcomm_frames.specs.Frames.{PlainFrame}
+use Rattle.rfcomm_frames.specs.Controls.{PlainControl, pn, msc, test, rpn, rls, nsc, other, written}
+use Rattle.rfcomm_frames.specs.Frames.{PlainFrame, bit}
 use Rattle.rfcomm_frames.specs.Answers.{Answer}
 use Rattle.rfcomm_frames.specs.FrameReading.{MessageAnswer, messages, is_empty}
 use Rattle.rfcomm_frames.specs.Connections.{turned, asked, agreed, left}
@@ -19,8 +20,8 @@ use Rattle.rfcomm_model.specs.declared.state.Command.TheVariants.{OpenControl, A
 use Rattle.rfcomm_model.specs.declared.state.Asks.{Asks}
 use Rattle.rfcomm_model.specs.declared.state.Asks.TheVariants.{Nothing, Due, Awaited}
 use Rattle.rfcomm_model.specs.Machine.{Mux, may_pass, is_ready, is_leaving, taken_count, leaves}
-use Rattle.rfcomm_model.specs.Hearing.{has_room, own_credits, if_stands, hears_message}
-use Rattle.rfcomm_model.specs.Loads.{answers_to, comes_of, weights}
+use Rattle.rfcomm_model.specs.Hearing.{has_room, own_credits, settings_of, if_stands, hears_message}
+use Rattle.rfcomm_model.specs.Loads.{answered_once, answers_to, comes_of, weights}
 use Rattle.rfcomm_model.specs.Saying.{Said, passed_on, passes, says, frame_of_command, commanded, says_data, says_grant, first_of, says_command, says_answer, next}
 use Rattle.rfcomm_model.specs.Sides.{FindRoom, FindRoomOn, FindsRoom, AnswerFindsRoom}
 use Rattle.rfcomm_model.specs.Written.{grant_frame, data_frame}
@@ -28,14 +29,12 @@ use Rattle.rfcomm_model.proofs.Loading.{pn_weight, msc_weight}
 use Rattle.rfcomm_laws.specs.Happenings.{Happening, Moves, Closes, happens, all_happen}
 use Rattle.rfcomm_laws.specs.Links.{Link, LinkEnd, new_link, all_done, happening_of, AreFrames, MirrorsEnd}
 use Rattle.rfcomm_laws.specs.Pairs.{End, Move, Speak, Give, Deliver, spoken, taking, without_first, near, far, Pair, ByInitiator, ByResponder, Terms, new_pair}
+use Rattle.rfcomm_laws.specs.SingleAnswers.{told_to, due_to, all_due, due_in}
 use Rattle.rfcomm_laws.specs.Rooms.{FirstFindsRoom, BothHaveRoom, FramesFindRoom, FirstSduFindsRoom, SdusFindRoom}
 use Rattle.rfcomm_laws.proofs.Crossings as crossings
 use Rattle.rfcomm_laws.proofs.Crossings.{Crossing, offering, first_offering}
-use Rattle.rfcomm_laws.proofs.Duties.{commands, signals, duty, due_in, dues, duty_if, one_message_duty, heard_duty}
-use Rattle.rfcomm_laws.proofs.Harm.{SoundMessages}
-use Rattle.rfcomm_laws.proofs.Harmless.{SoundIn}
+use Rattle.rfcomm_laws.proofs.Duties.{commands, signals, duty, dues, duty_if, one_message_duty, heard_duty}
 use Rattle.rfcomm_laws.proofs.Spelling.{sdus-are_frames}
-use Rattle.rfcomm_laws.proofs.Ways.{AllSound}
 
 -- ---- what is said
 
@@ -81,6 +80,40 @@ passed_falls role kind false pf dlc = omega arith
 passes_duty : (n : ℕ) (kind : MuxKind) (pf : Bool) (m : Mux) → duty (passes n kind pf m) ≤ duty m
 passes_duty n kind pf m = let less = passed_falls m.role kind (n == m.dlci) pf m.user in omega (arith, less)
 
+-- a frame counts no less than what it asks for
+told_light : (asked : Bool) (control : PlainControl) → told_to asked control ≤ bit asked
+told_light true control = by (nat_le (length (written control)) 40)
+  where
+    by : (short : Bool) → cond short 1 0 ≤ 1
+    by true = omega arith
+    by false = omega arith
+told_light false control = omega arith
+
+message_light : (message : MessageAnswer) → due_to message ≤ answered_once message
+message_light (Ok (pn command dlci flow priority timer frame retransmissions credits)) = omega arith
+message_light (Ok (msc command address octet)) = omega arith
+message_light (Ok (test command octets)) = told_light command (test false octets)
+message_light (Ok (rpn command value)) = told_light command (rpn false (settings_of value))
+message_light (Ok (rls command value)) = told_light command (rls false value)
+message_light (Ok (nsc kind)) = omega arith
+message_light (Ok (other kind value)) = told_light (kind / 2 % 2 == 1) (nsc kind)
+message_light (Err refusal) = omega arith
+
+messages_light : (list : List MessageAnswer) → all_due list ≤ answers_to list
+messages_light [] = omega arith
+messages_light (message ∷ rest) = let one = message_light message in let others = messages_light rest in omega (arith, one, others)
+
+uih_light : (control : Bool) (n k l : ℕ) → n ≤ k → cond control n 0 ≤ cond control k l
+uih_light true n k l less = less
+uih_light false n k l less = omega arith
+
+due_light : (kind : MuxKind) (f : PlainFrame) → due_in kind f ≤ comes_of kind f
+due_light Sabm f = omega arith
+due_light Ua f = omega arith
+due_light Dm f = omega arith
+due_light Disc f = omega arith
+due_light Uih f = uih_light (f.dlci == 0) (all_due (messages f.octets)) (answers_to (messages f.octets)) (cond (is_empty f.octets) 0 1) (messages_light (messages f.octets))
+
 -- what is said asks for no more than the side had to do
 abbrev SaysDuty : ℕ → Option Said → Type 0
 SaysDuty before None = Unit {0}
@@ -94,12 +127,14 @@ command_duty OpenControl m is = let before = ap (commands m.closed) is in said_d
 command_duty Agree m is =
     let before = ap (commands m.closed) is in
     let heavy = pn_weight m.role true m.dlci 0xF0 0 0 m.own 0 (own_credits m) in
-    said_duty (duty m) (frame_of_command Agree m) (commanded Agree m) (omega (arith, before, heavy))
+    let light = due_light Uih (frame_of_command Agree m) in
+    said_duty (duty m) (frame_of_command Agree m) (commanded Agree m) (omega (arith, before, heavy, light))
 command_duty OpenUser m is = let before = ap (commands m.closed) is in said_duty (duty m) (frame_of_command OpenUser m) (commanded OpenUser m) (omega (arith, before))
 command_duty Signal m is =
     let before = ap (commands m.closed) is in
     let heavy = msc_weight m.role true (4 * m.dlci + 3) 0x8D in
-    said_duty (duty m) (frame_of_command Signal m) (commanded Signal m) (omega (arith, before, heavy))
+    let light = due_light Uih (frame_of_command Signal m) in
+    said_duty (duty m) (frame_of_command Signal m) (commanded Signal m) (omega (arith, before, heavy, light))
 command_duty LeaveUser m is = let before = ap (commands m.closed) is in said_duty (duty m) (frame_of_command LeaveUser m) (commanded LeaveUser m) (omega (arith, before))
 command_duty LeaveControl m is = let before = ap (commands m.closed) is in said_duty (duty m) (frame_of_command LeaveControl m) (commanded LeaveControl m) (omega (arith, before))
 
@@ -120,8 +155,8 @@ free_duty m some =
     let n : ℕ = grant_of m.account in
     let x : Mux = record m { account = record { cap = m.account.cap; held = m.account.held; peer = m.account.peer + n } } in
     let y : Mux = record m { waiting = []; account = record { cap = m.account.cap; held = m.account.held - 1; peer = m.account.peer } } in
-    let none = no_dues m.dlci (answers_to (messages [])) some in
-    let also = no_dues m.dlci (answers_to (messages m.waiting)) some in
+    let none = no_dues m.dlci (all_due (messages [])) some in
+    let also = no_dues m.dlci (all_due (messages m.waiting)) some in
     first_duty (duty m) (says_grant m) (says_data m)
     (if_duty (duty m) (may_pass m && nat_lt 0 n) (says (grant_frame m.role m.dlci n) x) (said_duty (duty m) (grant_frame m.role m.dlci n) x (omega (arith, none))))
     (if_duty (duty m) (is_ready m && (not (is_empty m.waiting) && nat_lt 0 m.account.held)) (says (data_frame m.role m.dlci m.waiting) y) (said_duty (duty m) (data_frame m.role m.dlci m.waiting) y (omega (arith, also))))
@@ -130,18 +165,6 @@ asks_duty : (asks : Asks) (m : Mux) → m.asks ≡ asks → 0 < m.dlci → SaysD
 asks_duty Nothing m is some = free_duty m some
 asks_duty (Due command) m is some = command_duty command m is
 asks_duty (Awaited command) m is some = free_duty m some
-
-uih_light : (control : Bool) (n k : ℕ) → cond control n 0 ≤ cond control n k
-uih_light true n k = omega arith
-uih_light false n k = omega arith
-
--- a frame counts no less than what it asks for
-due_light : (kind : MuxKind) (f : PlainFrame) → due_in kind f ≤ comes_of kind f
-due_light Sabm f = omega arith
-due_light Ua f = omega arith
-due_light Dm f = omega arith
-due_light Disc f = omega arith
-due_light Uih f = uih_light (f.dlci == 0) (answers_to (messages f.octets)) (cond (is_empty f.octets) 0 1)
 
 answers_duty : (answers : List PlainFrame) (m : Mux) → m.answers ≡ answers → 0 < m.dlci → SaysDuty (duty m) (says_answer answers m)
 answers_duty [] m is some = asks_duty m.asks m refl some
@@ -212,11 +235,11 @@ near_less Speak e some = let less = spoken_less (next e.mux) e (answers_duty e.m
 near_less (Give octets) e some = let less = given_less octets (may_pass e.mux) e in omega (arith, less)
 near_less Deliver e some = let all = rest_due e.queue in omega (arith, all)
 
-far_less : (terms own : Bool) (d : ℕ) (move : Move) (queue : List PlainFrame) (e : End) → AllSound terms own d queue → end_duty (far move queue e) ≤ end_duty e + first_due move queue
-far_less terms own d Speak queue e sound = omega arith
-far_less terms own d (Give octets) queue e sound = omega arith
-far_less terms own d Deliver [] e sound = omega arith
-far_less terms own d Deliver (f ∷ queue) e sound = let less = heard_duty terms own d f e.mux sound.0 in omega (arith, less)
+far_less : (move : Move) (queue : List PlainFrame) (e : End) → end_duty (far move queue e) ≤ end_duty e + first_due move queue
+far_less Speak queue e = omega arith
+far_less (Give octets) queue e = omega arith
+far_less Deliver [] e = omega arith
+far_less Deliver (f ∷ queue) e = let less = heard_duty f e.mux in omega (arith, less)
 
 some_user : (d : ℕ) (m : Mux) → 0 < d → m.dlci ≡ d → 0 < m.dlci
 some_user d m some is = omega (arith, is, some)
@@ -225,12 +248,12 @@ total_less : (d : ℕ) (h : Happening) (p : Pair) → Crossing d p → total (ha
 total_less d (Moves (ByInitiator move)) p c =
     let fit = c.forth.fit in
     let mine = near_less move p.initiator (some_user d p.initiator.mux fit.some fit.dlci) in
-    let other = far_less p.initiator.mux.agreed p.responder.mux.agreed d move p.initiator.queue p.responder c.forth.sound in
+    let other = far_less move p.initiator.queue p.responder in
     omega (arith, mine, other)
 total_less d (Moves (ByResponder move)) p c =
     let fit = c.back.fit in
     let mine = near_less move p.responder (some_user d p.responder.mux fit.some fit.dlci) in
-    let other = far_less p.responder.mux.agreed p.initiator.mux.agreed d move p.responder.queue p.initiator c.back.sound in
+    let other = far_less move p.responder.queue p.initiator in
     omega (arith, mine, other)
 total_less d (Closes Initiator) p c = let less = leaves_duty p.initiator.mux in omega (arith, less)
 total_less d (Closes Responder) p c = let less = leaves_duty p.responder.mux in omega (arith, less)
@@ -244,26 +267,26 @@ answers_few (f ∷ fs) = let less = answers_few fs in omega (arith, less)
 room_of : (m : Mux) → duty m ≤ 9 → has_room m ≡ true
 room_of m few = let less = answers_few m.answers in lt-ltb (length m.answers) 16 (omega (arith, less, few))
 
-messages_find : (terms : Bool) (list : List MessageAnswer) (m : Mux) → SoundMessages terms list → duty m + answers_to list ≤ 9 → FindRoom list m
-messages_find terms [] m sound few = tt
-messages_find terms (message ∷ rest) m sound few =
-    let one = one_message_duty terms message m sound.0 in
-    (room_of m (omega (arith, few)), messages_find terms rest (if_stands (hears_message message) m.closed m) sound.1 (omega (arith, few, one)))
+messages_find : (list : List MessageAnswer) (m : Mux) → duty m + all_due list ≤ 9 → FindRoom list m
+messages_find [] m few = tt
+messages_find (message ∷ rest) m few =
+    let one = one_message_duty message m in
+    (room_of m (omega (arith, few)), messages_find rest (if_stands (hears_message message) m.closed m) (omega (arith, few, one)))
 
-find_on : (terms control : Bool) (list : List MessageAnswer) (m : Mux) → (control ≡ true → SoundMessages terms list) → duty m + cond control (answers_to list) 0 ≤ 9 → FindRoomOn control list m
-find_on terms true list m sound few = messages_find terms list m (sound refl) few
-find_on terms false list m sound few = tt
+find_on : (control : Bool) (list : List MessageAnswer) (m : Mux) → duty m + cond control (all_due list) 0 ≤ 9 → FindRoomOn control list m
+find_on true list m few = messages_find list m few
+find_on false list m few = tt
 
-finds : (terms own : Bool) (d : ℕ) (kind : MuxKind) (f : PlainFrame) (m : Mux) → SoundIn terms own d kind f → duty m + due_in kind f ≤ 9 → FindsRoom kind f m
-finds terms own d Sabm f m sound few = room_of m (omega (arith, few))
-finds terms own d Ua f m sound few = tt
-finds terms own d Dm f m sound few = tt
-finds terms own d Disc f m sound few = room_of m (omega (arith, few))
-finds terms own d Uih f m sound few = find_on terms (f.dlci == 0) (messages f.octets) m sound few
+finds : (kind : MuxKind) (f : PlainFrame) (m : Mux) → duty m + due_in kind f ≤ 9 → FindsRoom kind f m
+finds Sabm f m few = room_of m (omega (arith, few))
+finds Ua f m few = tt
+finds Dm f m few = tt
+finds Disc f m few = room_of m (omega (arith, few))
+finds Uih f m few = find_on (f.dlci == 0) (messages f.octets) m few
 
-first_finds : (terms own : Bool) (d : ℕ) (queue : List PlainFrame) (m : Mux) → AllSound terms own d queue → duty m + dues queue ≤ 9 → FirstFindsRoom queue m
-first_finds terms own d [] m sound few = tt
-first_finds terms own d (f ∷ queue) m sound few = finds terms own d f.kind f m sound.0 (omega (arith, few))
+first_finds : (queue : List PlainFrame) (m : Mux) → duty m + dues queue ≤ 9 → FirstFindsRoom queue m
+first_finds [] m few = tt
+first_finds (f ∷ queue) m few = finds f.kind f m (omega (arith, few))
 
 -- a pair whose sides keep the rules and have little to do
 pub record Tidy (d : ℕ) (p : Pair) : Type 0 where
@@ -275,11 +298,7 @@ tidy_step d h p t = let less = total_less d h p t.crossing in record { crossing 
 
 pub tidy_room : (d : ℕ) (p : Pair) → Tidy d p → BothHaveRoom p
 tidy_room d p t =
-    let c = t.crossing in
-    record {
-      forth = first_finds p.initiator.mux.agreed p.responder.mux.agreed d p.initiator.queue p.responder.mux c.forth.sound (omega (arith, t.few));
-      back = first_finds p.responder.mux.agreed p.initiator.mux.agreed d p.responder.queue p.initiator.mux c.back.sound (omega (arith, t.few));
-    }
+    record { forth = first_finds p.initiator.queue p.responder.mux (omega (arith, t.few)); back = first_finds p.responder.queue p.initiator.mux (omega (arith, t.few)) }
 
 tidy_all : (d : ℕ) (hs : List Happening) (p : Pair) → Tidy d p → Tidy d (all_happen hs p)
 tidy_all d [] p t = t

@@ -1,7 +1,7 @@
 -- What a side says keeps the rules.
 use Rattle.std.proofs.Common.{arith, ◌≡◌, ◌⊎◌, inl, inr, ◌<◌, ◌≤◌, ℕ, ◌==◌, ◌+◌, ◌-◌, ◌*◌, ◌%◌, Bool, true, false, ◌&&◌, ◌||◌, cond, List, [], ◌∷◌, ◌++◌, Option, Some, None, Ok, refl, sym, ap, subst, ◌∙◌}
 use Rattle.std.specs.Prelude.{not, nat_lt, nat_le, is_some}
-use Rattle.std.proofs.lemmas.Bool.{le-ltb, ltb-true, eqb-true, ne_eqb, eq-eqb}
+use Rattle.std.proofs.lemmas.Bool.{ltb-true, eqb-true, ne_eqb, eq-eqb}
 use Rattle.std.proofs.lemmas.List.{append-nil}
 use Rattle.rfcomm_frames.specs.declared.frame.MuxKind.{MuxKind}
 use Rattle.rfcomm_frames.specs.declared.frame.MuxKind.TheVariants.{Sabm, Ua, Dm, Disc, Uih}
@@ -27,7 +27,7 @@ use Rattle.rfcomm_model.proofs.Stepping.{cond_same}
 use Rattle.rfcomm_laws.proofs.Opening.{msc_read, pn_read}
 use Rattle.rfcomm_laws.proofs.Running.{grant_if, both_true}
 use Rattle.rfcomm_laws.specs.Totals.{stated_sum, bonus_of, cost_in, cost_of}
-use Rattle.rfcomm_laws.proofs.Harm.{bonuses_of, rank, is_over, SoundMessages, WaitsIn, AllWait, SoundAsks, all_later, is_far}
+use Rattle.rfcomm_laws.proofs.Harm.{bonuses_of, rank, is_over, SoundMessages, whoever, WaitsIn, AllWait, SoundAsks, all_later, is_far}
 use Rattle.rfcomm_laws.proofs.Turning.{Fit, over_more, none_of, asked_rank, agreed_rank}
 use Rattle.rfcomm_laws.proofs.Harmless.{SoundIn, is_responder, asks_in, opens_in}
 
@@ -337,7 +337,7 @@ commanded_leaves terms d Agree m fit is all asks =
     let brings : stated_sum d (messages (written control)) ≡ stated_by d (Ok control) + 0 = ap (stated_sum d) read in
     let few = stated_few (m.dlci % 64 == d) in
     command_leaves terms d m (commanded Agree m) (frame_of_command Agree m) refl fit.dlci all tt refl refl (omega (arith, brings, few))
-    (λ here. subst (SoundMessages m.agreed) (sym read) ((refl, le-ltb m.own 23 fit.least), tt)) tt
+    (λ here. subst (SoundMessages m.agreed d) (sym read) (((fit.least, λ same. refl), whoever m.agreed), tt)) tt
   where
     stated_few : (t : Bool) → cond t (own_credits m % 8) 0 ≤ own_credits m
     stated_few true = omega arith
@@ -349,7 +349,7 @@ commanded_leaves terms d Signal m fit is all asks =
     let control : PlainControl = msc true (4 * m.dlci + 3) 0x8D in
     let read : messages (written control) ≡ Ok control ∷ [] = msc_read true (4 * m.dlci + 3) 0x8D in
     let brings : stated_sum d (messages (written control)) ≡ 0 = ap (stated_sum d) read in
-    command_leaves terms d m (commanded Signal m) (frame_of_command Signal m) refl fit.dlci all tt refl refl (omega (arith, brings)) (λ here. subst (SoundMessages m.agreed) (sym read) (tt, tt)) tt
+    command_leaves terms d m (commanded Signal m) (frame_of_command Signal m) refl fit.dlci all tt refl refl (omega (arith, brings)) (λ here. subst (SoundMessages m.agreed d) (sym read) ((tt, whoever m.agreed), tt)) tt
 commanded_leaves terms d LeaveUser m fit is all asks = command_leaves terms d m (commanded LeaveUser m) (frame_of_command LeaveUser m) refl fit.dlci all tt refl refl (omega arith) tt tt
 commanded_leaves terms d LeaveControl m fit is all asks = command_leaves terms d m (commanded LeaveControl m) (frame_of_command LeaveControl m) refl fit.dlci all tt refl refl (omega arith) tt tt
 

@@ -47,7 +47,7 @@ sound_later a b x y d Sabm f p q s = λ here. q (s here)
 sound_later a b x y d Ua f p q s = tt
 sound_later a b x y d Dm f p q s = tt
 sound_later a b x y d Disc f p q s = tt
-sound_later a b x y d Uih f p q s = λ here. messages_later a b (messages f.octets) p (s here)
+sound_later a b x y d Uih f p q s = λ here. messages_later a b d (messages f.octets) p (s here)
 
 pub all_sound_later : (a b x y : Bool) (d : ℕ) (fs : List PlainFrame) → (a ≡ true → b ≡ true) → (x ≡ true → y ≡ true) → AllSound a x d fs → AllSound b y d fs
 all_sound_later a b x y d [] p q s = tt

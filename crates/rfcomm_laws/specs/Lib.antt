@@ -6,4 +6,6 @@ pub mod Assembling
 pub mod Links
 pub mod Closings
 pub mod Totals
+pub mod Messages
 pub mod Rooms
+pub mod SingleAnswers

@@ -6,9 +6,11 @@ ghost use Rattle.rfcomm_laws.specs.Closings.{ClosingsAreOrderly};
 ghost use Rattle.rfcomm_laws.specs.Covers.{CreditsCover};
 ghost use Rattle.rfcomm_laws.specs.Happenings.{FramesAreFew};
 ghost use Rattle.rfcomm_laws.specs.Links.{SdusAreFrames, LinksArePipes, StillLinksAreDone, LinksCloseInOrder};
+ghost use Rattle.rfcomm_laws.specs.Messages.{AllowedLeaveOpen};
 ghost use Rattle.rfcomm_laws.specs.Pairs.{PairsArePipes};
 ghost use Rattle.rfcomm_laws.specs.Rests.{OctetsCome, StillIsDone};
 ghost use Rattle.rfcomm_laws.specs.Rooms.{FramesFindRoom, SdusFindRoom};
+ghost use Rattle.rfcomm_laws.specs.SingleAnswers.{CommandsAreAnsweredOnce, FramesAreAnsweredOnce};
 ghost use Rattle.rfcomm_laws.specs.Totals.{NoneIsOverdrawn};
 
 /// The two sides are a pipe of octets each way, and neither closes, whatever frames are under way.
@@ -76,4 +78,17 @@ pub fn none_is_overdrawn()
 pub fn answers_find_room()
     ensures frames { FramesFindRoom }
     ensures sdus { SdusFindRoom }
+{}
+
+/// A control message closes an open side exactly where it is malformed, PN with frames below 23 octets, or PN for
+/// the user channel without credit based flow control, as long as the credits that the side is granted stay within 65,535.
+pub fn allowed_leave_open()
+    ensures { AllowedLeaveOpen }
+{}
+
+/// On the control channel a command is answered once at most, where its answer has no more than 40 octets, and nothing else is,
+/// whatever a side has come to; so a frame is given no more answers than one for SABM, for DISC and for each such command in it.
+pub fn commands_are_answered_once()
+    ensures messages { CommandsAreAnsweredOnce }
+    ensures frames { FramesAreAnsweredOnce }
 {}
