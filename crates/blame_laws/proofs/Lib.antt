@@ -6,3 +6,4 @@ pub mod Arriving
 pub mod OnLinks
 pub mod Links
 pub mod Runs
+pub mod AskedOnce

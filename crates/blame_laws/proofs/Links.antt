@@ -1,5 +1,5 @@
 -- Both hosts over all their links: at no moment does the client blame service discovery.
-use Rattle.std.proofs.Common.{◌≡◌, ℕ, suc, Bool, true, false, ◌&&◌, List, [], ◌∷◌, Option, refl, sym, ap, subst, ◌∙◌}
+use Rattle.std.proofs.Common.{◌≡◌, ℕ, suc, Bool, true, false, cond, ◌&&◌, Result, Ok, Err, List, [], ◌∷◌, Option, refl, sym, ap, subst, ◌∙◌}
 use Rattle.std.specs.Prelude.{get_or}
 use Rattle.std.specs.List.{AllByRecursion}
 use Rattle.std.proofs.lemmas.List.Sums.{fold-append}
@@ -12,7 +12,11 @@ use Rattle.request_laws.specs.channel_model.specs.Value.{Channels, no_channels}
 use Rattle.request_laws.specs.channel_laws.specs.Frames.{AreUttered}
 use Rattle.request_laws.specs.channel_laws.specs.Pipes.{AreCarried}
 use Rattle.request_laws.specs.channel_laws.specs.Runs as channels
-use Rattle.request_laws.specs.push_model.specs.Client.{Client, begins}
+use Rattle.request_laws.specs.bt_base.specs.declared.ports.PortFault.{PortFault}
+use Rattle.request_laws.specs.bt_base.specs.declared.ports.PortFault.TheVariants as fault
+use Rattle.request_laws.specs.push_model.specs.sdp_client.specs.declared.query.Stage.TheVariants as at
+use Rattle.request_laws.specs.push_model.specs.Client.{Client, begun_by, begins}
+use Rattle.request_laws.specs.push_laws.proofs.Searching.{Searches, deed_search}
 use Rattle.request_laws.specs.push_model.specs.Events as events
 use Rattle.request_laws.specs.push_model.specs.Events.{search_psm}
 use Rattle.request_laws.specs.push_model.specs.Laws.{Deed, Hears, Asks, Finishes, Cancels, done}
@@ -108,10 +112,25 @@ deed_quiet settings (Asks parts) client quiet clear = deed_clear settings (Asks 
 deed_quiet settings Finishes client quiet clear = deed_clear settings Finishes client tt clear
 deed_quiet settings Cancels client quiet clear = deed_clear settings Cancels client tt clear
 
-all_quiet : (settings : Settings) (affairs : List Affair) (client : Client) → AllByRecursion IsQuiet affairs → IsClear settings client → IsClear settings (client_behind affairs client)
+-- a push begins with the first question
+begins_search : (size : Result ℕ PortFault) (name : List ℕ) (client : Client) → Searches client → Searches (begins size name client)
+begins_search size name client searches = by client.failed size
+  where
+    by : (failed : Bool) (size : Result ℕ PortFault) → Searches (cond failed client (begun_by size name client))
+    by true size = searches
+    by false (Ok count) = λ seeks. (at.Due, refl)
+    by false (Err fault.Failed) = λ seeks. cc
+    by false (Err fault.NoMemory) = searches
+
+-- it blames its peer for no such fault, and while it seeks the service its question is the first
+abbrev pub IsWell : Settings → Client → Type 0
+IsWell settings client = IsClear settings client × Searches client
+
+all_quiet : (settings : Settings) (affairs : List Affair) (client : Client) → AllByRecursion IsQuiet affairs → IsWell settings client → IsWell settings (client_behind affairs client)
 all_quiet settings [] client quiet clear = clear
-all_quiet settings (Begins size name ∷ affairs) client quiet clear = all_quiet settings affairs (client_after (Begins size name) client) quiet.1 (begins_clear settings size name client clear)
-all_quiet settings (Does deed ∷ affairs) client quiet clear = all_quiet settings affairs (done deed client) quiet.1 (deed_quiet settings deed client quiet.0 clear)
+all_quiet settings (Begins size name ∷ affairs) client quiet clear = all_quiet settings affairs (client_after (Begins size name) client) quiet.1 (begins_clear settings size name client clear.0, begins_search size name client clear.1)
+all_quiet settings (Does deed ∷ affairs) client quiet clear = all_quiet settings affairs (done deed client) quiet.1
+    (deed_quiet settings deed client quiet.0 clear.0, deed_search settings.serves deed client (λ psm sdu is here. absurd (subst (λ (one : Deed). IsQuiet (Does one)) is quiet.0)) clear.1)
 
 between_brings : (feeds : List Feed) → AllByRecursion IsBetween feeds → AllByRecursion BringsNone feeds
 between_brings [] so = tt
@@ -131,9 +150,11 @@ turned_bring circumstances Up v = (tt, tt)
 turned_bring circumstances (Down reason) v = let w = link_down v in all_both BringsNone (happenings w w.events) (Learns circumstances (Linked (Down reason)) ∷ []) (happenings_bring w w.events) (tt, tt)
 
 module _ (settings : Settings) (content : Option Contents) where
-  -- it blames its peer for no such fault
   abbrev Clear : Client → Type 0
-  Clear client = IsClear settings client
+  Clear client = IsWell settings client
+
+  well_so : {client : Client} → Well settings client → Clear client
+  well_so well = (well.clear, well.searches)
 
   abbrev A : Profile ClientProfile
   A = client_profile settings
@@ -194,7 +215,7 @@ module _ (settings : Settings) (content : Option Contents) where
       let paged : PagesSo so.mid = subst PagesSo (here_so A asks_a one first so) (fed_pages settings so.here first pages) in
       let waits : WaitsForLink so.mid.client = paged (left (is_paging so.mid.bid) _ (wanted_up Wants one.event so.mid up wanted)) in
       subst (λ (event : LinkEvent). Well settings (turned A so.circumstances event (values_after A.policy no_channels one.list) so.mid).client) (sym up)
-      (link_well settings so.mid.client waits (between_clear one.list so.here first so.mid so.so deaf clear))
+      (link_well settings so.mid.client waits (between_clear one.list so.here first so.mid so.so deaf clear).0)
     where
       left : (a b : Bool) → (a && b) ≡ true → a ≡ true
       left true b is = refl
@@ -291,8 +312,8 @@ module _ (settings : Settings) (content : Option Contents) where
         let deaf = is_deaf one [] now up timely in
         let well = up_well one client here up deaf.deaf wanted pages clear in
         let serving = unheard (far (number 1)) (far_is 0) in
-        (on_link (number 1) now (far (number 1)) (behind_span A asks_a one client here) last serving.server serving.last a.woven serving.woven (near_is 1) refl (new_client here.circumstances one.event (values_after A.policy no_channels one.list) here.mid) serving.none
-        (up_opens one.event a.woven.weave up none) well serving.replies).well.clear
+        well_so ((on_link (number 1) now (far (number 1)) (behind_span A asks_a one client here) last serving.server serving.last a.woven serving.woven (near_is 1) refl (new_client here.circumstances one.event (values_after A.policy no_channels one.list) here.mid) serving.none
+        (up_opens one.event a.woven.weave up none) well serving.replies).well)
     alone number (one ∷ link ∷ spans) now feeds client last (here, later, is, (on, rest, are, a)) near_is far_is timely (before, wanted, (none, down_wanted, more)) pages clear =
         let up = is_up one (link ∷ spans) now timely in
         let deaf = is_deaf one (link ∷ spans) now up timely in
@@ -303,7 +324,7 @@ module _ (settings : Settings) (content : Option Contents) where
         let done' = on_link (number 1) link.list (far (number 1)) client_up on.mid serving.server serving.last on.so.woven serving.woven (near_is 1) refl (new_client here.circumstances one.event (values_after A.policy no_channels one.list) here.mid) serving.none
         (up_opens one.event on.so.woven.weave up none) well serving.replies in
         alone (λ k. number (suc (suc k))) spans now rest (behind_span A asks_a link client_up on) last a (λ k. near_is (suc (suc k))) (λ k. far_is (suc (suc k))) (is_down link spans now ends deaf.rest)
-        (subst (λ (b : Bool). AreAsked A asks_a Wants b spans now rest (behind_span A asks_a link client_up on) last a) (down_off link.event ends) more) (span_pages link client_up on (span_pages one client here pages)) (turned_clear link client_up on done'.well.clear)
+        (subst (λ (b : Bool). AreAsked A asks_a Wants b spans now rest (behind_span A asks_a link client_up on) last a) (down_off link.event ends) more) (span_pages link client_up on (span_pages one client here pages)) (turned_clear link client_up on (well_so done'.well))
 
     -- ---- both go on
 
@@ -318,14 +339,14 @@ module _ (settings : Settings) (content : Option Contents) where
         let up = is_up one [] now_a timely_a in
         let deaf = is_deaf one [] now_a up timely_a in
         let deaf_b = is_deaf other [] now_b (is_up other [] now_b timely_b) timely_b in
-        (on_link (number 1) now_a now_b (behind_span A asks_a one client here_a) last_a (behind_span B asks_b other server here_b) last_b a.woven b.woven (near_is 1) (far_is 1) (new_client here_a.circumstances one.event (values_after A.policy no_channels one.list) here_a.mid)
-        (new_server here_b.circumstances other.event (values_after B.policy no_channels other.list) here_b.mid) (up_opens one.event a.woven.weave up none) (up_well one client here_a up deaf.deaf wanted pages clear) (up_replies other server here_b deaf_b.deaf replies)).well.clear
+        well_so ((on_link (number 1) now_a now_b (behind_span A asks_a one client here_a) last_a (behind_span B asks_b other server here_b) last_b a.woven b.woven (near_is 1) (far_is 1) (new_client here_a.circumstances one.event (values_after A.policy no_channels one.list) here_a.mid)
+        (new_server here_b.circumstances other.event (values_after B.policy no_channels other.list) here_b.mid) (up_opens one.event a.woven.weave up none) (up_well one client here_a up deaf.deaf wanted pages clear) (up_replies other server here_b deaf_b.deaf replies)).well)
     together number (one ∷ []) now_a feeds_a client last_a (other ∷ far_link ∷ spans_b) now_b feeds_b server last_b (here_a, later_a, is_a, a) (here_b, later_b, is_b, (link_b, rest_b, are_b, b)) near_is far_is timely_a timely_b (before, wanted, none) pages clear replies =
         let up = is_up one [] now_a timely_a in
         let deaf = is_deaf one [] now_a up timely_a in
         let deaf_b = is_deaf other (far_link ∷ spans_b) now_b (is_up other (far_link ∷ spans_b) now_b timely_b) timely_b in
-        (on_link (number 1) now_a far_link.list (behind_span A asks_a one client here_a) last_a (behind_span B asks_b other server here_b) link_b.mid a.woven link_b.so.woven (near_is 1) (far_is 1) (new_client here_a.circumstances one.event (values_after A.policy no_channels one.list) here_a.mid)
-        (new_server here_b.circumstances other.event (values_after B.policy no_channels other.list) here_b.mid) (up_opens one.event a.woven.weave up none) (up_well one client here_a up deaf.deaf wanted pages clear) (up_replies other server here_b deaf_b.deaf replies)).well.clear
+        well_so ((on_link (number 1) now_a far_link.list (behind_span A asks_a one client here_a) last_a (behind_span B asks_b other server here_b) link_b.mid a.woven link_b.so.woven (near_is 1) (far_is 1) (new_client here_a.circumstances one.event (values_after A.policy no_channels one.list) here_a.mid)
+        (new_server here_b.circumstances other.event (values_after B.policy no_channels other.list) here_b.mid) (up_opens one.event a.woven.weave up none) (up_well one client here_a up deaf.deaf wanted pages clear) (up_replies other server here_b deaf_b.deaf replies)).well)
     together number (one ∷ link ∷ spans_a) now_a feeds_a client last_a (other ∷ []) now_b feeds_b server last_b (here_a, later_a, is_a, (link_a, rest_a, are_a, a)) (here_b, later_b, is_b, b) near_is far_is timely_a timely_b (before, wanted, (none, down_wanted, more)) pages clear replies =
         let up = is_up one (link ∷ spans_a) now_a timely_a in
         let deaf = is_deaf one (link ∷ spans_a) now_a up timely_a in
@@ -335,7 +356,7 @@ module _ (settings : Settings) (content : Option Contents) where
         let done' = on_link (number 1) link.list now_b client_up link_a.mid (behind_span B asks_b other server here_b) last_b link_a.so.woven b.woven (near_is 1) (far_is 1) (new_client here_a.circumstances one.event (values_after A.policy no_channels one.list) here_a.mid)
         (new_server here_b.circumstances other.event (values_after B.policy no_channels other.list) here_b.mid) (up_opens one.event link_a.so.woven.weave up none) (up_well one client here_a up deaf.deaf wanted pages clear) (up_replies other server here_b deaf_b.deaf replies) in
         alone (λ k. number (suc (suc k))) spans_a now_a rest_a (behind_span A asks_a link client_up link_a) last_a a (λ k. near_is (suc (suc k))) (λ k. far_is (suc (suc (suc k)))) (is_down link spans_a now_a ends deaf.rest)
-        (subst (λ (b' : Bool). AreAsked A asks_a Wants b' spans_a now_a rest_a (behind_span A asks_a link client_up link_a) last_a a) (down_off link.event ends) more) (span_pages link client_up link_a (span_pages one client here_a pages)) (turned_clear link client_up link_a done'.well.clear)
+        (subst (λ (b' : Bool). AreAsked A asks_a Wants b' spans_a now_a rest_a (behind_span A asks_a link client_up link_a) last_a a) (down_off link.event ends) more) (span_pages link client_up link_a (span_pages one client here_a pages)) (turned_clear link client_up link_a (well_so done'.well))
     together number (one ∷ link ∷ spans_a) now_a feeds_a client last_a (other ∷ far_link ∷ spans_b) now_b feeds_b server last_b (here_a, later_a, is_a, (link_a, rest_a, are_a, a)) (here_b, later_b, is_b, (link_b, rest_b, are_b, b)) near_is far_is timely_a timely_b (before, wanted, (none, down_wanted, more)) pages clear replies =
         let up = is_up one (link ∷ spans_a) now_a timely_a in
         let deaf = is_deaf one (link ∷ spans_a) now_a up timely_a in
@@ -348,4 +369,4 @@ module _ (settings : Settings) (content : Option Contents) where
         (new_server here_b.circumstances other.event (values_after B.policy no_channels other.list) here_b.mid) (up_opens one.event link_a.so.woven.weave up none) (up_well one client here_a up deaf.deaf wanted pages clear) (up_replies other server here_b deaf_b.deaf replies) in
         together (λ k. number (suc (suc k))) spans_a now_a rest_a (behind_span A asks_a link client_up link_a) last_a spans_b now_b rest_b (behind_span B asks_b far_link server_up link_b) last_b a b (λ k. near_is (suc (suc k))) (λ k. far_is (suc (suc k)))
         (is_down link spans_a now_a ends deaf.rest) (is_down far_link spans_b now_b ends_b deaf_b.rest) (subst (λ (b' : Bool). AreAsked A asks_a Wants b' spans_a now_a rest_a (behind_span A asks_a link client_up link_a) last_a a) (down_off link.event ends) more)
-        (span_pages link client_up link_a (span_pages one client here_a pages)) (turned_clear link client_up link_a done'.well.clear) (turned_replies far_link server_up link_b done'.replies)
+        (span_pages link client_up link_a (span_pages one client here_a pages)) (turned_clear link client_up link_a (well_so done'.well)) (turned_replies far_link server_up link_b done'.replies)

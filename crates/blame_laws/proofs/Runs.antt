@@ -28,14 +28,14 @@ use Rattle.request_laws.proofs.Feeding.{all_both}
 use Rattle.request_laws.proofs.Summing.{both_ask}
 use Rattle.cause_laws.proofs.Clients.{Within}
 use Rattle.blame_laws.specs.Blamed.{is_blamed, SparesIt, SparesPeer, RunsSparePeers}
-use Rattle.blame_laws.proofs.Links.{together}
+use Rattle.blame_laws.proofs.Links.{IsWell, together}
 use Rattle.blame_laws.proofs.Replying.{first_replies}
-use Rattle.blame_laws.proofs.Spared.{is_spared, IsClear}
+use Rattle.blame_laws.proofs.Spared.{is_spared}
 
 -- ---- at a moment
 
-turns_clear : (scenario : Scenario) (content : Option Contents) (capture : List Entry) (ran : Ran scenario content capture) → PairsInTurn both_ask scenario content capture ran → IsClear scenario.settings ran.world.a.upper.profile.client
-turns_clear scenario content capture ran turns =
+turns_well : (scenario : Scenario) (content : Option Contents) (capture : List Entry) (ran : Ran scenario content capture) → PairsInTurn both_ask scenario content capture ran → IsWell scenario.settings ran.world.a.upper.profile.client
+turns_well scenario content capture ran turns =
     let settings = scenario.settings in
     let pairs = turns.pairs in
     let A = client_profile settings in
@@ -47,12 +47,12 @@ turns_clear scenario content capture ran turns =
     (at_place (AreUttered A.policy) tt (on_links A (both_ask.clients settings) (flat_map talk_marks pairs.a.came.talk) ran.world.a.upper a) pairs.a.uttered)
     (at_place (AreUttered B.policy) tt (on_links B (both_ask.servers settings content) (flat_map talk_marks pairs.b.came.talk) ran.world.b.upper b) pairs.b.uttered)
     (λ k. k) a.spans a.now a.feeds A.first ran.world.a.upper.profile b.spans b.now b.feeds B.first ran.world.b.upper.profile pairs.a.fed.fed pairs.b.fed.fed (λ k. refl) (λ k. refl)
-    (subst (AreTimely false) (sym a.marks_are) pairs.a.fed.so.timely) (subst (AreTimely false) (sym b.marks_are) pairs.b.fed.so.timely) turns.asked (first_pages settings) (record { over = first_over settings; spares = tt }) (first_replies settings content)
+    (subst (AreTimely false) (sym a.marks_are) pairs.a.fed.so.timely) (subst (AreTimely false) (sym b.marks_are) pairs.b.fed.so.timely) turns.asked (first_pages settings) (record { over = first_over settings; spares = tt }, λ seeks. cc) (first_replies settings content)
 
-moment_clear : (scenario : Scenario) (content : Option Contents) (happenings : List Happening) (world : BothHosts) → Happened scenario content happenings world → IsClear scenario.settings world.a.upper.profile.client
-moment_clear scenario content happenings world happened =
+pub moment-well : (scenario : Scenario) (content : Option Contents) (happenings : List Happening) (world : BothHosts) → Happened scenario content happenings world → IsWell scenario.settings world.a.upper.profile.client
+moment-well scenario content happenings world happened =
     let ran : Ran scenario content (all_entries happenings) = record { happenings = happenings; world = world; happened = happened; ends = []; last = tt; capture_is = sym (append-nil (all_entries happenings)) } in
-    turns_clear scenario content (all_entries happenings) ran (hosts-take_turns both_ask scenario content (all_entries happenings) ran)
+    turns_well scenario content (all_entries happenings) ran (hosts-take_turns both_ask scenario content (all_entries happenings) ran)
 
 -- ---- an end
 
@@ -76,7 +76,7 @@ module _ (scenario : Scenario) (content : Option Contents) where
   one_spares (Turns ordinal word) done old new runs does = (tt, tt)
   one_spares (Misses word) done old new runs does = tt
   one_spares (Opens push name) done old new runs does = (tt, tt)
-  one_spares (Closes push outcome) done old new runs (going, push_is, idle, is, apart, none_a, none_b, quiet_a, quiet_b, same) = (cause_not scenario.settings old.a.upper.profile.client.cause outcome is (moment_clear scenario content done old runs).spares, tt)
+  one_spares (Closes push outcome) done old new runs (going, push_is, idle, is, apart, none_a, none_b, quiet_a, quiet_b, same) = (cause_not scenario.settings old.a.upper.profile.client.cause outcome is (moment-well scenario content done old runs).0.spares, tt)
 
   all_spare : (done rest : List Happening) (now new : BothHosts) → Happened scenario content done now → Runs (client_of scenario) (server_of scenario content) rest now new → AllByRecursion (SparesIt scenario.settings) (all_entries rest)
   all_spare done [] now new runs later = tt
@@ -95,7 +95,7 @@ module _ (scenario : Scenario) (content : Option Contents) where
       cause (Some outcome) spares = spared_not scenario.settings outcome spares
 
       by : (going : Bool) → AllByRecursion (SparesIt scenario.settings) (if going then Ended world.pushes.begun (unwrap_or world.a.upper.profile.client.cause ScriptEnded) ∷ [] else [])
-      by true = (cause world.a.upper.profile.client.cause (moment_clear scenario content happenings world happened).spares, tt)
+      by true = (cause world.a.upper.profile.client.cause ((moment-well scenario content happenings world happened).0).spares, tt)
       by false = tt
 
 pub runs_spare_peers : RunsSparePeers

@@ -1,26 +1,20 @@
 -- Whatever happens to two hosts, on each of their links they are the two ends of a pair.
-use Rattle.std.proofs.Common.{◌≡◌, ◌⊎◌, inl, inr, ℕ, zero, suc, ◌+◌, ◌≤◌, Bool, true, false, not, List, [], ◌∷◌, ◌++◌, map, length, refl, sym, ap, subst, ◌∙◌, arith, length-append, if◌then◌else◌}
+use Rattle.std.proofs.Common.{◌≡◌, ◌⊎◌, inl, inr, ℕ, zero, suc, ◌+◌, ◌≤◌, Bool, true, false, List, [], ◌∷◌, ◌++◌, map, length, refl, sym, ap, subst, ◌∙◌, arith, if◌then◌else◌}
 use Rattle.std.specs.List.{AllByRecursion, list_any}
 use Rattle.std.proofs.lemmas.Bool.{cases_eq}
-use Rattle.scenario_laws.specs.acl_fragments.specs.Pieces.{channel_of}
 use Rattle.scenario_laws.specs.push_terms.specs.declared.word.Side.TheVariants as sides
-use Rattle.scenario_laws.specs.push_terms.specs.declared.outcome.Outcome.{Outcome}
 use Rattle.scenario_laws.specs.push_terms.specs.declared.word.Way.TheVariants.{Ab, Ba}
 use Rattle.scenario_laws.specs.radio_model.specs.Controllers.{is_empty}
 use Rattle.scenario_laws.specs.radio_model.specs.declared.deed.Deed.{Deed}
 use Rattle.scenario_laws.specs.radio_model.specs.declared.deed.Deed.TheVariants.{Nothing, Meets, Fires, FiresBoth, Breaks, Cancels}
-use Rattle.scenario_laws.specs.radio_model.specs.declared.fate.Fate.{Fate}
-use Rattle.scenario_laws.specs.radio_model.specs.Fates.{meets, comes_of}
-use Rattle.channel_laws.specs.channel_model.specs.Calls.{has_fcs}
-use Rattle.channel_laws.specs.channel_model.specs.Changing.{is_answer}
-use Rattle.channel_laws.specs.channel_model.specs.Giving.{next_given}
+use Rattle.channel_laws.specs.channel_model.specs.Giving.{gives, next_given}
 use Rattle.channel_laws.specs.channel_model.specs.Policies.{Policy}
-use Rattle.channel_laws.specs.channel_model.specs.Value.{Channels, no_channels}
-use Rattle.channel_laws.specs.Runs.{Occurrence, run_of}
-use Rattle.channel_laws.specs.Tries.{one_if}
-use Rattle.channel_laws.proofs.Lasting.{answers_of}
+use Rattle.channel_laws.specs.channel_model.specs.Value.{no_channels}
+use Rattle.channel_laws.specs.Pairs.{pair_of}
+use Rattle.channel_laws.specs.Runs.{Occurrence, Run}
+use Rattle.passing_laws.specs.Words.{AreSilent}
 use Rattle.scenario_laws.specs.world_model.specs.Machines.{LinkEvent, Up, Down, News, Linked, Heard, TimerFired, Cancelled, Opening, Upper}
-use Rattle.scenario_laws.specs.world_model.specs.Talks.{Talk, Unsent, Met, Done}
+use Rattle.scenario_laws.specs.world_model.specs.Talks.{Done}
 use Rattle.scenario_laws.specs.world_model.specs.Carriages.{Carriage, Motion, Saying, Departure, Arrival, Telling, DoesMotion, IsIdle, IsAtRest, MeetsFate, Doing, Moved, Deeds, Misses, Rises, Falls, Opens, Closes, ActsOn, finds, told, owing, IsDone, first_carriage, words_at, all_words}
 use Rattle.scenario_laws.specs.world_model.specs.Carriages as carriages
 use Rattle.scenario_laws.specs.turn_laws.proofs.Advancing.{Both, advances}
@@ -36,9 +30,7 @@ use Rattle.host_laws.specs.Acts.{Says, Acting}
 use Rattle.host_laws.specs.Asked.{IsOfLink, IsWantedAt}
 use Rattle.host_laws.specs.Calls.{Asks}
 use Rattle.host_laws.specs.Calm.{HoldsNothingBack, IsCalmNews}
-use Rattle.host_laws.specs.Feeds.{Feed, Gifts}
-use Rattle.host_laws.specs.Lives.{Mark, Span}
-use Rattle.host_laws.specs.OverLinks.{talk_marks}
+use Rattle.host_laws.specs.Feeds.{Feed}
 use Rattle.host_laws.specs.Read.{IsSoberPdu}
 use Rattle.host_laws.specs.Seen.{IsQuiet, FiresPlainly}
 use Rattle.host_laws.proofs.Fitting.{IsProper, KeepsFit, FitHost}
@@ -56,13 +48,13 @@ use Rattle.pair_laws.proofs.Abreast.{off_on, HasToldAll, Awaits, Abreast, done-a
 use Rattle.pair_laws.proofs.Answered.{idle_so, rests-so, done-so}
 use Rattle.pair_laws.proofs.Given.{Allows, first-served}
 use Rattle.pair_laws.specs.Costs.{adverse_in}
-use Rattle.pair_laws.proofs.Facing.{View, NearBy, FarBy, whole_of, most_of, with_most, PairFrom, new_at}
-use Rattle.pair_laws.proofs.Meeting.{IsRight, IsRightDeed, fate_cost, deed_cost, word-right, word-cost, meets-it, IsGentle, adverse-both}
-use Rattle.pair_laws.proofs.Numbered.{part_at, part-now, coming_at, coming_none, Links, turned-links, owes-both, richer-links, comes-over}
-use Rattle.pair_laws.proofs.Openings.{same_names}
-use Rattle.pair_laws.proofs.Hosting.{marks_of, HostAt, Held, IsWord, says-held, moves-held, told-held, held-silent, held-clear, fired-silent, fired-clear, fires-held, hears-held, turns-held, besides}
-use Rattle.pair_laws.proofs.Silence.{no-answer}
-use Rattle.recovered_laws.specs.Calm.{owes}
+use Rattle.pair_laws.proofs.Facing.{View, NearBy, FarBy, PairFrom, GivesNone, new_at}
+use Rattle.pair_laws.proofs.Meeting.{IsRightDeed, deed_cost, word-right, word-cost, IsGentle, adverse-both}
+use Rattle.pair_laws.proofs.Handover.{IsHanded, HandsOver, done-hands}
+use Rattle.pair_laws.proofs.Numbered.{part_at, coming_at, coming_none, Links}
+pub use Rattle.pair_laws.proofs.Paired.{Wants, Always, StayOn, as_it_is, any_allowed, same_number}
+use Rattle.pair_laws.proofs.Paired.{PairsOf, held_a, held_b, on_a, on_b, owes_up, owes_down, is_done, richer_pairs, quiet_a_now, quiet_b_now, fires_a, fires_b, met_ab, met_ba, fires_both}
+use Rattle.pair_laws.proofs.Hosting.{HostAt, Held, IsWord, says-held, moves-held, told-held, hears-held, turns-held}
 
 -- ---- one host
 
@@ -138,66 +130,20 @@ module _ {P : Type 0} (A : Profile P) (asks : Asks A) (K R : P → Type 0) (keep
   wanted_by W (Down reason) more gifts e first wants = tt
 
   motion_held : {T : Type 0} (W : P → Type 0) (side : View) (theirs : Policy) (number : ℕ) (link : Bool) (motion : Motion) (e e' : carriages.End (Host P)) (other : ℕ → List Occurrence) (j : ℕ) (f : carriages.End T) → DoesMotion (answered_by to (upper A)) motion e e' → Fine A asks K R keeps away link e
-      → ((answers : List Circumstance) (rest : List LinkEvent) → e.owed ≡ Up ∷ rest → W (A.given answers e.upper.profile)) → Held side A asks W G H theirs number e other j f → Held side A asks W G H theirs number e' other j f
-  motion_held W side theirs number link (Saying pdu) e e' other j f does fine wants held =
+      → ((answers : List Circumstance) (rest : List LinkEvent) → e.owed ≡ Up ∷ rest → W (A.given answers e.upper.profile)) → (held : Held side A asks W G H theirs number e other j f) → (e.coming ≡ []) ⊎ GivesNone theirs (other (length held.host.so.lives.spans)) → Held side A asks W G H theirs number e' other j f
+  motion_held W side theirs number link (Saying pdu) e e' other j f does fine wants held far =
       subst (λ (x : carriages.End (Host P)). Held side A asks W G H theirs number x other j f) (sym does.is)
       (says-held A asks W G allows.silent H side theirs number e other j f pdu does.after does.next (reads-so A e.upper does.after pdu fine.tame.upper.channels does.next) does.none_comes held)
-  motion_held W side theirs number link (Departure pdu) e e' other j f does fine wants held =
+  motion_held W side theirs number link (Departure pdu) e e' other j f does fine wants held far =
       subst (λ (x : carriages.End (Host P)). Held side A asks W G H theirs number x other j f) (sym does.is) (moves-held A asks W G allows.silent H side theirs number e other j f pdu does.left does.first held)
-  motion_held W side theirs number link (Arrival pdu) e e' other j f does fine wants held =
+  motion_held W side theirs number link (Arrival pdu) e e' other j f does fine wants held far =
       let quiet = quiet_there (upper A) e pdu [] fine.sound.hearing does.first in
+      let far_none : GivesNone theirs (other (length held.host.so.lives.spans)) = elim far [ inl none ↦ (let never = sym does.first ∙ none in cc) | inr none ↦ none ] in
       subst (λ (x : carriages.End (Host P)). Held side A asks W G H theirs number x other j f) (sym does.is)
-      (hears-held A asks W G allows.silent H side theirs number e other j f (to (Heard pdu) does.answers) pdu (calm_hearing A asks K R keeps away link e pdu fine does.first) (allows.given (Heard pdu) does.answers) (comes_on (upper A) link e pdu fine.sound does.first) quiet.none_waits does.first held)
-  motion_held W side theirs number link (Telling event) e e' other j f does fine wants held =
+      (hears-held A asks W G allows.silent H side theirs number e other j f (to (Heard pdu) does.answers) pdu (calm_hearing A asks K R keeps away link e pdu fine does.first) (allows.given (Heard pdu) does.answers) (comes_on (upper A) link e pdu fine.sound does.first) quiet.none_waits does.first held far_none)
+  motion_held W side theirs number link (Telling event) e e' other j f does fine wants held far =
       subst (λ (x : carriages.End (Host P)). Held side A asks W G H theirs number x other j f) (sym does.is)
       (turns-held A asks W G allows.silent H side theirs number e other j f (to (Linked event) does.answers) event does.more does.first (wanted_by W event does.more (to (Linked event) does.answers) e does.first wants) (allows.given (Linked event) does.answers) does.none_comes (fine.sound.owed_queue (ap (λ (l : List LinkEvent). is_empty l) does.first)) held)
-
--- ---- a frame meets its fate
-
-silent_marks : (talk : List Talk) (waiting : List (List ℕ)) (one : Talk) → talk_marks one ≡ [] → marks_of (talk ++ map Unsent waiting) ≡ marks_of ((talk ++ one ∷ []) ++ map Unsent waiting)
-silent_marks [] waiting one none = ap (λ (m : List Mark). m ++ marks_of (map Unsent waiting)) (sym none)
-silent_marks (first ∷ talk) waiting one none = ap (λ (m : List Mark). talk_marks first ++ m) (silent_marks talk waiting one none)
-
-met_links : {P T : Type 0} (A : Profile P) (side : View) (m : ℕ) (theirs : Policy) (spans : List Span) (now : List Occurrence) (other : ℕ → List Occurrence) (j : ℕ) (size : ℕ) (fate : Fate) (sender : carriages.End T) (receiver : carriages.End (Host P)) (frame : List ℕ) (rest : List (List ℕ)) (checked : Bool)
-    → sender.queue ≡ frame ∷ rest → checked ≡ has_fcs (channel_of frame) receiver.upper.channels → IsRight (whole_of side) fate sender.queue → fate_cost fate + most_of side ≤ m → length spans ≡ j → sender.owed ≡ [] → receiver.coming ≡ [] → receiver.upper.channels ≡ (run_of A.policy now).value → has_fcs 0x0001 receiver.upper.channels ≡ false
-    → Links side A.policy theirs spans now receiver other j sender
-    → Links (with_most m side) A.policy theirs spans now (record receiver { coming = comes_of size fate checked frame }) other j (record sender { queue = (meets size fate checked frame).stays ++ rest; talk = sender.talk ++ Met fate checked ∷ [] })
-met_links A side m theirs spans now other j size fate sender receiver frame rest checked first checked_is right enough level none idle run unchecked links =
-    let there = other (length spans) in
-    comes-over side m A.policy theirs spans now other j receiver (record receiver { coming = comes_of size fate checked frame }) sender (record sender { queue = (meets size fate checked frame).stays ++ rest; talk = sender.talk ++ Met fate checked ∷ [] }) level none (omega (arith, enough)) (refl, refl) refl
-    (λ far_coming far_rest p.
-    meets-it side m A.policy theirs now there sender.waiting far_coming far_rest size fate checked frame rest enough (subst (IsRight (whole_of side) fate) first right)
-    (λ looks. (
-      ap (has_fcs (channel_of frame)) (sym run) ∙ (sym checked_is ∙ looks),
-      λ here. let never : true ≡ false = sym looks ∙ (checked_is ∙ (ap (λ (n : ℕ). has_fcs n receiver.upper.channels) here ∙ unchecked)) in cc,
-    ))
-    (subst (λ (q : List (List ℕ)). PairFrom side A.policy theirs now there [] (q ++ sender.waiting) far_coming far_rest) first
-    (subst (λ (c : List (List ℕ)). PairFrom side A.policy theirs now there c (sender.queue ++ sender.waiting) far_coming far_rest) idle p))) links
-
--- what a host was told besides changes nothing of its links
-same_links : {S T : Type 0} (side : View) (mine theirs : Policy) (spans : List Span) (now : List Occurrence) (other : ℕ → List Occurrence) (j : ℕ) (e : carriages.End S) (f : carriages.End T) (talk : List Talk) → Links side mine theirs spans now e other j f → Links side mine theirs spans now (record e { talk = talk }) other j f
-same_links side mine theirs spans now other j e f talk links k =
-    let link = links k in record { rest = link.rest; far_rest = link.far_rest; pair = link.pair; none_put = link.none_put; now_put = link.now_put; none_far = link.none_far; now_far = link.now_far }
-
--- ---- both hosts
-
--- the profile asks for a link
-abbrev pub Wants : {P : Type 0} → Profile P → P → Type 0
-Wants A profile = A.wants_link profile ≡ true
-
-abbrev pub Always : {P : Type 0} → P → Type 0
-Always profile = Unit {0}
-
--- the ports answer as they do, and nothing is asked of that
-abbrev pub as_it_is : News → List Circumstance → List Circumstance
-as_it_is news answers = answers
-
-pub any_allowed : Allows as_it_is Always
-any_allowed = record { silent = λ feed silent. tt; given = λ news answers. tt; told = λ news answers. tt }
-
--- Where all is at rest, a host on a link stays on it.
-abbrev pub StayOn : {S T : Type 0} → (S → Type 0) → (T → Type 0) → Carriage S T → Type 0
-StayOn Z Y c = (c.a.linked ≡ true → Z c.a.upper) × (c.b.linked ≡ true → Y c.b.upper)
 
 first_rests : {S T : Type 0} (X Y : Carriage S T → Type 0) (doing : Doing) (c : Carriage S T) → RestsIn (λ c. X c × Y c) doing c → RestsIn X doing c
 first_rests X Y (Deeds word) c rests = rests.0
@@ -207,188 +153,6 @@ first_rests X Y Rises c rests = tt
 first_rests X Y (Falls by) c rests = tt
 first_rests X Y (Opens name) c rests = tt
 first_rests X Y (Closes outcome) c rests = tt
-
--- on each link at most so many turns disturbed
-module _ {P Q : Type 0} (whole : Bool) (most : ℕ) (A : Profile P) (asks_a : Asks A) (B : Profile Q) (asks_b : Asks B) (to_a : News → List Circumstance → List Circumstance) (F : Feed → Type 0) (allows_a : Allows to_a F) (to_b : News → List Circumstance → List Circumstance) (G : Feed → Type 0) (allows_b : Allows to_b G) (H J : List Occurrence → Type 0) where
-  pub record PairsOf (e : carriages.End (Host P)) (f : carriages.End (Host Q)) : Type 0 where
-    pub number : ℕ
-    pub a : HostAt A asks_a (Wants A) F H e
-    pub b : HostAt B asks_b Always G J f
-    pub level_a : length a.so.lives.spans + length e.owed ≡ number
-    pub level_b : length b.so.lives.spans + length f.owed ≡ number
-    pub links : Links (NearBy whole most) A.policy B.policy a.so.lives.spans a.so.lives.now e (λ k. part_at k b.so.lives.spans b.so.lives.now) (length b.so.lives.spans) f
-
-  -- one of them does something
-  on_a : (e e' : carriages.End (Host P)) (f : carriages.End (Host Q)) → ((number : ℕ) (other : ℕ → List Occurrence) (j : ℕ) → Held (NearBy whole most) A asks_a (Wants A) F H B.policy number e other j f → Held (NearBy whole most) A asks_a (Wants A) F H B.policy number e' other j f) → PairsOf e f → PairsOf e' f
-  on_a e e' f does both =
-      let b = both.b.so.lives in
-      let after = does both.number (λ k. part_at k b.spans b.now) (length b.spans) (record { host = both.a; level = both.level_a; links = both.links }) in
-      record { number = both.number; a = after.host; b = both.b; level_a = after.level; level_b = both.level_b; links = after.links }
-
-  on_b : (e : carriages.End (Host P)) (f f' : carriages.End (Host Q)) → ((number : ℕ) (other : ℕ → List Occurrence) (j : ℕ) → Held (FarBy whole most) B asks_b Always G J A.policy number f other j e → Held (FarBy whole most) B asks_b Always G J A.policy number f' other j e) → PairsOf e f → PairsOf e f'
-  on_b e f f' does both =
-      let a = both.a.so.lives in
-      let b = both.b.so.lives in
-      let after = does both.number (λ k. part_at k a.spans a.now) (length a.spans) (record { host = both.b; level = both.level_b; links = turned-links (NearBy whole most) A.policy B.policy a.spans b.spans a.now b.now e f both.links }) in
-      let later = after.host.so.lives in
-      record { number = both.number; a = both.a; b = after.host; level_a = both.level_a; level_b = after.level; links = turned-links (FarBy whole most) B.policy A.policy later.spans a.spans later.now a.now f' e after.links }
-
-  -- an event is owed to both
-  owes_up : (e : carriages.End (Host P)) (f : carriages.End (Host Q)) → PairsOf e f → PairsOf (owing Up e) (owing Up f)
-  owes_up e f both =
-      let a = both.a.so.lives in
-      let b = both.b.so.lives in
-      let one = both.level_a in
-      let two = both.level_b in
-      let more = length-append e.owed (Up ∷ []) in
-      let others = length-append f.owed (Up ∷ []) in
-      record {
-        number = both.number + 1;
-        a = besides A asks_a (Wants A) F allows_a.silent H e e.talk e.queue e.coming (e.owed ++ Up ∷ []) refl refl both.a both.a.comes;
-        b = besides B asks_b Always G allows_b.silent J f f.talk f.queue f.coming (f.owed ++ Up ∷ []) refl refl both.b both.b.comes;
-        level_a = omega (arith, one, more);
-        level_b = omega (arith, two, others);
-        links = owes-both (NearBy whole most) A.policy B.policy a.spans a.now (λ k. part_at k b.spans b.now) (length b.spans) Up Up e f both.links;
-      }
-
-  owes_down : (x y : ℕ) (e : carriages.End (Host P)) (f : carriages.End (Host Q)) → PairsOf e f → PairsOf (owing (Down x) e) (owing (Down y) f)
-  owes_down x y e f both =
-      let a = both.a.so.lives in
-      let b = both.b.so.lives in
-      let one = both.level_a in
-      let two = both.level_b in
-      let more = length-append e.owed (Down x ∷ []) in
-      let others = length-append f.owed (Down y ∷ []) in
-      record {
-        number = both.number + 1;
-        a = besides A asks_a (Wants A) F allows_a.silent H e e.talk [] e.coming (e.owed ++ Down x ∷ []) refl refl both.a both.a.comes;
-        b = besides B asks_b Always G allows_b.silent J f f.talk [] f.coming (f.owed ++ Down y ∷ []) refl refl both.b both.b.comes;
-        level_a = omega (arith, one, more);
-        level_b = omega (arith, two, others);
-        links = owes-both (NearBy whole most) A.policy B.policy a.spans a.now (λ k. part_at k b.spans b.now) (length b.spans) (Down x) (Down y) e f both.links;
-      }
-
-  -- a push is over
-  is_done : (outcome : Outcome) (e : carriages.End (Host P)) (f : carriages.End (Host Q)) → PairsOf e f → PairsOf (record e { talk = e.talk ++ Done outcome ∷ [] }) f
-  is_done outcome e f both =
-      let a = both.a.so.lives in
-      let b = both.b.so.lives in
-      record {
-        number = both.number;
-        a = besides A asks_a (Wants A) F allows_a.silent H e (e.talk ++ Done outcome ∷ []) e.queue e.coming e.owed (silent_marks e.talk e.waiting (Done outcome) refl) (same_names e.talk (Done outcome) refl) both.a both.a.comes;
-        b = both.b;
-        level_a = both.level_a;
-        level_b = both.level_b;
-        links = same_links (NearBy whole most) A.policy B.policy a.spans a.now (λ k. part_at k b.spans b.now) (length b.spans) e f (e.talk ++ Done outcome ∷ []) both.links;
-      }
-
-  -- both are on the same link where nothing is owed to them
-  pub same_number : (e : carriages.End (Host P)) (f : carriages.End (Host Q)) (both : PairsOf e f) → e.owed ≡ [] → f.owed ≡ [] → length both.a.so.lives.spans ≡ length both.b.so.lives.spans
-  same_number e f both none_a none_b =
-      let one = both.level_a in
-      let two = both.level_b in
-      let x : length e.owed ≡ 0 = ap length none_a in
-      let y : length f.owed ≡ 0 = ap length none_b in
-      omega (arith, one, two, x, y)
-
-module _ {P Q : Type 0} (whole : Bool) (most m : ℕ) (A : Profile P) (asks_a : Asks A) (B : Profile Q) (asks_b : Asks B) (to_a : News → List Circumstance → List Circumstance) (F : Feed → Type 0) (allows_a : Allows to_a F) (to_b : News → List Circumstance → List Circumstance) (G : Feed → Type 0) (allows_b : Allows to_b G) (H J : List Occurrence → Type 0) where
-  abbrev Before : carriages.End (Host P) → carriages.End (Host Q) → Type 0
-  Before e f = PairsOf whole most A asks_a B asks_b to_a F allows_a to_b G allows_b H J e f
-
-  abbrev Behind : carriages.End (Host P) → carriages.End (Host Q) → Type 0
-  Behind e f = PairsOf whole m A asks_a B asks_b to_a F allows_a to_b G allows_b H J e f
-
-  -- more may be spent
-  pub richer_pairs : (e : carriages.End (Host P)) (f : carriages.End (Host Q)) → most ≤ m → Before e f → Behind e f
-  richer_pairs e f more both =
-      let a = both.a.so.lives in
-      let b = both.b.so.lives in
-      record { number = both.number; a = both.a; b = both.b; level_a = both.level_a; level_b = both.level_b; links = richer-links (NearBy whole most) m A.policy B.policy a.spans a.now (λ k. part_at k b.spans b.now) (length b.spans) e f more both.links }
-
-  -- what it needs for a firing of one of them
-  pub record CanFire {S T : Type 0} (free : Bool) (e : carriages.End S) (f : carriages.End T) : Type 0 where
-    pub waits : e.waiting ≡ []
-    pub coming : e.coming ≡ []
-    pub owed : e.owed ≡ []
-    pub far_coming : f.coming ≡ []
-    pub far_owed : f.owed ≡ []
-    pub enough : one_if (not free) + most ≤ m
-    pub still : free ≡ true → (e.queue ≡ []) × (f.queue ++ f.waiting ≡ [])
-
-  silent_now : {R : Type 0} (C : Profile R) (asks_c : Asks C) (W : R → Type 0) (X : Feed → Type 0) (Z : List Occurrence → Type 0) (f : carriages.End (Host R)) (host : HostAt C asks_c W X Z f) (i : ℕ) → i ≡ length host.so.lives.spans → answers_of f.upper.channels.queue ≡ []
-      → list_any is_answer (run_of C.policy (part_at i host.so.lives.spans host.so.lives.now)).value.queue ≡ false
-  silent_now C asks_c W X Z f host i same silent =
-      let lives = host.so.lives in
-      let here : part_at i lives.spans lives.now ≡ lives.now = ap (λ (n : ℕ). part_at n lives.spans lives.now) same ∙ part-now lives.spans lives.now in
-      ap (λ (l : List Occurrence). list_any is_answer (run_of C.policy l).value.queue) here
-      ∙ (ap (λ (v : Channels). list_any is_answer v.queue) (sym lives.channels_run) ∙ no-answer f.upper.channels.queue silent)
-
-  clear_now : {R : Type 0} (C : Profile R) (asks_c : Asks C) (W : R → Type 0) (X : Feed → Type 0) (Z : List Occurrence → Type 0) (f : carriages.End (Host R)) (host : HostAt C asks_c W X Z f) (i : ℕ) → i ≡ length host.so.lives.spans → owes f.upper.channels ≡ false
-      → owes (run_of C.policy (part_at i host.so.lives.spans host.so.lives.now)).value ≡ false
-  clear_now C asks_c W X Z f host i same clear =
-      let lives = host.so.lives in
-      let here : part_at i lives.spans lives.now ≡ lives.now = ap (λ (n : ℕ). part_at n lives.spans lives.now) same ∙ part-now lives.spans lives.now in
-      ap (λ (l : List Occurrence). owes (run_of C.policy l).value) here ∙ (ap owes (sym lives.channels_run) ∙ clear)
-
-  fires_a : (free : Bool) (e : carriages.End (Host P)) (f : carriages.End (Host Q)) (g : List Circumstance) → F (Gifts g) → IsCalmNews A.policy TimerFired e.upper.channels → CanFire free e f → (free ≡ true → answers_of f.upper.channels.queue ≡ []) → owes f.upper.channels ≡ false → Before e f → Behind (told (upper A) g TimerFired e) f
-  fires_a free e f g given calm can silent clear both =
-      let a = both.a.so.lives in
-      let b = both.b.so.lives in
-      let held : Held (NearBy whole most) A asks_a (Wants A) F H B.policy both.number e (λ k. part_at k b.spans b.now) (length b.spans) f = record { host = both.a; level = both.level_a; links = both.links } in
-      let level : length a.spans ≡ length b.spans = same_number whole most A asks_a B asks_b to_a F allows_a to_b G allows_b H J e f both can.owed can.far_owed in
-      let after = fires-held A asks_a (Wants A) F allows_a.silent H (NearBy whole most) m B.policy both.number e (λ k. part_at k b.spans b.now) (length b.spans) f g free calm given can.waits can.coming can.owed can.far_owed can.far_coming can.enough held level
-      (λ on. let still = can.still on in (still.0, still.1, silent_now B asks_b Always G J f both.b (length a.spans) level (silent on))) (clear_now B asks_b Always G J f both.b (length a.spans) level clear) in
-      record { number = both.number; a = after.host; b = both.b; level_a = after.level; level_b = both.level_b; links = after.links }
-
-  fires_b : (free : Bool) (e : carriages.End (Host P)) (f : carriages.End (Host Q)) (g : List Circumstance) → G (Gifts g) → IsCalmNews B.policy TimerFired f.upper.channels → CanFire free f e → (free ≡ true → answers_of e.upper.channels.queue ≡ []) → owes e.upper.channels ≡ false → Before e f → Behind e (told (upper B) g TimerFired f)
-  fires_b free e f g allowed calm can silent clear both =
-      let a = both.a.so.lives in
-      let b = both.b.so.lives in
-      let held : Held (FarBy whole most) B asks_b Always G J A.policy both.number f (λ k. part_at k a.spans a.now) (length a.spans) e =
-      record { host = both.b; level = both.level_b; links = turned-links (NearBy whole most) A.policy B.policy a.spans b.spans a.now b.now e f both.links } in
-      let level : length b.spans ≡ length a.spans = sym (same_number whole most A asks_a B asks_b to_a F allows_a to_b G allows_b H J e f both can.far_owed can.owed) in
-      let after = fires-held B asks_b Always G allows_b.silent J (FarBy whole most) m A.policy both.number f (λ k. part_at k a.spans a.now) (length a.spans) e g free calm allowed can.waits can.coming can.owed can.far_owed can.far_coming can.enough held level
-      (λ on. let still = can.still on in (still.0, still.1, silent_now A asks_a (Wants A) F H e both.a (length b.spans) level (silent on))) (clear_now A asks_a (Wants A) F H e both.a (length b.spans) level clear) in
-      let later = after.host.so.lives in
-      record { number = both.number; a = both.a; b = after.host; level_a = both.level_a; level_b = after.level; links = turned-links (FarBy whole m) B.policy A.policy later.spans a.spans later.now a.now (told (upper B) g TimerFired f) e after.links }
-
-  met_ab : (size : ℕ) (fate : Fate) (e : carriages.End (Host P)) (f : carriages.End (Host Q)) (e' : carriages.End (Host P)) (f' : carriages.End (Host Q)) → MeetsFate (answered_by to_b (upper B)) size fate e f e' f' → IsRight whole fate e.queue → fate_cost fate + most ≤ m → e.owed ≡ [] → f.owed ≡ [] → f.coming ≡ [] → has_fcs 0x0001 f.upper.channels ≡ false → (both : Before e f) → (f.linked ≡ true → J both.b.so.lives.now) → Behind e' f'
-  met_ab size fate e f e' f' meeting right enough none_a none_b idle unchecked both heard =
-      let a = both.a.so.lives in
-      let b = both.b.so.lives in
-      let rest = (meets size fate meeting.checked meeting.frame).stays ++ meeting.rest in
-      let talk = e.talk ++ Met fate meeting.checked ∷ [] in
-      let e1 : carriages.End (Host P) = record e { queue = rest; talk = talk } in
-      let f1 : carriages.End (Host Q) = record f { coming = comes_of size fate meeting.checked meeting.frame } in
-      let links = met_links B (FarBy whole most) m A.policy b.spans b.now (λ k. part_at k a.spans a.now) (length a.spans) size fate e f meeting.frame meeting.rest meeting.checked meeting.is meeting.checked_is right enough (sym (same_number whole most A asks_a B asks_b to_a F allows_a to_b G allows_b H J e f both none_a none_b)) none_a idle b.channels_run unchecked
-      (turned-links (NearBy whole most) A.policy B.policy a.spans b.spans a.now b.now e f both.links) in
-      let now : Behind e1 f1 = record {
-        number = both.number;
-        a = besides A asks_a (Wants A) F allows_a.silent H e talk rest e.coming e.owed (silent_marks e.talk e.waiting (Met fate meeting.checked) refl) (same_names e.talk (Met fate meeting.checked) refl) both.a both.a.comes;
-        b = besides B asks_b Always G allows_b.silent J f f.talk f.queue (comes_of size fate meeting.checked meeting.frame) f.owed refl refl both.b (inr heard);
-        level_a = both.level_a;
-        level_b = both.level_b;
-        links = turned-links (FarBy whole m) B.policy A.policy b.spans a.spans b.now a.now f1 e1 links;
-      } in
-      subst (λ (x : carriages.End (Host P)). Behind x f') (sym meeting.one_is) (subst (λ (y : carriages.End (Host Q)). Behind e1 y) (sym meeting.other_is) now)
-
-  met_ba : (size : ℕ) (fate : Fate) (f : carriages.End (Host Q)) (e : carriages.End (Host P)) (f' : carriages.End (Host Q)) (e' : carriages.End (Host P)) → MeetsFate (answered_by to_a (upper A)) size fate f e f' e' → IsRight whole fate f.queue → fate_cost fate + most ≤ m → e.owed ≡ [] → f.owed ≡ [] → e.coming ≡ [] → has_fcs 0x0001 e.upper.channels ≡ false → (both : Before e f) → (e.linked ≡ true → H both.a.so.lives.now) → Behind e' f'
-  met_ba size fate f e f' e' meeting right enough none_a none_b idle unchecked both heard =
-      let a = both.a.so.lives in
-      let b = both.b.so.lives in
-      let rest = (meets size fate meeting.checked meeting.frame).stays ++ meeting.rest in
-      let talk = f.talk ++ Met fate meeting.checked ∷ [] in
-      let f1 : carriages.End (Host Q) = record f { queue = rest; talk = talk } in
-      let e1 : carriages.End (Host P) = record e { coming = comes_of size fate meeting.checked meeting.frame } in
-      let now : Behind e1 f1 = record {
-        number = both.number;
-        a = besides A asks_a (Wants A) F allows_a.silent H e e.talk e.queue (comes_of size fate meeting.checked meeting.frame) e.owed refl refl both.a (inr heard);
-        b = besides B asks_b Always G allows_b.silent J f talk rest f.coming f.owed (silent_marks f.talk f.waiting (Met fate meeting.checked) refl) (same_names f.talk (Met fate meeting.checked) refl) both.b both.b.comes;
-        level_a = both.level_a;
-        level_b = both.level_b;
-        links = met_links A (NearBy whole most) m B.policy a.spans a.now (λ k. part_at k b.spans b.now) (length b.spans) size fate f e meeting.frame meeting.rest meeting.checked meeting.is meeting.checked_is right enough (same_number whole most A asks_a B asks_b to_a F allows_a to_b G allows_b H J e f both none_a none_b) none_b idle a.channels_run unchecked both.links;
-      } in
-      subst (λ (x : carriages.End (Host P)). Behind x f') (sym meeting.other_is) (subst (λ (y : carriages.End (Host Q)). Behind e1 y) (sym meeting.one_is) now)
 
 none_at : (k : ℕ) → part_at k [] [] ≡ []
 none_at zero = refl
@@ -419,12 +183,16 @@ module _ {P Q : Type 0} (whole : Bool) (A : Profile P) (asks_a : Asks A) (B : Pr
   abbrev V : Upper (Host Q) Circumstance
   V = answered_by to_b (upper B)
 
+  abbrev Quiet : {R : Type 0} → Host R → Type 0
+  Quiet host = IsQuiet host.channels
+
   pub record Sane (most : ℕ) (c : Carriage (Host P) (Host Q)) : Type 0 where
     pub both : Both (upper A) (upper B) c
     pub acted : ActedBoth (upper A) (upper B) (free_where A) (free_where B) c
     pub tame : TameBoth (FitHost (IsProper A.policy) K) (FitHost (IsProper B.policy) L) c
     pub pairs : PairsOf whole most A asks_a B asks_b to_a E allows_a to_b G allows_b H J c.a c.b
     pub abreast : Abreast (upper A) (upper B) HasToldAll F c
+    pub hands : HandsOver (upper A) (upper B) Quiet Quiet c
 
   fine_a : (most : ℕ) (c : Carriage (Host P) (Host Q)) → Sane most c → Fine A asks_a K R keeps_a away_a c.link c.a
   fine_a most c sane = record { sound = sane.both.a; acted = sane.acted.a; tame = sane.tame.a }
@@ -437,8 +205,10 @@ module _ {P Q : Type 0} (whole : Bool) (A : Profile P) (asks_a : Asks A) (B : Pr
 
   word_a : (most : ℕ) (c : Carriage (Host P) (Host Q)) (g : List Circumstance) (news : News) → IsWord A asks_a (Wants A) E allows_a.silent H news → (c.a.linked ≡ true → IsOfLink news) → IsCalmNews A.policy news c.a.upper.channels → IsIdle (upper A) c.a → Sane most c → PairsOf whole most A asks_a B asks_b to_a E allows_a to_b G allows_b H J (told U g news c.a) c.b
   word_a most c g news word of calm idle sane =
-      on_a whole most A asks_a B asks_b to_a E allows_a to_b G allows_b H J c.a (told U g news c.a) c.b
-      (λ number there j held. told-held A asks_a (Wants A) E allows_a.silent H (NearBy whole most) B.policy number c.a there j c.b (to_a news g) news word of calm (allows_a.given news g) (allows_a.told news g) (waits_none A asks_a K R keeps_a away_a c.link c.a (fine_a most c sane) idle) idle.none_comes held) sane.pairs
+      let both = sane.pairs in
+      let b = both.b.so.lives in
+      on_a whole most A asks_a B asks_b to_a E allows_a to_b G allows_b H J c.a (told U g news c.a) c.b both
+      (told-held A asks_a (Wants A) E allows_a.silent H (NearBy whole most) B.policy both.number c.a (λ k. part_at k b.spans b.now) (length b.spans) c.b (to_a news g) news word of calm (allows_a.given news g) (allows_a.told news g) (waits_none A asks_a K R keeps_a away_a c.link c.a (fine_a most c sane) idle) idle.none_comes (held_a whole most A asks_a B asks_b to_a E allows_a to_b G allows_b H J c.a c.b both))
 
   -- ---- timers
 
@@ -451,39 +221,49 @@ module _ {P Q : Type 0} (whole : Bool) (A : Profile P) (asks_a : Asks A) (B : Pr
   calm_b : (most : ℕ) (c : Carriage (Host P) (Host Q)) → IsIdle (upper B) c.b → Ready c → Sane most c → (upper B).armed c.b.upper ≡ true → IsCalmNews B.policy TimerFired c.b.upper.channels
   calm_b most c idle ready sane armed = calm_firing B asks_b L S keeps_b away_b c.link c.b (fine_b most c sane) idle (λ on. (ready.0.1 on).1 armed)
 
-  -- at rest neither owes the other a reply
-  clear_a : (most : ℕ) (c : Carriage (Host P) (Host Q)) → IsAtRest (upper A) (upper B) c → Ready c → Sane most c → owes c.a.upper.channels ≡ false
-  clear_a most c rest ready sane = held-clear A asks_a (Wants A) E allows_a.silent H c.a sane.pairs.a (quiet_resting A asks_a K R keeps_a away_a c.link c.a (fine_a most c sane) rest.idle_a (λ on. (ready.0.0 on).0))
+  -- at rest neither has anything to say
+  quiet_a : (most : ℕ) (c : Carriage (Host P) (Host Q)) → IsAtRest (upper A) (upper B) c → Ready c → Sane most c → IsQuiet c.a.upper.channels
+  quiet_a most c rest ready sane = quiet_resting A asks_a K R keeps_a away_a c.link c.a (fine_a most c sane) rest.idle_a (λ on. (ready.0.0 on).0)
 
-  clear_b : (most : ℕ) (c : Carriage (Host P) (Host Q)) → IsAtRest (upper A) (upper B) c → Ready c → Sane most c → owes c.b.upper.channels ≡ false
-  clear_b most c rest ready sane = held-clear B asks_b Always G allows_b.silent J c.b sane.pairs.b (quiet_resting B asks_b L S keeps_b away_b c.link c.b (fine_b most c sane) rest.idle_b (λ on. (ready.0.1 on).0))
+  quiet_b : (most : ℕ) (c : Carriage (Host P) (Host Q)) → IsAtRest (upper A) (upper B) c → Ready c → Sane most c → IsQuiet c.b.upper.channels
+  quiet_b most c rest ready sane = quiet_resting B asks_b L S keeps_b away_b c.link c.b (fine_b most c sane) rest.idle_b (λ on. (ready.0.1 on).0)
+
+  -- so both are silent on the link on which they are
+  pub rests-silent : (most : ℕ) (c : Carriage (Host P) (Host Q)) → IsAtRest (upper A) (upper B) c → Ready c → (sane : Sane most c) → AreSilent (pair_of A.policy B.policy (sane.pairs.links (length sane.pairs.a.so.lives.spans)).pair.turns)
+  rests-silent most c rest ready sane =
+      let both = sane.pairs in
+      let i = length both.a.so.lives.spans in
+      let link = (both.links i).pair in
+      let a = quiet_a_now whole most most A asks_a B asks_b to_a E allows_a to_b G allows_b H J c.a both.a i refl (quiet_a most c rest ready sane) in
+      let b = quiet_b_now whole most most A asks_a B asks_b to_a E allows_a to_b G allows_b H J c.b both.b i (same_number whole most A asks_a B asks_b to_a E allows_a to_b G allows_b H J c.a c.b both rest.idle_a.none_owed rest.idle_b.none_owed) (quiet_b most c rest ready sane) in
+      record { near_none = ap (λ (r : Run). list_any gives r.value.held) link.near_is ∙ a.gives_none; far_none = ap (λ (r : Run). list_any gives r.value.held) link.far_is ∙ b.gives_none }
+
+  quiet_at : (most : ℕ) (doing : Doing) (old new : Carriage (Host P) (Host Q)) → IsDone (upper A) (upper B) doing old new → RestsIn Ready doing old → Sane most old → RestsIn (λ (c : Carriage (Host P) (Host Q)). IsQuiet c.a.upper.channels × IsQuiet c.b.upper.channels) doing old
+  quiet_at most (Deeds word) old new (rest, acts) ready sane = (quiet_a most old rest ready sane, quiet_b most old rest ready sane)
+  quiet_at most (Misses word) old new does ready sane = tt
+  quiet_at most (Moved side motion) old new does ready sane = tt
+  quiet_at most Rises old new does ready sane = tt
+  quiet_at most (Falls by) old new does ready sane = tt
+  quiet_at most (Opens name) old new does ready sane = tt
+  quiet_at most (Closes outcome) old new does ready sane = tt
 
   -- alone
   fires_one_a : (most m : ℕ) (c : Carriage (Host P) (Host Q)) (g : List Circumstance) → 1 + most ≤ m → (upper A).armed c.a.upper ≡ true → IsAtRest (upper A) (upper B) c → Ready c → Sane most c → PairsOf whole m A asks_a B asks_b to_a E allows_a to_b G allows_b H J (told U g TimerFired c.a) c.b
   fires_one_a most m c g enough armed rest ready sane =
       fires_a whole most m A asks_a B asks_b to_a E allows_a to_b G allows_b H J false c.a c.b (to_a TimerFired g) (allows_a.given TimerFired g) (calm_a most c rest.idle_a ready sane armed)
       (record { waits = waits_none A asks_a K R keeps_a away_a c.link c.a (fine_a most c sane) rest.idle_a; coming = rest.idle_a.none_comes; owed = rest.idle_a.none_owed; far_coming = rest.idle_b.none_comes; far_owed = rest.idle_b.none_owed; enough = enough; still = λ on. cc })
-      (λ on. cc) (clear_b most c rest ready sane) sane.pairs
+      (quiet_b most c rest ready sane) sane.pairs
 
   fires_one_b : (most m : ℕ) (c : Carriage (Host P) (Host Q)) (h : List Circumstance) → 1 + most ≤ m → (upper B).armed c.b.upper ≡ true → IsAtRest (upper A) (upper B) c → Ready c → Sane most c → PairsOf whole m A asks_a B asks_b to_a E allows_a to_b G allows_b H J c.a (told V h TimerFired c.b)
   fires_one_b most m c h enough armed rest ready sane =
       fires_b whole most m A asks_a B asks_b to_a E allows_a to_b G allows_b H J false c.a c.b (to_b TimerFired h) (allows_b.given TimerFired h) (calm_b most c rest.idle_b ready sane armed)
       (record { waits = waits_none B asks_b L S keeps_b away_b c.link c.b (fine_b most c sane) rest.idle_b; coming = rest.idle_b.none_comes; owed = rest.idle_b.none_owed; far_coming = rest.idle_a.none_comes; far_owed = rest.idle_a.none_owed; enough = enough; still = λ on. cc })
-      (λ on. cc) (clear_a most c rest ready sane) sane.pairs
+      (quiet_a most c rest ready sane) sane.pairs
 
-  -- what the first that fires leaves
-  record Left (most : ℕ) (e : carriages.End (Host P)) (f : carriages.End (Host Q)) : Type 0 where
-    pairs : PairsOf whole most A asks_a B asks_b to_a E allows_a to_b G allows_b H J e f
-    coming : e.coming ≡ []
-    owed : e.owed ≡ []
-    way : e.queue ++ e.waiting ≡ []
-    silent : answers_of e.upper.channels.queue ≡ []
-    clear : owes e.upper.channels ≡ false
-
-  -- both, one behind the other, where nothing is in the air
+  -- each that is armed, where nothing is in the air
   fires_two : (most : ℕ) (c : Carriage (Host P) (Host Q)) (g h : List Circumstance) (one other : Bool) → (upper A).armed c.a.upper ≡ one → (upper B).armed c.b.upper ≡ other → IsAtRest (upper A) (upper B) c → Ready c → c.a.queue ≡ [] → c.b.queue ≡ [] → Sane most c
       → PairsOf whole most A asks_a B asks_b to_a E allows_a to_b G allows_b H J (if one then told U g TimerFired c.a else c.a) (if other then told V h TimerFired c.b else c.b)
-  fires_two most c g h one other armed_a armed_b rest ready none_a none_b sane = second other armed_b (first one armed_a)
+  fires_two most c g h one other armed_a armed_b rest ready none_a none_b sane = by one other armed_a armed_b
     where
       waits_a : c.a.waiting ≡ []
       waits_a = waits_none A asks_a K R keeps_a away_a c.link c.a (fine_a most c sane) rest.idle_a
@@ -491,36 +271,20 @@ module _ {P Q : Type 0} (whole : Bool) (A : Profile P) (asks_a : Asks A) (B : Pr
       waits_b : c.b.waiting ≡ []
       waits_b = waits_none B asks_b L S keeps_b away_b c.link c.b (fine_b most c sane) rest.idle_b
 
-      silent_a : answers_of c.a.upper.channels.queue ≡ []
-      silent_a = held-silent A asks_a (Wants A) E allows_a.silent H c.a sane.pairs.a (quiet_resting A asks_a K R keeps_a away_a c.link c.a (fine_a most c sane) rest.idle_a (λ on. (ready.0.0 on).0))
-
-      silent_b : answers_of c.b.upper.channels.queue ≡ []
-      silent_b = held-silent B asks_b Always G allows_b.silent J c.b sane.pairs.b (quiet_resting B asks_b L S keeps_b away_b c.link c.b (fine_b most c sane) rest.idle_b (λ on. (ready.0.1 on).0))
-
-      way_a : c.a.queue ++ c.a.waiting ≡ []
-      way_a = ap (λ (l : List (List ℕ)). l ++ c.a.waiting) none_a ∙ waits_a
-
-      first : (fires : Bool) → (upper A).armed c.a.upper ≡ fires → Left most (if fires then told U g TimerFired c.a else c.a) c.b
-      first false armed = record { pairs = sane.pairs; coming = rest.idle_a.none_comes; owed = rest.idle_a.none_owed; way = way_a; silent = silent_a; clear = clear_a most c rest ready sane }
-      first true armed =
-          let calm = calm_a most c rest.idle_a ready sane armed in
-          record {
-            pairs = fires_a whole most most A asks_a B asks_b to_a E allows_a to_b G allows_b H J true c.a c.b (to_a TimerFired g) (allows_a.given TimerFired g) calm
-                (record { waits = waits_a; coming = rest.idle_a.none_comes; owed = rest.idle_a.none_owed; far_coming = rest.idle_b.none_comes; far_owed = rest.idle_b.none_owed; enough = omega arith; still = λ on. (none_a, ap (λ (l : List (List ℕ)). l ++ c.b.waiting) none_b ∙ waits_b) })
-                (λ on. silent_b) (clear_b most c rest ready sane) sane.pairs;
-            coming = rest.idle_a.none_comes;
-            owed = rest.idle_a.none_owed;
-            way = way_a;
-            silent = fired-silent A asks_a (Wants A) E allows_a.silent H (to_a TimerFired g) c.a.upper calm silent_a;
-            clear = fired-clear A asks_a (Wants A) E allows_a.silent H (to_a TimerFired g) c.a sane.pairs.a calm (clear_a most c rest ready sane);
-          }
-
-      second : {e : carriages.End (Host P)} (fires : Bool) → (upper B).armed c.b.upper ≡ fires → Left most e c.b → PairsOf whole most A asks_a B asks_b to_a E allows_a to_b G allows_b H J e (if fires then told V h TimerFired c.b else c.b)
-      second {e} false armed left = left.pairs
-      second {e} true armed left =
-          fires_b whole most most A asks_a B asks_b to_a E allows_a to_b G allows_b H J true e c.b (to_b TimerFired h) (allows_b.given TimerFired h) (calm_b most c rest.idle_b ready sane armed)
-          (record { waits = waits_b; coming = rest.idle_b.none_comes; owed = rest.idle_b.none_owed; far_coming = left.coming; far_owed = left.owed; enough = omega arith; still = λ on. (none_b, left.way) })
-          (λ on. left.silent) left.clear left.pairs
+      by : (one other : Bool) → (upper A).armed c.a.upper ≡ one → (upper B).armed c.b.upper ≡ other
+          → PairsOf whole most A asks_a B asks_b to_a E allows_a to_b G allows_b H J (if one then told U g TimerFired c.a else c.a) (if other then told V h TimerFired c.b else c.b)
+      by false false armed_a armed_b = sane.pairs
+      by true false armed_a armed_b =
+          fires_a whole most most A asks_a B asks_b to_a E allows_a to_b G allows_b H J true c.a c.b (to_a TimerFired g) (allows_a.given TimerFired g) (calm_a most c rest.idle_a ready sane armed_a)
+          (record { waits = waits_a; coming = rest.idle_a.none_comes; owed = rest.idle_a.none_owed; far_coming = rest.idle_b.none_comes; far_owed = rest.idle_b.none_owed; enough = omega arith; still = λ on. (none_a, ap (λ (l : List (List ℕ)). l ++ c.b.waiting) none_b ∙ waits_b) })
+          (quiet_b most c rest ready sane) sane.pairs
+      by false true armed_a armed_b =
+          fires_b whole most most A asks_a B asks_b to_a E allows_a to_b G allows_b H J true c.a c.b (to_b TimerFired h) (allows_b.given TimerFired h) (calm_b most c rest.idle_b ready sane armed_b)
+          (record { waits = waits_b; coming = rest.idle_b.none_comes; owed = rest.idle_b.none_owed; far_coming = rest.idle_a.none_comes; far_owed = rest.idle_a.none_owed; enough = omega arith; still = λ on. (none_b, ap (λ (l : List (List ℕ)). l ++ c.a.waiting) none_a ∙ waits_a) })
+          (quiet_a most c rest ready sane) sane.pairs
+      by true true armed_a armed_b =
+          fires_both whole most A asks_a B asks_b to_a E allows_a to_b G allows_b H J c.a c.b (to_a TimerFired g) (to_b TimerFired h) (allows_a.given TimerFired g) (allows_b.given TimerFired h) (calm_a most c rest.idle_a ready sane armed_a) (calm_b most c rest.idle_b ready sane armed_b)
+          (record { none_waits = waits_a; none_comes = rest.idle_a.none_comes; none_owed = rest.idle_a.none_owed; none_air = none_a }) (record { none_waits = waits_b; none_comes = rest.idle_b.none_comes; none_owed = rest.idle_b.none_owed; none_air = none_b }) sane.pairs
 
   -- ---- deeds
 
@@ -530,9 +294,9 @@ module _ {P Q : Type 0} (whole : Bool) (A : Profile P) (asks_a : Asks A) (B : Pr
   deed_pairs : (most m : ℕ) (deed : Deed) (old new : Carriage (Host P) (Host Q)) → deed_cost deed + most ≤ m → IsAtRest (upper A) (upper B) old → Ready old → IsRightDeed whole deed old.a.queue old.b.queue → ActsOn U V deed old new → Sane most old → PairsIn m new
   deed_pairs most m Nothing old new enough rest ready right acts sane = absurd acts
   deed_pairs most m (Meets Ab fate) old new enough rest ready right (e, f, meeting, same) sane =
-      subst (PairsIn m) (sym same) (met_ab whole most m A asks_a B asks_b to_a E allows_a to_b G allows_b H J old.size fate old.a old.b e f meeting right enough rest.idle_a.none_owed rest.idle_b.none_owed rest.idle_b.none_comes ((host-tames B L keeps_b).unchecked old.b.upper sane.tame.b.upper) sane.pairs (λ on. so_b old.b sane.pairs.b on (ready.1.1 on)))
+      subst (PairsIn m) (sym same) (met_ab whole most m A asks_a B asks_b to_a E allows_a to_b G allows_b H J old.size fate old.a old.b e f meeting right enough rest.idle_a.none_owed rest.idle_b.none_owed rest.idle_b.none_comes ((host-tames B L keeps_b).unchecked old.b.upper sane.tame.b.upper) (quiet_a most old rest ready sane, quiet_b most old rest ready sane) sane.pairs (λ on. so_b old.b sane.pairs.b on (ready.1.1 on)))
   deed_pairs most m (Meets Ba fate) old new enough rest ready right (e, f, meeting, same) sane =
-      subst (PairsIn m) (sym same) (met_ba whole most m A asks_a B asks_b to_a E allows_a to_b G allows_b H J old.size fate old.b old.a f e meeting right enough rest.idle_a.none_owed rest.idle_b.none_owed rest.idle_a.none_comes ((host-tames A K keeps_a).unchecked old.a.upper sane.tame.a.upper) sane.pairs (λ on. so_a old.a sane.pairs.a on (ready.1.0 on)))
+      subst (PairsIn m) (sym same) (met_ba whole most m A asks_a B asks_b to_a E allows_a to_b G allows_b H J old.size fate old.b old.a f e meeting right enough rest.idle_a.none_owed rest.idle_b.none_owed rest.idle_a.none_comes ((host-tames A K keeps_a).unchecked old.a.upper sane.tame.a.upper) (quiet_a most old rest ready sane, quiet_b most old rest ready sane) sane.pairs (λ on. so_a old.a sane.pairs.a on (ready.1.0 on)))
   deed_pairs most m (Fires sides.A) old new enough rest ready right (armed, g, same) sane = subst (PairsIn m) (sym same) (fires_one_a most m old g enough armed rest ready sane)
   deed_pairs most m (Fires sides.B) old new enough rest ready right (armed, h, same) sane = subst (PairsIn m) (sym same) (fires_one_b most m old h enough armed rest ready sane)
   deed_pairs most m FiresBoth old new enough rest ready right (armed, g, h, same) sane =
@@ -544,17 +308,41 @@ module _ {P Q : Type 0} (whole : Bool) (A : Profile P) (asks_a : Asks A) (B : Pr
   deed_pairs most m Cancels old new enough rest ready right (may, g, same) sane =
       subst (PairsIn m) (sym same) (enriched most m (told U g Cancelled old.a) old.b enough (word_a most old g Cancelled tt (λ on. tt) tt rest.idle_a sane))
 
+  -- while something comes into one of them the other has nothing to give
+  far_of_a : (most : ℕ) (c : Carriage (Host P) (Host Q)) (sane : Sane most c) → (c.a.coming ≡ []) ⊎ GivesNone B.policy (part_at (length sane.pairs.a.so.lives.spans) sane.pairs.b.so.lives.spans sane.pairs.b.so.lives.now)
+  far_of_a most c sane = by sane.hands.to_a
+    where
+      by : IsHanded (upper B) Quiet c.link c.b c.a → (c.a.coming ≡ []) ⊎ GivesNone B.policy (part_at (length sane.pairs.a.so.lives.spans) sane.pairs.b.so.lives.spans sane.pairs.b.so.lives.now)
+      by (inl none) = inl none
+      by (inr rests) =
+          let both = sane.pairs in
+          inr (quiet_b_now whole most most A asks_a B asks_b to_a E allows_a to_b G allows_b H J c.b both.b (length both.a.so.lives.spans) (same_number whole most A asks_a B asks_b to_a E allows_a to_b G allows_b H J c.a c.b both rests.none_owed rests.idle.none_owed) rests.quiet).gives_none
+
+  far_of_b : (most : ℕ) (c : Carriage (Host P) (Host Q)) (sane : Sane most c) → (c.b.coming ≡ []) ⊎ GivesNone A.policy (part_at (length sane.pairs.b.so.lives.spans) sane.pairs.a.so.lives.spans sane.pairs.a.so.lives.now)
+  far_of_b most c sane = by sane.hands.to_b
+    where
+      by : IsHanded (upper A) Quiet c.link c.a c.b → (c.b.coming ≡ []) ⊎ GivesNone A.policy (part_at (length sane.pairs.b.so.lives.spans) sane.pairs.a.so.lives.spans sane.pairs.a.so.lives.now)
+      by (inl none) = inl none
+      by (inr rests) =
+          let both = sane.pairs in
+          inr (quiet_a_now whole most most A asks_a B asks_b to_a E allows_a to_b G allows_b H J c.a both.a (length both.b.so.lives.spans) (sym (same_number whole most A asks_a B asks_b to_a E allows_a to_b G allows_b H J c.a c.b both rests.idle.none_owed rests.none_owed)) rests.quiet).gives_none
+
   -- what is done costs as many adverse words as it is one of
   done_pairs : (most m : ℕ) (doing : Doing) (old new : Carriage (Host P) (Host Q)) → adverse_in (words_at doing) + most ≤ m → IsOfScript doing → IsGentle whole doing → IsDone U V doing old new → RestsIn Ready doing old → Sane most old → PairsIn m new
   done_pairs most m (Moved sides.A motion) old new enough script gentle (e, does, same) ready sane =
+      let both = sane.pairs in
+      let b = both.b.so.lives in
       subst (PairsIn m) (sym same)
       (enriched most m e old.b enough
-      (on_a whole most A asks_a B asks_b to_a E allows_a to_b G allows_b H J old.a e old.b (λ number there j held. motion_held A asks_a K R keeps_a away_a to_a E allows_a H (Wants A) (NearBy whole most) B.policy number old.link motion old.a e there j old.b does (fine_a most old sane)
-      (λ gifts more first. same_wish gifts old.a.upper.profile ∙ sane.abreast.wants more first) held) sane.pairs))
+      (on_a whole most A asks_a B asks_b to_a E allows_a to_b G allows_b H J old.a e old.b both (motion_held A asks_a K R keeps_a away_a to_a E allows_a H (Wants A) (NearBy whole most) B.policy both.number old.link motion old.a e (λ k. part_at k b.spans b.now) (length b.spans) old.b does (fine_a most old sane)
+      (λ gifts more first. same_wish gifts old.a.upper.profile ∙ sane.abreast.wants more first) (held_a whole most A asks_a B asks_b to_a E allows_a to_b G allows_b H J old.a old.b both) (far_of_a most old sane))))
   done_pairs most m (Moved sides.B motion) old new enough script gentle (f, does, same) ready sane =
+      let both = sane.pairs in
+      let a = both.a.so.lives in
       subst (PairsIn m) (sym same)
       (enriched most m old.a f enough
-      (on_b whole most A asks_a B asks_b to_a E allows_a to_b G allows_b H J old.a old.b f (λ number there j held. motion_held B asks_b L S keeps_b away_b to_b G allows_b J Always (FarBy whole most) A.policy number old.link motion old.b f there j old.a does (fine_b most old sane) (λ gifts more first. tt) held) sane.pairs))
+      (on_b whole most A asks_a B asks_b to_a E allows_a to_b G allows_b H J old.a old.b f both (motion_held B asks_b L S keeps_b away_b to_b G allows_b J Always (FarBy whole most) A.policy both.number old.link motion old.b f (λ k. part_at k a.spans a.now) (length a.spans) old.a does (fine_b most old sane)
+      (λ gifts more first. tt) (held_b whole most A asks_a B asks_b to_a E allows_a to_b G allows_b H J old.a old.b both) (far_of_b most old sane))))
   done_pairs most m (Deeds word) old new enough script gentle (rest, acts) ready sane =
       let cost = word-cost word old.served old.a.queue old.b.queue old.link in
       deed_pairs most m (finds word old) old new (omega (arith, cost, enough)) (rests-so (upper A) (upper B) to_a to_b old rest) ready (word-right whole word old.served old.a.queue old.b.queue old.link script (λ on. (gentle on).0)) acts sane
@@ -574,7 +362,7 @@ module _ {P Q : Type 0} (whole : Bool) (A : Profile P) (asks_a : Asks A) (B : Pr
 
   carries_pairs : (doings : List Doing) (most m : ℕ) (old new : Carriage (Host P) (Host Q)) → adverse_in (all_words doings) + most ≤ m → AllByRecursion IsOfScript doings → AllByRecursion (IsGentle whole) doings → CarriesSo U V Ready doings old new → Sane most old → Sane m new
   carries_pairs [] most m old new enough script gentle same sane =
-      subst (Sane m) (sym same) (record { both = sane.both; acted = sane.acted; tame = sane.tame; pairs = enriched most m old.a old.b enough sane.pairs; abreast = sane.abreast })
+      subst (Sane m) (sym same) (record { both = sane.both; acted = sane.acted; tame = sane.tame; pairs = enriched most m old.a old.b enough sane.pairs; abreast = sane.abreast; hands = sane.hands })
   carries_pairs (doing ∷ doings) most m old new enough script gentle (mid, (does', ready), runs) sane =
       let does = done-so (upper A) (upper B) to_a to_b doing old mid does' in
       let now : ℕ = adverse_in (words_at doing) + most in
@@ -585,6 +373,7 @@ module _ {P Q : Type 0} (whole : Bool) (A : Profile P) (asks_a : Asks A) (B : Pr
         tame = done-tame (upper A) (upper B) (FitHost (IsProper A.policy) K) (FitHost (IsProper B.policy) L) (host-tames A K keeps_a) (host-tames B L keeps_b) doing old mid script.0 does sane.tame;
         pairs = done_pairs most now doing old mid (omega arith) script.0 gentle.0 does' ready sane;
         abreast = done-abreast (upper A) (upper B) HasToldAll F doing old mid does awaits sane.pairs.b.so.lives.all_told sane.both sane.abreast;
+        hands = done-hands (upper A) (upper B) Quiet Quiet doing old mid does sane.both (quiet_at most doing old mid does ready sane) sane.hands;
       })
 
   first_pairs : (size : ℕ) (names : List (List ℕ)) → PairsIn 0 (first_carriage (upper A) (upper B) size names)
@@ -609,4 +398,5 @@ module _ {P Q : Type 0} (whole : Bool) (A : Profile P) (asks_a : Asks A) (B : Pr
         tame = record { a = record { upper = tame_a.first; waiting = tt; queue = tt; coming = tt; talk = tt }; b = record { upper = tame_b.first; waiting = tt; queue = tt; coming = tt; talk = tt } };
         pairs = first_pairs size names;
         abreast = first-abreast (upper A) (upper B) HasToldAll F size names;
+        hands = record { to_b = inl refl; to_a = inl refl };
       })

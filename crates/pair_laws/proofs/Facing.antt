@@ -25,6 +25,9 @@ use Rattle.pair_laws.specs.Orders.{first_come, given_as, damaged_come, occurs_by
 use Rattle.pair_laws.specs.Pairs.{TakesAll}
 use Rattle.pair_laws.specs.Seen.{IsAddressedAt}
 use Rattle.pair_laws.specs.Waits.{NoneWaitsAt, NoneEverWaits}
+use Rattle.passing_laws.specs.Words.{is_unprompted, AreSilent}
+use Rattle.pair_laws.specs.OnWords.{AreWorded}
+use Rattle.pair_laws.proofs.Worded.{disturbances-more, new-worded, both-worded, turn-worded}
 
 -- ---- a turn
 
@@ -83,6 +86,7 @@ pub record PairAt (whole : Bool) (most : ℕ) (near far : Policy) (one other : L
   pub kept : AllKept whole turns
   pub settled : AreSettled near far turns
   pub none_waits : NoneEverWaits near far turns
+  pub worded : AreWorded near far turns
   pub near_due : ℕ
   pub far_due : ℕ
   pub near_comes : IsComing whole near_due (pair_of near far turns).near near_coming near_rest
@@ -156,20 +160,16 @@ disturbs_turned Repeats pair = refl
 disturbs_turned Loses pair = refl
 disturbs_turned (Damages pdu) pair = refl
 
-disturbances_more : (pair : Pair) (turns : List Turn) (turn : Turn) → disturbances pair (turns ++ turn ∷ []) ≡ disturbances pair turns + disturbs turn.happening (fold pair_after pair turns)
-disturbances_more pair [] turn = omega arith
-disturbances_more pair (first ∷ turns) turn = let later = disturbances_more (pair_after pair first) turns turn in omega (arith, later)
-
 spends : (near far : Policy) (turns : List Turn) (turn : Turn) (most m extra before after : ℕ) → extra + most ≤ m → disturbances (new_pair near far) turns + before ≤ most → disturbs turn.happening (pair_of near far turns) + after ≤ extra + before
     → disturbances (new_pair near far) (turns ++ turn ∷ []) + after ≤ m
-spends near far turns turn most m extra before after more spent cost = let whole = disturbances_more (new_pair near far) turns turn in omega (arith, more, spent, cost, whole)
+spends near far turns turn most m extra before after more spent cost = let whole = disturbances-more (new_pair near far) turns turn in omega (arith, more, spent, cost, whole)
 
 pub new_at : (whole : Bool) (most : ℕ) (near far : Policy) → PairAt whole most near far [] [] [] [] [] []
-new_at whole most near far = record { turns = []; near_is = refl; far_is = refl; near_list = refl; far_list = refl; goes = tt; takes = λ mine theirs. tt; kept = tt; settled = tt; none_waits = tt; near_due = 0; far_due = 0; near_comes = refl; far_comes = refl; spent = omega arith }
+new_at whole most near far = record { turns = []; near_is = refl; far_is = refl; near_list = refl; far_list = refl; goes = tt; takes = λ mine theirs. tt; kept = tt; settled = tt; none_waits = tt; worded = new-worded near far; near_due = 0; far_due = 0; near_comes = refl; far_comes = refl; spent = omega arith }
 
-near_on : (whole : Bool) (most m extra : ℕ) (near far : Policy) (one later other : List Occurrence) (c r c' r' d s d' s' : List (List ℕ)) (p : PairAt whole most near far one other c r c' r') → extra + most ≤ m → Step whole extra (p.near_due + p.far_due) near one later (pair_of near far p.turns) d s d' s'
-    → PairAt whole m near far later other d s d' s'
-near_on whole most m extra near far one later other c r c' r' d s d' s' p more step =
+near_on : (whole : Bool) (most m extra : ℕ) (near far : Policy) (one later other : List Occurrence) (c r c' r' d s d' s' : List (List ℕ)) (p : PairAt whole most near far one other c r c' r') → extra + most ≤ m → (step : Step whole extra (p.near_due + p.far_due) near one later (pair_of near far p.turns) d s d' s')
+    → AreWorded near far (p.turns ++ record { side = Near; happening = step.happening } ∷ []) → PairAt whole m near far later other d s d' s'
+near_on whole most m extra near far one later other c r c' r' d s d' s' p more step worded =
     let turn : Turn = record { side = Near; happening = step.happening } in
     let after : pair_of near far (p.turns ++ turn ∷ []) ≡ step.next = fold-append pair_after (new_pair near far) p.turns (turn ∷ []) ∙ step.is in
     record {
@@ -183,6 +183,7 @@ near_on whole most m extra near far one later other c r c' r' d s d' s' p more s
       kept = kept_more whole p.turns turn p.kept step.kept;
       settled = each_after-more (λ past turn. IsSettledAt turn.happening (seen_from turn.side (pair_of near far past))) p.turns turn p.settled step.settled;
       none_waits = each_after-more (λ past turn. NoneWaitsAt turn.happening (end_at turn.side (pair_of near far past))) p.turns turn p.none_waits step.none_waits;
+      worded = worded;
       near_due = step.due;
       far_due = step.far_due;
       near_comes = subst (λ (q : Pair). IsComing whole step.due q.near d s) (sym after) step.comes;
@@ -190,9 +191,9 @@ near_on whole most m extra near far one later other c r c' r' d s d' s' p more s
       spent = spends near far p.turns turn most m extra (p.near_due + p.far_due) (step.due + step.far_due) more p.spent step.cost;
     }
 
-far_on : (whole : Bool) (most m extra : ℕ) (near far : Policy) (one other later : List Occurrence) (c r c' r' d s d' s' : List (List ℕ)) (p : PairAt whole most near far one other c r c' r') → extra + most ≤ m → Step whole extra (p.far_due + p.near_due) far other later (turned (pair_of near far p.turns)) d' s' d s
-    → PairAt whole m near far one later d s d' s'
-far_on whole most m extra near far one other later c r c' r' d s d' s' p more step =
+far_on : (whole : Bool) (most m extra : ℕ) (near far : Policy) (one other later : List Occurrence) (c r c' r' d s d' s' : List (List ℕ)) (p : PairAt whole most near far one other c r c' r') → extra + most ≤ m → (step : Step whole extra (p.far_due + p.near_due) far other later (turned (pair_of near far p.turns)) d' s' d s)
+    → AreWorded near far (p.turns ++ record { side = Far; happening = step.happening } ∷ []) → PairAt whole m near far one later d s d' s'
+far_on whole most m extra near far one other later c r c' r' d s d' s' p more step worded =
     let turn : Turn = record { side = Far; happening = step.happening } in
     let after : pair_of near far (p.turns ++ turn ∷ []) ≡ turned step.next = fold-append pair_after (new_pair near far) p.turns (turn ∷ []) ∙ ap turned step.is in
     record {
@@ -206,6 +207,7 @@ far_on whole most m extra near far one other later c r c' r' d s d' s' p more st
       kept = kept_more whole p.turns turn p.kept step.kept;
       settled = each_after-more (λ past turn. IsSettledAt turn.happening (seen_from turn.side (pair_of near far past))) p.turns turn p.settled step.settled;
       none_waits = each_after-more (λ past turn. NoneWaitsAt turn.happening (end_at turn.side (pair_of near far past))) p.turns turn p.none_waits step.none_waits;
+      worded = worded;
       near_due = step.far_due;
       far_due = step.due;
       near_comes = subst (λ (q : Pair). IsComing whole step.far_due q.near d s) (sym after) step.far_comes;
@@ -218,6 +220,9 @@ far_on whole most m extra near far one other later c r c' r' d s d' s' p more st
     }
 
 -- ---- from either end
+
+turned_silent : (pair : Pair) → AreSilent (turned pair) → AreSilent pair
+turned_silent pair silent = record { near_none = silent.far_none; far_none = silent.near_none }
 
 -- as the host at one side has it, where all that is under way comes in whole, or maybe not, and so many turns disturb at most
 pub data View : Type 0 where
@@ -243,7 +248,7 @@ PairFrom (FarBy whole most) mine theirs list other coming rest far_coming far_re
 richer_at : (whole : Bool) (most m : ℕ) (near far : Policy) (one other : List Occurrence) (c r c' r' : List (List ℕ)) → most ≤ m → PairAt whole most near far one other c r c' r' → PairAt whole m near far one other c r c' r'
 richer_at whole most m near far one other c r c' r' more p =
     let spent = p.spent in
-    record { turns = p.turns; near_is = p.near_is; far_is = p.far_is; near_list = p.near_list; far_list = p.far_list; goes = p.goes; takes = p.takes; kept = p.kept; settled = p.settled; none_waits = p.none_waits; near_due = p.near_due; far_due = p.far_due; near_comes = p.near_comes; far_comes = p.far_comes; spent = omega (arith, spent, more) }
+    record { turns = p.turns; near_is = p.near_is; far_is = p.far_is; near_list = p.near_list; far_list = p.far_list; goes = p.goes; takes = p.takes; kept = p.kept; settled = p.settled; none_waits = p.none_waits; worded = p.worded; near_due = p.near_due; far_due = p.far_due; near_comes = p.near_comes; far_comes = p.far_comes; spent = omega (arith, spent, more) }
 
 -- more may be spent
 pub richer : (side : View) (m : ℕ) (mine theirs : Policy) (list other : List Occurrence) (c r c' r' : List (List ℕ)) → most_of side ≤ m → PairFrom side mine theirs list other c r c' r' → PairFrom (with_most m side) mine theirs list other c r c' r'
@@ -259,9 +264,10 @@ pub record Faced (side : View) (mine theirs : Policy) (list other : List Occurre
   pub far_due : ℕ
   pub comes : IsComing (whole_of side) due pair.near coming rest
   pub far_comes : IsComing (whole_of side) far_due pair.far far_coming far_rest
-  pub on : (later : List Occurrence) (d s d' s' : List (List ℕ)) → Step (whole_of side) 0 (due + far_due) mine list later pair d s d' s' → PairFrom side mine theirs later other d s d' s'
+  pub on : (later : List Occurrence) (d s d' s' : List (List ℕ)) → (step : Step (whole_of side) 0 (due + far_due) mine list later pair d s d' s') → (is_unprompted step.happening ≡ false → AreSilent pair) → PairFrom side mine theirs later other d s d' s'
   -- where more is spent
-  pub on_at : (m extra : ℕ) → extra + most_of side ≤ m → (later : List Occurrence) (d s d' s' : List (List ℕ)) → Step (whole_of side) extra (due + far_due) mine list later pair d s d' s' → PairFrom (with_most m side) mine theirs later other d s d' s'
+  pub on_at : (m extra : ℕ) → extra + most_of side ≤ m → (later : List Occurrence) (d s d' s' : List (List ℕ)) → (step : Step (whole_of side) extra (due + far_due) mine list later pair d s d' s') → (is_unprompted step.happening ≡ false → AreSilent pair)
+      → PairFrom (with_most m side) mine theirs later other d s d' s'
 
 pub faced : (side : View) (mine theirs : Policy) (list other : List Occurrence) (c r c' r' : List (List ℕ)) → PairFrom side mine theirs list other c r c' r' → Faced side mine theirs list other c r c' r'
 faced (NearBy whole most) mine theirs list other c r c' r' p = record {
@@ -273,8 +279,8 @@ faced (NearBy whole most) mine theirs list other c r c' r' p = record {
   far_due = p.far_due;
   comes = p.near_comes;
   far_comes = p.far_comes;
-  on = λ later d s d' s' step. near_on whole most most 0 mine theirs list later other c r c' r' d s d' s' p (omega arith) step;
-  on_at = λ m extra more later d s d' s' step. near_on whole most m extra mine theirs list later other c r c' r' d s d' s' p more step;
+  on = λ later d s d' s' step silent. near_on whole most most 0 mine theirs list later other c r c' r' d s d' s' p (omega arith) step (turn-worded mine theirs p.turns p.worded Near step.happening silent);
+  on_at = λ m extra more later d s d' s' step silent. near_on whole most m extra mine theirs list later other c r c' r' d s d' s' p more step (turn-worded mine theirs p.turns p.worded Near step.happening silent);
 }
 faced (FarBy whole most) mine theirs list other c r c' r' p = record {
   pair = turned (pair_of theirs mine p.turns);
@@ -285,11 +291,26 @@ faced (FarBy whole most) mine theirs list other c r c' r' p = record {
   far_due = p.near_due;
   comes = p.far_comes;
   far_comes = p.near_comes;
-  on = λ later d s d' s' step. far_on whole most most 0 theirs mine other list later c' r' c r d' s' d s p (omega arith) step;
-  on_at = λ m extra more later d s d' s' step. far_on whole most m extra theirs mine other list later c' r' c r d' s' d s p more step;
+  on = λ later d s d' s' step silent.
+      far_on whole most most 0 theirs mine other list later c' r' c r d' s' d s p (omega arith) step (turn-worded theirs mine p.turns p.worded Far step.happening (λ asked. turned_silent (pair_of theirs mine p.turns) (silent asked)));
+  on_at = λ m extra more later d s d' s' step silent.
+      far_on whole most m extra theirs mine other list later c' r' c r d' s' d s p more step (turn-worded theirs mine p.turns p.worded Far step.happening (λ asked. turned_silent (pair_of theirs mine p.turns) (silent asked)));
 }
 
 -- ---- what an end does
+
+-- behind what happened to it no channel of the host has anything to give
+abbrev pub GivesNone : Policy → List Occurrence → Type 0
+GivesNone policy list = list_any gives (run_of policy list).value.held ≡ false
+
+-- nor has the host an answer that waits, and it owes no reply
+pub record SaysNone (policy : Policy) (list : List Occurrence) : Type 0 where
+  pub silent : list_any is_answer (run_of policy list).value.queue ≡ false
+  pub gives_none : GivesNone policy list
+  pub clear : owes (run_of policy list).value ≡ false
+
+silent_by : (mine theirs : Policy) (list other : List Occurrence) (pair : Pair) → pair.near.run ≡ run_of mine list → pair.far.run ≡ run_of theirs other → GivesNone mine list → GivesNone theirs other → AreSilent pair
+silent_by mine theirs list other pair near_is far_is none far_none = record { near_none = ap (λ (r : Run). list_any gives r.value.held) near_is ∙ none; far_none = ap (λ (r : Run). list_any gives r.value.held) far_is ∙ far_none }
 
 occurs_is : (mine : Policy) (end' : End) (list : List Occurrence) (one : Occurrence) → end'.policy ≡ mine → end'.run ≡ run_of mine list → (occurs one end').run ≡ run_of mine (list ++ one ∷ [])
 occurs_is mine end' list one policy_is run_is =
@@ -315,6 +336,59 @@ put_behind whole due end' pdu (first ∷ []) rest comes = by comes
     by (Again broken some behind is rest_is) = Again broken some (behind ++ pdu ∷ []) (ap (λ (l : List (List ℕ)). l ++ pdu ∷ []) is) (ap (λ (l : List (List ℕ)). l ++ pdu ∷ []) rest_is)
     by (Other broken some frame is change apart) = Other broken some frame (ap (λ (l : List (List ℕ)). l ++ pdu ∷ []) is) change apart
 
+quiet_by : (mine theirs : Policy) (list other : List Occurrence) (pair : Pair) → pair.near.run ≡ run_of mine list → pair.far.run ≡ run_of theirs other → pair.near.coming ≡ [] → pair.far.coming ≡ []
+    → list_any is_answer (run_of mine list).value.queue ≡ false → list_any is_answer (run_of theirs other).value.queue ≡ false → is_quiet pair ≡ true
+quiet_by mine theirs list other pair near_run far_run near_is far_is silent far_silent =
+    let near_says : list_any is_answer pair.near.run.value.queue ≡ false = ap (λ (r : Run). list_any is_answer r.value.queue) near_run ∙ silent in
+    let far_says : list_any is_answer pair.far.run.value.queue ≡ false = ap (λ (r : Run). list_any is_answer r.value.queue) far_run ∙ far_silent in
+    ap (λ (c : List (List ℕ)). (eqb (length c) 0 && eqb (length pair.far.coming) 0) && (not (list_any is_answer pair.near.run.value.queue) && not (list_any is_answer pair.far.run.value.queue))) near_is
+    ∙ (ap (λ (c : List (List ℕ)). eqb (length c) 0 && (not (list_any is_answer pair.near.run.value.queue) && not (list_any is_answer pair.far.run.value.queue))) far_is
+    ∙ (ap (λ (b : Bool). not b && not (list_any is_answer pair.far.run.value.queue)) near_says ∙ ap not far_says))
+
+-- a host whose timer fires has nothing to give, and no command of it waits
+pub record MayFire (policy : Policy) (list : List Occurrence) : Type 0 where
+  pub gives_none : GivesNone policy list
+  pub none_waits : (run_of policy list).value.queue ≡ []
+
+abbrev fire_step : (whole : Bool) (extra due far_due : ℕ) (mine theirs : Policy) (list other : List Occurrence) (pair : Pair) (rest far_coming far_rest : List (List ℕ)) → pair.near.policy ≡ mine → pair.near.run ≡ run_of mine list → pair.far.run ≡ run_of theirs other → IsComing whole due pair.near [] rest
+    → IsComing whole far_due pair.far far_coming far_rest → MayFire mine list → owes (run_of theirs other).value ≡ false → one_if (not (is_quiet pair)) ≤ extra → Step whole extra (due + far_due) mine list (list ++ Fires ∷ []) pair [] rest far_coming far_rest
+fire_step whole extra due far_due mine theirs list other pair rest far_coming far_rest policy_is run_is far_run_is comes far_comes can clear paid = record {
+  happening = Acts Fires;
+  next = with_near (occurs Fires pair.near) pair;
+  is = refl;
+  goes = record { fair = tt; read = tt; addressed = tt; changed = tt; roomy = tt };
+  run_is = occurs_is mine pair.near list Fires policy_is run_is;
+  later_is = refl;
+  far_run = refl;
+  takes = takes_one mine pair.near list Fires run_is;
+  kept = tt;
+  settled = λ fires quiet. (ap (λ (r : Run). list_any gives r.value.held) run_is ∙ can.gives_none, ap (λ (r : Run). owes r.value) far_run_is ∙ clear);
+  none_waits = λ fires. ap (λ (r : Run). r.value.queue) run_is ∙ can.none_waits;
+  due = due;
+  far_due = far_due;
+  comes = comes;
+  far_comes = far_comes;
+  cost = omega (arith, paid);
+}
+
+-- the timers of both fire, where nothing is under way to either, no answer waits, and neither owes the other a reply
+pub fire-both : (whole : Bool) (most : ℕ) (near far : Policy) (one other : List Occurrence) (rest far_rest : List (List ℕ)) → rest ≡ [] → far_rest ≡ [] → list_any is_answer (run_of near one).value.queue ≡ false → list_any is_answer (run_of far other).value.queue ≡ false
+    → MayFire near one → MayFire far other → owes (run_of far other).value ≡ false → list_any is_answer (run_of near (one ++ Fires ∷ [])).value.queue ≡ false → owes (run_of near (one ++ Fires ∷ [])).value ≡ false
+    → PairAt whole most near far one other [] rest [] far_rest → PairAt whole most near far (one ++ Fires ∷ []) (other ++ Fires ∷ []) [] rest [] far_rest
+unfolding near_on
+fire-both whole most near far one other rest far_rest none far_none silent far_silent can far_can far_clear silent' clear' p =
+    let pair = pair_of near far p.turns in
+    let so = silent_by near far one other pair p.near_is p.far_is can.gives_none far_can.gives_none in
+    let quiet = quiet_by near far one other pair p.near_is p.far_is (p.near_comes ∙ none) (p.far_comes ∙ far_none) silent far_silent in
+    let first = near_on whole most most 0 near far one (one ++ Fires ∷ []) other [] rest [] far_rest [] rest [] far_rest p (omega arith)
+    (fire_step whole 0 p.near_due p.far_due near far one other pair rest [] far_rest (end-policy near far p.turns Near) p.near_is p.far_is p.near_comes p.far_comes can far_clear (let free = ap (λ (b : Bool). one_if (not b)) quiet in omega (arith, free)))
+    (turn-worded near far p.turns p.worded Near (Acts Fires) (λ asked. so)) in
+    let mid = turned (pair_of near far first.turns) in
+    let later = quiet_by far near other (one ++ Fires ∷ []) mid first.far_is first.near_is (first.far_comes ∙ far_none) (first.near_comes ∙ none) far_silent silent' in
+    far_on whole most most 0 near far (one ++ Fires ∷ []) other (other ++ Fires ∷ []) [] rest [] far_rest [] rest [] far_rest first (omega arith)
+    (fire_step whole 0 first.far_due first.near_due far near other (one ++ Fires ∷ []) mid far_rest [] rest (end-policy near far first.turns Far) first.far_is first.near_is first.far_comes first.near_comes far_can clear' (let free = ap (λ (b : Bool). one_if (not b)) later in omega (arith, free)))
+    (both-worded near far p.turns p.worded so (p.near_comes ∙ none) (p.far_comes ∙ far_none))
+
 module _ (side : View) (mine theirs : Policy) (list other : List Occurrence) (far_coming far_rest : List (List ℕ)) where
   -- something that its host does alone, and no firing
   pub does-alone : (one : Occurrence) (rest : List (List ℕ)) → is_alone one ≡ true → is_firing one ≡ false → IsUttered one (run_of mine list).value → PairFrom side mine theirs list other [] rest far_coming far_rest → PairFrom side mine theirs (list ++ one ∷ []) other [] rest far_coming far_rest
@@ -338,7 +412,7 @@ module _ (side : View) (mine theirs : Policy) (list other : List Occurrence) (fa
         comes = v.comes;
         far_comes = v.far_comes;
         cost = let none : disturbs (Acts one) pair ≡ 0 = ap (λ (b : Bool). one_if (b && not (is_quiet pair))) plain in omega (arith, none);
-      })
+      }) (λ asked. let never : true ≡ false = sym (ap not plain) ∙ asked in absurd cc)
 
   -- nothing is under way to either, and no answer waits
   abbrev pub IsStill : (rest : List (List ℕ)) → Type 0
@@ -346,42 +420,21 @@ module _ (side : View) (mine theirs : Policy) (list other : List Occurrence) (fa
 
   still_quiet : (rest : List (List ℕ)) (v : Faced side mine theirs list other [] rest far_coming far_rest) → IsStill rest → is_quiet v.pair ≡ true
   still_quiet rest v (none, far_none, far_left, silent, far_silent) =
-      let pair = v.pair in
-      let near_is : pair.near.coming ≡ [] = v.comes ∙ none in
-      let far_is : pair.far.coming ≡ [] = far_empty far_coming v.far_comes far_none ∙ far_left in
-      let near_says : list_any is_answer pair.near.run.value.queue ≡ false = ap (λ (r : Run). list_any is_answer r.value.queue) v.run_is ∙ silent in
-      let far_says : list_any is_answer pair.far.run.value.queue ≡ false = ap (λ (r : Run). list_any is_answer r.value.queue) v.far_run_is ∙ far_silent in
-      ap (λ (c : List (List ℕ)). (eqb (length c) 0 && eqb (length pair.far.coming) 0) && (not (list_any is_answer pair.near.run.value.queue) && not (list_any is_answer pair.far.run.value.queue))) near_is
-      ∙ (ap (λ (c : List (List ℕ)). eqb (length c) 0 && (not (list_any is_answer pair.near.run.value.queue) && not (list_any is_answer pair.far.run.value.queue))) far_is
-      ∙ (ap (λ (b : Bool). not b && not (list_any is_answer pair.far.run.value.queue)) near_says ∙ ap not far_says))
+      quiet_by mine theirs list other v.pair v.run_is v.far_run_is (v.comes ∙ none) (far_empty far_coming v.far_comes far_none ∙ far_left) silent far_silent
     where
       far_empty : (coming : List (List ℕ)) → IsComing (whole_of side) v.far_due v.pair.far coming far_rest → coming ≡ [] → v.pair.far.coming ≡ far_rest
       far_empty [] comes is = comes
       far_empty (pdu ∷ coming) comes is = cc
 
   -- its timer fires: that is free where all is still
-  pub fires-it : (free : Bool) (m : ℕ) (rest : List (List ℕ)) → one_if (not free) + most_of side ≤ m → (free ≡ true → IsStill rest) → (list_any gives (run_of mine list).value.held ≡ false) × (owes (run_of theirs other).value ≡ false) × ((run_of mine list).value.queue ≡ []) → PairFrom side mine theirs list other [] rest far_coming far_rest → PairFrom (with_most m side) mine theirs (list ++ Fires ∷ []) other [] rest far_coming far_rest
-  fires-it free m rest more still calm p =
+  pub fires-it : (free : Bool) (m : ℕ) (rest : List (List ℕ)) → one_if (not free) + most_of side ≤ m → (free ≡ true → IsStill rest) → MayFire mine list → owes (run_of theirs other).value ≡ false → GivesNone theirs other → PairFrom side mine theirs list other [] rest far_coming far_rest
+      → PairFrom (with_most m side) mine theirs (list ++ Fires ∷ []) other [] rest far_coming far_rest
+  fires-it free m rest more still can clear far_none p =
       let v = faced side mine theirs list other [] rest far_coming far_rest p in
       let pair = v.pair in
-      v.on_at m (one_if (not free)) more (list ++ Fires ∷ []) [] rest far_coming far_rest (record {
-        happening = Acts Fires;
-        next = with_near (occurs Fires pair.near) pair;
-        is = refl;
-        goes = record { fair = tt; read = tt; addressed = tt; changed = tt; roomy = tt };
-        run_is = occurs_is mine pair.near list Fires v.policy_is v.run_is;
-        later_is = refl;
-        far_run = refl;
-        takes = takes_one mine pair.near list Fires v.run_is;
-        kept = tt;
-        settled = λ fires quiet. (ap (λ (r : Run). list_any gives r.value.held) v.run_is ∙ calm.0, ap (λ (r : Run). owes r.value) v.far_run_is ∙ calm.1);
-        none_waits = λ fires. ap (λ (r : Run). r.value.queue) v.run_is ∙ calm.2;
-        due = v.due;
-        far_due = v.far_due;
-        comes = v.comes;
-        far_comes = v.far_comes;
-        cost = let least = by free (is_quiet pair) (λ on. still_quiet rest v (still on)) in omega (arith, least);
-      })
+      v.on_at m (one_if (not free)) more (list ++ Fires ∷ []) [] rest far_coming far_rest
+      (fire_step (whole_of side) (one_if (not free)) v.due v.far_due mine theirs list other pair rest far_coming far_rest v.policy_is v.run_is v.far_run_is v.comes v.far_comes can clear
+      (by free (is_quiet pair) (λ on. still_quiet rest v (still on)))) (λ asked. silent_by mine theirs list other pair v.run_is v.far_run_is can.gives_none far_none)
     where
       by : (free quiet : Bool) → (free ≡ true → quiet ≡ true) → one_if (not quiet) ≤ one_if (not free)
       by false true so = omega arith
@@ -419,11 +472,11 @@ module _ (side : View) (mine theirs : Policy) (list other : List Occurrence) (fa
         comes = v.comes;
         far_comes = put_behind (whole_of side) v.far_due pair.far pdu far_coming far_rest v.far_comes;
         cost = omega arith;
-      })
+      }) (λ asked. cc)
 
   -- the first of what is under way to it is lost
-  pub loses-it : (pdu : List ℕ) (m : ℕ) (rest : List (List ℕ)) → 1 + most_of side ≤ m → whole_of side ≡ false → PairFrom side mine theirs list other [] (pdu ∷ rest) far_coming far_rest → PairFrom (with_most m side) mine theirs list other [] rest far_coming far_rest
-  loses-it pdu m rest more broken p =
+  pub loses-it : (pdu : List ℕ) (m : ℕ) (rest : List (List ℕ)) → 1 + most_of side ≤ m → whole_of side ≡ false → GivesNone mine list → GivesNone theirs other → PairFrom side mine theirs list other [] (pdu ∷ rest) far_coming far_rest → PairFrom (with_most m side) mine theirs list other [] rest far_coming far_rest
+  loses-it pdu m rest more broken none far_none p =
       let v = faced side mine theirs list other [] (pdu ∷ rest) far_coming far_rest p in
       let pair = v.pair in
       v.on_at m 1 more list [] rest far_coming far_rest (record {
@@ -443,12 +496,12 @@ module _ (side : View) (mine theirs : Policy) (list other : List Occurrence) (fa
         comes = refl;
         far_comes = v.far_comes;
         cost = omega arith;
-      })
+      }) (λ asked. silent_by mine theirs list other pair v.run_is v.far_run_is none far_none)
 
   comes_on : (pdu : List ℕ) (rest : List (List ℕ)) (v : Faced side mine theirs list other (pdu ∷ []) rest far_coming far_rest) (happening : Happening) (end' : End) → happens_near happening v.pair ≡ with_near (occurs (Comes pdu) end') v.pair → end'.run ≡ v.pair.near.run → end'.policy ≡ v.pair.near.policy
-      → end'.coming ≡ rest → occurs_by happening v.pair.near ≡ Comes pdu ∷ [] → Goes happening v.pair.near → DoesSo IsTakeable happening v.pair.near → IsKept (whole_of side) happening → IsSettledAt happening v.pair → NoneWaitsAt happening v.pair.near → disturbs happening v.pair ≤ v.due
+      → end'.coming ≡ rest → occurs_by happening v.pair.near ≡ Comes pdu ∷ [] → Goes happening v.pair.near → DoesSo IsTakeable happening v.pair.near → IsKept (whole_of side) happening → IsSettledAt happening v.pair → NoneWaitsAt happening v.pair.near → disturbs happening v.pair ≤ v.due → AreSilent v.pair
       → PairFrom side mine theirs (list ++ Comes pdu ∷ []) other [] rest far_coming far_rest
-  comes_on pdu rest v happening end' is run_is policy_is coming_is happens goes takes kept settled none_waits paid =
+  comes_on pdu rest v happening end' is run_is policy_is coming_is happens goes takes kept settled none_waits paid silent =
       let pair = v.pair in
       v.on (list ++ Comes pdu ∷ []) [] rest far_coming far_rest (record {
         happening = happening;
@@ -467,23 +520,25 @@ module _ (side : View) (mine theirs : Policy) (list other : List Occurrence) (fa
         comes = coming_is;
         far_comes = v.far_comes;
         cost = omega (arith, paid);
-      })
+      }) (λ asked. silent)
 
-  passes_in : (pdu : List ℕ) (rest : List (List ℕ)) (v : Faced side mine theirs list other (pdu ∷ []) rest far_coming far_rest) → has_room v.pair.near.run.value ≡ true → Passage (whole_of side) v.due v.pair.near pdu rest → PairFrom side mine theirs (list ++ Comes pdu ∷ []) other [] rest far_coming far_rest
-  passes_in pdu rest v room (Whole is) =
-      let pair = v.pair in comes_on pdu rest v Takes (let_go rest pair.near) (ap (λ (l : List (List ℕ)). with_near (takes_first l pair.near) pair) is) refl refl refl (ap first_come is) (record { fair = tt; read = tt; addressed = tt; changed = tt; roomy = room }) tt tt tt tt (omega arith)
-  passes_in pdu rest v room (Again broken some behind is rest_is) =
-      let pair = v.pair in comes_on pdu rest v Repeats pair.near (ap (λ (l : List (List ℕ)). with_near (repeats_first l pair.near) pair) is) refl refl (is ∙ sym rest_is) (ap first_come is) (record { fair = tt; read = tt; addressed = tt; changed = tt; roomy = tt }) tt broken tt tt some
-  passes_in pdu rest v room (Other broken some frame is change apart) =
+  passes_in : (pdu : List ℕ) (rest : List (List ℕ)) (v : Faced side mine theirs list other (pdu ∷ []) rest far_coming far_rest) → has_room v.pair.near.run.value ≡ true → AreSilent v.pair → Passage (whole_of side) v.due v.pair.near pdu rest → PairFrom side mine theirs (list ++ Comes pdu ∷ []) other [] rest far_coming far_rest
+  passes_in pdu rest v room silent (Whole is) =
+      let pair = v.pair in comes_on pdu rest v Takes (let_go rest pair.near) (ap (λ (l : List (List ℕ)). with_near (takes_first l pair.near) pair) is) refl refl refl (ap first_come is) (record { fair = tt; read = tt; addressed = tt; changed = tt; roomy = room }) tt tt tt tt (omega arith) silent
+  passes_in pdu rest v room silent (Again broken some behind is rest_is) =
+      let pair = v.pair in comes_on pdu rest v Repeats pair.near (ap (λ (l : List (List ℕ)). with_near (repeats_first l pair.near) pair) is) refl refl (is ∙ sym rest_is) (ap first_come is) (record { fair = tt; read = tt; addressed = tt; changed = tt; roomy = tt }) tt broken tt tt some silent
+  passes_in pdu rest v room silent (Other broken some frame is change apart) =
       let pair = v.pair in
       comes_on pdu rest v (Damages pdu) (let_go rest pair.near)
       (ap (λ (l : List (List ℕ)). with_near (damages_first pdu l pair.near) pair) is
       ∙ ap (λ (b : Bool). with_near (if b then occurs (Comes pdu) (let_go rest pair.near) else let_go rest pair.near) pair) change.checked)
-      refl refl refl (ap (λ (l : List (List ℕ)). damaged_come pdu l pair.near) is ∙ ap (λ (b : Bool). if b then Comes pdu ∷ [] else []) change.checked) (record { fair = tt; read = apart; addressed = tt; changed = subst (λ (l : List (List ℕ)). IsChangeOfFirst l pair.near.run.value pdu) (sym is) change; roomy = tt }) tt broken tt tt some
+      refl refl refl (ap (λ (l : List (List ℕ)). damaged_come pdu l pair.near) is ∙ ap (λ (b : Bool). if b then Comes pdu ∷ [] else []) change.checked) (record { fair = tt; read = apart; addressed = tt; changed = subst (λ (l : List (List ℕ)). IsChangeOfFirst l pair.near.run.value pdu) (sym is) change; roomy = tt }) tt broken tt tt some silent
 
   -- what is being handed over to it comes in, where there is room for an answer
-  pub comes-in : (pdu : List ℕ) (rest : List (List ℕ)) → has_room (run_of mine list).value ≡ true → PairFrom side mine theirs list other (pdu ∷ []) rest far_coming far_rest → PairFrom side mine theirs (list ++ Comes pdu ∷ []) other [] rest far_coming far_rest
-  comes-in pdu rest room p = let v = faced side mine theirs list other (pdu ∷ []) rest far_coming far_rest p in passes_in pdu rest v (ap (λ (r : Run). has_room r.value) v.run_is ∙ room) v.comes
+  pub comes-in : (pdu : List ℕ) (rest : List (List ℕ)) → has_room (run_of mine list).value ≡ true → GivesNone mine list → GivesNone theirs other → PairFrom side mine theirs list other (pdu ∷ []) rest far_coming far_rest → PairFrom side mine theirs (list ++ Comes pdu ∷ []) other [] rest far_coming far_rest
+  comes-in pdu rest room none far_none p =
+      let v = faced side mine theirs list other (pdu ∷ []) rest far_coming far_rest p in
+      passes_in pdu rest v (ap (λ (r : Run). has_room r.value) v.run_is ∙ room) (silent_by mine theirs list other v.pair v.run_is v.far_run_is none far_none) v.comes
 
   -- the first that is under way to it is handed over
   pub is-handed : (pdu : List ℕ) (due m : ℕ) (before rest : List (List ℕ)) → due + most_of side ≤ m → ((end' : End) → end'.coming ≡ before → end'.run ≡ run_of mine list → Passage (whole_of side) due end' pdu rest) → PairFrom side mine theirs list other [] before far_coming far_rest
@@ -494,7 +549,7 @@ module _ (side : View) (mine theirs : Policy) (list other : List Occurrence) (fa
           → PairFrom (with_most m which) mine theirs list other (pdu ∷ []) rest far_coming far_rest
       by (NearBy whole most) enough passed q =
           let spent = q.spent in
-          record { turns = q.turns; near_is = q.near_is; far_is = q.far_is; near_list = q.near_list; far_list = q.far_list; goes = q.goes; takes = q.takes; kept = q.kept; settled = q.settled; none_waits = q.none_waits; near_due = due; far_due = q.far_due; near_comes = passed (pair_of mine theirs q.turns).near q.near_comes q.near_is; far_comes = q.far_comes; spent = omega (arith, spent, enough) }
+          record { turns = q.turns; near_is = q.near_is; far_is = q.far_is; near_list = q.near_list; far_list = q.far_list; goes = q.goes; takes = q.takes; kept = q.kept; settled = q.settled; none_waits = q.none_waits; worded = q.worded; near_due = due; far_due = q.far_due; near_comes = passed (pair_of mine theirs q.turns).near q.near_comes q.near_is; far_comes = q.far_comes; spent = omega (arith, spent, enough) }
       by (FarBy whole most) enough passed q =
           let spent = q.spent in
-          record { turns = q.turns; near_is = q.near_is; far_is = q.far_is; near_list = q.near_list; far_list = q.far_list; goes = q.goes; takes = q.takes; kept = q.kept; settled = q.settled; none_waits = q.none_waits; near_due = q.near_due; far_due = due; near_comes = q.near_comes; far_comes = passed (pair_of theirs mine q.turns).far q.far_comes q.far_is; spent = omega (arith, spent, enough) }
+          record { turns = q.turns; near_is = q.near_is; far_is = q.far_is; near_list = q.near_list; far_list = q.far_list; goes = q.goes; takes = q.takes; kept = q.kept; settled = q.settled; none_waits = q.none_waits; worded = q.worded; near_due = q.near_due; far_due = due; near_comes = q.near_comes; far_comes = passed (pair_of theirs mine q.turns).far q.far_comes q.far_is; spent = omega (arith, spent, enough) }

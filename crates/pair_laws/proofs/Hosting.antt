@@ -6,7 +6,6 @@ use Rattle.std.proofs.lemmas.List.Concat.{flat_map-append}
 use Rattle.scenario_laws.specs.acl_fragments.specs.Pieces.{channel_of}
 use Rattle.scenario_laws.specs.capture.specs.Histories.{EachAfter}
 use Rattle.scenario_laws.specs.capture.proofs.HistoryLaws.{each_after-both}
-use Rattle.std.proofs.lemmas.List.Sums.{fold-append}
 use Rattle.recovered_laws.specs.Calm.{owes}
 use Rattle.channel_laws.specs.channel_model.specs.Giving.{gives}
 use Rattle.channel_laws.specs.channel_model.specs.Carrying.{Up as Handed, Nothing, Received}
@@ -14,7 +13,7 @@ use Rattle.channel_laws.specs.channel_model.specs.Changing.{is_answer, has_room}
 use Rattle.channel_laws.specs.channel_model.specs.Hearing as channels
 use Rattle.channel_laws.specs.channel_model.specs.Policies.{Policy}
 use Rattle.channel_laws.specs.channel_model.specs.Value.{Channels, no_channels}
-use Rattle.channel_laws.specs.Runs.{Occurrence, Comes, Connects, AsksFeatures, Disconnects, Sends, Gives, Fires, Tells, Run, new_link, run_on, run_of}
+use Rattle.channel_laws.specs.Runs.{Occurrence, Comes, Connects, AsksFeatures, Disconnects, Sends, Gives, Fires, Tells, new_link, run_of}
 use Rattle.channel_laws.specs.Tries.{one_if}
 use Rattle.channel_laws.proofs.Lasting.{answers_of}
 use Rattle.scenario_laws.specs.world_model.specs.Machines.{LinkEvent, News, Linked, Failed, Heard, TimerFired, Cancelled, Opening}
@@ -45,11 +44,11 @@ use Rattle.host_laws.proofs.Steps.{Grows}
 use Rattle.pair_laws.specs.Heard.{IsHeardSo, HearsSo}
 use Rattle.pair_laws.proofs.Given.{IsSilent, IsGift, IsServedSo, all_both, goes-served, turns-served, grown_served}
 use Rattle.pair_laws.proofs.Openings.{names_talked, same_names, news_names, no_names, turned_names, grown_names, goes-names, still-names, turns-names}
-use Rattle.pair_laws.proofs.Facing.{View, most_of, with_most, PairFrom, each_split, comes-in, fires-it}
-use Rattle.pair_laws.proofs.Walking.{AreMeant, calm-meant, ComesNot, gives_in, outer-gives, outer-comes_not, all_on}
+use Rattle.pair_laws.proofs.Facing.{View, most_of, with_most, PairFrom, GivesNone, SaysNone, MayFire, each_split, comes-in, fires-it}
+use Rattle.pair_laws.proofs.Walking.{fired-list, AreMeant, calm-meant, ComesNot, gives_in, outer-gives, outer-comes_not, all_on}
 use Rattle.pair_laws.proofs.Numbered.{ended, Links, DoesMore, does-more, turns-to, fires-over}
 use Rattle.pair_laws.proofs.Emptied.{calm-empty}
-use Rattle.pair_laws.proofs.Silence.{no-answer, silent-room, calm-silent, PassesNone, all-silent, run-silent, outer-passes_none, fires-once, calm-gives_none, calm-owes_none, run-owes_none, calm-parts}
+use Rattle.pair_laws.proofs.Silence.{no-answer, silent-room, calm-silent, PassesNone, run-silent, outer-passes_none, fires-once, calm-gives_none, calm-owes_none, run-owes_none, calm-parts}
 
 -- ---- marks
 
@@ -264,28 +263,45 @@ module _ {P : Type 0} (A : Profile P) (asks : Asks A) (W : P → Type 0) (G : Fe
   grows_still : (now acted : List Occurrence) (old new : Host P) (grows : Grows A asks Calm acted old new) → AllByRecursion HearsNot acted → EachAfter (IsHeardSo H) now grows.list
   grows_still now acted old new grows not = still_heard H now grows.list (subst (AllByRecursion HearsNot) (sym grows.acted_is) not)
 
-  -- something happened on its link
-  grows_to : {T : Type 0} (side after : View) (theirs : Policy) (number : ℕ) (e e' : carriages.End (Host P)) (other : ℕ → List Occurrence) (j : ℕ) (f : carriages.End T) (acted : List Occurrence) (held : Held side A asks W G H theirs number e other j f) (grows : Grows A asks Calm acted e.upper e'.upper)
-      → e'.upper.channels.events ≡ [] → (e.linked ≡ true → AllByRecursion BeginsNone grows.weave) → AllByRecursion G grows.feeds → e'.linked ≡ e.linked → e'.owed ≡ e.owed → held.host.marks ++ map Occurred acted ≡ marks_of (talk_of e')
-      → names_talked e.talk ++ names_told grows.feeds ≡ names_talked e'.talk → EachAfter (IsHeardSo H) held.host.so.lives.now grows.list → e'.coming ≡ [] → Links after A.policy theirs held.host.so.lives.spans (held.host.so.lives.now ++ grows.list) e' other j f → Held after A asks W G H theirs number e' other j f
+  -- what it comes to by more that happens on its link
+  pub record Grown (e e' : carriages.End (Host P)) (host : HostAt A asks W G H e) (list : List Occurrence) : Type 0 where
+    pub after : HostAt A asks W G H e'
+    pub spans_is : after.so.lives.spans ≡ host.so.lives.spans
+    pub now_is : after.so.lives.now ≡ host.so.lives.now ++ list
+
+  host_grows : (e e' : carriages.End (Host P)) (acted : List Occurrence) (host : HostAt A asks W G H e) (grows : Grows A asks Calm acted e.upper e'.upper) → e'.upper.channels.events ≡ [] → (e.linked ≡ true → AllByRecursion BeginsNone grows.weave) → AllByRecursion G grows.feeds → e'.linked ≡ e.linked
+      → host.marks ++ map Occurred acted ≡ marks_of (talk_of e') → names_talked e.talk ++ names_told grows.feeds ≡ names_talked e'.talk → EachAfter (IsHeardSo H) host.so.lives.now grows.list → e'.coming ≡ [] → Grown e e' host grows.list
   unfolding goes_calmly goes-on
-  grows_to side after theirs number e e' other j f acted held grows told begins gives linked owed marks names hears none links =
-      let so = held.host.so in
+  host_grows e e' acted host grows told begins gives linked marks names hears none =
+      let so = host.so in
       record {
-        host = record {
-          marks = held.host.marks ++ map Occurred acted;
-          so = goes_calmly A asks held.host.marks acted e.upper e'.upper so grows told;
+        after = record {
+          marks = host.marks ++ map Occurred acted;
+          so = goes_calmly A asks host.marks acted e.upper e'.upper so grows told;
           marks_are = marks;
-          asked = goes-asked A asks W held.host.marks acted e.upper e'.upper so grows told (λ up. begins (sym held.host.up_is ∙ up)) held.host.asked;
-          given = goes-served A asks G held.host.marks acted e.upper e'.upper so grows told gives held.host.given;
-          up_is = held.host.up_is ∙ sym linked;
-          heard = (held.host.heard.0, each_after-both (IsHeardSo H) [] so.lives.now grows.list held.host.heard.1 hears);
+          asked = goes-asked A asks W host.marks acted e.upper e'.upper so grows told (λ up. begins (sym host.up_is ∙ up)) host.asked;
+          given = goes-served A asks G host.marks acted e.upper e'.upper so grows told gives host.given;
+          up_is = host.up_is ∙ sym linked;
+          heard = (host.heard.0, each_after-both (IsHeardSo H) [] so.lives.now grows.list host.heard.1 hears);
           comes = inl none;
-          named = goes-names A asks held.host.marks acted e.upper e'.upper so grows told ∙ (ap (λ (ns : List (List ℕ)). ns ++ names_told grows.feeds) held.host.named ∙ names);
+          named = goes-names A asks host.marks acted e.upper e'.upper so grows told ∙ (ap (λ (ns : List (List ℕ)). ns ++ names_told grows.feeds) host.named ∙ names);
         };
-        level = ap (λ (l : List LinkEvent). length so.lives.spans + length l) owed ∙ held.level;
-        links = links;
+        spans_is = refl;
+        now_is = refl;
       }
+
+  pub grown-links : {T : Type 0} (side : View) (theirs : Policy) (e e' : carriages.End (Host P)) (host : HostAt A asks W G H e) (list : List Occurrence) (g : Grown e e' host list) (other : ℕ → List Occurrence) (j : ℕ) (f : carriages.End T) → Links side A.policy theirs host.so.lives.spans (host.so.lives.now ++ list) e' other j f
+      → Links side A.policy theirs g.after.so.lives.spans g.after.so.lives.now e' other j f
+  grown-links side theirs e e' host list g other j f links =
+      subst (λ (spans : List Span). Links side A.policy theirs spans g.after.so.lives.now e' other j f) (sym g.spans_is) (subst (λ (l : List Occurrence). Links side A.policy theirs host.so.lives.spans l e' other j f) (sym g.now_is) links)
+
+  held_grown : {T : Type 0} (side after : View) (theirs : Policy) (number : ℕ) (e e' : carriages.End (Host P)) (other : ℕ → List Occurrence) (j : ℕ) (f : carriages.End T) (list : List Occurrence) (held : Held side A asks W G H theirs number e other j f) → Grown e e' held.host list → e'.owed ≡ e.owed
+      → Links after A.policy theirs held.host.so.lives.spans (held.host.so.lives.now ++ list) e' other j f → Held after A asks W G H theirs number e' other j f
+  held_grown side after theirs number e e' other j f list held g owed links = record {
+    host = g.after;
+    level = ap (λ (spans : List Span). length spans + length e'.owed) g.spans_is ∙ (ap (λ (l : List LinkEvent). length held.host.so.lives.spans + length l) owed ∙ held.level);
+    links = grown-links after theirs e e' held.host list g other j f links;
+  }
 
   -- something happens on its link
   grows_held : {T : Type 0} (side : View) (theirs : Policy) (number : ℕ) (e e' : carriages.End (Host P)) (other : ℕ → List Occurrence) (j : ℕ) (f : carriages.End T) (acted : List Occurrence) (held : Held side A asks W G H theirs number e other j f) (grows : Grows A asks Calm acted e.upper e'.upper)
@@ -293,7 +309,7 @@ module _ {P : Type 0} (A : Profile P) (asks : Asks A) (W : P → Type 0) (G : Fe
       → names_talked e.talk ++ names_told grows.feeds ≡ names_talked e'.talk → EachAfter (IsHeardSo H) held.host.so.lives.now grows.list → e'.coming ≡ [] → DoesMore side A.policy theirs (other (length held.host.so.lives.spans)) held.host.so.lives.now (held.host.so.lives.now ++ grows.list) e e' → Held side A asks W G H theirs number e' other j f
   grows_held side theirs number e e' other j f acted held grows told begins gives linked owed marks names hears none does =
       let so = held.host.so in
-      grows_to side side theirs number e e' other j f acted held grows told begins gives linked owed marks names hears none (does-more side A.policy theirs so.lives.spans so.lives.now other j f (so.lives.now ++ grows.list) e e' does held.links)
+      held_grown side side theirs number e e' other j f grows.list held (host_grows e e' acted held.host grows told begins gives linked marks names hears none) owed (does-more side A.policy theirs so.lives.spans so.lives.now other j f (so.lives.now ++ grows.list) e e' does held.links)
 
   -- ---- it says a PDU, which waits; the first that waits moves
 
@@ -383,77 +399,104 @@ module _ {P : Type 0} (A : Profile P) (asks : Asks A) (W : P → Type 0) (G : Fe
       ap (λ (v : Channels). answers_of v.queue) lives.channels_run
       ∙ calm-silent A.policy lives.now host.so.now_calm (subst (λ (v : Channels). IsQuiet v) lives.channels_run quiet)
 
-  -- and it owes nothing
-  pub held-clear : (e : carriages.End (Host P)) → HostAt A asks W G H e → IsQuiet e.upper.channels → owes e.upper.channels ≡ false
-  held-clear e host quiet =
+  -- nor has any channel of it anything to give, and it owes nothing
+  pub held-quiet : (e : carriages.End (Host P)) (host : HostAt A asks W G H e) → IsQuiet e.upper.channels → SaysNone A.policy host.so.lives.now
+  held-quiet e host quiet =
       let lives = host.so.lives in
-      ap owes lives.channels_run ∙ calm-owes_none A.policy lives.now host.so.now_calm (subst (λ (v : Channels). IsQuiet v) lives.channels_run quiet)
-
-  pub fired-clear : (gifts : List Circumstance) (e : carriages.End (Host P)) → HostAt A asks W G H e → IsCalmNews A.policy TimerFired e.upper.channels → owes e.upper.channels ≡ false → owes (hear A gifts TimerFired e.upper).channels ≡ false
-  fired-clear gifts e host calm clear =
-      let lives = host.so.lives in
-      let grows = (act_plain A asks Calm (Hears gifts TimerFired) e.upper (hear A gifts TimerFired e.upper) tt (λ c. calm) refl).grows in
-      let run_is : (run_of A.policy (lives.now ++ grows.list)).value ≡ values_after A.policy (run_of A.policy lives.now).value grows.list =
-      ap (λ (run : Run). run.value) (fold-append (run_on A.policy) new_link lives.now grows.list) ∙ value_run A.policy grows.list (run_of A.policy lives.now) in
-      ap owes (grows.channels_are ∙ (ap (λ (v : Channels). values_after A.policy v grows.list) lives.channels_run ∙ sym run_is))
-      ∙ run-owes_none A.policy lives.now grows.list (outer-passes_none grows.list (subst (AllByRecursion PassesNone) (sym grows.acted_is) (tt, tt))) (ap owes (sym lives.channels_run) ∙ clear)
-
-  -- nor does one behind that
-  pub fired-silent : (gifts : List Circumstance) (host : Host P) → IsCalmNews A.policy TimerFired host.channels → answers_of host.channels.queue ≡ [] → answers_of (hear A gifts TimerFired host).channels.queue ≡ []
-  fired-silent gifts host calm silent =
-      let grows = (act_plain A asks Calm (Hears gifts TimerFired) host (hear A gifts TimerFired host) tt (λ c. calm) refl).grows in
-      ap (λ (v : Channels). answers_of v.queue) grows.channels_are
-      ∙ (all-silent A.policy grows.list host.channels (outer-passes_none grows.list (subst (AllByRecursion PassesNone) (sym grows.acted_is) (tt, tt))) ∙ silent)
+      let here : IsQuiet (run_of A.policy lives.now).value = subst (λ (v : Channels). IsQuiet v) lives.channels_run quiet in
+      record {
+        silent = no-answer (run_of A.policy lives.now).value.queue (calm-silent A.policy lives.now host.so.now_calm here);
+        gives_none = calm-gives_none A.policy lives.now host.so.now_calm here;
+        clear = calm-owes_none A.policy lives.now host.so.now_calm here;
+      }
 
   -- what else happens then moves nothing
-  walks_still : (side : View) (theirs : Policy) (there now more : List Occurrence) (rest put : List (List ℕ)) → filter_map outer more ≡ [] → AreMeant A.policy now more → PairFrom side A.policy theirs now there [] rest [] put → PairFrom side A.policy theirs (now ++ more) there [] rest [] put
-  walks_still side theirs there now more rest put none meant p =
+  pub walks-still : (side : View) (theirs : Policy) (there now more : List Occurrence) (rest put : List (List ℕ)) → filter_map outer more ≡ [] → AreMeant A.policy now more → PairFrom side A.policy theirs now there [] rest [] put → PairFrom side A.policy theirs (now ++ more) there [] rest [] put
+  walks-still side theirs there now more rest put none meant p =
       let given : gives_in more ≡ [] = sym (outer-gives more) ∙ ap gives_in none in
       subst (λ (l : List (List ℕ)). PairFrom side A.policy theirs (now ++ more) there [] rest [] l) (ap (λ (l : List (List ℕ)). put ++ l) given ∙ append-nil put)
       (all_on side A.policy theirs there rest [] now more put (outer-comes_not more (subst (AllByRecursion ComesNot) (sym none) tt)) meant p)
 
-  pub fires-held : {T : Type 0} (side : View) (m : ℕ) (theirs : Policy) (number : ℕ) (e : carriages.End (Host P)) (other : ℕ → List Occurrence) (j : ℕ) (f : carriages.End T) (gifts : List Circumstance) (free : Bool) → IsCalmNews A.policy TimerFired e.upper.channels → G (Gifts gifts) → e.waiting ≡ [] → e.coming ≡ [] → e.owed ≡ [] → f.owed ≡ [] → f.coming ≡ []
-      → one_if (not free) + most_of side ≤ m → (held : Held side A asks W G H theirs number e other j f) → length held.host.so.lives.spans ≡ j
-      → (free ≡ true → (e.queue ≡ []) × (f.queue ++ f.waiting ≡ []) × (list_any is_answer (run_of theirs (other (length held.host.so.lives.spans))).value.queue ≡ false)) → owes (run_of theirs (other (length held.host.so.lives.spans))).value ≡ false → Held (with_most m side) A asks W G H theirs number (told (upper A) gifts TimerFired e) other j f
-  fires-held side m theirs number e other j f gifts free calm allowed waits coming owed far_owed far_coming more held level still clear =
+  -- What it comes to where its timer fires, with what else happens to its channels before that and behind it. When it fires the host has nothing to say, and owes nothing
+  -- behind that either.
+  pub record Firing (gifts : List Circumstance) (e : carriages.End (Host P)) (host : HostAt A asks W G H e) : Type 0 where
+    pub front : List Occurrence
+    pub behind : List Occurrence
+    pub grown : Grown e (told (upper A) gifts TimerFired e) host (front ++ Fires ∷ behind)
+    pub none_front : filter_map outer front ≡ []
+    pub none_behind : filter_map outer behind ≡ []
+    pub meant_front : AreMeant A.policy host.so.lives.now front
+    pub meant_behind : AreMeant A.policy ((host.so.lives.now ++ front) ++ Fires ∷ []) behind
+    pub may : MayFire A.policy (host.so.lives.now ++ front)
+    pub no_answer : list_any is_answer (run_of A.policy (host.so.lives.now ++ front)).value.queue ≡ false
+    pub clear : owes (run_of A.policy (host.so.lives.now ++ front)).value ≡ false
+    pub still_no_answer : list_any is_answer (run_of A.policy ((host.so.lives.now ++ front) ++ Fires ∷ [])).value.queue ≡ false
+    pub still_clear : owes (run_of A.policy ((host.so.lives.now ++ front) ++ Fires ∷ [])).value ≡ false
+
+  pub fires-host : (gifts : List Circumstance) (e : carriages.End (Host P)) (host : HostAt A asks W G H e) → IsCalmNews A.policy TimerFired e.upper.channels → G (Gifts gifts) → e.waiting ≡ [] → e.coming ≡ [] → Firing gifts e host
+  fires-host gifts e host calm allowed waits coming =
       let e' = told (upper A) gifts TimerFired e in
-      let so = held.host.so in
+      let so = host.so in
       let now = so.lives.now in
-      let there = other (length so.lives.spans) in
-      let rest = f.queue ++ f.waiting in
-      let put = e.queue ++ e.waiting in
       let act : Act Circumstance = Hears gifts TimerFired in
       let plain = act_plain A asks Calm act e.upper (hear A gifts TimerFired e.upper) tt (λ c. calm) refl in
       let grows = plain.grows in
       let once = fires-once grows.list grows.acted_is in
-      let meant : AreMeant A.policy now (once.front ++ Fires ∷ once.behind) = subst (λ (l : List Occurrence). AreMeant A.policy now l) once.is (grown_meant held.host.marks (Fires ∷ []) e.upper e'.upper so grows) in
+      let meant : AreMeant A.policy now (once.front ++ Fires ∷ once.behind) = subst (λ (l : List Occurrence). AreMeant A.policy now l) once.is (grown_meant host.marks (Fires ∷ []) e.upper e'.upper so grows) in
       let parts = each_split _ now once.front (Fires ∷ once.behind) meant in
       let front = now ++ once.front in
-      let silent : list_any is_answer (run_of A.policy front).value.queue ≡ false = no-answer (run_of A.policy front).value.queue (run-silent A.policy now once.front (outer-passes_none once.front (subst (AllByRecursion PassesNone) (sym once.none_front) tt))
-      (ap (λ (v : Channels). answers_of v.queue) (sym so.lives.channels_run) ∙ held-silent e held.host calm.0)) in
+      let silent : answers_of (run_of A.policy front).value.queue ≡ [] = run-silent A.policy now once.front (outer-passes_none once.front (subst (AllByRecursion PassesNone) (sym once.none_front) tt))
+      (ap (λ (v : Channels). answers_of v.queue) (sym so.lives.channels_run) ∙ held-silent e host calm.0) in
       let calm_all : IsCalm A.policy no_channels (front ++ Fires ∷ once.behind) =
-      subst (λ (l : List Occurrence). IsCalm A.policy no_channels l) (ap (λ (l : List Occurrence). now ++ l) once.is ∙ sym (append_assoc now once.front (Fires ∷ once.behind))) (grown_calm held.host.marks (Fires ∷ []) e.upper e'.upper so grows) in
+      subst (λ (l : List Occurrence). IsCalm A.policy no_channels l) (ap (λ (l : List Occurrence). now ++ l) once.is ∙ sym (append_assoc now once.front (Fires ∷ once.behind))) (grown_calm host.marks (Fires ∷ []) e.upper e'.upper so grows) in
       let calm_here = calm-parts A.policy no_channels front Fires once.behind calm_all in
       let quiet_here : IsQuiet (run_of A.policy front).value = subst (λ (v : Channels). IsQuiet v) (sym (value_run A.policy front new_link)) calm_here.1.0 in
-      let gives_none : list_any gives (run_of A.policy front).value.held ≡ false = calm-gives_none A.policy front calm_here.0 quiet_here in
-      let none_waits : (run_of A.policy front).value.queue ≡ [] = calm-empty A.policy front calm_here.0 quiet_here in
-      let all_fires : PairFrom side A.policy theirs now there [] rest [] put → PairFrom (with_most m side) A.policy theirs (now ++ grows.list) there [] rest [] put
-      = λ p. subst (λ (l : List Occurrence). PairFrom (with_most m side) A.policy theirs l there [] rest [] put) (append_assoc front (Fires ∷ []) once.behind ∙ (append_assoc now once.front (Fires ∷ once.behind) ∙ ap (λ (l : List Occurrence). now ++ l) (sym once.is)))
-      (walks_still (with_most m side) theirs there (front ++ Fires ∷ []) once.behind rest put once.none_behind parts.1.1
-      (fires-it side A.policy theirs front there [] put free m rest more
-      (λ on. let so_still = still on in (so_still.1, refl, ap (λ (l : List (List ℕ)). l ++ e.waiting) so_still.0 ∙ waits, silent, so_still.2)) (gives_none, clear, none_waits)
-      (walks_still side theirs there now once.front rest put once.none_front parts.0 p))) in
+      let clear : owes (run_of A.policy front).value ≡ false = calm-owes_none A.policy front calm_here.0 quiet_here in
+      record {
+        front = once.front;
+        behind = once.behind;
+        grown = subst (Grown e e' host) once.is
+            (host_grows e e' (Fires ∷ []) host grows (act_told A act e.upper e'.upper refl so.lives.all_told) (λ on. plain.begins) (gives_only (Fires ∷ []) (gifts ∷ []) e.upper e'.upper grows plain.begins plain.gifts_are (allowed, tt)) refl
+            (still_marks host.marks e.talk e.waiting (Told TimerFired) (Occurred Fires ∷ []) waits refl host.marks_are) (news_names e.talk TimerFired (names_told grows.feeds) (grown_names A asks (Fires ∷ []) e.upper e'.upper grows plain.begins))
+            (grows_still now (Fires ∷ []) e.upper e'.upper grows (tt, tt)) coming);
+        none_front = once.none_front;
+        none_behind = once.none_behind;
+        meant_front = parts.0;
+        meant_behind = parts.1.1;
+        may = record { gives_none = calm-gives_none A.policy front calm_here.0 quiet_here; none_waits = calm-empty A.policy front calm_here.0 quiet_here };
+        no_answer = no-answer (run_of A.policy front).value.queue silent;
+        clear = clear;
+        still_no_answer = no-answer (run_of A.policy (front ++ Fires ∷ [])).value.queue (run-silent A.policy front (Fires ∷ []) (tt, tt) silent);
+        still_clear = run-owes_none A.policy front (Fires ∷ []) (tt, tt) clear;
+      }
+
+  pub fires-held : {T : Type 0} (side : View) (m : ℕ) (theirs : Policy) (number : ℕ) (e : carriages.End (Host P)) (other : ℕ → List Occurrence) (j : ℕ) (f : carriages.End T) (gifts : List Circumstance) (free : Bool) → IsCalmNews A.policy TimerFired e.upper.channels → G (Gifts gifts) → e.waiting ≡ [] → e.coming ≡ [] → e.owed ≡ [] → f.owed ≡ [] → f.coming ≡ []
+      → one_if (not free) + most_of side ≤ m → (held : Held side A asks W G H theirs number e other j f) → length held.host.so.lives.spans ≡ j
+      → (free ≡ true → (e.queue ≡ []) × (f.queue ++ f.waiting ≡ [])) → SaysNone theirs (other (length held.host.so.lives.spans)) → Held (with_most m side) A asks W G H theirs number (told (upper A) gifts TimerFired e) other j f
+  fires-held side m theirs number e other j f gifts free calm allowed waits coming owed far_owed far_coming more held level still quiet =
+      let e' = told (upper A) gifts TimerFired e in
+      let spans = held.host.so.lives.spans in
+      let now = held.host.so.lives.now in
+      let there = other (length spans) in
+      let rest = f.queue ++ f.waiting in
+      let put = e.queue ++ e.waiting in
+      let fire = fires-host gifts e held.host calm allowed waits coming in
+      let list = fire.front ++ Fires ∷ fire.behind in
+      let all_fires : PairFrom side A.policy theirs now there [] rest [] put → PairFrom (with_most m side) A.policy theirs (now ++ list) there [] rest [] put
+      = λ p. subst (λ (l : List Occurrence). PairFrom (with_most m side) A.policy theirs l there [] rest [] put) (fired-list now fire.front fire.behind)
+      (walks-still (with_most m side) theirs there ((now ++ fire.front) ++ Fires ∷ []) fire.behind rest put fire.none_behind fire.meant_behind
+      (fires-it side A.policy theirs (now ++ fire.front) there [] put free m rest more
+      (λ on. let so_still = still on in (so_still.1, refl, ap (λ (l : List (List ℕ)). l ++ e.waiting) so_still.0 ∙ waits, fire.no_answer, quiet.silent)) fire.may quiet.clear quiet.gives_none
+      (walks-still side theirs there now fire.front rest put fire.none_front fire.meant_front p))) in
       let enough : most_of side ≤ m = omega (arith, more) in
-      grows_to side (with_most m side) theirs number e e' other j f (Fires ∷ []) held grows (act_told A act e.upper e'.upper refl so.lives.all_told) (λ on. plain.begins) (gives_only (Fires ∷ []) (gifts ∷ []) e.upper e'.upper grows plain.begins plain.gifts_are (allowed, tt)) refl refl
-      (still_marks held.host.marks e.talk e.waiting (Told TimerFired) (Occurred Fires ∷ []) waits refl held.host.marks_are) (news_names e.talk TimerFired (names_told grows.feeds) (grown_names A asks (Fires ∷ []) e.upper e'.upper grows plain.begins))
-      (grows_still now (Fires ∷ []) e.upper e'.upper grows (tt, tt)) coming
-      (fires-over side m A.policy theirs so.lives.spans now (now ++ grows.list) other j e e' f level owed far_owed coming coming far_coming enough refl all_fires held.links)
+      held_grown side (with_most m side) theirs number e e' other j f list held fire.grown refl
+      (fires-over side m A.policy theirs spans now (now ++ list) other other j e e' f f level owed far_owed coming coming far_coming far_coming enough refl refl (λ k apart. refl) all_fires held.links)
 
   -- ---- a PDU comes in
 
   pub hears-held : {T : Type 0} (side : View) (theirs : Policy) (number : ℕ) (e : carriages.End (Host P)) (other : ℕ → List Occurrence) (j : ℕ) (f : carriages.End T) (gifts : List Circumstance) (pdu : List ℕ) → IsCalmNews A.policy (Heard pdu) e.upper.channels → G (Gifts gifts) → e.linked ≡ true → e.waiting ≡ [] → e.coming ≡ pdu ∷ []
-      → Held side A asks W G H theirs number e other j f → Held side A asks W G H theirs number (record e { upper = (upper A).hear gifts (Heard pdu) e.upper; coming = []; talk = e.talk ++ Told (Heard pdu) ∷ [] }) other j f
-  hears-held side theirs number e other j f gifts pdu calm allowed linked waits coming held =
+      → (held : Held side A asks W G H theirs number e other j f) → GivesNone theirs (other (length held.host.so.lives.spans)) → Held side A asks W G H theirs number (record e { upper = (upper A).hear gifts (Heard pdu) e.upper; coming = []; talk = e.talk ++ Told (Heard pdu) ∷ [] }) other j f
+  hears-held side theirs number e other j f gifts pdu calm allowed linked waits coming held far_none =
       let e' : carriages.End (Host P) = record e { upper = (upper A).hear gifts (Heard pdu) e.upper; coming = []; talk = e.talk ++ Told (Heard pdu) ∷ [] } in
       let so = held.host.so in
       let now = so.lives.now in
@@ -470,7 +513,7 @@ module _ {P : Type 0} (A : Profile P) (asks : Asks A) (W : P → Type 0) (G : Fe
       (subst (EachAfter (IsHeardSo H) now) (sym list_is) (so_far held.host.comes, still_heard H (now ++ Comes pdu ∷ []) then'.list (subst (AllByRecursion HearsNot) (sym then'.acted_is) tt))) refl
       (λ rest far_coming far_rest p.
       let room : has_room (run_of A.policy now).value ≡ true = silent-room (run_of A.policy now).value (ap (λ (v : Channels). answers_of v.queue) (sym so.lives.channels_run) ∙ held-silent e held.host calm.0) in
-      let heard = comes-in side A.policy theirs now there far_coming far_rest pdu rest room (subst (λ (c : List (List ℕ)). PairFrom side A.policy theirs now there c rest far_coming far_rest) coming p) in
+      let heard = comes-in side A.policy theirs now there far_coming far_rest pdu rest room (held-quiet e held.host calm.0).gives_none far_none (subst (λ (c : List (List ℕ)). PairFrom side A.policy theirs now there c rest far_coming far_rest) coming p) in
       let all = all_on side A.policy theirs there rest far_coming (now ++ Comes pdu ∷ []) then'.list far_rest (outer-comes_not then'.list (subst (AllByRecursion ComesNot) (sym then'.acted_is) tt)) meant.1 heard in
       record {
         after = far_rest ++ gives_in then'.list;

@@ -1,3 +1,4 @@
+pub mod Worded
 pub mod Facing
 pub mod Walking
 pub mod Numbered
@@ -10,6 +11,8 @@ pub mod Opened
 pub mod Hosting
 pub mod Meeting
 pub mod Answered
+pub mod Paired
+pub mod Handover
 pub mod Carrying
 pub mod Wording
 pub mod Pairing

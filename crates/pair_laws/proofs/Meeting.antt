@@ -23,7 +23,7 @@ use Rattle.channel_laws.specs.Runs.{Occurrence, Run, run_of}
 use Rattle.scenario_laws.proofs.Taming.{changed-channel}
 use Rattle.channel_laws.specs.Tries.{one_if}
 use Rattle.pair_laws.specs.Costs.{is_adverse, adverse_in}
-use Rattle.pair_laws.proofs.Facing.{View, whole_of, most_of, with_most, Whole, Again, Other, PairFrom, loses-it, is-handed}
+use Rattle.pair_laws.proofs.Facing.{View, whole_of, most_of, with_most, Whole, Again, Other, PairFrom, GivesNone, loses-it, is-handed}
 
 -- ---- what words cost
 
@@ -184,8 +184,8 @@ module _ (side : View) (m : ℕ) (mine theirs : Policy) (now there : List Occurr
   handed_over : (frame : List ℕ) (rest : List (List ℕ)) → most_of side ≤ m → Before [] ((frame ∷ rest) ++ waits) → Under (frame ∷ []) (rest ++ waits)
   handed_over frame rest enough p = is-handed side mine theirs now there far_coming far_rest frame 0 m ((frame ∷ rest) ++ waits) (rest ++ waits) (omega (arith, enough)) (λ end' is run. Whole is) p
 
-  lost : (frame : List ℕ) (rest : List (List ℕ)) → 1 + most_of side ≤ m → whole_of side ≡ false → Before [] ((frame ∷ rest) ++ waits) → Under [] (rest ++ waits)
-  lost frame rest enough broken p = loses-it side mine theirs now there far_coming far_rest frame m (rest ++ waits) enough broken p
+  lost : (frame : List ℕ) (rest : List (List ℕ)) → 1 + most_of side ≤ m → whole_of side ≡ false → GivesNone mine now × GivesNone theirs there → Before [] ((frame ∷ rest) ++ waits) → Under [] (rest ++ waits)
+  lost frame rest enough broken silent p = loses-it side mine theirs now there far_coming far_rest frame m (rest ++ waits) enough broken silent.0 silent.1 p
 
   -- it has a check word there, and so it is no command
   damaged : (place mask : ℕ) (frame : List ℕ) (rest : List (List ℕ)) → 1 + most_of side ≤ m → whole_of side ≡ false → IsWithin place mask frame → has_fcs (channel_of frame) (run_of mine now).value ≡ true → channel_of frame ≢ 0x0001 → Before [] ((frame ∷ rest) ++ waits)
@@ -196,16 +196,16 @@ module _ (side : View) (m : ℕ) (mine theirs : Policy) (now there : List Occurr
       (record { place = place; mask = mask; behind = right.behind; within = right.within; some = right.some; two = right.two; other_is = refl; checked = ap (λ (r : Run). has_fcs (channel_of frame) r.value) run ∙ checked })
       (ne_eqb (channel_of (changed place mask frame)) 0x0001 (λ is. apart (sym (changed-channel place mask frame right.behind) ∙ is)))) p
 
-  pub meets-it : (size : ℕ) (fate : Fate) (checked : Bool) (frame : List ℕ) (rest : List (List ℕ)) → fate_cost fate + most_of side ≤ m → IsRight (whole_of side) fate (frame ∷ rest) → (checked ≡ true → (has_fcs (channel_of frame) (run_of mine now).value ≡ true) × (channel_of frame ≢ 0x0001)) → Before [] ((frame ∷ rest) ++ waits)
+  pub meets-it : (size : ℕ) (fate : Fate) (checked : Bool) (frame : List ℕ) (rest : List (List ℕ)) → fate_cost fate + most_of side ≤ m → IsRight (whole_of side) fate (frame ∷ rest) → (checked ≡ true → (has_fcs (channel_of frame) (run_of mine now).value ≡ true) × (channel_of frame ≢ 0x0001)) → GivesNone mine now × GivesNone theirs there → Before [] ((frame ∷ rest) ++ waits)
       → Under (comes_of size fate checked frame) (((meets size fate checked frame).stays ++ rest) ++ waits)
-  meets-it size Delivered checked frame rest enough right there_is p = handed_over frame rest (omega (arith, enough)) p
-  meets-it size Lost checked frame rest enough right there_is p = lost frame rest enough right p
-  meets-it size Repeated checked frame rest enough right there_is p =
+  meets-it size Delivered checked frame rest enough right there_is silent p = handed_over frame rest (omega (arith, enough)) p
+  meets-it size Lost checked frame rest enough right there_is silent p = lost frame rest enough right silent p
+  meets-it size Repeated checked frame rest enough right there_is silent p =
       is-handed side mine theirs now there far_coming far_rest frame 1 m ((frame ∷ rest) ++ waits) ((frame ∷ rest) ++ waits) enough (λ end' is run. Again right (omega arith) (rest ++ waits) is refl) p
-  meets-it size (CutOff count) checked frame rest enough right there_is p = by (nat_lt count (length (frame_pieces size frame)))
+  meets-it size (CutOff count) checked frame rest enough right there_is silent p = by (nat_lt count (length (frame_pieces size frame)))
     where
       by : (short : Bool) → Under (if short then [] else frame ∷ []) (rest ++ waits)
-      by true = lost frame rest enough right p
+      by true = lost frame rest enough right silent p
       by false = handed_over frame rest (omega (arith, enough)) p
-  meets-it size (Changed place mask) true frame rest enough right there_is p = let seen = there_is refl in damaged place mask frame rest enough right.0 right.1 seen.0 seen.1 p
-  meets-it size (Changed place mask) false frame rest enough right there_is p = lost frame rest enough right.0 p
+  meets-it size (Changed place mask) true frame rest enough right there_is silent p = let seen = there_is refl in damaged place mask frame rest enough right.0 right.1 seen.0 seen.1 p
+  meets-it size (Changed place mask) false frame rest enough right there_is silent p = lost frame rest enough right.0 silent p

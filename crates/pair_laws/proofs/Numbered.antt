@@ -20,11 +20,11 @@ pub part-now : (spans : List Span) (now : List Occurrence) → part_at (length s
 part-now [] now = refl
 part-now (span ∷ spans) now = part-now spans now
 
-part_else : (k : ℕ) (spans : List Span) (x y : List Occurrence) → (k ≡ length spans → ⊥) → part_at k spans x ≡ part_at k spans y
-part_else zero [] x y apart = absurd (apart refl)
-part_else (suc k) [] x y apart = refl
-part_else zero (span ∷ spans) x y apart = refl
-part_else (suc k) (span ∷ spans) x y apart = part_else k spans x y (λ is. apart (ap suc is))
+pub part-else : (k : ℕ) (spans : List Span) (x y : List Occurrence) → (k ≡ length spans → ⊥) → part_at k spans x ≡ part_at k spans y
+part-else zero [] x y apart = absurd (apart refl)
+part-else (suc k) [] x y apart = refl
+part-else zero (span ∷ spans) x y apart = refl
+part-else (suc k) (span ∷ spans) x y apart = part-else k spans x y (λ is. apart (ap suc is))
 
 abbrev pub ended : List Occurrence → LinkEvent → Span
 ended now event = record { list = now; event = event }
@@ -137,7 +137,7 @@ module _ {S T : Type 0} (side : View) (mine theirs : Policy) (spans : List Span)
         rest = link.rest;
         far_rest = link.far_rest;
         pair = subst (λ (c : List (List ℕ)). PairFrom side mine theirs (part_at k spans later) (other k) c link.rest fc link.far_rest) none
-            (subst (λ (l : List Occurrence). PairFrom side mine theirs l (other k) (coming_at k i e.coming) link.rest fc link.far_rest) (part_else k spans now later apart) link.pair);
+            (subst (λ (l : List Occurrence). PairFrom side mine theirs l (other k) (coming_at k i e.coming) link.rest fc link.far_rest) (part-else k spans now later apart) link.pair);
         none_put = link.none_put;
         now_put = λ same. absurd (apart same);
         none_far = link.none_far;
@@ -272,20 +272,21 @@ comes-over {S} {T} side m mine theirs spans now other j e e' f f' level none mor
     by (inl is) = subst (λ (n : ℕ). LinkAt (with_most m side) mine theirs (part_at n spans now) (other n) n (length spans) e' j f') (sym is) here
     by (inr apart) = apart_from apart
 
--- Its timer fires: both are on the same link, nothing is owed to either, and what it says then waits still.
-pub fires-over : {S T : Type 0} (side : View) (m : ℕ) (mine theirs : Policy) (spans : List Span) (now later : List Occurrence) (other : ℕ → List Occurrence) (j : ℕ) (e e' : carriages.End S) (f : carriages.End T) → length spans ≡ j → e.owed ≡ [] → f.owed ≡ [] → e.coming ≡ [] → e'.coming ≡ [] → f.coming ≡ [] → most_of side ≤ m
-    → e'.queue ++ e'.waiting ≡ e.queue ++ e.waiting
-    → (PairFrom side mine theirs now (other (length spans)) [] (f.queue ++ f.waiting) [] (e.queue ++ e.waiting) → PairFrom (with_most m side) mine theirs later (other (length spans)) [] (f.queue ++ f.waiting) [] (e.queue ++ e.waiting))
-    → Links side mine theirs spans now e other j f → Links (with_most m side) mine theirs spans later e' other j f
-fires-over {S} {T} side m mine theirs spans now later other j e e' f level owes far_owes idle idle' far_idle more same fires links k = by (cases_eq k (length spans))
+-- Timers fire: both are on the same link, nothing is owed to either, and what they say then waits still.
+pub fires-over : {S T : Type 0} (side : View) (m : ℕ) (mine theirs : Policy) (spans : List Span) (now later : List Occurrence) (other after : ℕ → List Occurrence) (j : ℕ) (e e' : carriages.End S) (f f' : carriages.End T) → length spans ≡ j → e.owed ≡ [] → f.owed ≡ [] → e.coming ≡ [] → e'.coming ≡ [] → f.coming ≡ []
+    → f'.coming ≡ [] → most_of side ≤ m → e'.queue ++ e'.waiting ≡ e.queue ++ e.waiting → f'.queue ++ f'.waiting ≡ f.queue ++ f.waiting → ((k : ℕ) → (k ≡ length spans → ⊥) → other k ≡ after k)
+    → (PairFrom side mine theirs now (other (length spans)) [] (f.queue ++ f.waiting) [] (e.queue ++ e.waiting) → PairFrom (with_most m side) mine theirs later (after (length spans)) [] (f.queue ++ f.waiting) [] (e.queue ++ e.waiting))
+    → Links side mine theirs spans now e other j f → Links (with_most m side) mine theirs spans later e' after j f'
+fires-over {S} {T} side m mine theirs spans now later other after j e e' f f' level owes far_owes idle idle' far_idle far_idle' more same far_same else fires links k = by (cases_eq k (length spans))
   where
-    here : LinkAt (with_most m side) mine theirs (part_at (length spans) spans later) (other (length spans)) (length spans) (length spans) e' j f
+    here : LinkAt (with_most m side) mine theirs (part_at (length spans) spans later) (after (length spans)) (length spans) (length spans) e' j f'
     here =
         let i = length spans in
         let link = links i in
         let put = e.queue ++ e.waiting in
         let left = f.queue ++ f.waiting in
         let far_none = coming_none i j f.coming (cases_eq i j) far_idle in
+        let far_none' = coming_none i j f'.coming (cases_eq i j) far_idle' in
         let near_none = coming_none i i e.coming (cases_eq i i) idle in
         let near_none' = coming_none i i e'.coming (cases_eq i i) idle' in
         let old : PairFrom side mine theirs now (other i) [] left [] put =
@@ -297,31 +298,34 @@ fires-over {S} {T} side m mine theirs spans now later other j e e' f level owes 
         record {
           rest = left;
           far_rest = put;
-          pair = subst (λ (l : List Occurrence). PairFrom (with_most m side) mine theirs l (other i) (coming_at i i e'.coming) left (coming_at i j f.coming) put) (sym (part-now spans later))
-              (subst (λ (c : List (List ℕ)). PairFrom (with_most m side) mine theirs later (other i) c left (coming_at i j f.coming) put) (sym near_none')
-              (subst (λ (c : List (List ℕ)). PairFrom (with_most m side) mine theirs later (other i) [] left c put) (sym far_none) (fires old)));
+          pair = subst (λ (l : List Occurrence). PairFrom (with_most m side) mine theirs l (after i) (coming_at i i e'.coming) left (coming_at i j f'.coming) put) (sym (part-now spans later))
+              (subst (λ (c : List (List ℕ)). PairFrom (with_most m side) mine theirs later (after i) c left (coming_at i j f'.coming) put) (sym near_none')
+              (subst (λ (c : List (List ℕ)). PairFrom (with_most m side) mine theirs later (after i) [] left c put) (sym far_none') (fires old)));
           none_put = λ below. absurd (omega arith);
           now_put = λ there owed. sym same;
           none_far = λ below. absurd (omega (arith, level, below));
-          now_far = λ there owed. refl;
+          now_far = λ there owed. sym far_same;
         }
 
-    apart_from : (k ≡ length spans → ⊥) → LinkAt (with_most m side) mine theirs (part_at k spans later) (other k) k (length spans) e' j f
+    apart_from : (k ≡ length spans → ⊥) → LinkAt (with_most m side) mine theirs (part_at k spans later) (after k) k (length spans) e' j f'
     apart_from apart =
         let i = length spans in
         let link = richer-links side m mine theirs spans now other j e f more links k in
-        let fc = coming_at k j f.coming in
+        let near_same = coming_else k i e.coming (cases_eq k i) apart ∙ sym (coming_else k i e'.coming (cases_eq k i) apart) in
+        let both_none = coming_none k j f.coming (cases_eq k j) far_idle ∙ sym (coming_none k j f'.coming (cases_eq k j) far_idle') in
         record {
           rest = link.rest;
           far_rest = link.far_rest;
-          pair = subst (λ (c : List (List ℕ)). PairFrom (with_most m side) mine theirs (part_at k spans later) (other k) c link.rest fc link.far_rest) (coming_else k i e.coming (cases_eq k i) apart ∙ sym (coming_else k i e'.coming (cases_eq k i) apart))
-              (subst (λ (l : List Occurrence). PairFrom (with_most m side) mine theirs l (other k) (coming_at k i e.coming) link.rest fc link.far_rest) (part_else k spans now later apart) link.pair);
+          pair = subst (λ (l : List Occurrence). PairFrom (with_most m side) mine theirs (part_at k spans later) l (coming_at k i e'.coming) link.rest (coming_at k j f'.coming) link.far_rest) (else k apart)
+              (subst (λ (c : List (List ℕ)). PairFrom (with_most m side) mine theirs (part_at k spans later) (other k) (coming_at k i e'.coming) link.rest c link.far_rest) both_none
+              (subst (λ (c : List (List ℕ)). PairFrom (with_most m side) mine theirs (part_at k spans later) (other k) c link.rest (coming_at k j f.coming) link.far_rest) near_same
+              (subst (λ (l : List Occurrence). PairFrom (with_most m side) mine theirs l (other k) (coming_at k i e.coming) link.rest (coming_at k j f.coming) link.far_rest) (part-else k spans now later apart) link.pair)));
           none_put = link.none_put;
           now_put = λ there. absurd (apart there);
           none_far = link.none_far;
-          now_far = link.now_far;
+          now_far = λ there. absurd (apart (there ∙ sym level));
         }
 
-    by : (k ≡ length spans) ⊎ (k ≡ length spans → ⊥) → LinkAt (with_most m side) mine theirs (part_at k spans later) (other k) k (length spans) e' j f
-    by (inl is) = subst (λ (n : ℕ). LinkAt (with_most m side) mine theirs (part_at n spans later) (other n) n (length spans) e' j f) (sym is) here
+    by : (k ≡ length spans) ⊎ (k ≡ length spans → ⊥) → LinkAt (with_most m side) mine theirs (part_at k spans later) (after k) k (length spans) e' j f'
+    by (inl is) = subst (λ (n : ℕ). LinkAt (with_most m side) mine theirs (part_at n spans later) (after n) n (length spans) e' j f') (sym is) here
     by (inr apart) = apart_from apart

@@ -70,7 +70,9 @@ use Rattle.pair_laws.specs.GrantedOrder.{GrantedKeepOrder}
 use Rattle.pair_laws.specs.Keeping.{LosesNothing, PairsKeepOrder, RunsKeepOrder}
 use Rattle.pair_laws.specs.Changes.{AreChanged, IsSeenThere, DamageIsSeen}
 use Rattle.pair_laws.specs.Costs.{adverse_in, DisturbancesCostWords}
-use Rattle.pair_laws.specs.OnLinks.{LivedOver, happened_on, IsInAir, HostsArePairs}
+use Rattle.passing_laws.specs.Words.{AreSilent}
+use Rattle.pair_laws.specs.OnWords.{AreWorded, LinksTakeWords}
+use Rattle.pair_laws.specs.OnLinks.{LivedOver, happened_on, last_number, IsInAir, HostsArePairs}
 use Rattle.pair_laws.specs.Pairs.{TakesAll, PairOnLink}
 use Rattle.pair_laws.specs.Served.{HeldTakeTurns, ServedTakeTurns}
 use Rattle.pair_laws.specs.ServedOrder.{HeldKeepOrder, ServedKeepOrder}
@@ -79,7 +81,8 @@ use Rattle.pair_laws.specs.Waits.{NoneEverWaits}
 use Rattle.pair_laws.proofs.Abreast.{IsShort}
 use Rattle.pair_laws.proofs.Answered.{runs-so, rest-so, rest-back, fits-so, rests-so as carriage_rest}
 use Rattle.pair_laws.proofs.Awaiting.{HasNew, servers-await}
-use Rattle.pair_laws.proofs.Carrying.{Wants, Always, StayOn, as_it_is, any_allowed, PairsOf, same_number, waits_none, all-sane}
+use Rattle.pair_laws.proofs.Carrying.{Wants, Always, StayOn, as_it_is, any_allowed, same_number, waits_none, rests-silent, all-sane}
+use Rattle.pair_laws.proofs.Paired.{PairsOf}
 use Rattle.pair_laws.proofs.Given.{IsSilentNews, IsSilent, Allows, all_both}
 use Rattle.pair_laws.proofs.Facing.{IsKept, AllKept, Goes, AllGo, AllTake, IsComing, PairAt}
 use Rattle.pair_laws.proofs.Hosting.{marks_of, talk_of, HostAt}
@@ -238,6 +241,8 @@ module _ (whole : Bool) (asks : HostsAsk) (scenario : Scenario) (content : Optio
     room : (number : ℕ) → AreRoomy A.policy B.policy (turns.pairs.pairs number).turns
     settled : (number : ℕ) → AreSettled A.policy B.policy (turns.pairs.pairs number).turns
     none_waits : (number : ℕ) → NoneEverWaits A.policy B.policy (turns.pairs.pairs number).turns
+    worded : (number : ℕ) → AreWorded A.policy B.policy (turns.pairs.pairs number).turns
+    rest : IsAtRest (client_of scenario) (server_of scenario content) ran.world → AreSilent (pair_of A.policy B.policy (turns.pairs.pairs (last_number A asks_a sides.A capture ran.world.a.upper turns.pairs.a)).turns)
     heard_a : AllByRecursion (HearsSo GaveNothing_a) (on_links A asks_a (flat_map talk_marks turns.pairs.a.came.talk) ran.world.a.upper turns.pairs.a.fed.so.lives)
     heard_b : AllByRecursion (HearsSo GaveNothing_b) (on_links B asks_b (flat_map talk_marks turns.pairs.b.came.talk) ran.world.b.upper turns.pairs.b.fed.so.lives)
 
@@ -295,6 +300,13 @@ module _ (whole : Bool) (asks : HostsAsk) (scenario : Scenario) (content : Optio
         room = λ number. let pair = (sane.pairs.links number).pair in all_roomy A.policy B.policy pair.turns pair.goes;
         settled = λ number. (sane.pairs.links number).pair.settled;
         none_waits = λ number. (sane.pairs.links number).pair.none_waits;
+        worded = λ number. (sane.pairs.links number).pair.worded;
+        rest = λ rests.
+            rests-silent whole A asks_a B asks_b IsLowClient HasNoLink AnyServer KnowsNone (client-keeps scenario.settings) (server-keeps scenario.settings content) (clients_keep scenario.settings) (servers_keep scenario.settings content)
+            HasNew (servers-await scenario.settings content (client_of scenario)) (λ gifts p. refl) to_a E allows_a to_b G allows_b GaveNothing_a GaveNothing_b ClientStays ServerStays
+            (λ e host on stays. client-gives_nothing_up scenario.settings asks_a (Wants A) E GaveNothing_a e host stays)
+            (λ f host on stays sends. server-gives_nothing_up scenario.settings content asks_b Always G GaveNothing_b f host sends stays)
+            most c (resting rests) (rests_so ran.happenings ran.happenings ran.world all.talk_a all.talk_b ([], sym (append-nil ran.happenings)) happened (rest-back (client_of scenario) (server_of scenario content) to_a to_b ran.world rests)) sane;
         heard_a = let lives = sane.pairs.a.so.lives in heard-on_links GaveNothing_a lives.spans lives.now sane.pairs.a.heard;
         heard_b = let lives = sane.pairs.b.so.lives in heard-on_links GaveNothing_b lives.spans lives.now sane.pairs.b.heard;
       }
@@ -407,10 +419,13 @@ served-take_turns asks scenario shelf content capture ran happened =
     let so = takes_turns false asks scenario content (held_by shelf) (AnswersOf shelf) (answers_allowed shelf) grants AreGrants grants_allowed capture ran happened (λ on. cc) in
     record { turns = so.turns; told = so.told; given = all_given AllGranted so.turns.pairs.b.fed.so.lives.feeds so.given }
 
-pub disturbances-cost_words : DisturbancesCostWords
-disturbances-cost_words asks scenario content capture ran =
+pub links-take_words : LinksTakeWords
+links-take_words asks scenario content capture ran =
     let so = takes_turns false asks scenario content as_it_is Always any_allowed as_it_is Always any_allowed capture ran ran.happened (λ on. cc) in
-    record { turns = so.turns; cost = so.cost; room = so.room; settled = so.settled; none_waits = so.none_waits }
+    record { cost = record { turns = so.turns; cost = so.cost; room = so.room; settled = so.settled; none_waits = so.none_waits }; worded = so.worded; rest = so.rest }
+
+pub disturbances-cost_words : DisturbancesCostWords
+disturbances-cost_words asks scenario content capture ran = (links-take_words asks scenario content capture ran).cost
 
 pub hosts-are_pairs : HostsArePairs
 hosts-are_pairs asks scenario content capture ran = (hosts-take_turns asks scenario content capture ran).pairs

@@ -160,6 +160,9 @@ outer-comes_not (Gives pdu ∷ list) all = (tt, outer-comes_not list all.1)
 outer-comes_not (Fires ∷ list) all = absurd all.0
 outer-comes_not (Tells ∷ list) all = (tt, outer-comes_not list all)
 
+pub fired-list : (now front behind : List Occurrence) → ((now ++ front) ++ Fires ∷ []) ++ behind ≡ now ++ (front ++ Fires ∷ behind)
+fired-list now front behind = append_assoc (now ++ front) (Fires ∷ []) behind ∙ append_assoc now front (Fires ∷ behind)
+
 -- ---- one after the other
 
 module _ (side : View) (mine theirs : Policy) (other : List Occurrence) (rest far_coming : List (List ℕ)) where

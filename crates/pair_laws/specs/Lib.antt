@@ -47,6 +47,7 @@ pub mod Granted
 pub mod GrantedOrder
 pub mod Waits
 pub mod Costs
+pub mod OnWords
 pub mod Served
 pub mod ServedOrder
 pub mod Enough

@@ -16,7 +16,7 @@ use Rattle.channel_laws.proofs.Pairing.{BothRun, at-runs, first-runs}
 use Rattle.recovered_laws.proofs.Turning.{Joint}
 use Rattle.recovered_laws.proofs.Paying.{BothPrepared}
 use Rattle.recovery_laws.proofs.Within.{Within}
-use Rattle.passing_laws.specs.Words.{is_unprompted, Onset, ByTurn, ByTimers, onset_turns, Word, word_turns, turns_of, all_after, AreSilent, MayBegin, AreWords, wrongs, all_wrongs, finds, all_finds}
+use Rattle.passing_laws.specs.Words.{is_unprompted, Onset, ByTurn, ByTimers, timer_turns, onset_turns, Word, word_turns, turns_of, all_after, AreSilent, MayBegin, AreWords, wrongs, all_wrongs, finds, all_finds}
 use Rattle.passing_laws.proofs.Onsets.{Standing, near_fair, far_fair, side-begins, side-goes}
 use Rattle.passing_laws.proofs.Timing.{timers-begin}
 
@@ -84,16 +84,16 @@ module _ (near far : Policy) (t : Terms) (channel : Channel) (all : List Turn) (
   begun found owed front (ByTurn turn) behind is silent may h =
       subst (Joint t channel (Within (found + finds channel (ByTurn turn) (at front)) (owed + 256 * wrongs (ByTurn turn)))) (sym (next front turn))
       (side-begins near far t channel (at front) found owed turn.side turn.happening (stands_at front (turn ∷ behind) is) silent (common_then front turn behind is) (utters front turn behind is) (carries front turn behind is) h)
-  begun found owed front ByTimers behind is silent may h =
-      let now : Standing near far t channel (at front) = stands_at front (onset_turns ByTimers ++ behind) is in
-      let after_is : at (front ++ onset_turns ByTimers) ≡ all_after (at front) (onset_turns ByTimers) = fold-append pair_after (new_pair near far) front (onset_turns ByTimers) in
-      let later : Standing near far t channel (all_after (at front) (onset_turns ByTimers)) = subst (Standing near far t channel) after_is (stands_at (front ++ onset_turns ByTimers) behind (is ∙ sym (append_assoc front (onset_turns ByTimers) behind))) in
-      let more : ℕ = found + finds channel ByTimers (at front) in
+  begun found owed front (ByTimers timers) behind is silent may h =
+      let now : Standing near far t channel (at front) = stands_at front (timer_turns timers ++ behind) is in
+      let after_is : at (front ++ timer_turns timers) ≡ all_after (at front) (timer_turns timers) = fold-append pair_after (new_pair near far) front (timer_turns timers) in
+      let later : Standing near far t channel (all_after (at front) (timer_turns timers)) = subst (Standing near far t channel) after_is (stands_at (front ++ timer_turns timers) behind (is ∙ sym (append_assoc front (timer_turns timers) behind))) in
+      let more : ℕ = found + finds channel (ByTimers timers) (at front) in
       let e : owed ≡ owed + 256 * 0 = omega arith in
-      subst (λ k. Joint t channel (Within more k) (at (front ++ onset_turns ByTimers))) e
+      subst (λ k. Joint t channel (Within more k) (at (front ++ timer_turns timers))) e
       (subst (Joint t channel (Within more owed)) (sym after_is)
-      (timers-begin t channel (at front) found owed (below_near near far t channel (at front) now) (below_far near far t channel (at front) now)
-      (below_near near far t channel (all_after (at front) (onset_turns ByTimers)) later) (below_far near far t channel (all_after (at front) (onset_turns ByTimers)) later) silent may.0 may.1 h))
+      (timers-begin t channel (at front) found owed timers (below_near near far t channel (at front) now) (below_far near far t channel (at front) now)
+      (below_near near far t channel (all_after (at front) (timer_turns timers)) later) (below_far near far t channel (all_after (at front) (timer_turns timers)) later) silent may.0 may.1 h))
 
   -- ---- and goes on
 

@@ -13,7 +13,7 @@ use Rattle.channel_laws.specs.Tries.{one_if}
 use Rattle.channel_laws.proofs.Flowing.{sound-of}
 use Rattle.channel_laws.proofs.Joining.{IsBelow}
 use Rattle.channel_laws.proofs.Pairing.{BothRun, first-runs}
-use Rattle.passing_laws.specs.Words.{ByTimers, onset_turns, all_after, polls_at}
+use Rattle.passing_laws.specs.Words.{OfBoth, timer_turns, all_after, polls_at}
 use Rattle.passing_laws.specs.Timers.{TimersFind}
 use Rattle.passing_laws.proofs.Counting.{runs_on}
 use Rattle.passing_laws.proofs.Polling.{fired-is, there_polls}
@@ -31,11 +31,11 @@ pub timers-find : TimersFind
 timers-find near far turns channel uttered Near machine setup carries none wants has =
     let runs : BothRun IsUttered near far (pair_of near far turns) = runs_on near far [] turns uttered (first-runs IsUttered near far) in
     let pair : Pair = pair_of near far turns in
-    let after : Pair = all_after pair (onset_turns ByTimers) in
+    let after : Pair = all_after pair (timer_turns OfBoth) in
     ap (λ b. one_if (b || polls_at channel.peer after.far.run.value)) (end_polls pair.near channel.own machine setup (sound-of IsUttered near pair.near runs.near_runs).core.held_below carries none wants has)
 timers-find near far turns channel uttered Far machine setup carries none wants has =
     let runs : BothRun IsUttered near far (pair_of near far turns) = runs_on near far [] turns uttered (first-runs IsUttered near far) in
     let pair : Pair = pair_of near far turns in
-    let after : Pair = all_after pair (onset_turns ByTimers) in
+    let after : Pair = all_after pair (timer_turns OfBoth) in
     ap (λ b. one_if (polls_at channel.own after.near.run.value || b)) (end_polls pair.far channel.peer machine setup (sound-of IsUttered far pair.far runs.far_runs).core.held_below carries none wants has)
     ∙ either_one (polls_at channel.own after.near.run.value)

@@ -1,4 +1,4 @@
--- What the timers of both hosts make of the two ends of a channel, where nothing is under way.
+-- What the timers of hosts make of the two ends of a channel, where nothing is under way.
 use Rattle.std.proofs.Common.{◌≡◌, ℕ, ◌+◌, ◌≤◌, List, [], ◌∷◌, length, Bool, true, false, Option, Some, None, refl, sym, ap, subst, ◌∙◌, inl, inr, arith}
 use Rattle.std.specs.Prelude.{◌||◌}
 use Rattle.channel_laws.specs.l2cap_config.specs.declared.wish.Agreed.{Agreed}
@@ -12,7 +12,7 @@ use Rattle.channel_laws.specs.channel_model.specs.Calls.{setup_on}
 use Rattle.channel_laws.specs.channel_model.specs.Timing.{timed_out}
 use Rattle.channel_laws.specs.channel_model.proofs.Calling.{timed-goes}
 use Rattle.channel_laws.specs.Common.{mirrored}
-use Rattle.channel_laws.specs.Pairs.{Pair, Acts, happens_near, turned}
+use Rattle.channel_laws.specs.Pairs.{Pair, Acts, happens_near, Near, Far, turned}
 use Rattle.channel_laws.specs.Runs.{Fires}
 use Rattle.channel_laws.specs.Tries.{one_if}
 use Rattle.channel_laws.proofs.Joining.{Terms, Holds, other_terms, IsBelow}
@@ -26,7 +26,7 @@ use Rattle.recovery_laws.specs.Number.{is_due}
 use Rattle.recovery_laws.proofs.Tests.{bit}
 use Rattle.recovery_laws.proofs.Waking.{woken}
 use Rattle.recovery_laws.proofs.Within.{Within, within-more, Rested, woken_ends, wakes-within}
-use Rattle.passing_laws.specs.Words.{AreSilent, carrier_polls, setup_polls, polls_at, onset_turns, ByTimers, all_after, finds}
+use Rattle.passing_laws.specs.Words.{AreSilent, carrier_polls, setup_polls, polls_at, Timers, OfOne, OfBoth, timer_turns, ByTimers, all_after, finds}
 use Rattle.passing_laws.proofs.Known.{Known, to_near, to_far, joint-knows}
 use Rattle.passing_laws.proofs.Onsets.{Ready, ready-joint}
 
@@ -63,7 +63,7 @@ fires-near t channel pair K L below stays move h =
     done p (inl k) = stays p k
     done p (inr (q, stands, k, is)) = subst L (sym is) (move q stands tt k)
 
--- ---- both, one after the other
+-- ---- one of them, or both, one after the other
 
 none_long : (queue : List Sent) → length queue ≡ 0 → queue ≡ []
 none_long [] is = refl
@@ -89,26 +89,34 @@ Whole found owed p = (q : Machines) × Rested found owed q × (fired_a : Bool) �
 abbrev pub fired_b_too : Machines → Machines
 fired_b_too m = record { a = m.a; b = woken true m.b }
 
-pub both-fire : (t : Terms) (channel : Channel) (pair : Pair) (found owed : ℕ) → IsBelow pair.near.run.value → IsBelow pair.far.run.value → AreSilent pair → pair.near.coming ≡ [] → pair.far.coming ≡ [] → Joint t channel (Within found owed) pair
-    → Joint t channel (Whole found owed) (all_after pair (onset_turns ByTimers))
-both-fire t channel pair found owed below far_below silent none_near none_far h =
-    turned_joint (other_terms t) (mirrored channel) (happens_near (Acts Fires) (turned first)) (λ p. Whole found owed (swap p)) (Whole found owed) (λ p so. so)
-    (fires-near (other_terms t) (mirrored channel) (turned first) (λ p. Half found owed (swap p)) (λ p. Whole found owed (swap p)) far_below
-    (λ p (q, r, fired, is). (q, r, fired, false, is)) (λ p stands may (q, r, fired, is). (q, r, fired, true, ap fired_b_too is))
-    (turned_joint t channel first (Half found owed) (λ p. Half found owed (swap p)) (λ p so. so)
-    (fires-near t channel pair (Ready found owed n f) (Half found owed) below (λ p r. (p, calm p r, false, refl)) (λ p stands may r. (p, calm p r, true, refl)) (ready-joint t channel pair found owed below far_below silent h))))
-  where
-    n : List (List ℕ)
-    n = to_near channel pair
+module _ (t : Terms) (channel : Channel) (pair : Pair) (found owed : ℕ) (below : IsBelow pair.near.run.value) (far_below : IsBelow pair.far.run.value) (silent : AreSilent pair) (none_near : pair.near.coming ≡ []) (none_far : pair.far.coming ≡ []) (h : Joint t channel (Within found owed) pair) where
+  abbrev n : List (List ℕ)
+  n = to_near channel pair
 
-    f : List (List ℕ)
-    f = to_far channel pair
+  abbrev f : List (List ℕ)
+  f = to_far channel pair
 
-    first : Pair
-    first = happens_near (Acts Fires) pair
+  abbrev first : Pair
+  first = happens_near (Acts Fires) pair
 
-    calm : (p : Machines) → Ready found owed n f p → Rested found owed p
-    calm p r = rested found owed n f p (ap (under_way channel.own) none_near) (ap (under_way channel.peer) none_far) r
+  calm : (p : Machines) → Ready found owed n f p → Rested found owed p
+  calm p r = rested found owed n f p (ap (under_way channel.own) none_near) (ap (under_way channel.peer) none_far) r
+
+  now : Joint t channel (Ready found owed n f) pair
+  now = ready-joint t channel pair found owed below far_below silent h
+
+  pub timers-fire : (timers : Timers) → Joint t channel (Whole found owed) (all_after pair (timer_turns timers))
+  timers-fire (OfOne Near) = fires-near t channel pair (Ready found owed n f) (Whole found owed) below (λ p r. (p, calm p r, false, false, refl)) (λ p stands may r. (p, calm p r, true, false, refl)) now
+  timers-fire (OfOne Far) =
+      turned_joint (other_terms t) (mirrored channel) (happens_near (Acts Fires) (turned pair)) (λ p. Whole found owed (swap p)) (Whole found owed) (λ p so. so)
+      (fires-near (other_terms t) (mirrored channel) (turned pair) (λ p. Ready found owed n f (swap p)) (λ p. Whole found owed (swap p)) far_below (λ p r. (swap p, calm (swap p) r, false, false, refl)) (λ p stands may r. (swap p, calm (swap p) r, false, true, refl))
+      (turned_joint t channel pair (Ready found owed n f) (λ p. Ready found owed n f (swap p)) (λ p so. so) now))
+  timers-fire OfBoth =
+      turned_joint (other_terms t) (mirrored channel) (happens_near (Acts Fires) (turned first)) (λ p. Whole found owed (swap p)) (Whole found owed) (λ p so. so)
+      (fires-near (other_terms t) (mirrored channel) (turned first) (λ p. Half found owed (swap p)) (λ p. Whole found owed (swap p)) far_below
+      (λ p (q, r, fired, is). (q, r, fired, false, is)) (λ p stands may (q, r, fired, is). (q, r, fired, true, ap fired_b_too is))
+      (turned_joint t channel first (Half found owed) (λ p. Half found owed (swap p)) (λ p so. so)
+      (fires-near t channel pair (Ready found owed n f) (Half found owed) below (λ p r. (p, calm p r, false, refl)) (λ p stands may r. (p, calm p r, true, refl)) now)))
 
 -- ---- a machine has a poll to give then
 
@@ -137,16 +145,16 @@ none_polls own v none polls = sym (ap setup_polls none) ∙ polls
 held_polls : (own : ℕ) (v : Channels) (held : Held) (setup : Setup) → held_at own v ≡ Some held → setup_of held.stage ≡ Some setup → Polls own v setup.carrier
 held_polls own v held setup found has polls = sym (ap (λ h. setup_polls (setup_on h)) found ∙ ap setup_polls has) ∙ polls
 
-pub timers-begin : (t : Terms) (channel : Channel) (pair : Pair) (found owed : ℕ) → IsBelow pair.near.run.value → IsBelow pair.far.run.value → (let after : Pair = all_after pair (onset_turns ByTimers) in IsBelow after.near.run.value) → (let after : Pair = all_after pair (onset_turns ByTimers) in IsBelow after.far.run.value)
-    → AreSilent pair → pair.near.coming ≡ [] → pair.far.coming ≡ [] → Joint t channel (Within found owed) pair → Joint t channel (Within (found + finds channel ByTimers pair) owed) (all_after pair (onset_turns ByTimers))
-timers-begin t channel pair found owed below far_below after_below after_far silent none_near none_far h =
+pub timers-begin : (t : Terms) (channel : Channel) (pair : Pair) (found owed : ℕ) (timers : Timers) → IsBelow pair.near.run.value → IsBelow pair.far.run.value → (let after : Pair = all_after pair (timer_turns timers) in IsBelow after.near.run.value) → (let after : Pair = all_after pair (timer_turns timers) in IsBelow after.far.run.value)
+    → AreSilent pair → pair.near.coming ≡ [] → pair.far.coming ≡ [] → Joint t channel (Within found owed) pair → Joint t channel (Within (found + finds channel (ByTimers timers) pair) owed) (all_after pair (timer_turns timers))
+timers-begin t channel pair found owed timers below far_below after_below after_far silent none_near none_far h =
     joint-knows t channel after (Polls channel.own v) (Polls channel.peer w) (Whole found owed) (Within (found + one_if (polls_at channel.own v || polls_at channel.peer w)) owed) after_below after_far
     (none_polls channel.own v) (held_polls channel.own v) (none_polls channel.peer w) (held_polls channel.peer w)
     (λ opened carrier far_opened far_carrier near_so far_so p held whole. by p held.known (λ polls. due_held t.mine p.a opened carrier held.near_holds (near_so polls)) (λ polls. due_held t.other p.b far_opened far_carrier held.far_holds (far_so polls)) whole)
-    (both-fire t channel pair found owed below far_below silent none_near none_far h)
+    (timers-fire t channel pair found owed below far_below silent none_near none_far h timers)
   where
     after : Pair
-    after = all_after pair (onset_turns ByTimers)
+    after = all_after pair (timer_turns timers)
 
     v : Channels
     v = after.near.run.value

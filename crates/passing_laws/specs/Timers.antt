@@ -12,7 +12,7 @@ use Rattle.channel_laws.specs.Ends.{AreFair}
 use Rattle.channel_laws.specs.Pairs.{Side, Turn, pair_of}
 use Rattle.channel_laws.specs.link_talk.specs.declared.channel.Channel.{Channel}
 use Rattle.channel_laws.specs.Runs.{Occurrence, run_of}
-use Rattle.passing_laws.specs.Words.{ByTimers, onset_turns, all_after, endpoint, polls_at, finds}
+use Rattle.passing_laws.specs.Words.{OfBoth, ByTimers, timer_turns, all_after, endpoint, polls_at, finds}
 
 -- Whatever happened to a host: where the machine of an open channel has nothing to give, and awaits the answer to a poll or has frames that are not acknowledged, it has a
 -- poll to give once the timer has fired, if the channel is still there.
@@ -24,4 +24,4 @@ TimersPoll = (policy : Policy) (list : List Occurrence) (own : ℕ) (machine : E
 abbrev pub TimersFind : Type 0
 TimersFind = (near far : Policy) (turns : List Turn) (channel : Channel) → AreFair near far turns → (side : Side) (machine : Ertm) (setup : Setup) → carrier_at (endpoint side channel) (seen_from side (pair_of near far turns)).near.run.value ≡ Some (Retransmitting machine)
     → giving machine ≡ None → (machine.sender.poll ≡ Waits) ⊎ (1 ≤ length machine.sender.unacked)
-    → setup_on (held_at (endpoint side channel) (seen_from side (all_after (pair_of near far turns) (onset_turns ByTimers))).near.run.value) ≡ Some setup → finds channel ByTimers (pair_of near far turns) ≡ 1
+    → setup_on (held_at (endpoint side channel) (seen_from side (all_after (pair_of near far turns) (timer_turns OfBoth))).near.run.value) ≡ Some setup → finds channel (ByTimers OfBoth) (pair_of near far turns) ≡ 1

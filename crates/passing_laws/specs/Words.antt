@@ -25,17 +25,26 @@ is_unprompted Repeats = false
 is_unprompted Loses = false
 is_unprompted (Damages pdu) = false
 
--- one turn, or the timers of both hosts
+-- the timer of one host, or of both
+pub data Timers : Type 0 where
+  OfOne : (side : Side) → Timers
+  OfBoth : Timers
+
+-- one turn, or timers
 pub data Onset : Type 0 where
   ByTurn : (turn : Turn) → Onset
-  ByTimers : Onset
+  ByTimers : (timers : Timers) → Onset
 
 abbrev pub timer_of : Side → Turn
 timer_of side = record { side = side; happening = Acts Fires }
 
+abbrev pub timer_turns : Timers → List Turn
+timer_turns (OfOne side) = timer_of side ∷ []
+timer_turns OfBoth = timer_of Near ∷ timer_of Far ∷ []
+
 abbrev pub onset_turns : Onset → List Turn
 onset_turns (ByTurn turn) = turn ∷ []
-onset_turns ByTimers = timer_of Near ∷ timer_of Far ∷ []
+onset_turns (ByTimers timers) = timer_turns timers
 
 pub record Word : Type 0 where
   pub onset : Onset
@@ -58,10 +67,10 @@ pub record AreSilent (pair : Pair) : Type 0 where
   pub near_none : list_any gives pair.near.run.value.held ≡ false
   pub far_none : list_any gives pair.far.run.value.held ≡ false
 
--- the timers of both hosts fire together only where nothing is under way
+-- timers fire so only where nothing is under way
 abbrev pub MayBegin : Onset → Pair → Type 0
 MayBegin (ByTurn turn) pair = Unit {0}
-MayBegin ByTimers pair = (pair.near.coming ≡ []) × (pair.far.coming ≡ [])
+MayBegin (ByTimers timers) pair = (pair.near.coming ≡ []) × (pair.far.coming ≡ [])
 
 -- Each word begins where both hosts are silent, and so it is at the end.
 abbrev pub AreWords : Pair → List Word → Type 0
@@ -69,9 +78,15 @@ AreWords pair [] = AreSilent pair
 AreWords pair (word ∷ words) =
     AreSilent pair × MayBegin word.onset pair × AllByRecursion (λ (turn : Turn). is_unprompted turn.happening ≡ true) word.behind × AreWords (all_after pair (word_turns word)) words
 
+-- So it begins, but the last one may not have ended.
+abbrev pub HaveBegun : Pair → List Word → Type 0
+HaveBegun pair [] = Unit {0}
+HaveBegun pair (word ∷ words) =
+    AreSilent pair × MayBegin word.onset pair × AllByRecursion (λ (turn : Turn). is_unprompted turn.happening ≡ true) word.behind × HaveBegun (all_after pair (word_turns word)) words
+
 -- ---- what goes wrong
 
--- a loss, a repeat, damage, and a timer that fires alone
+-- a loss, a repeat, damage, and a timer that fires while something is under way
 abbrev pub wrong_in : Happening → ℕ
 wrong_in (Acts occurrence) = one_if (is_firing occurrence)
 wrong_in (Puts pdu) = 0
@@ -82,7 +97,7 @@ wrong_in (Damages pdu) = 1
 
 abbrev pub wrongs : Onset → ℕ
 wrongs (ByTurn turn) = wrong_in turn.happening
-wrongs ByTimers = 0
+wrongs (ByTimers timers) = 0
 
 abbrev pub all_wrongs : List Word → ℕ
 all_wrongs [] = 0
@@ -119,11 +134,11 @@ setup_polls (Some setup) = carrier_polls setup.carrier
 abbrev pub polls_at : (own : ℕ) → Channels → Bool
 polls_at own v = setup_polls (setup_on (held_at own v))
 
--- A PDU of the channel is handed over and goes; or both timers fire, and a machine of the channel has a poll to give for it.
+-- A PDU of the channel is handed over and goes; or timers fire where nothing is under way, and a machine of the channel has a poll to give for it.
 abbrev pub finds : Channel → Onset → Pair → ℕ
 finds channel (ByTurn turn) pair = one_if (is_handed turn.happening && is_first (endpoint turn.side channel) (seen_from turn.side pair).near.coming)
-finds channel ByTimers pair =
-    let after : Pair = all_after pair (onset_turns ByTimers) in one_if (polls_at channel.own after.near.run.value || polls_at channel.peer after.far.run.value)
+finds channel (ByTimers timers) pair =
+    let after : Pair = all_after pair (timer_turns timers) in one_if (polls_at channel.own after.near.run.value || polls_at channel.peer after.far.run.value)
 
 abbrev pub all_finds : Channel → Pair → List Word → ℕ
 all_finds channel pair [] = 0
