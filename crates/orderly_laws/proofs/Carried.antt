@@ -13,7 +13,6 @@ use Rattle.request_laws.specs.link_talk.specs.Sayings.{Saying}
 use Rattle.request_laws.specs.channel_model.specs.Policies.{policy}
 use Rattle.request_laws.specs.channel_laws.specs.Frames.{AreUttered}
 use Rattle.request_laws.specs.channel_laws.specs.Runs as channels
-use Rattle.request_laws.specs.channel_laws.specs.Runs.{run_of}
 use Rattle.request_laws.specs.rfcomm_frames.specs.FrameReading.{is_empty}
 use Rattle.request_laws.specs.push_model.specs.Server.{Reacted, rfcomm_psm}
 use Rattle.request_laws.specs.push_laws.specs.Dialogs.{NoPacket}

@@ -58,7 +58,7 @@ use Rattle.orderly_laws.proofs.Counting.{none-ignored}
 use Rattle.orderly_laws.proofs.Falling.{SaidOn, on_links, said_of, parted}
 use Rattle.orderly_laws.proofs.Given.{lives-given, nothing-given_up}
 use Rattle.orderly_laws.proofs.Granting.{act_so, runs-same, frames-same, over-so, over-acts}
-use Rattle.orderly_laws.proofs.Linking.{ReadLink, all-carry, all-direct, all-turns, all-follow}
+use Rattle.orderly_laws.proofs.Linking.{ReadLink, plain_at, all-plain, all-carry, all-direct, all-turns, all-follow}
 
 -- ---- its links, as they are read
 
@@ -157,7 +157,7 @@ servers_gain_asked settings before occasions now transport did granted' orderly 
     let reads = parted (ReadLink settings) spans list (reads_of settings lists (all_of settings lists lives.uttered said only none_all events)) in
     let timely = subst (AreTimely false) (sym so.lives.marks_are) so.timely in
     let feeds = so.lives.feeds in
-    let direct = all-direct settings content spans list feeds A.first now.upper.profile lives.fed.fed refl reads.before reads.last in
+    let direct = all-direct settings content spans list feeds A.first now.upper.profile lives.fed.fed refl (all-plain settings spans reads.before) (plain_at settings list reads.last) in
     let turns = all-turns settings content spans list feeds A.first now.upper.profile lives.fed.fed refl timely reads.before reads.last 0 in
     let follow = all-follow settings content spans list feeds A.first now.upper.profile lives.fed.fed timely reads.before reads.last in
     let heard = none-ignored settings before (served_from settings content A.first feeds) (serve_all AllGranted settings content feeds A.first (all_granted feeds lives.given) direct) turns.0 follow in

@@ -144,12 +144,12 @@ if_still : (turns : Bool) (xs ys : List (List Talk)) → AllByRecursion (AllByRe
 if_still true xs ys one two = one
 if_still false xs ys one two = two
 
-parts_still : (part talk : List Talk) → AllByRecursion IsUnfired part → AllByRecursion IsUnfired talk → AllByRecursion (AllByRecursion IsUnfired) (parts_from part talk)
+pub parts_still : (part talk : List Talk) → AllByRecursion IsUnfired part → AllByRecursion IsUnfired talk → AllByRecursion (AllByRecursion IsUnfired) (parts_from part talk)
 parts_still part [] before still = (before, tt)
 parts_still part (one ∷ talk) before still =
     if_still (turns_link one) (part ∷ parts_from [] talk) (parts_from (part ++ one ∷ []) talk) (before, parts_still [] talk tt still.1) (parts_still (part ++ one ∷ []) talk (both_still IsUnfired part (one ∷ []) before (still.0, tt)) still.1)
 
-zip_still : (policy : Policy) (lists : List (List Occurrence)) (talks : List (List Talk)) → AllZip (IsTalkOf policy) lists talks → AllByRecursion (AllByRecursion IsUnfired) talks → AllByRecursion (AllByRecursion FiresNot) lists
+pub zip_still : (policy : Policy) (lists : List (List Occurrence)) (talks : List (List Talk)) → AllZip (IsTalkOf policy) lists talks → AllByRecursion (AllByRecursion IsUnfired) talks → AllByRecursion (AllByRecursion FiresNot) lists
 zip_still policy [] talks are still = tt
 zip_still policy (list ∷ lists) [] are still = absurd are
 zip_still policy (list ∷ lists) (part ∷ talks) are still = (outer_still list (subst (AllByRecursion FiresNot) (sym are.0.outer_is) (part_still part still.0)), zip_still policy lists talks are.1 still.1)

@@ -93,7 +93,11 @@ AllFew settings (up ∷ down ∷ spans) now reads last = Few settings down.list 
 
 -- ---- which PSM its channels have
 
-plain_at : (settings : Settings) (list : List channels.Occurrence) (read : ReadLink settings list) (psm at : ℕ) → Opened (run_of (policy settings true) list).said psm at → psm ≡ 0x0003 → ⊥
+-- none is RFCOMM's
+abbrev pub NoneMuxed : Settings → List channels.Occurrence → Type 0
+NoneMuxed settings list = (psm at : ℕ) → Opened (run_of (policy settings true) list).said psm at → psm ≡ 0x0003 → ⊥
+
+pub plain_at : (settings : Settings) (list : List channels.Occurrence) (read : ReadLink settings list) (psm at : ℕ) → Opened (run_of (policy settings true) list).said psm at → psm ≡ 0x0003 → ⊥
 plain_at settings list read psm at (peer, is) rfcomm = by (eqb at read.only.channel.own) refl
   where
     fit : IsFor read.only.channel (channel_by psm at peer)
@@ -102,6 +106,10 @@ plain_at settings list read psm at (peer, is) rfcomm = by (eqb at read.only.chan
     by : (same : Bool) → eqb at read.only.channel.own ≡ same → ⊥
     by true is' = let never : 0x0003 ≡ 0x1001 = sym rfcomm ∙ (ap (λ (c : Channel). c.psm) (fit.same is') ∙ read.only.psm_is) in omega (arith, never)
     by false is' = (fit.aside is').1 rfcomm
+
+pub all-plain : (settings : Settings) (spans : List Span) → AllRead settings spans → AllByRecursion (λ (span : Span). NoneMuxed settings span.list) spans
+all-plain settings [] reads = tt
+all-plain settings (span ∷ spans) reads = (plain_at settings span.list reads.0, all-plain settings spans reads.1)
 
 -- ---- what is told of closings
 
@@ -139,7 +147,7 @@ one_object settings list read few =
           (all_close one (reading (run_of (policy settings true) list).said).entries read.only.alone (run_of (policy settings true) list).told (closings-are_read (policy settings true) list read.none));
     }
 
-no_pdus : (list : List channels.Occurrence) → AllByRecursion HearsNothing list → AllByRecursion IsNoPdu list
+pub no_pdus : (list : List channels.Occurrence) → AllByRecursion HearsNothing list → AllByRecursion IsNoPdu list
 no_pdus [] deaf = tt
 no_pdus (channels.Comes pdu ∷ list) deaf = absurd deaf.0
 no_pdus (channels.Connects psm ∷ list) deaf = (tt, no_pdus list deaf.1)
@@ -244,22 +252,21 @@ module _ (settings : Settings) (content : Option Contents) where
 
   -- ---- nothing over RFCOMM
 
-  link_direct : (list : List channels.Occurrence) (feeds : List Feed) (first last : ServerProfile) → WovenFed B asks list feeds first last → ReadLink settings list → first.endpoints ≡ [] → AllByRecursion IsDirect (served first feeds)
-  link_direct list feeds first last so read none =
-      let one = read.only.channel in
+  link_direct : (list : List channels.Occurrence) (feeds : List Feed) (first last : ServerProfile) → WovenFed B asks list feeds first last → NoneMuxed settings list → first.endpoints ≡ [] → AllByRecursion IsDirect (served first feeds)
+  link_direct list feeds first last so plain none =
       subst (λ (l : List Feed). AllByRecursion IsDirect (served first l)) (sym so.feeds_are)
-      (weave-direct settings content list one.own (sure-at settings list read.talk read.outs read.said_is read.go_out read.uttered one read.only.psm_is read.only.alone read.answered) (plain_at settings list read)
+      (weave-direct settings content list plain
       so.woven.weave [] no_channels first so.woven.list_is refl (none_open first none) so.woven.on_link)
 
-  pub all-direct : (spans : List Span) (now : List channels.Occurrence) (feeds : List Feed) (first last : ServerProfile) → AreFed B asks spans now feeds first last → first.endpoints ≡ [] → AllRead settings spans → ReadLink settings now → AllByRecursion IsDirect (served first feeds)
-  all-direct [] now feeds first last so none reads read = link_direct now feeds first last so read none
-  all-direct (span ∷ spans) now feeds first last (here, later, is, so) none reads read =
+  pub all-direct : (spans : List Span) (now : List channels.Occurrence) (feeds : List Feed) (first last : ServerProfile) → AreFed B asks spans now feeds first last → first.endpoints ≡ [] → AllByRecursion (λ (span : Span). NoneMuxed settings span.list) spans → NoneMuxed settings now → AllByRecursion IsDirect (served first feeds)
+  all-direct [] now feeds first last so none plain last_plain = link_direct now feeds first last so last_plain none
+  all-direct (span ∷ spans) now feeds first last (here, later, is, so) none plain last_plain =
       let turn = turned_feeds here.circumstances span.event (value_at span) in
       let after = behind_span B asks span first here in
       subst (AllByRecursion IsDirect) (sym (span_served span first here feeds later is))
-      (all_both IsDirect (served first here.here) _ (link_direct span.list here.here first here.mid here.so reads.0 none)
+      (all_both IsDirect (served first here.here) _ (link_direct span.list here.here first here.mid here.so plain.0 none)
       (all_both IsDirect (served here.mid turn) (served after later) (turned_direct here.circumstances span.event (value_at span) here.mid)
-      (all-direct spans now later after last so (new_server here.circumstances span.event (value_at span) here.mid) reads.1 read)))
+      (all-direct spans now later after last so (new_server here.circumstances span.event (value_at span) here.mid) plain.1 last_plain)))
 
   -- ---- nothing follows the closing of a channel
 

@@ -11,7 +11,7 @@ use Rattle.request_laws.specs.channel_model.specs.Carrying.{Up as Handed, Nothin
 use Rattle.request_laws.specs.channel_model.specs.Hearing.{up}
 use Rattle.request_laws.specs.channel_model.specs.Policies.{Policy, policy}
 use Rattle.request_laws.specs.channel_model.specs.Value.{Channels, no_channels}
-use Rattle.request_laws.specs.channel_laws.specs.Runs.{Comes, run_of, up_with}
+use Rattle.request_laws.specs.channel_laws.specs.Runs.{Comes, run_of}
 use Rattle.request_laws.specs.channel_laws.specs.Runs as channels
 use Rattle.request_laws.specs.channel_laws.specs.Taken.{taken_of}
 use Rattle.request_laws.specs.obex_session.specs.Calls.{session_behind}
@@ -284,55 +284,64 @@ module _ (settings : Settings) (content : Option Contents) (all : List channels.
         (sym (ap (λ (l : List Occurrence). l ++ rest) (served-both settings content (strand_feeds strand v) (woven_feeds B asks weave w q) p ∙ ap (λ (x : ServerProfile). S ++ served_from settings content x (woven_feeds B asks weave w q)) (strand_so B asks strand v p)) ∙ append_assoc S T rest))
         (strand_later front more strand v p (T ++ rest) is at open' on.0 next)
 
-  -- ---- nothing over RFCOMM
+-- ---- nothing over RFCOMM
 
-  module _ (plain : (psm at : ℕ) → Opened (run_of (policy settings true) all).said psm at → psm ≡ 0x0003 → ⊥) where
-    heard_direct : (front later : List channels.Occurrence) (pdu : List ℕ) (v : Channels) (p : ServerProfile) (brought : Handed) → all ≡ front ++ Comes pdu ∷ later → v ≡ (run_of own front).value → up (channel_of pdu) pdu v ≡ brought → AllByRecursion IsDirect (served_from settings content p (feeds_up brought))
-    heard_direct front later pdu v p Nothing is at brings = tt
-    heard_direct front later pdu v p (Received from psm sdu) is at brings =
-        let here' : Opened (run_of own front).said psm from = subst (OpenedUp (run_of own front).said) (ap (λ (w : Channels). up (channel_of pdu) pdu w) (sym at) ∙ brings) (opened-up own front (Comes pdu)) in
-        (plain psm from (subst (λ (l : List channels.Occurrence). Opened (run_of own l).said psm from) (sym is) (opened-stays own front (Comes pdu ∷ later) psm from here')), tt)
+module _ (settings : Settings) (content : Option Contents) (all : List channels.Occurrence) (plain : (psm at : ℕ) → Opened (run_of (policy settings true) all).said psm at → psm ≡ 0x0003 → ⊥) where
+  abbrev rules : Policy
+  rules = policy settings true
 
-    lent_direct : (front later : List channels.Occurrence) (lent : Option Lent) (v : Channels) (p : ServerProfile) → all ≡ front ++ later → Open object_psm settings content front p → AllByRecursion IsDirect (lent_by lent v p)
-    lent_direct front later None v p is open' = tt
-    lent_direct front later (Some lent) v p is open' = by (endpoint_of lent.psm p.endpoints) refl
-      where
-        sent : (at : ℕ) (taken : Bool) → endpoint_of lent.psm p.endpoints ≡ Some at → AllByRecursion IsDirect (cond taken (Went lent.psm (sdu_of lent.payload) ∷ []) [])
-        sent at true found =
-            (plain lent.psm at (subst (λ (l : List channels.Occurrence). Opened (run_of own l).said lent.psm at) (sym is) (opened-stays own front later lent.psm at (endpoint_so (WasOpened object_psm settings content front) lent.psm at p.endpoints open' found))), tt)
-        sent at false found = tt
+  abbrev served_by : Profile ServerProfile
+  served_by = server_profile settings content
 
-        by : (found : Option ℕ) → endpoint_of lent.psm p.endpoints ≡ found → AllByRecursion IsDirect (taken_by found lent v)
-        by None found = tt
-        by (Some at) found = sent at (takes_sdu at (sdu_of lent.payload) v) found
+  abbrev asked_by : Asks (server_profile settings content)
+  asked_by = hosts_ask.servers settings content
 
-    strand_direct : (front later : List channels.Occurrence) (strand : Strand) (v : Channels) (p : ServerProfile) → all ≡ front ++ (strand_list B asks strand v p ++ later) → v ≡ (run_of own front).value → Open object_psm settings content front p → IsOnLink strand
-        → AllByRecursion IsDirect (served_from settings content p (strand_feeds strand v))
-    strand_direct front later (Hearing pdu) v p is at open' on = heard_direct front later pdu v p (up (channel_of pdu) pdu v) is at refl
-    strand_direct front later (Giving pdu) v p is at open' on = tt
-    strand_direct front later Firing v p is at open' on = tt
-    strand_direct front later Telling v p is at open' on = told v.events
-      where
-        told : (list : List ChannelEvent) → AllByRecursion IsDirect (served_from settings content p (next_happening list v))
-        told [] = tt
-        told (event ∷ list) = all_both IsDirect (event_served event) [] (event_direct event) tt
-    strand_direct front later (Gifting circumstances) v p is at open' on = (tt, tt)
-    strand_direct front later (Learning circumstances news) v p is at open' on = news_direct news on
-    strand_direct front later Checking v p is at open' on = tt
-    strand_direct front later Stepping v p is at open' on =
-        (tt, all_both IsDirect (lent_by (lent_sdu (lends p.server)) v p) [] (lent_direct front (strand_list B asks Stepping v p ++ later) (lent_sdu (lends p.server)) v p is open') tt)
+  heard_direct : (front later : List channels.Occurrence) (pdu : List ℕ) (v : Channels) (p : ServerProfile) (brought : Handed) → all ≡ front ++ Comes pdu ∷ later → v ≡ (run_of rules front).value → up (channel_of pdu) pdu v ≡ brought → AllByRecursion IsDirect (served_from settings content p (feeds_up brought))
+  heard_direct front later pdu v p Nothing is at brings = tt
+  heard_direct front later pdu v p (Received from psm sdu) is at brings =
+      let here' : Opened (run_of rules front).said psm from = subst (OpenedUp (run_of rules front).said) (ap (λ (w : Channels). up (channel_of pdu) pdu w) (sym at) ∙ brings) (opened-up rules front (Comes pdu)) in
+      (plain psm from (subst (λ (l : List channels.Occurrence). Opened (run_of rules l).said psm from) (sym is) (opened-stays rules front (Comes pdu ∷ later) psm from here')), tt)
 
-    pub weave-direct : (weave : List Strand) (front : List channels.Occurrence) (v : Channels) (p : ServerProfile) → all ≡ front ++ woven_list (server_profile settings content) (hosts_ask.servers settings content) weave v p → v ≡ (run_of (policy settings true) front).value
-        → Open object_psm settings content front p → AllByRecursion IsOnLink weave → AllByRecursion IsDirect (served_from settings content p (woven_feeds (server_profile settings content) (hosts_ask.servers settings content) weave v p))
-    weave-direct [] front v p is at open' on = tt
-    weave-direct (strand ∷ weave) front v p is at open' on =
-        let list = strand_list B asks strand v p in
-        let w = values_after own v list in
-        let q = strand_profile B strand v p in
-        let more = woven_list B asks weave w q in
-        let S = served_from settings content p (strand_feeds strand v) in
-        let T = served_from settings content q (woven_feeds B asks weave w q) in
-        subst (AllByRecursion IsDirect)
-        (sym (served-both settings content (strand_feeds strand v) (woven_feeds B asks weave w q) p ∙ ap (λ (x : ServerProfile). S ++ served_from settings content x (woven_feeds B asks weave w q)) (strand_so B asks strand v p)))
-        (all_both IsDirect S T (strand_direct front more strand v p is at open' on.0)
-        (weave-direct weave (front ++ list) w q (is ∙ sym (append_assoc front list more)) (value_behind own front list v at) (strand_open object_psm settings content front strand v p at open') on.1))
+  lent_direct : (front later : List channels.Occurrence) (lent : Option Lent) (v : Channels) (p : ServerProfile) → all ≡ front ++ later → Open object_psm settings content front p → AllByRecursion IsDirect (lent_by lent v p)
+  lent_direct front later None v p is open' = tt
+  lent_direct front later (Some lent) v p is open' = by (endpoint_of lent.psm p.endpoints) refl
+    where
+      sent : (at : ℕ) (taken : Bool) → endpoint_of lent.psm p.endpoints ≡ Some at → AllByRecursion IsDirect (cond taken (Went lent.psm (sdu_of lent.payload) ∷ []) [])
+      sent at true found =
+          (plain lent.psm at (subst (λ (l : List channels.Occurrence). Opened (run_of rules l).said lent.psm at) (sym is) (opened-stays rules front later lent.psm at (endpoint_so (WasOpened object_psm settings content front) lent.psm at p.endpoints open' found))), tt)
+      sent at false found = tt
+
+      by : (found : Option ℕ) → endpoint_of lent.psm p.endpoints ≡ found → AllByRecursion IsDirect (taken_by found lent v)
+      by None found = tt
+      by (Some at) found = sent at (takes_sdu at (sdu_of lent.payload) v) found
+
+  strand_direct : (front later : List channels.Occurrence) (strand : Strand) (v : Channels) (p : ServerProfile) → all ≡ front ++ (strand_list served_by asked_by strand v p ++ later) → v ≡ (run_of rules front).value → Open object_psm settings content front p → IsOnLink strand
+      → AllByRecursion IsDirect (served_from settings content p (strand_feeds strand v))
+  strand_direct front later (Hearing pdu) v p is at open' on = heard_direct front later pdu v p (up (channel_of pdu) pdu v) is at refl
+  strand_direct front later (Giving pdu) v p is at open' on = tt
+  strand_direct front later Firing v p is at open' on = tt
+  strand_direct front later Telling v p is at open' on = told v.events
+    where
+      told : (list : List ChannelEvent) → AllByRecursion IsDirect (served_from settings content p (next_happening list v))
+      told [] = tt
+      told (event ∷ list) = all_both IsDirect (event_served event) [] (event_direct event) tt
+  strand_direct front later (Gifting circumstances) v p is at open' on = (tt, tt)
+  strand_direct front later (Learning circumstances news) v p is at open' on = news_direct news on
+  strand_direct front later Checking v p is at open' on = tt
+  strand_direct front later Stepping v p is at open' on =
+      (tt, all_both IsDirect (lent_by (lent_sdu (lends p.server)) v p) [] (lent_direct front (strand_list served_by asked_by Stepping v p ++ later) (lent_sdu (lends p.server)) v p is open') tt)
+
+  pub weave-direct : (weave : List Strand) (front : List channels.Occurrence) (v : Channels) (p : ServerProfile) → all ≡ front ++ woven_list (server_profile settings content) (hosts_ask.servers settings content) weave v p → v ≡ (run_of (policy settings true) front).value
+      → Open object_psm settings content front p → AllByRecursion IsOnLink weave → AllByRecursion IsDirect (served_from settings content p (woven_feeds (server_profile settings content) (hosts_ask.servers settings content) weave v p))
+  weave-direct [] front v p is at open' on = tt
+  weave-direct (strand ∷ weave) front v p is at open' on =
+      let list = strand_list served_by asked_by strand v p in
+      let w = values_after rules v list in
+      let q = strand_profile served_by strand v p in
+      let more = woven_list served_by asked_by weave w q in
+      let S = served_from settings content p (strand_feeds strand v) in
+      let T = served_from settings content q (woven_feeds served_by asked_by weave w q) in
+      subst (AllByRecursion IsDirect)
+      (sym (served-both settings content (strand_feeds strand v) (woven_feeds served_by asked_by weave w q) p ∙ ap (λ (x : ServerProfile). S ++ served_from settings content x (woven_feeds served_by asked_by weave w q)) (strand_so served_by asked_by strand v p)))
+      (all_both IsDirect S T (strand_direct front more strand v p is at open' on.0)
+      (weave-direct weave (front ++ list) w q (is ∙ sym (append_assoc front list more)) (value_behind rules front list v at) (strand_open object_psm settings content front strand v p at open') on.1))

@@ -13,14 +13,14 @@ pub record IsRefusingResult (result : ℕ) : Type 0 where
   pub no_grant : result ≡ 0 → ⊥
   pub not_pending : result ≡ 1 → ⊥
 
--- Where a channel closed because it was refused, the result is one that refuses.
+-- Where a channel closed because it was refused, the result is one that refuses. While the link is up none closes because it went down.
 abbrev pub ClosesRightly : CloseReason → Type 0
 ClosesRightly PeerClosed = Unit {0}
 ClosesRightly (Refused result) = IsRefusingResult result
 ClosesRightly NoAgreement = Unit {0}
 ClosesRightly RetryLimit = Unit {0}
 ClosesRightly (Ertm reason) = Unit {0}
-ClosesRightly LinkDown = Unit {0}
+ClosesRightly LinkDown = ⊥
 ClosesRightly OwnClosed = Unit {0}
 
 abbrev pub TellsRightly : ChannelEvent → Type 0

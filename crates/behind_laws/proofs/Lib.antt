@@ -1,0 +1,4 @@
+pub mod Told
+pub mod Direct
+pub mod Moved
+pub mod Gaining

@@ -1,0 +1,3 @@
+pub use Rattle.following_laws
+pub use Rattle.orderly_laws
+pub mod InTurn

@@ -1,0 +1,9 @@
+pub mod Placed
+pub mod Whole
+pub mod Current
+pub mod Moments
+pub mod Following
+pub mod Links
+pub mod OneChannel
+pub mod Shedding
+pub mod Singles

@@ -1,0 +1,3 @@
+pub use Rattle.host_laws
+pub mod Following
+pub mod OneAtATime
