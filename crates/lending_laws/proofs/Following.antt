@@ -22,12 +22,14 @@ use Rattle.call_laws.specs.bt_host.specs.Stacks.{Stacked, Standing, Moment, Deed
 use Rattle.call_laws.specs.bt_host.specs.Uppers.{asking, told_of, hears_told}
 use Rattle.call_laws.specs.unit_laws.specs.Timed.{Tick, Moves, news_ticks, ticks_of, ticks}
 use Rattle.call_laws.specs.unit_laws.specs.Units.{Lined, starting, Occasion, Comes, Learns as Hits, Says, Puts, Commands, Waits, units_of, units, IsOwnNews, Runs, HasSaidAll, IsToldInTurn, ComesInTurn, hears_line}
-use Rattle.call_laws.specs.unit_laws.specs.Laws.{IsUntimed, FiresNone}
+use Rattle.call_laws.specs.unit_laws.specs.Laws.{FiresNone}
 use Rattle.call_laws.specs.unit_laws.specs.Calls.{IsWritable, GoesBy, SaysInOctets, CallsGo}
 use Rattle.call_laws.specs.unit_laws.proofs.Doing.{runs_then, goes_none, calls_are_runs}
 use Rattle.call_laws.specs.Impulses.{Impulse, Hears, Learns, GoesOn, Gives, Pages, IsDevice, Happens, HasImpulses, heard_of, left_of, MovesWith, MovesAlong, MovesFromStart}
 use Rattle.call_laws.proofs.Going.{writable_taken}
+use Rattle.lending_laws.specs.Comings.{comings_in}
 use Rattle.lending_laws.specs.InTurn.{AllIsSaid, IsToldQuietly, ComesQuietly, LeavesPort, ComeQuietly, FiresNot}
+use Rattle.lending_laws.proofs.Coming.{comings_both, none_come, one_comes, untimed_by}
 
 -- Where the relation holds the other hears and says what the one does, for some answers of its port, and it holds again.
 pub record Follows {S T : Type 0} (A : Profile S) (U : Upper T Circumstance) (IsAs : Host S → T → Type 0) : Type 0 where
@@ -39,6 +41,27 @@ pub record Follows {S T : Type 0} (A : Profile S) (U : Upper T Circumstance) (Is
 pub both_untimed : (one two : List (Occasion Circumstance)) → AllByRecursion FiresNone one → AllByRecursion FiresNone two → AllByRecursion FiresNone (one ++ two)
 both_untimed [] two first second = second
 both_untimed (occasion ∷ one) two first second = (first.0, both_untimed one two first.1 second)
+
+-- what comes with an impulse
+abbrev pub impulse_comings : Impulse → List (Occasion Circumstance)
+impulse_comings (Hears packet) = Comes [] packet ∷ []
+impulse_comings (Learns news) = Hits [] news ∷ []
+impulse_comings GoesOn = []
+impulse_comings (Gives count) = []
+impulse_comings (Pages address) = []
+
+none_fires : (impulse : Impulse) → FiresNot impulse → AllByRecursion FiresNone (impulse_comings impulse)
+none_fires (Hears packet) so = (tt, tt)
+none_fires (Learns news) so = (so, tt)
+none_fires GoesOn so = tt
+none_fires (Gives count) so = tt
+none_fires (Pages address) so = tt
+
+pub none_timed : (occasions : List (Occasion Circumstance)) → comings_in occasions ≡ [] → AllByRecursion FiresNone occasions
+none_timed occasions none = untimed_by occasions (subst (AllByRecursion FiresNone) (sym none) tt)
+
+pub untimed_with : (impulse : Impulse) (occasions : List (Occasion Circumstance)) → comings_in occasions ≡ impulse_comings impulse → FiresNot impulse → AllByRecursion FiresNone occasions
+untimed_with impulse occasions is so = untimed_by occasions (subst (AllByRecursion FiresNone) (sym is) (none_fires impulse so))
 
 -- the timer fires with an impulse
 abbrev pub impulse_ticks : Impulse → List Tick
@@ -80,11 +103,10 @@ module _ {S T : Type 0} (A : Profile S) (U : Upper T Circumstance) (IsAs : Host 
 
   -- ---- a run
 
-  -- these packets came in, and behind them packets went out, whose octets `out` gained
-  -- and where this is so no timer fired; what ticked before they moved
-  pub record Ran (calm : Type 0) (begun : List Tick) (came : List Packet) (old new : Lined T) : Type 0 where
+  -- these packets came in, and behind them packets went out, whose octets `out` gained; what came to it, and what ticked before they moved
+  pub record Ran (comings : List (Occasion Circumstance)) (begun : List Tick) (came : List Packet) (old new : Lined T) : Type 0 where
     pub occasions : List (Occasion Circumstance)
-    pub untimed : calm → AllByRecursion FiresNone occasions
+    pub comings_are : comings_in occasions ≡ comings
     pub runs : Runs U (ComesInTurn U) occasions old new
     pub went : List Packet
     pub each : AllByRecursion (IsPacket 1021) went
@@ -93,13 +115,17 @@ module _ {S T : Type 0} (A : Profile S) (U : Upper T Circumstance) (IsAs : Host 
     pub out : new.line.out ≡ old.line.out ++ spellings went
     pub writable : IsWritable new.line
 
-  ran_by : (calm : Type 0) (gifts : List (List Circumstance)) (came : List Packet) (old new : Lined T) → GoesBy U gifts came old new → Ran calm [] came old new
-  ran_by calm gifts came old new goes = record { occasions = goes.occasions; untimed = λ so. goes.untimed; runs = goes.runs; went = goes.went; each = goes.each; units_are = goes.units_are; ticks_are = untimed_ticks goes.occasions goes.untimed; out = goes.out; writable = goes.writable }
+  ran_by : (comings : List (Occasion Circumstance)) (gifts : List (List Circumstance)) (came : List Packet) (old new : Lined T) (goes : GoesBy U gifts came old new) → comings_in goes.occasions ≡ comings → Ran comings [] came old new
+  ran_by comings gifts came old new goes is = record { occasions = goes.occasions; comings_are = is; runs = goes.runs; went = goes.went; each = goes.each; units_are = goes.units_are; ticks_are = untimed_ticks goes.occasions goes.untimed; out = goes.out; writable = goes.writable }
 
-  ran_then : (calm : Type 0) (begun : List Tick) (came : List Packet) (old mid new : Lined T) → Ran calm begun came old mid → Ran calm [] [] mid new → Ran calm begun came old new
-  ran_then calm begun came old mid new first second = record {
+  -- by itself
+  ran_alone : (old new : Lined T) → GoesBy U [] [] old new → Ran [] [] [] old new
+  ran_alone old new goes = ran_by [] [] [] old new goes (none_come goes.occasions goes.given)
+
+  ran_then : (comings : List (Occasion Circumstance)) (begun : List Tick) (came : List Packet) (old mid new : Lined T) → Ran comings begun came old mid → Ran [] [] [] mid new → Ran comings begun came old new
+  ran_then comings begun came old mid new first second = record {
     occasions = first.occasions ++ second.occasions;
-    untimed = λ so. both_untimed first.occasions second.occasions (first.untimed so) (second.untimed so);
+    comings_are = comings_both first.occasions second.occasions ∙ (ap₂ (λ (x y : List (Occasion Circumstance)). x ++ y) first.comings_are second.comings_are ∙ append-nil comings);
     runs = runs_then U (ComesInTurn U) first.occasions second.occasions old mid new first.runs second.runs;
     went = first.went ++ second.went;
     each = all_append (IsPacket 1021) first.went second.went first.each second.each;
@@ -117,56 +143,56 @@ module _ {S T : Type 0} (A : Profile S) (U : Upper T Circumstance) (IsAs : Host 
   calls_at line there writable = (calls_are_runs U).calls (lined line there) follows.octets writable
 
   -- the other is where the one is
-  record Leads (calm : Type 0) (begun : List Tick) (came : List Packet) (old : Standing S) (there : T) (new : Standing S) : Type 0 where
+  record Leads (comings : List (Occasion Circumstance)) (begun : List Tick) (came : List Packet) (old : Standing S) (there : T) (new : Standing S) : Type 0 where
     after : T
     alike : IsAs new.host after
-    ran : Ran calm begun came (lined old.line there) (lined new.line after)
+    ran : Ran comings begun came (lined old.line there) (lined new.line after)
     paged : new.paged ≡ old.paged
 
   -- ---- what it does by itself
 
-  deed_leads : (calm : Type 0) (deed : Deed) (old new : Standing S) (there : T) → DoesDeed A deed old new → IsAs old.host there → IsWritable old.line → IsDevice old.paged → Leads calm [] [] old there new
-  deed_leads calm Putting old new there does alike writable device =
-      subst (λ (s : Standing S). Leads calm [] [] old there s) (sym does) (record { after = there; alike = alike; ran = ran_by calm [] [] (lined old.line there) _ (calls_at old.line there writable).puts; paged = refl })
-  deed_leads calm (Saying pdu) old new there does alike writable device =
+  deed_leads : (deed : Deed) (old new : Standing S) (there : T) → DoesDeed A deed old new → IsAs old.host there → IsWritable old.line → IsDevice old.paged → Leads [] [] [] old there new
+  deed_leads Putting old new there does alike writable device =
+      subst (λ (s : Standing S). Leads [] [] [] old there s) (sym does) (record { after = there; alike = alike; ran = ran_alone (lined old.line there) _ (calls_at old.line there writable).puts; paged = refl })
+  deed_leads (Saying pdu) old new there does alike writable device =
       let (now, said, again) = follows.says old.host there pdu new.host alike does.next in
       record {
         after = now;
         alike = again;
-        ran = subst (λ (l : Line). Ran calm [] [] (lined old.line there) (lined l now)) (sym does.line) (ran_by calm [] [] (lined old.line there) _ ((calls_at old.line there writable).says pdu now does.may said));
+        ran = subst (λ (l : Line). Ran [] [] [] (lined old.line there) (lined l now)) (sym does.line) (ran_alone (lined old.line there) _ ((calls_at old.line there writable).says pdu now does.may said));
         paged = does.paged;
       }
-  deed_leads calm Ending old new there does alike writable device =
-      subst (λ (s : Standing S). Leads calm [] [] old there s) (sym does.1) (record { after = there; alike = alike; ran = ran_by calm [] [] (lined old.line there) _ (calls_at old.line there writable).ends; paged = refl })
-  deed_leads calm Paging old new there does alike writable device =
-      subst (λ (s : Standing S). Leads calm [] [] old there s) (sym does.1)
-      (record { after = there; alike = alike; ran = ran_by calm [] [] (lined old.line there) _ ((calls_at old.line there writable).pages old.paged device.six device.octets); paged = refl })
-  deed_leads calm Commanding old new there does alike writable device =
-      subst (λ (s : Standing S). Leads calm [] [] old there s) (sym does) (record { after = there; alike = alike; ran = ran_by calm [] [] (lined old.line there) _ (calls_at old.line there writable).commands; paged = refl })
+  deed_leads Ending old new there does alike writable device =
+      subst (λ (s : Standing S). Leads [] [] [] old there s) (sym does.1) (record { after = there; alike = alike; ran = ran_alone (lined old.line there) _ (calls_at old.line there writable).ends; paged = refl })
+  deed_leads Paging old new there does alike writable device =
+      subst (λ (s : Standing S). Leads [] [] [] old there s) (sym does.1)
+      (record { after = there; alike = alike; ran = ran_alone (lined old.line there) _ ((calls_at old.line there writable).pages old.paged device.six device.octets); paged = refl })
+  deed_leads Commanding old new there does alike writable device =
+      subst (λ (s : Standing S). Leads [] [] [] old there s) (sym does) (record { after = there; alike = alike; ran = ran_alone (lined old.line there) _ (calls_at old.line there writable).commands; paged = refl })
 
-  leads_then : (calm : Type 0) (begun : List Tick) (came : List Packet) (old : Standing S) (there : T) (mid new : Standing S) (first : Leads calm begun came old there mid) → Leads calm [] [] mid first.after new → Leads calm begun came old there new
-  leads_then calm begun came old there mid new first second = record {
+  leads_then : (comings : List (Occasion Circumstance)) (begun : List Tick) (came : List Packet) (old : Standing S) (there : T) (mid new : Standing S) (first : Leads comings begun came old there mid) → Leads [] [] [] mid first.after new → Leads comings begun came old there new
+  leads_then comings begun came old there mid new first second = record {
     after = second.after;
     alike = second.alike;
-    ran = ran_then calm begun came (lined old.line there) (lined mid.line first.after) (lined new.line second.after) first.ran second.ran;
+    ran = ran_then comings begun came (lined old.line there) (lined mid.line first.after) (lined new.line second.after) first.ran second.ran;
     paged = second.paged ∙ first.paged;
   }
 
-  all_lead : (calm : Type 0) (deeds : List Deed) (old new : Standing S) (there : T) → DoesAll A deeds old new → IsAs old.host there → IsWritable old.line → IsDevice old.paged → Leads calm [] [] old there new
-  all_lead calm [] old new there does alike writable device =
-      subst (λ (s : Standing S). Leads calm [] [] old there s) (sym does) (record { after = there; alike = alike; ran = ran_by calm [] [] (lined old.line there) _ (goes_none U (lined old.line there) writable); paged = refl })
-  all_lead calm (deed ∷ deeds) old new there (mid, one, more) alike writable device =
-      let first = deed_leads calm deed old mid there one alike writable device in
-      leads_then calm [] [] old there mid new first (all_lead calm deeds mid new first.after more first.alike first.ran.writable (subst IsDevice (sym first.paged) device))
+  all_lead : (deeds : List Deed) (old new : Standing S) (there : T) → DoesAll A deeds old new → IsAs old.host there → IsWritable old.line → IsDevice old.paged → Leads [] [] [] old there new
+  all_lead [] old new there does alike writable device =
+      subst (λ (s : Standing S). Leads [] [] [] old there s) (sym does) (record { after = there; alike = alike; ran = ran_alone (lined old.line there) _ (goes_none U (lined old.line there) writable); paged = refl })
+  all_lead (deed ∷ deeds) old new there (mid, one, more) alike writable device =
+      let first = deed_leads deed old mid there one alike writable device in
+      leads_then [] [] [] old there mid new first (all_lead deeds mid new first.after more first.alike first.ran.writable (subst IsDevice (sym first.paged) device))
 
   -- ---- the beginning
 
-  pub starts : (role : Role) → Ran (Unit {0}) [] [] (lined (fresh role) U.first) (lined (started role) U.first)
+  pub starts : (role : Role) → Ran [] [] [] (lined (fresh role) U.first) (lined (started role) U.first)
   starts role =
       let there = U.first in
-      let puts = ran_by (Unit {0}) [] [] (lined (fresh role) there) _ (calls_at (fresh role) there ((calls_are_runs U).fresh role)).puts in
+      let puts = ran_alone (lined (fresh role) there) _ (calls_at (fresh role) there ((calls_are_runs U).fresh role)).puts in
       let mid = put_pieces (fresh role) in
-      ran_then (Unit {0}) [] [] (lined (fresh role) there) (lined mid there) (lined (started role) there) puts (ran_by (Unit {0}) [] [] (lined mid there) _ (calls_at mid there puts.writable).commands)
+      ran_then [] [] [] (lined (fresh role) there) (lined mid there) (lined (started role) there) puts (ran_alone (lined mid there) _ (calls_at mid there puts.writable).commands)
 
   -- ---- what comes to it
 
@@ -191,19 +217,20 @@ module _ {S T : Type 0} (A : Profile S) (U : Upper T Circumstance) (IsAs : Host 
     in_turn (LinkDown reason) old port rest there alike told = tt
     in_turn (Pdu channel octets) old port rest there alike told = all_said old port rest there alike told
 
-    unit_leads : (calm : Type 0) (packet : Packet) (old : Stacked E) (port : P) (rest : List Circumstance) (there : T) → IsPacket acl_limit packet → fault_of packet old.line ≡ None → IsToldQuietly (news_of packet old.line) old → IsAs (at port old rest).host there → IsWritable old.line
-        → Leads calm [] (packet ∷ []) (at port old rest) there (after_packet A packet rest (at port old rest))
-    unit_leads calm packet old port rest there is fault told alike writable =
+    unit_leads : (packet : Packet) (old : Stacked E) (port : P) (rest : List Circumstance) (there : T) → IsPacket acl_limit packet → fault_of packet old.line ≡ None → IsToldQuietly (news_of packet old.line) old → IsAs (at port old rest).host there → IsWritable old.line
+        → Leads (Comes [] packet ∷ []) [] (packet ∷ []) (at port old rest) there (after_packet A packet rest (at port old rest))
+    unit_leads packet old port rest there is fault told alike writable =
         let (gifts, again) = told_as (news_of packet old.line) rest (at port old rest).host there alike in
+        let goes = (calls_at old.line there writable).hears acl_limit gifts packet is fault (in_turn (news_of packet old.line) old port rest there alike told) in
         record {
           after = hears_line U gifts (news_of packet old.line) there;
           alike = again;
-          ran = ran_by calm (gifts ∷ []) (packet ∷ []) (lined old.line there) _ ((calls_at old.line there writable).hears acl_limit gifts packet is fault (in_turn (news_of packet old.line) old port rest there alike told));
+          ran = ran_by (Comes [] packet ∷ []) (gifts ∷ []) (packet ∷ []) (lined old.line there) _ goes (one_comes goes.occasions gifts packet (map out_of goes.went) goes.given goes.units_are);
           paged = refl;
         }
 
     news_leads : (news : News) (old : Stacked E) (port : P) (rest : List Circumstance) (there : T) → IsOwnNews news → AllIsSaid old → IsAs (at port old rest).host there → IsWritable old.line
-        → Leads (IsUntimed news) (news_ticks news) [] (at port old rest) there (with_host (hear A rest news (asking pushing port old.upper rest)) (at port old rest))
+        → Leads (Hits [] news ∷ []) (news_ticks news) [] (at port old rest) there (with_host (hear A rest news (asking pushing port old.upper rest)) (at port old rest))
     news_leads news old port rest there own said alike writable =
         let (gifts, again) = follows.hears rest news (at port old rest).host there alike in
         let after = lined old.line (U.hear gifts news there) in
@@ -212,7 +239,7 @@ module _ {S T : Type 0} (A : Profile S) (U : Upper T Circumstance) (IsAs : Host 
           alike = again;
           ran = record {
             occasions = Hits gifts news ∷ [];
-            untimed = λ so. (so, tt);
+            comings_are = refl;
             runs = (after, all_said old port rest there alike said, (own, refl), refl);
             went = [];
             each = tt;
@@ -239,7 +266,7 @@ module _ {S T : Type 0} (A : Profile S) (U : Upper T Circumstance) (IsAs : Host 
     -- where an impulse leads, and what moves with it
     pub record Led (impulse : Impulse) (old : Stacked E) (there : T) (new : Stacked E) (host : Host S) : Type 0 where
       pub occasions : List (Occasion Circumstance)
-      pub untimed : FiresNot impulse → AllByRecursion FiresNone occasions
+      pub comings_are : comings_in occasions ≡ impulse_comings impulse
       pub after : T
       pub alike : IsAs host after
       pub runs : Runs U (ComesInTurn U) occasions (lined old.line there) (lined new.line after)
@@ -248,13 +275,13 @@ module _ {S T : Type 0} (A : Profile S) (U : Upper T Circumstance) (IsAs : Host 
       pub writable : IsWritable new.line
       pub device : IsDevice new.paged
 
-    led_by : (impulse : Impulse) (old new : Stacked E) (there : T) (before : P) (rest : List Circumstance) (last : Standing S) → left_of impulse old.line.out ≡ old.line.out → last.line ≡ new.line → last.paged ≡ new.paged → IsDevice old.paged → Leads (FiresNot impulse) (impulse_ticks impulse) (heard_of impulse) (at before old rest) there last
+    led_by : (impulse : Impulse) (old new : Stacked E) (there : T) (before : P) (rest : List Circumstance) (last : Standing S) → left_of impulse old.line.out ≡ old.line.out → last.line ≡ new.line → last.paged ≡ new.paged → IsDevice old.paged → Leads (impulse_comings impulse) (impulse_ticks impulse) (heard_of impulse) (at before old rest) there last
         → Led impulse old there new last.host
     led_by impulse old new there before rest last none line paged device leads =
         let ran = leads.ran in
         record {
           occasions = ran.occasions;
-          untimed = ran.untimed;
+          comings_are = ran.comings_are;
           after = leads.after;
           alike = leads.alike;
           runs = subst (λ (l : Line). Runs U (ComesInTurn U) ran.occasions (lined old.line there) (lined l leads.after)) line ran.runs;
@@ -274,18 +301,18 @@ module _ {S T : Type 0} (A : Profile S) (U : Upper T Circumstance) (IsAs : Host 
         → IsAs (at before old (used_of impulse (record { stack = old; port = before }) (record { stack = new; port = after }) one ++ rest)).host there → IsWritable old.line → IsDevice old.paged → Led impulse old there new (at after new rest).host
     impulse_led (Hears packet) old new before after (is, hears) rest there quiet leaves alike writable device =
         let all = hears.reacts.used ++ rest in
-        let first = unit_leads (Unit {0}) packet old before all there is hears.fault quiet alike writable in
-        let behind = all_lead (Unit {0}) hears.reacts.deeds (after_packet A packet all (at before old all)) (at after new rest) first.after (hears.reacts.reacts rest) first.alike first.ran.writable device in
-        led_by (Hears packet) old new there before all (at after new rest) refl refl refl device (leads_then (Unit {0}) [] (packet ∷ []) (at before old all) there (after_packet A packet all (at before old all)) (at after new rest) first behind)
+        let first = unit_leads packet old before all there is hears.fault quiet alike writable in
+        let behind = all_lead hears.reacts.deeds (after_packet A packet all (at before old all)) (at after new rest) first.after (hears.reacts.reacts rest) first.alike first.ran.writable device in
+        led_by (Hears packet) old new there before all (at after new rest) refl refl refl device (leads_then (Comes [] packet ∷ []) [] (packet ∷ []) (at before old all) there (after_packet A packet all (at before old all)) (at after new rest) first behind)
     impulse_led (Learns news) old new before after (own, hears) rest there quiet leaves alike writable device =
         let all = hears.used ++ rest in
         let first = news_leads news old before all there own quiet alike writable in
         let mid = with_host (hear A all news (asking pushing before old.upper all)) (at before old all) in
-        let behind = all_lead (IsUntimed news) hears.deeds mid (at after new rest) first.after (hears.reacts rest) first.alike first.ran.writable device in
-        led_by (Learns news) old new there before all (at after new rest) refl refl refl device (leads_then (IsUntimed news) (news_ticks news) [] (at before old all) there mid (at after new rest) first behind)
+        let behind = all_lead hears.deeds mid (at after new rest) first.after (hears.reacts rest) first.alike first.ran.writable device in
+        led_by (Learns news) old new there before all (at after new rest) refl refl refl device (leads_then (Hits [] news ∷ []) (news_ticks news) [] (at before old all) there mid (at after new rest) first behind)
     impulse_led GoesOn old new before after goes rest there quiet leaves alike writable device =
         let all = goes.used ++ rest in
-        led_by GoesOn old new there before all (at after new rest) refl refl refl device (all_lead (Unit {0}) goes.deeds (at before old all) (at after new rest) there (goes.reacts rest) alike writable device)
+        led_by GoesOn old new there before all (at after new rest) refl refl refl device (all_lead goes.deeds (at before old all) (at after new rest) there (goes.reacts rest) alike writable device)
     impulse_led (Gives count) old new before after is rest there quiet leaves alike writable device =
         let out = drop count old.line.out in
         let line : Line = record old.line { out = out } in
@@ -293,7 +320,7 @@ module _ {S T : Type 0} (A : Profile S) (U : Upper T Circumstance) (IsAs : Host 
         (subst (λ (p : P). Led (Gives count) old there (record old { line = line }) (at p (record old { line = line }) rest).host) (sym leaves)
         (record {
           occasions = Waits ∷ [];
-          untimed = λ so. (tt, tt);
+          comings_are = refl;
           after = there;
           alike = alike;
           runs = (lined line there, tt, record { upper_is = refl; line_is = refl; awaited_is = refl }, refl);
@@ -307,7 +334,7 @@ module _ {S T : Type 0} (A : Profile S) (U : Upper T Circumstance) (IsAs : Host 
         (subst (λ (p : P). Led (Pages address) old there (record old { paged = address }) (at p (record old { paged = address }) rest).host) (sym leaves)
         (record {
           occasions = [];
-          untimed = λ so. tt;
+          comings_are = refl;
           after = there;
           alike = alike;
           runs = refl;
@@ -348,7 +375,7 @@ module _ {S T : Type 0} (A : Profile S) (U : Upper T Circumstance) (IsAs : Host 
         let rest = led_along impulses mid new more later first.after quiet first.alike first.writable first.device in
         record {
           occasions = first.occasions ++ rest.occasions;
-          untimed = λ so. both_untimed first.occasions rest.occasions (first.untimed so.0) (rest.untimed so.1);
+          untimed = λ so. both_untimed first.occasions rest.occasions (untimed_with impulse first.occasions first.comings_are so.0) (rest.untimed so.1);
           port = rest.port;
           after = rest.after;
           alike = rest.alike;
@@ -375,7 +402,7 @@ module _ {S T : Type 0} (A : Profile S) (U : Upper T Circumstance) (IsAs : Host 
         let along = led_along impulses old new has port there quiet (alike (used_in impulses old new has ++ [])) (subst IsWritable (sym is) start.writable) device in
         record {
           occasions = start.occasions ++ along.occasions;
-          untimed = λ so. both_untimed start.occasions along.occasions (start.untimed tt) (along.untimed so);
+          untimed = λ so. both_untimed start.occasions along.occasions (none_timed start.occasions start.comings_are) (along.untimed so);
           port = along.port;
           after = along.after;
           alike = along.alike;

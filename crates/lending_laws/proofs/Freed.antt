@@ -53,15 +53,15 @@ runs_where rules there here so list old new same are = record { list = are.list;
 
 -- ---- a client
 
-client_off : (settings : Settings) (occasions : List (Occasion Circumstance)) (now : Lined (Host ClientProfile)) (host : Host (Noted Shelved)) → Did (client_profile settings) Client occasions now → IsClient settings host now.upper → now.line.link ≡ None → host.channels ≡ no_channels
+pub client_off : (settings : Settings) (occasions : List (Occasion Circumstance)) (now : Lined (Host ClientProfile)) (host : Host (Noted Shelved)) → Did (client_profile settings) Client occasions now → IsClient settings host now.upper → now.line.link ≡ None → host.channels ≡ no_channels
 client_off settings occasions now host did alike none = sym alike.1 ∙ channels_off (client_profile settings) HasNoLink (clients_keep settings) Client occasions now did none
 
 module _ {P : Type 0} (content : P → Option (List Object)) (faults shortages : P → ℕ) (settings : Settings) (shelf shelf' : P) (steps : List Step) (now : Shelled (Noted ClientProfile))
     (has : HasSteps noted_client (Answers content faults shortages) (pushed.Lacks shortages) (client_noting content) steps (fresh_client settings) now shelf shelf') (told : AreTold (started Client).out steps) where
-  abbrev Closed : Type 0
+  abbrev pub Closed : Type 0
   Closed = At noted_client settings (Answers content faults shortages) (pushed.Lacks shortages) (client_noting content) (upper (client_profile settings)) (IsClient settings) (clients_follow settings) Client (client_off settings) steps now shelf'
 
-  closed : Closed
+  pub closed : Closed
   closed =
       let pushing = client_noting content in
       let U = upper (client_profile settings) in

@@ -28,23 +28,26 @@ use Rattle.call_laws.specs.bt_host.specs.Stacks.{Stacked, Standing, Moment, Goes
 use Rattle.call_laws.specs.bt_host.specs.Stacks as stacks
 use Rattle.call_laws.specs.unit_laws.specs.Calls.{IsWritable}
 use Rattle.call_laws.specs.unit_laws.specs.Laws.{IsUntimed, FiresNone}
-use Rattle.call_laws.specs.unit_laws.specs.Units.{Lined, starting, Occasion, units_of, units, Runs, ComesInTurn}
+use Rattle.call_laws.specs.unit_laws.specs.Units.{Lined, starting, Occasion, Learns as Hits, units_of, units, Runs, ComesInTurn}
 use Rattle.call_laws.specs.unit_laws.proofs.Doing.{runs_then}
 use Rattle.call_laws.specs.unit_laws.proofs.Taking.{ReadAt, takes_so, first_read, runs_read}
 use Rattle.receiving.specs.Turns.{Turn}
 use Rattle.receiving.proofs.Still.{moves_still}
 use Rattle.receive_laws.specs.Freely.{IsFreeOn, ComesFree}
 use Rattle.receive_laws.specs.Moving.{opening, MovesWith, MoveFromStart}
-use Rattle.receive_laws.proofs.Freely.{packet_tells, brings_none, one_more}
+use Rattle.receive_laws.proofs.Freely.{packet_tells, brings_none}
+use Rattle.receive_laws.proofs.Reaching.{one_more}
 use Rattle.call_laws.specs.HostCalls.{HostCall, Feed, OnTimer, Push, Cancel, PutOut, Taken, PageDevice, piece_of, Calls}
 use Rattle.call_laws.specs.Impulses.{Impulse, Hears, Learns, Gives, Pages, IsDevice, Happens, heard_of, left_of}
 use Rattle.call_laws.specs.Impulses as impulses
 use Rattle.call_laws.proofs.Calling.{fed_by}
+use Rattle.lending_laws.specs.Comings.{heard_whole, comings_with}
 use Rattle.lending_laws.specs.Freely.{IsBufferFree, TellsFreely, AreTold, FiresNever}
 use Rattle.lending_laws.specs.InTurn.{AllIsSaid, IsToldQuietly, ComesQuietly, LeavesPort, FiresNot}
 use Rattle.call_laws.specs.unit_laws.specs.Timed.{Tick, Moves, news_ticks, ticks_of, ticks}
 use Rattle.lending_laws.specs.Steps.{Step, turns_of, left_by, KeepsPort, Takes, HasSteps, call_ticks, TicksWith, TickInSteps, TickFromStart}
-use Rattle.lending_laws.proofs.Following.{Follows, both_untimed, used_of, impulse_ticks, impulse_led, starts}
+use Rattle.lending_laws.proofs.Following.{Follows, both_untimed, impulse_comings, none_timed, untimed_with, used_of, impulse_ticks, impulse_led, starts}
+use Rattle.lending_laws.proofs.Happening.{HappenFromStart, happen_behind}
 use Rattle.lending_laws.proofs.Quietly.{said_on, said_off, told_on, told_off, rests_taken, rests_paging}
 
 -- ---- lists of octets
@@ -98,6 +101,7 @@ module _ {E S T P : Type 0} (profile : Settings → Profile S) (settings : Setti
     pub writable : IsWritable now.line
     pub device : IsDevice now.paged
     pub tick : TickFromStart said ahead (ticks occasions)
+    pub happen : HappenFromStart said ahead occasions
 
   -- whatever its port answers later
   abbrev Reached : List Step → Stacked E → P → Type 0
@@ -176,8 +180,8 @@ module _ {E S T P : Type 0} (profile : Settings → Profile S) (settings : Setti
   ticks_behind ahead step xs ys (first, rest, moves, more, all) one = (first, rest ++ ys, moves, more_ticks ahead step rest ys more one, ap (λ (l : List Tick). l ++ ys) all ∙ append_assoc (map Moves first) rest ys)
 
   -- nothing moved
-  idle : (ahead : List Step) (step : Step) (stack : Stacked E) (port : P) → call_ticks step.call ≡ [] → step.turn.packet ≡ None → step.turn.said ≡ [] → Reached ahead stack port → Reached (ahead ++ step ∷ []) stack port
-  idle ahead step stack port calm none silent reached = λ rest.
+  idle : (ahead : List Step) (step : Step) (stack : Stacked E) (port : P) → call_ticks step.call ≡ [] → comings_with step.call step.turn.packet ≡ [] → step.turn.packet ≡ None → step.turn.said ≡ [] → Reached ahead stack port → Reached (ahead ++ step ∷ []) stack port
+  idle ahead step stack port calm aside none silent reached = λ rest.
       let from = reached rest in
       let moves : MovesWith step.turn [] = record { went = []; said = record { each = tt; octets_are = silent }; moves_are = ap (λ (p : Option Packet). map into (option_to_list p) ++ []) (sym none) } in
       record {
@@ -192,6 +196,8 @@ module _ {E S T P : Type 0} (profile : Settings → Profile S) (settings : Setti
         device = from.device;
         tick = subst (TickFromStart said (ahead ++ step ∷ [])) (append-nil (ticks from.occasions))
             (ticks_behind ahead step (ticks from.occasions) [] from.tick (record { moves = []; move = moves; ticks_are = ap (λ (l : List Tick). l ++ []) (sym calm) }));
+        happen = subst (HappenFromStart said (ahead ++ step ∷ [])) (append-nil from.occasions)
+            (happen_behind said ahead step from.occasions [] from.happen (record { comings_are = sym aside; move = moves }));
       }
 
   moves_as : (impulse : Impulse) (turn : Turn) (old new : Stacked E) (ys : List Move) → heard_of impulse ≡ option_to_list turn.packet → new.line.out ≡ left_of impulse old.line.out ++ turn.said → impulses.MovesWith impulse old new ys → MovesWith turn ys
@@ -203,8 +209,8 @@ module _ {E S T P : Type 0} (profile : Settings → Profile S) (settings : Setti
 
   -- an impulse came
   led : (impulse : Impulse) (ahead : List Step) (step : Step) (old new : Stacked E) (before after : P) (one : Happens A Answers pushing impulse (record { stack = old; port = before }) (record { stack = new; port = after })) → ComesQuietly impulse old → LeavesPort impulse before after → heard_of impulse ≡ option_to_list step.turn.packet
-      → impulse_ticks impulse ≡ call_ticks step.call → (FiresNever step → FiresNot impulse) → new.line.out ≡ left_of impulse old.line.out ++ step.turn.said → Reached ahead old before → Reached (ahead ++ step ∷ []) new after
-  led impulse ahead step old new before after one quiet leaves heard ticked calm out reached = λ rest.
+      → impulse_ticks impulse ≡ call_ticks step.call → impulse_comings impulse ≡ comings_with step.call step.turn.packet → (FiresNever step → FiresNot impulse) → new.line.out ≡ left_of impulse old.line.out ++ step.turn.said → Reached ahead old before → Reached (ahead ++ step ∷ []) new after
+  led impulse ahead step old new before after one quiet leaves heard ticked comes calm out reached = λ rest.
       let from = reached (used_of A U IsAs follows Answers pushing impulse (record { stack = old; port = before }) (record { stack = new; port = after }) one ++ rest) in
       let more = impulse_led A U IsAs follows Answers pushing impulse old new before after one rest from.there quiet leaves from.alike from.writable from.device in
       let moves = moves_as impulse step.turn old new (units more.occasions) heard out more.move in
@@ -215,11 +221,12 @@ module _ {E S T P : Type 0} (profile : Settings → Profile S) (settings : Setti
         alike = more.alike;
         moves = subst (MoveFromStart said (turns_of (ahead ++ step ∷ []))) (sym (flat_map-append units_of from.occasions more.occasions))
             (behind ahead step (units from.occasions) (units more.occasions) from.moves moves);
-        untimed = λ all. let both = front_never ahead step all in both_untimed from.occasions more.occasions (from.untimed both.0) (more.untimed (calm both.1));
+        untimed = λ all. let both = front_never ahead step all in both_untimed from.occasions more.occasions (from.untimed both.0) (untimed_with impulse more.occasions more.comings_are (calm both.1));
         writable = more.writable;
         device = more.device;
         tick = subst (TickFromStart said (ahead ++ step ∷ [])) (sym (flat_map-append ticks_of from.occasions more.occasions))
             (ticks_behind ahead step (ticks from.occasions) (ticks more.occasions) from.tick (record { moves = units more.occasions; move = moves; ticks_are = more.ticks_are ∙ ap (λ (l : List Tick). l ++ map Moves (units more.occasions)) ticked }));
+        happen = happen_behind said ahead step from.occasions more.occasions from.happen (record { comings_are = more.comings_are ∙ comes; move = moves });
       }
 
   -- ---- a piece is fed
@@ -227,36 +234,36 @@ module _ {E S T P : Type 0} (profile : Settings → Profile S) (settings : Setti
   abbrev Told : List Step → Step → Type 0
   Told ahead step = (moved : List Move) → MoveFromStart said (turns_of ahead) moved → TellsFreely step.call step.turn.packet moved
 
-  hears : (packet : Option Packet) (ahead : List Step) (step : Step) (mid new : Moment E P) → call_ticks step.call ≡ [] → step.turn.packet ≡ packet → AllByRecursion (IsPacket acl_limit) (option_to_list packet) → HearsAll A Answers pushing (option_to_list packet) mid new → new.stack.line.out ≡ mid.stack.line.out ++ step.turn.said
+  hears : (packet : Option Packet) (ahead : List Step) (step : Step) (mid new : Moment E P) → call_ticks step.call ≡ [] → comings_with step.call step.turn.packet ≡ heard_whole step.turn.packet → step.turn.packet ≡ packet → AllByRecursion (IsPacket acl_limit) (option_to_list packet) → HearsAll A Answers pushing (option_to_list packet) mid new → new.stack.line.out ≡ mid.stack.line.out ++ step.turn.said
       → Reached ahead mid.stack mid.port → IsResting A pushing mid → has_room mid.stack.line ≡ true → ((moved : List Move) → MoveFromStart said (turns_of ahead) moved → ComesFree moved packet) → Reached (ahead ++ step ∷ []) new.stack new.port
-  hears None ahead step mid new calm is each heard out reached rests room told =
+  hears None ahead step mid new calm comes is each heard out reached rests room told =
       subst (λ (m : Moment E P). Reached (ahead ++ step ∷ []) m.stack m.port) (sym heard)
-      (idle ahead step mid.stack mid.port calm is (gained_none mid.stack.line.out new.stack.line.out step.turn.said out (ap (λ (m : Moment E P). m.stack.line.out) heard)) reached)
-  hears (Some packet) ahead step mid new calm is each (next, one, same) out reached rests room told =
+      (idle ahead step mid.stack mid.port calm (comes ∙ ap heard_whole is) is (gained_none mid.stack.line.out new.stack.line.out step.turn.said out (ap (λ (m : Moment E P). m.stack.line.out) heard)) reached)
+  hears (Some packet) ahead step mid new calm comes is each (next, one, same) out reached rests room told =
       let here : stacks.Hears A Answers pushing packet mid new = subst (λ (m : Moment E P). stacks.Hears A Answers pushing packet mid m) (sym same) one in
       let from = reached [] in
-      led (Hears packet) ahead step mid.stack new.stack mid.port new.port (each.0, here) (packet_quiet ahead mid.stack mid.port packet from (rests []) room (told (units from.occasions) from.moves)) tt (ap option_to_list (sym is)) (sym calm) (λ fires. tt) out reached
+      led (Hears packet) ahead step mid.stack new.stack mid.port new.port (each.0, here) (packet_quiet ahead mid.stack mid.port packet from (rests []) room (told (units from.occasions) from.moves)) tt (ap option_to_list (sym is)) (sym calm) (sym (comes ∙ ap heard_whole is)) (λ fires. tt) out reached
 
-  feeds : (piece : List ℕ) (ahead : List Step) (step : Step) (old new : Shelled E) (port port' : P) → call_ticks step.call ≡ [] → At ahead old port → FeedsOn A Answers Lacked pushing piece old.framing new.framing (moment_of old port) (moment_of new port') (Ok tt) → AllByRecursion (IsPacket acl_limit) (option_to_list step.turn.packet)
+  feeds : (piece : List ℕ) (ahead : List Step) (step : Step) (old new : Shelled E) (port port' : P) → call_ticks step.call ≡ [] → comings_with step.call step.turn.packet ≡ heard_whole step.turn.packet → At ahead old port → FeedsOn A Answers Lacked pushing piece old.framing new.framing (moment_of old port) (moment_of new port') (Ok tt) → AllByRecursion (IsPacket acl_limit) (option_to_list step.turn.packet)
       → old.framing.held ++ piece ≡ spellings (option_to_list step.turn.packet) ++ new.framing.held → new.stack.line.out ≡ old.stack.line.out ++ step.turn.said → ((moved : List Move) → MoveFromStart said (turns_of ahead) moved → ComesFree moved step.turn.packet) → Reached (ahead ++ step ∷ []) new.stack port'
-  feeds piece ahead step old new port port' calm now (mid, goes, takes) each whole out told =
+  feeds piece ahead step old new port port' calm comes now (mid, goes, takes) each whole out told =
       let held_is : new.framing.held ≡ takes.taken.rest = ap (λ f. f.held) takes.taken.framing_is in
       let none = unfinished_none acl_limit takes.taken.rest takes.taken.unfinished in
       let also = unfinished_none acl_limit new.framing.held (subst (IsUnfinished acl_limit) (sym held_is) takes.taken.unfinished) in
       let same = (same_split acl_limit takes.packets (option_to_list step.turn.packet) takes.taken.rest new.framing.held takes.taken.read.each each none also (sym takes.taken.read.octets ∙ whole)).0 in
       let old_moment = moment_of old port in
       let line = still_line old_moment mid goes now.rests in
-      hears step.turn.packet ahead step mid (moment_of new port') calm refl each (subst (λ (packets : List Packet). HearsAll A Answers pushing packets mid (moment_of new port')) same takes.hears) (out ∙ ap (λ (l : Line). l.out ++ step.turn.said) (sym line))
+      hears step.turn.packet ahead step mid (moment_of new port') calm comes refl each (subst (λ (packets : List Packet). HearsAll A Answers pushing packets mid (moment_of new port')) same takes.hears) (out ∙ ap (λ (l : Line). l.out ++ step.turn.said) (sym line))
       (still_reached ahead old_moment mid goes now.rests now.reached) (still_rests old_moment mid goes now.rests) (ap has_room line ∙ now.room) told
 
   -- ---- any call
 
   -- news come
   learns : (news : News) (ahead : List Step) (step : Step) (old new : Shelled E) (port port' : P) → At ahead old port → Happens A Answers pushing (Learns news) (moment_of old port) (moment_of new port') → step.turn.packet ≡ None → new.stack.line.out ≡ old.stack.line.out ++ step.turn.said
-      → news_ticks news ≡ call_ticks step.call → (FiresNever step → IsUntimed news) → ((moved : List Move) → MoveFromStart said (turns_of ahead) moved → IsBufferFree moved) → Reached (ahead ++ step ∷ []) new.stack port'
-  learns news ahead step old new port port' now one none out ticked calm told =
+      → news_ticks news ≡ call_ticks step.call → Hits [] news ∷ [] ≡ comings_with step.call step.turn.packet → (FiresNever step → IsUntimed news) → ((moved : List Move) → MoveFromStart said (turns_of ahead) moved → IsBufferFree moved) → Reached (ahead ++ step ∷ []) new.stack port'
+  learns news ahead step old new port port' now one none out ticked comes calm told =
       let from = now.reached [] in
-      led (Learns news) ahead step old.stack new.stack port port' one (free_said ahead old.stack port from (now.rests []) now.room (told (units from.occasions) from.moves)) tt (ap option_to_list (sym none)) ticked calm out now.reached
+      led (Learns news) ahead step old.stack new.stack port port' one (free_said ahead old.stack port from (now.rests []) now.room (told (units from.occasions) from.moves)) tt (ap option_to_list (sym none)) ticked comes calm out now.reached
 
   tells : (news : News) (old new : Shelled E) (port port' : P) → settings_of old ≡ settings → HearsNews (profile (settings_of old)) Answers pushing news (moment_of old port) (moment_of new port') → HearsNews A Answers pushing news (moment_of old port) (moment_of new port')
   tells news old new port port' same one = subst (λ (s : Settings). HearsNews (profile s) Answers pushing news (moment_of old port) (moment_of new port')) same one
@@ -277,25 +284,25 @@ module _ {E S T P : Type 0} (profile : Settings → Profile S) (settings : Setti
       let step : Step = record { call = Feed piece; turn = turn } in
       let goes = (fed_by profile Answers Lacked pushing _ (new ≡ old) (port' ≡ port) old.refusal fed).0 in
       let on = subst (λ (s : Settings). FeedsOn (profile s) Answers Lacked pushing piece old.framing new.framing (moment_of old port) (moment_of new port') (Ok tt)) now.settings_are goes in
-      rested ahead (ahead ++ step ∷ []) old new port port' now (feeds piece ahead step old new port port' refl now on each whole out told) comes few
+      rested ahead (ahead ++ step ∷ []) old new port port' now (feeds piece ahead step old new port port' refl refl now on each whole out told) comes few
   called OnTimer turn ahead old new port port' now (hears, (comes, stays)) each whole out few keeps told =
       let step : Step = record { call = OnTimer; turn = turn } in
       let none = none_whole old.framing.held new.framing.held turn.packet whole (ap (λ (h : Shelled E). h.framing.held) stays) in
-      rested ahead (ahead ++ step ∷ []) old new port port' now (learns TimerFired ahead step old new port port' now (tt, tells TimerFired old new port port' now.settings_are hears) none out refl (λ fires. fires refl) told) comes few
+      rested ahead (ahead ++ step ∷ []) old new port port' now (learns TimerFired ahead step old new port port' now (tt, tells TimerFired old new port port' now.settings_are hears) none out refl refl (λ fires. fires refl) told) comes few
   called (Push name) turn ahead old new port port' now (hears, (comes, stays)) each whole out few keeps told =
       let step : Step = record { call = Push name; turn = turn } in
       let none = none_whole old.framing.held new.framing.held turn.packet whole (ap (λ (h : Shelled E). h.framing.held) stays) in
-      rested ahead (ahead ++ step ∷ []) old new port port' now (learns (Opening name) ahead step old new port port' now (tt, tells (Opening name) old new port port' now.settings_are hears) none out refl (λ fires. tt) told) comes few
+      rested ahead (ahead ++ step ∷ []) old new port port' now (learns (Opening name) ahead step old new port port' now (tt, tells (Opening name) old new port port' now.settings_are hears) none out refl refl (λ fires. tt) told) comes few
   called Cancel turn ahead old new port port' now (hears, (comes, stays)) each whole out few keeps told =
       let step : Step = record { call = Cancel; turn = turn } in
       let none = none_whole old.framing.held new.framing.held turn.packet whole (ap (λ (h : Shelled E). h.framing.held) stays) in
-      rested ahead (ahead ++ step ∷ []) old new port port' now (learns Cancelled ahead step old new port port' now (tt, tells Cancelled old new port port' now.settings_are hears) none out refl (λ fires. tt) told) comes few
+      rested ahead (ahead ++ step ∷ []) old new port port' now (learns Cancelled ahead step old new port port' now (tt, tells Cancelled old new port port' now.settings_are hears) none out refl refl (λ fires. tt) told) comes few
   called PutOut turn ahead old new port port' now (goes, (comes, stays)) each whole out few keeps told =
       let step : Step = record { call = PutOut; turn = turn } in
       let none = none_whole old.framing.held new.framing.held turn.packet whole (ap (λ (h : Shelled E). h.framing.held) stays) in
       let on = subst (λ (s : Settings). GoesOn (profile s) Answers pushing (moment_of old port) (moment_of new port')) now.settings_are goes in
       let silent = gained_none old.stack.line.out new.stack.line.out turn.said out (ap (λ (l : Line). l.out) (still_line (moment_of old port) (moment_of new port') on now.rests)) in
-      rested ahead (ahead ++ step ∷ []) old new port port' now (idle ahead step new.stack port' refl none silent (still_reached ahead (moment_of old port) (moment_of new port') on now.rests now.reached)) comes few
+      rested ahead (ahead ++ step ∷ []) old new port port' now (idle ahead step new.stack port' refl refl none silent (still_reached ahead (moment_of old port) (moment_of new port') on now.rests now.reached)) comes few
   called (Taken count) turn ahead old new port port' now (within, is) each whole out few keeps told =
       let step : Step = record { call = Taken count; turn = turn } in
       let none = none_whole old.framing.held new.framing.held turn.packet whole (ap (λ (h : Shelled E). h.framing.held) is) in
@@ -304,7 +311,7 @@ module _ {E S T P : Type 0} (profile : Settings → Profile S) (settings : Setti
       let less : nat_lt (length new.stack.line.out) 65536 ≡ true = grind (arith, tests, few) in
       let still_less = ap (λ (s : Stacked E). nat_lt (length s.line.out) 65536) (sym stack_is) ∙ less in
       record {
-        reached = led (Gives count) ahead step old.stack new.stack port port' stack_is tt keeps (ap option_to_list (sym none)) refl (λ fires. tt) out now.reached;
+        reached = led (Gives count) ahead step old.stack new.stack port port' stack_is tt keeps (ap option_to_list (sym none)) refl refl (λ fires. tt) out now.reached;
         rests = λ rest.
             subst (λ (s : Stacked E). Rests A (at port' s rest)) (sym stack_is)
             (subst (λ (p : P). Rests A (at p (record old.stack { line = record old.stack.line { out = left } }) rest)) (sym keeps) (rests_taken A (at port old.stack rest) left (now.rests rest) now.room still_less));
@@ -316,7 +323,7 @@ module _ {E S T P : Type 0} (profile : Settings → Profile S) (settings : Setti
       let none = none_whole old.framing.held new.framing.held turn.packet whole (ap (λ (h : Shelled E). h.framing.held) is) in
       let stack_is = ap (λ (h : Shelled E). h.stack) is in
       record {
-        reached = led (Pages address) ahead step old.stack new.stack port port' (device, stack_is) tt keeps (ap option_to_list (sym none)) refl (λ fires. tt) out now.reached;
+        reached = led (Pages address) ahead step old.stack new.stack port port' (device, stack_is) tt keeps (ap option_to_list (sym none)) refl refl (λ fires. tt) out now.reached;
         rests = λ rest.
             subst (λ (s : Stacked E). Rests A (at port' s rest)) (sym stack_is)
             (subst (λ (p : P). Rests A (at p (record old.stack { paged = address }) rest)) (sym keeps) (rests_paging A (at port old.stack rest) address (now.rests rest)));
@@ -352,10 +359,11 @@ module _ {E S T P : Type 0} (profile : Settings → Profile S) (settings : Setti
           runs = subst (λ (l : Line). Runs U (ComesInTurn U) start.occasions (starting U role) (there_at l U.first)) (sym is) start.runs;
           alike = alike rest;
           moves = (units start.occasions, [], moves, refl, sym (append-nil (units start.occasions)));
-          untimed = λ all. start.untimed tt;
+          untimed = λ all. none_timed start.occasions start.comings_are;
           writable = subst IsWritable (sym is) start.writable;
           device = device;
           tick = (units start.occasions, [], moves, refl, start.ticks_are ∙ sym (append-nil (map Moves (units start.occasions))));
+          happen = (start.occasions, [], record { none_come = start.comings_are; move = moves }, refl, sym (append-nil start.occasions));
         };
         rests = rests;
         room = ap has_room is ∙ room;

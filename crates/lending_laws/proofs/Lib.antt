@@ -1,4 +1,7 @@
+pub mod Coming
+pub mod Happening
 pub mod Following
+pub mod Roomy
 pub mod Clients
 pub mod Servers
 pub mod Showing

@@ -39,6 +39,7 @@ use Rattle.lending_laws.specs.Channels.{ClientsShow, ServersShow, ServersShowWha
 use Rattle.lending_laws.specs.InTurn.{AllIsSaid, ComeQuietly}
 use Rattle.lending_laws.proofs.Clients.{IsClient, clients_follow}
 use Rattle.lending_laws.proofs.Following.{Follows, IsRunOf, impulses_run}
+use Rattle.lending_laws.proofs.Roomy.{first_fed}
 use Rattle.lending_laws.proofs.Servers.{servers_follow}
 
 -- ---- where a host has said all
@@ -64,7 +65,7 @@ module _ {P : Type 0} (content : P → Option (List Object)) (faults shortages :
   new_twins rest = record { hear = λ answers news. refl; next = refl; wants_link = refl; leaves_link = refl; is_idle = refl; outcome = refl; armed = refl; may_cancel = refl; has_check = λ own. refl }
 
   pub new_client_is : (rest : List Circumstance) → IsClient settings (standing (client_noting content) shelf (fresh_client settings).stack rest).host (upper (client_profile settings)).first
-  new_client_is rest = (new_twins rest, refl)
+  new_client_is rest = (new_twins rest, refl, refl, first_fed settings (content shelf) rest)
 
   client_run : (calls : List HostCall) (now : Shelled (Noted ClientProfile)) (impulses : List Impulse)
       → (come : AreImpulses noted_client (Answers content faults shortages) (client_noting content) calls (fresh_client settings) now impulses)

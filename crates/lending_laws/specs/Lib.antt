@@ -5,4 +5,5 @@ pub use Rattle.receiving
 pub mod InTurn
 pub mod Channels
 pub mod Steps
+pub mod Comings
 pub mod Freely

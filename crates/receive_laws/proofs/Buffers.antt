@@ -9,9 +9,8 @@ use Rattle.receiving.specs.host_model.specs.Circumstances.{Circumstance}
 use Rattle.receiving.specs.host_model.specs.Profiles.{Profile}
 use Rattle.receiving.specs.bt_host.specs.Stacks.{Standing, Rests, can_put_piece}
 use Rattle.receiving.specs.bt_host.proofs.Resting.{none_goes}
-use Rattle.receiving.specs.Turns.{Stand, Posture, Turn, HasRest, HearsIn, HasTurns, emptied, is_full}
-use Rattle.receiving.proofs.Still.{rests_emptied}
-use Rattle.receive_laws.specs.InTurn.{SaidAll, IsToldAtRest, TakesInTurn, AreInTurn, IsFree, IsToldFree, TakesFree, AreFree, FreeBuffersSuffice}
+use Rattle.receiving.specs.Turns.{Stand, Posture, HasRest, HearsIn}
+use Rattle.receive_laws.specs.InTurn.{SaidAll, IsToldAtRest, TakesInTurn, IsFree, IsToldFree, TakesFree}
 
 nothing : (pieces : List Piece) → length pieces ≡ 0 → pieces ≡ []
 nothing [] none = refl
@@ -54,26 +53,16 @@ told_free A (LinkFailed status) now rests none free = free
 told_free A (LinkDown reason) now rests none free = tt
 told_free A (Pdu channel octets) now rests none free = lets_say A now rests none free
 
-takes_free : {S : Type 0} (A : Profile S) (packet : Option Packet) (now : Stand S) → HasRest A now → ((rest : List Circumstance) → (now rest).line.out ≡ []) → TakesFree packet now → TakesInTurn packet now
-takes_free A None now rests none free = tt
-takes_free A (Some packet) now rests none free = λ rest. told_free A (news_of packet (now rest).line) (now rest) (rests rest) (none rest) (free rest)
+-- where nothing is held back a host that hears a packet has done all that it can
+pub rests_there : {S : Type 0} (A : Profile S) (packet : Packet) (old : Posture S) (between after : Stand S) → (old.full ≡ false → between ≡ old.stands) → HearsIn A (Some packet) old.full between after → old.full ≡ false → HasRest A old.stands
+rests_there A packet old between after still hears off = subst (HasRest A) (still off) (hears.2 off)
 
--- behind a turn that left room the host rests
-pub rests_behind : {S : Type 0} (A : Profile S) (packet : Option Packet) (full : Bool) (before after : Stand S) (said : List ℕ) → full ≡ false → HearsIn A packet full before after → ((rest : List Circumstance) → (after rest).line.out ≡ said) → is_full said ≡ false
-    → HasRest A (λ rest. emptied (after rest))
-rests_behind A None full before after said off hears says room = absurd (true≢false (sym hears.0 ∙ off))
-rests_behind A (Some packet) full before after said off hears says room =
-    λ rest. rests_emptied A (after rest) (hears.1 rest) (ap (λ (out : List ℕ). nat_lt (length out) 65536) (says rest) ∙ so_it_is (nat_lt (length said) 65536) room)
+-- where a host hears a packet it holds nothing back
+abbrev pub HoldsNone : {S : Type 0} → Option Packet → Posture S → Type 0
+HoldsNone None now = Unit {0}
+HoldsNone (Some packet) now = now.full ≡ false
 
-are_in_turn : {S : Type 0} (A : Profile S) (turns : List Turn) (old new : Posture S) (runs : HasTurns A turns old new) → (old.full ≡ false → HasRest A old.stands) → ((rest : List Circumstance) → (old.stands rest).line.out ≡ []) → AreFree A turns old new runs → AreInTurn A turns old new runs
-are_in_turn A [] old new runs rests none free = tt
-are_in_turn A (turn ∷ turns) old new (mid, one, more) rests none (off, takes, behind) = (
-  off,
-  takes_free A turn.packet old.stands (rests off) none takes,
-  are_in_turn A turns mid new more
-      (λ still. subst (HasRest A) (sym one.stands) (rests_behind A turn.packet old.full one.between one.after turn.said off one.hears one.says (sym one.full ∙ still)))
-      (λ rest. ap (λ (s : Stand _). (s rest).line.out) one.stands) behind,
-)
-
-pub free_buffers_suffice : {S : Type 0} → FreeBuffersSuffice S
-free_buffers_suffice A turns old new runs rests none free = are_in_turn A turns old new runs (λ off. rests) none free
+pub takes_free : {S : Type 0} (A : Profile S) (packet : Option Packet) (old : Posture S) (between after : Stand S) → (old.full ≡ false → between ≡ old.stands) → HearsIn A packet old.full between after → HoldsNone packet old → (all : List Circumstance) → (old.stands all).line.out ≡ []
+    → TakesFree packet (old.stands all) → TakesInTurn packet (old.stands all)
+takes_free A None old between after still hears off all none free = tt
+takes_free A (Some packet) old between after still hears off all none free = told_free A (news_of packet (old.stands all).line) (old.stands all) (rests_there A packet old between after still hears off all) none free

@@ -1,5 +1,5 @@
 -- All that a server in code does by itself, and what it makes of a packet, is a run of the server that it is, over units.
-use Rattle.std.proofs.Common.{◌≡◌, true, false, List, [], ◌∷◌, ◌++◌, Option, Some, None, inl, refl, sym, subst}
+use Rattle.std.proofs.Common.{◌≡◌, true, false, List, [], ◌∷◌, ◌++◌, Option, None, inl, refl, sym, subst}
 use Rattle.receiving.specs.bt_base.specs.declared.settings.Settings.{Settings}
 use Rattle.receiving.specs.bt_base.specs.Objects.{Contents}
 use Rattle.receiving.specs.h4_framing.specs.Packets.{Packet, IsPacket}
@@ -21,7 +21,7 @@ use Rattle.orderly_laws.specs.unit_laws.specs.Calls.{IsWritable, GoesBy, SaysInO
 use Rattle.orderly_laws.specs.unit_laws.specs.Units.{Lined, hears_line, IsToldInTurn}
 use Rattle.orderly_laws.specs.unit_laws.proofs.Doing.{goes_none, calls_are_runs}
 use Rattle.receiving.specs.Turns.{Stand, HearsOne}
-use Rattle.receive_laws.specs.InTurn.{IsToldAtRest, TakesInTurn}
+use Rattle.receive_laws.specs.InTurn.{IsToldAtRest}
 use Rattle.receive_laws.proofs.Alike.{IsAlike, left, hears_alike, says_alike, silent_alike, IsGranting, hears_granting, says_granting}
 
 abbrev pub lined : Line → Host ServerProfile → Lined (Host ServerProfile)
@@ -66,7 +66,7 @@ module _ (settings : Settings) (content : Option Contents) where
   then_goes gifts came old mid new first second =
       record { there = second.there; alike = second.alike; goes = (calls_are_runs U).joined gifts came old (lined mid.line first.there) (lined new.line second.there) first.goes second.goes }
 
-  all_go : (deeds : List Deed) (old new : Standing (Noted ServerProfile)) (there : Host ServerProfile) → DoesAll (noted_server settings) deeds old new → IsAlike settings content old.host there → IsWritable old.line → Goes [] [] (lined old.line there) new
+  pub all_go : (deeds : List Deed) (old new : Standing (Noted ServerProfile)) (there : Host ServerProfile) → DoesAll (noted_server settings) deeds old new → IsAlike settings content old.host there → IsWritable old.line → Goes [] [] (lined old.line there) new
   all_go [] old new there does alike writable =
       subst (λ (s : Standing (Noted ServerProfile)). Goes [] [] (lined old.line there) s) (sym does) (record { there = there; alike = alike; goes = goes_none U (lined old.line there) writable })
   all_go (deed ∷ deeds) old new there (mid, one, more) alike writable =
@@ -102,10 +102,10 @@ module _ (settings : Settings) (content : Option Contents) where
 
   -- a packet, and what the host does behind it
   pub packet_goes : (packet : Packet) (before after : Stand (Noted ServerProfile)) (hears : HearsOne (noted_server settings) packet before after) (rest : List Circumstance) (there : Host ServerProfile) (all : List Circumstance) → all ≡ hears.moves.used ++ rest
-      → IsPacket acl_limit packet → TakesInTurn (Some packet) before → IsAlike settings content (before all).host there → IsWritable (before all).line → Goes (left settings content (before all).host ∷ []) (packet ∷ []) (lined (before all).line there) (after rest)
+      → IsPacket acl_limit packet → IsToldAtRest (news_of packet (before all).line) (before all) → IsAlike settings content (before all).host there → IsWritable (before all).line → Goes (left settings content (before all).host ∷ []) (packet ∷ []) (lined (before all).line there) (after rest)
   packet_goes packet before after hears rest there all is packet_is takes alike writable =
       let mid = after_packet (noted_server settings) packet all (before all) in
-      let first = unit_goes packet all (before all) there packet_is (hears.fault all) (takes all) alike writable in
+      let first = unit_goes packet all (before all) there packet_is (hears.fault all) takes alike writable in
       let does = subst (λ (l : List Circumstance). DoesAll (noted_server settings) hears.moves.deeds (after_packet (noted_server settings) packet l (before l)) (after rest)) (sym is) (hears.moves.does rest) in
       then_goes (left settings content (before all).host ∷ []) (packet ∷ []) (lined (before all).line there) mid (after rest) first (all_go hears.moves.deeds mid (after rest) first.there does first.alike first.goes.writable)
 
@@ -118,7 +118,7 @@ module _ (settings : Settings) (content : Option Contents) where
   deed_granting Paging old new does all = subst (λ (s : Standing (Noted ServerProfile)). IsGranting settings content s.host) (sym does.1) all
   deed_granting Commanding old new does all = subst (λ (s : Standing (Noted ServerProfile)). IsGranting settings content s.host) (sym does) all
 
-  all_granting : (deeds : List Deed) (old new : Standing (Noted ServerProfile)) → DoesAll (noted_server settings) deeds old new → IsGranting settings content old.host → IsGranting settings content new.host
+  pub all_granting : (deeds : List Deed) (old new : Standing (Noted ServerProfile)) → DoesAll (noted_server settings) deeds old new → IsGranting settings content old.host → IsGranting settings content new.host
   all_granting [] old new does all = subst (λ (s : Standing (Noted ServerProfile)). IsGranting settings content s.host) (sym does) all
   all_granting (deed ∷ deeds) old new (mid, one, more) all = all_granting deeds mid new more (deed_granting deed old mid one all)
 

@@ -1,5 +1,5 @@
 -- Turns of a server in code are a run of the server that it is.
-use Rattle.std.proofs.Common.{◌≡◌, ℕ, Bool, false, List, [], ◌∷◌, ◌++◌, Option, Some, None, refl, sym, ap, subst, ◌∙◌, append_assoc, true≢false}
+use Rattle.std.proofs.Common.{◌≡◌, ℕ, Bool, false, List, [], ◌∷◌, ◌++◌, Option, Some, None, refl, sym, ap, subst, ◌∙◌, append_assoc}
 use Rattle.std.specs.Prelude.{option_to_list}
 use Rattle.std.specs.List.{AllByRecursion}
 use Rattle.std.proofs.lemmas.List.{append-nil}
@@ -14,6 +14,7 @@ use Rattle.noting_laws.specs.push_laws.specs.Premises.{AllGranted}
 use Rattle.receiving.specs.host_model.specs.Circumstances.{Circumstance, answers_in}
 use Rattle.receiving.specs.host_model.specs.Hosts.{Host}
 use Rattle.receiving.specs.host_model.specs.Machines.{upper}
+use Rattle.receiving.specs.host_model.specs.Profiles.{Profile}
 use Rattle.receiving.specs.host_model.specs.Servers.{ServerProfile, server_profile}
 use Rattle.receiving.specs.bt_host.specs.Noting.{Noted}
 use Rattle.receiving.specs.bt_host.specs.NotedHosts.{noted_server}
@@ -23,13 +24,14 @@ use Rattle.orderly_laws.specs.unit_laws.specs.Calls.{gifts_of, gifts_in, IsWrita
 use Rattle.orderly_laws.specs.unit_laws.specs.Laws.{FiresNone}
 use Rattle.orderly_laws.specs.unit_laws.specs.Units.{Occasion, Waits, units_of, units, Runs, ComesInTurn}
 use Rattle.orderly_laws.specs.unit_laws.proofs.Doing.{runs_then}
-use Rattle.receiving.specs.Turns.{Stand, Posture, Turn, HearsIn, HasTurn, HasTurns, emptied, packets_in, answers_heard}
+use Rattle.receiving.specs.Turns.{Stand, Moves, Posture, Turn, HearsIn, HasTurn, emptied, answers_heard, answers_of}
+use Rattle.receiving.proofs.Still.{moves_still}
 use Rattle.receiving.proofs.Turning.{all_append}
-use Rattle.receive_laws.specs.Answers.{used_in}
-use Rattle.receive_laws.specs.InTurn.{TakesInTurn, AreInTurn}
-use Rattle.receive_laws.specs.Moving.{MovesWith, MoveInTurns}
+use Rattle.receive_laws.specs.InTurn.{TakesInTurn}
+use Rattle.receive_laws.specs.Moving.{MovesWith}
 use Rattle.receive_laws.proofs.Alike.{IsAlike, IsGranting, left, left_granted}
-use Rattle.receive_laws.proofs.Deeds.{lined, Goes, packet_goes, packet_granting}
+use Rattle.receive_laws.proofs.Buffers.{rests_there, HoldsNone}
+use Rattle.receive_laws.proofs.Deeds.{lined, Goes, all_go, packet_goes, all_granting, packet_granting}
 
 -- its controller took all octets
 pub writable_emptied : (line : Line) → IsWritable line → IsWritable (record line { out = [] })
@@ -43,6 +45,9 @@ split_all P (Some x) rest all = ((all.0, tt), all.1)
 module _ (settings : Settings) (content : Option Contents) where
   abbrev U : Upper (Host ServerProfile) Circumstance
   U = upper (server_profile settings content)
+
+  abbrev N : Profile (Noted ServerProfile)
+  N = noted_server settings
 
   abbrev pub IsGrant : List Circumstance → Type 0
   IsGrant gift = AllGranted (answers_in gift)
@@ -91,29 +96,48 @@ module _ (settings : Settings) (content : Option Contents) where
         taken = refl;
       }
 
-  abbrev pub From : (List Move → Type 0) → Stand (Noted ServerProfile) → List Circumstance → Standing (Noted ServerProfile) → Type 0
-  From IsMoves old all new = (there : Host ServerProfile) → IsAlike settings content (old all).host there → IsWritable (old all).line → (old all).line.out ≡ [] → RunsTo IsMoves (old all) there new
+  abbrev pub From : (List Move → Type 0) → (old new : Standing (Noted ServerProfile)) → Type 0
+  From IsMoves old new = (there : Host ServerProfile) → IsAlike settings content old.host there → IsWritable old.line → old.line.out ≡ [] → RunsTo IsMoves old there new
 
   -- ---- a turn
 
-  heard_by : (turn : Turn) (packet : Option Packet) (full : Bool) (before after : Stand (Noted ServerProfile)) → turn.packet ≡ packet → full ≡ false → (hears : HearsIn (noted_server settings) packet full before after) → TakesInTurn packet before
-      → AllByRecursion (IsPacket acl_limit) (option_to_list packet) → (rest : List Circumstance) → (after rest).line.out ≡ turn.said → From (MovesWith turn) before (answers_heard (noted_server settings) packet full before after hears ++ rest) (emptied (after rest))
-  heard_by turn None full before after is off hears takes each rest said there alike writable none = absurd (true≢false (sym hears.0 ∙ off))
-  heard_by turn (Some packet) full before after is off hears takes each rest said there alike writable none =
+  -- where it holds nothing back it hears a packet
+  heard_by : (turn : Turn) (packet : Packet) (full : Bool) (before after : Stand (Noted ServerProfile)) → turn.packet ≡ Some packet → (hears : HearsIn N (Some packet) full before after) → IsPacket acl_limit packet → (rest : List Circumstance) → TakesInTurn (Some packet) (before (hears.0.moves.used ++ rest))
+      → (after rest).line.out ≡ turn.said → From (MovesWith turn) (before (hears.0.moves.used ++ rest)) (emptied (after rest))
+  heard_by turn packet full before after is hears packet_is rest takes said there alike writable none =
       let all = hears.0.moves.used ++ rest in
       let gifts = left settings content (before all).host ∷ [] in
-      let goes = packet_goes settings content packet before after hears.0 rest there all refl each.0 takes alike writable in
+      let goes = packet_goes settings content packet before after hears.0 rest there all refl packet_is takes alike writable in
       taken_behind turn gifts (before all) there (after rest) (subst (λ (p : Option Packet). Goes settings content gifts (option_to_list p) (lined (before all).line there) (after rest)) (sym is) goes)
       (λ granting. ((left_granted settings content (before all).host granting, tt), packet_granting settings content packet before after hears.0 rest granting)) none said
 
-  pub turn_runs : (turn : Turn) (old new : Posture (Noted ServerProfile)) (one : HasTurn (noted_server settings) turn old new) → old.full ≡ false → TakesInTurn turn.packet old.stands → AllByRecursion (IsPacket acl_limit) (option_to_list turn.packet) → (rest : List Circumstance)
-      → From (MovesWith turn) old.stands (answers_heard (noted_server settings) turn.packet old.full one.between one.after one.hears ++ rest) (new.stands rest)
-  turn_runs turn old new one off takes each rest =
-      let still = one.none_back off in
-      let all = answers_heard (noted_server settings) turn.packet old.full one.between one.after one.hears ++ rest in
-      let from = heard_by turn turn.packet old.full one.between one.after refl off one.hears (subst (TakesInTurn turn.packet) (sym still) takes) each rest (one.says rest) in
-      subst (λ (s : Stand (Noted ServerProfile)). From (MovesWith turn) s all (new.stands rest)) still
-      (subst (λ (s : Stand (Noted ServerProfile)). From (MovesWith turn) one.between all (s rest)) (sym one.stands) from)
+  -- what it held back goes out
+  back_by : (turn : Turn) (before after : Stand (Noted ServerProfile)) → turn.packet ≡ None → (back : Moves N before after) (rest : List Circumstance) → (after rest).line.out ≡ turn.said → From (MovesWith turn) (before (back.used ++ rest)) (emptied (after rest))
+  back_by turn before after is back rest said there alike writable none =
+      let old = before (back.used ++ rest) in
+      let goes = all_go settings content back.deeds old (after rest) there (back.does rest) alike writable in
+      taken_behind turn [] old there (after rest) (subst (λ (p : Option Packet). Goes settings content [] (option_to_list p) (lined old.line there) (after rest)) (sym is) goes)
+      (λ granting. (tt, all_granting settings content back.deeds old (after rest) (back.does rest) granting)) none said
+
+  turned_by : (turn : Turn) (packet : Option Packet) (old : Posture (Noted ServerProfile)) (between after : Stand (Noted ServerProfile)) → turn.packet ≡ packet → (back : Moves N old.stands between) → (old.full ≡ false → between ≡ old.stands) → (hears : HearsIn N packet old.full between after)
+      → HoldsNone packet old → AllByRecursion (IsPacket acl_limit) (option_to_list packet) → (rest : List Circumstance) → TakesInTurn packet (old.stands (back.used ++ (answers_heard N packet old.full between after hears ++ rest))) → (after rest).line.out ≡ turn.said
+      → From (MovesWith turn) (old.stands (back.used ++ (answers_heard N packet old.full between after hears ++ rest))) (emptied (after rest))
+  turned_by turn None old between after is back still hears off each rest takes said =
+      subst (λ (s : Stand (Noted ServerProfile)). From (MovesWith turn) (old.stands (back.used ++ rest)) (emptied (s rest))) (sym hears.1)
+      (back_by turn old.stands between is back rest (ap (λ (s : Stand (Noted ServerProfile)). (s rest).line.out) (sym hears.1) ∙ said))
+  turned_by turn (Some packet) old between after is back still hears off each rest takes said =
+      let all = hears.0.moves.used ++ rest in
+      let same : between all ≡ old.stands (back.used ++ all) = moves_still N old.stands between (rests_there N packet old between after still hears off) back all in
+      subst (λ (s : Standing (Noted ServerProfile)). From (MovesWith turn) s (emptied (after rest))) same
+      (heard_by turn packet old.full between after is hears each.0 rest (subst (TakesInTurn (Some packet)) (sym same) takes) said)
+
+  pub turn_runs : (turn : Turn) (old new : Posture (Noted ServerProfile)) (one : HasTurn N turn old new) → HoldsNone turn.packet old → AllByRecursion (IsPacket acl_limit) (option_to_list turn.packet) → (rest : List Circumstance) → TakesInTurn turn.packet (old.stands (answers_of N turn old new one ++ rest))
+      → From (MovesWith turn) (old.stands (answers_of N turn old new one ++ rest)) (new.stands rest)
+  turn_runs turn old new one off each rest takes =
+      let here = answers_heard N turn.packet old.full one.between one.after one.hears in
+      let from = turned_by turn turn.packet old one.between one.after refl one.back one.none_back one.hears off each rest (subst (λ (all : List Circumstance). TakesInTurn turn.packet (old.stands all)) (append_assoc one.back.used here rest) takes) (one.says rest) in
+      subst (λ (s : Stand (Noted ServerProfile)). From (MovesWith turn) (old.stands (answers_of N turn old new one ++ rest)) (s rest)) (sym one.stands)
+      (subst (λ (all : List Circumstance). From (MovesWith turn) (old.stands all) (emptied (one.after rest))) (sym (append_assoc one.back.used here rest)) from)
 
   -- ---- one after the other
 
@@ -134,25 +158,16 @@ module _ (settings : Settings) (content : Option Contents) where
     taken = second.taken;
   }
 
-  pub then_runs : (turn : Turn) (turns : List Turn) (old : Standing (Noted ServerProfile)) (there : Host ServerProfile) (mid new : Standing (Noted ServerProfile)) (first : RunsTo (MovesWith turn) old there mid) → RunsTo (MoveInTurns turns) mid first.after new
-      → RunsTo (MoveInTurns (turn ∷ turns)) old there new
-  then_runs turn turns old there mid new first second = joined_runs (MovesWith turn) (MoveInTurns turns) (MoveInTurns (turn ∷ turns)) (λ xs ys one more. (xs, ys, one, more, refl)) old there mid new first second
-
-  -- nothing happens
-  pub rests_there : (old : Standing (Noted ServerProfile)) (there : Host ServerProfile) → IsAlike settings content old.host there → IsWritable old.line → old.line.out ≡ [] → RunsTo (MoveInTurns []) old there old
-  rests_there old there alike writable none = record { occasions = []; after = there; alike = alike; runs = refl; moves = refl; granting = λ all. (tt, all); untimed = tt; writable = writable; taken = none }
-
-  pub turns_run : (turns : List Turn) (old new : Posture (Noted ServerProfile)) (runs : HasTurns (noted_server settings) turns old new) → AllByRecursion (IsPacket acl_limit) (packets_in turns) → AreInTurn (noted_server settings) turns old new runs → (rest : List Circumstance)
-      → From (MoveInTurns turns) old.stands (used_in (noted_server settings) turns old new runs ++ rest) (new.stands rest)
-  turns_run [] old new runs each turn rest = λ there alike writable none.
-      subst (λ (p : Posture (Noted ServerProfile)). RunsTo (MoveInTurns []) (old.stands rest) there (p.stands rest)) (sym runs) (rests_there (old.stands rest) there alike writable none)
-  turns_run (turn ∷ turns) old new (mid, one, more) each (off, takes, behind) rest =
-      let parts = split_all (IsPacket acl_limit) turn.packet (packets_in turns) each in
-      let later = used_in (noted_server settings) turns mid new more in
-      let here = answers_heard (noted_server settings) turn.packet old.full one.between one.after one.hears in
-      let from_mid = turns_run turns mid new more parts.1 behind rest in
-      let from_old = turn_runs turn old mid one off takes parts.0 (later ++ rest) in
-      subst (λ (all : List Circumstance). From (MoveInTurns (turn ∷ turns)) old.stands all (new.stands rest)) (sym (append_assoc here later rest))
-      (λ there alike writable none.
-      let first = from_old there alike writable none in
-      then_runs turn turns (old.stands (here ++ (later ++ rest))) there (mid.stands (later ++ rest)) (new.stands rest) first (from_mid first.after first.alike first.writable first.taken))
+  -- its moves are told otherwise
+  pub other_moves : (First Second : List Move → Type 0) → ((xs : List Move) → First xs → Second xs) → (old : Standing (Noted ServerProfile)) (there : Host ServerProfile) (new : Standing (Noted ServerProfile)) → RunsTo First old there new → RunsTo Second old there new
+  other_moves First Second so old there new run = record {
+    occasions = run.occasions;
+    after = run.after;
+    alike = run.alike;
+    runs = run.runs;
+    moves = so (units run.occasions) run.moves;
+    granting = run.granting;
+    untimed = run.untimed;
+    writable = run.writable;
+    taken = run.taken;
+  }

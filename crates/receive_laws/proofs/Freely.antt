@@ -1,7 +1,6 @@
--- Where a controller has a buffer free at each PDU that it brings, by the packets that move, each packet of a stream comes in turn.
-use Rattle.std.proofs.Common.{◌≡◌, ◌≢◌, ◌&&◌, ◌==◌, ℕ, not, nat_lt, Bool, true, false, cond, eqb, List, [], ◌∷◌, ◌++◌, length, Option, Some, None, is_some, is_none, refl, sym, ap, subst, ◌∙◌, append_assoc, append-nil, inl, inr, arith, tests}
+-- Where by the packets that move nothing waits at each PDU that a controller brings, as where it has a buffer free then, each packet of a stream comes in turn.
+use Rattle.std.proofs.Common.{◌≡◌, ◌≢◌, ◌⊎◌, ◌&&◌, ◌==◌, ℕ, nat_lt, Bool, true, false, cond, eqb, List, [], ◌∷◌, ◌++◌, Option, Some, None, is_some, is_none, refl, sym, ap, subst, ◌∙◌, append_assoc, append-nil, inl, inr}
 use Rattle.std.specs.Option.{option_map}
-use Rattle.std.specs.Prelude.{option_to_list}
 use Rattle.std.specs.List.{AllByRecursion}
 use Rattle.std.proofs.lemmas.Bool.{eqb-true}
 use Rattle.receiving.specs.acl_fragments.specs.Pieces.{Piece, starts}
@@ -21,7 +20,8 @@ use Rattle.receiving.specs.host_link.specs.declared.role.Role.TheVariants.{Serve
 use Rattle.receiving.specs.host_link.specs.Stands.{JoinsOn, into}
 use Rattle.receiving.specs.channel_model.specs.Giving.{next_given}
 use Rattle.receiving.specs.channel_model.specs.Value.{Channels, no_channels}
-use Rattle.receiving.specs.host_model.specs.Circumstances.{Circumstance}
+use Rattle.noting_laws.specs.push_laws.specs.Premises.{AllGranted}
+use Rattle.receiving.specs.host_model.specs.Circumstances.{Circumstance, answers_in}
 use Rattle.receiving.specs.host_model.specs.Hosts.{Host, has_more}
 use Rattle.receiving.specs.host_model.specs.Machines.{upper}
 use Rattle.receiving.specs.host_model.specs.Profiles.{Profile}
@@ -35,25 +35,24 @@ use Rattle.noting_laws.specs.world_model.specs.Talks.{Talk}
 use Rattle.receiving.specs.bt_host.specs.Noting.{Noted}
 use Rattle.receiving.specs.bt_host.specs.NotedHosts.{noted_server}
 use Rattle.receiving.specs.bt_host.specs.Refusals.{acl_limit}
-use Rattle.receiving.specs.bt_host.specs.Stacks.{Standing, usual_peer}
+use Rattle.receiving.specs.bt_host.specs.Stacks.{Standing}
+use Rattle.orderly_laws.specs.unit_laws.specs.Capacity.{takes_more}
 use Rattle.orderly_laws.specs.unit_laws.specs.Laws.{FiresNone}
 use Rattle.orderly_laws.specs.unit_laws.specs.Timed.{ticks, timed}
 use Rattle.orderly_laws.specs.unit_laws.specs.Units.{units, ComesInTurn}
 use Rattle.orderly_laws.specs.unit_laws.proofs.Running.{TalksAt, all_talks}
 use Rattle.orderly_laws.specs.unit_laws.proofs.Taking.{ReadAt, takes_so, first_read, runs_read}
-use Rattle.receiving.specs.Receiving.{new_server_host}
-use Rattle.receiving.specs.Turns.{Stand, Posture, Turn, HasTurn, HasRest, HasTurns, emptied, is_full, packets_in, answers_heard}
-use Rattle.receiving.proofs.Beginning.{new_rests}
-use Rattle.receiving.proofs.Still.{rests_emptied}
-use Rattle.receive_laws.specs.Freely.{TellsOn, IsFreeOn, ComesFree, LeavesRoom}
+use Rattle.receiving.specs.Turns.{Stand, Posture, Turn, HearsIn, HasRest, HasTurns, packets_in, answers_of, answers_along}
+use Rattle.receive_laws.specs.Freely.{TellsOn, IsFreeOn, ComesFree}
 use Rattle.receive_laws.specs.InTurn.{SaidAll, IsToldAtRest, TakesInTurn, AreInTurn}
-use Rattle.receive_laws.specs.Moving.{opening, MovesWith, MoveInTurns, MoveFromStart}
-use Rattle.receive_laws.specs.Streams.{new_server, FreeStreamsComeInTurn}
+use Rattle.receive_laws.specs.Moving.{MoveFromStart}
+use Rattle.receive_laws.specs.Quietly.{FallsQuiet, IsQuietOn, ComesQuietly}
+use Rattle.receive_laws.specs.Streams.{new_server, QuietStreamsComeInTurn, FreeStreamsAreQuiet, FreeStreamsComeInTurn}
 use Rattle.receive_laws.proofs.Alike.{IsAlike}
-use Rattle.receive_laws.proofs.Buffers.{lets_say, rests_behind}
+use Rattle.receive_laws.proofs.Buffers.{lets_say, rests_there, HoldsNone}
 use Rattle.receive_laws.proofs.Deeds.{lined}
-use Rattle.receive_laws.proofs.Following.{RunsTo, joined_runs, then_runs, turn_runs, rests_there, split_all}
-use Rattle.receive_laws.proofs.Streams.{first_there, fresh_at, opens}
+use Rattle.receive_laws.proofs.Following.{split_all}
+use Rattle.receive_laws.proofs.Reaching.{Reached, StandsAt, stands_first, none_held, stands_then}
 
 -- ---- what a packet tells, on a link that is up and on none
 
@@ -166,12 +165,6 @@ told_off (LinkFailed status) now none all = all
 told_off (LinkDown reason) now none all = tt
 told_off (Pdu channel octets) now none all = absurd none
 
--- ---- what moves turn after turn
-
-pub one_more : (ahead : List Turn) (turn : Turn) (xs ys : List Move) → MoveInTurns ahead xs → MovesWith turn ys → MoveInTurns (ahead ++ turn ∷ []) (xs ++ ys)
-one_more [] turn xs ys none moves = (ys, [], moves, refl, ap (λ (l : List Move). l ++ ys) none ∙ sym (append-nil ys))
-one_more (other ∷ ahead) turn xs ys (one, rest, is, more, all) moves = (one, rest ++ ys, is, one_more ahead turn rest ys more moves, ap (λ (l : List Move). l ++ ys) all ∙ append_assoc one rest ys)
-
 module _ (settings : Settings) (before : List Object) where
   abbrev A : Profile ServerProfile
   A = serving settings before
@@ -203,90 +196,124 @@ module _ (settings : Settings) (before : List Object) where
       by true = refl
       by false = refl
 
-  -- ---- how it came to where it is, whatever its inbox answers later
+  -- ---- where the server has said all, the host in code has
 
-  record Reached (ahead : List Turn) (stands : Stand (Noted ServerProfile)) : Type 0 where
-    used : List Circumstance
-    runs : (rest : List Circumstance) → RunsTo settings (holding before) (MoveFromStart said ahead) (fresh_at settings before (used ++ rest)) (first_there settings before) (stands rest)
-
-  first_reached : Reached [] (new_server settings before).posture.stands
-  first_reached = record {
-    used = [];
-    runs = λ rest.
-        let first = opens settings before rest in
-        let now = emptied ((new_server_host settings (holding before)) rest) in
-        then_runs settings (holding before) (opening said) [] (fresh_at settings before rest) (first_there settings before) now now first (rests_there settings (holding before) now first.after first.alike first.writable first.taken);
-  }
-
-  then_reached : (ahead : List Turn) (turn : Turn) (old new : Posture (Noted ServerProfile)) (one : HasTurn N turn old new) → Reached ahead old.stands → old.full ≡ false → TakesInTurn turn.packet old.stands → AllByRecursion (IsPacket acl_limit) (option_to_list turn.packet) → Reached (ahead ++ turn ∷ []) new.stands
-  then_reached ahead turn old new one reached off takes each =
-      let here = answers_heard N turn.packet old.full one.between one.after one.hears in
-      record {
-        used = reached.used ++ here;
-        runs = λ rest.
-            let first = reached.runs (here ++ rest) in
-            let from = turn_runs settings (holding before) turn old new one off takes each rest in
-            subst (λ (all : List Circumstance). RunsTo settings (holding before) (MoveFromStart said (ahead ++ turn ∷ [])) (fresh_at settings before all) (first_there settings before) (new.stands rest)) (sym (append_assoc reached.used here rest))
-            (joined_runs settings (holding before) (MoveFromStart said ahead) (MovesWith turn) (MoveFromStart said (ahead ++ turn ∷ [])) (λ xs ys moves more. one_more (opening said ∷ ahead) turn xs ys moves more) (fresh_at settings before (reached.used ++ (here ++ rest))) (first_there settings before) (old.stands (here ++ rest)) (new.stands rest)
-            first (from first.after first.alike first.writable first.taken));
-      }
+  said_alike : (host : Host (Noted ServerProfile)) (there : Host ServerProfile) → IsAlike settings (holding before) host there → has_more there ≡ false → has_more host ≡ false
+  said_alike host there (inl same) none = sym (ap has_more same) ∙ none
+  said_alike host there (inr new) none = quiet host (ap (λ (h : Host ServerProfile). h.channels) new.host_is)
 
   -- ---- a packet comes in turn
 
-  takes_free : (ahead : List Turn) (packet : Option Packet) (stands : Stand (Noted ServerProfile)) → Reached ahead stands → HasRest N stands → ((rest : List Circumstance) → (stands rest).line.out ≡ []) → ((moved : List Move) → MoveFromStart said ahead moved → ComesFree moved packet) → TakesInTurn packet stands
-  takes_free ahead None stands reached rests none free = tt
-  takes_free ahead (Some packet) stands reached rests none free = λ rest. at rest (reached.runs rest)
+  -- where a packet tells something on a link that is up a buffer is free, or all was said before and the inbox granted all
+  abbrev FindsQuiet : (all : List Circumstance) → Option Link → List Move → Packet → Type 0
+  FindsQuiet all None moved packet = Unit {0}
+  FindsQuiet all (Some link) moved packet = TellsOn link packet → (takes_more moved ≡ true) ⊎ (FallsQuiet settings before moved × AllGranted (answers_in all))
+
+  abbrev CameQuietly : (all : List Circumstance) → List Move → Option Packet → Type 0
+  CameQuietly all moved None = Unit {0}
+  CameQuietly all moved (Some packet) = FindsQuiet all (linking moved).up moved packet
+
+  hears_quietly : (ahead : List Turn) (used rest : List Circumstance) (packet : Packet) (stands : Stand (Noted ServerProfile)) → Reached settings before ahead used rest stands → HasRest N stands → (stands rest).line.out ≡ []
+      → ((moved : List Move) → MoveFromStart said ahead moved → CameQuietly (used ++ rest) moved (Some packet)) → TakesInTurn (Some packet) (stands rest)
+  hears_quietly ahead used rest packet stands run rests none comes = by (linking past).up refl
     where
-      at : (rest : List Circumstance) → RunsTo settings (holding before) (MoveFromStart said ahead) (fresh_at settings before (reached.used ++ rest)) (first_there settings before) (stands rest) → IsToldAtRest (news_of packet (stands rest).line) (stands rest)
-      at rest run = by (linking past).up refl
-        where
-          past : List Move
-          past = units run.occasions
+      past : List Move
+      past = units run.occasions
 
-          read : ReadAt past (stands rest).line
-          read = runs_read (upper A) (ComesInTurn (upper A)) [] run.occasions _ _ run.runs (first_read Server)
+      read : ReadAt past (stands rest).line
+      read = runs_read (upper A) (ComesInTurn (upper A)) [] run.occasions _ _ run.runs (first_read Server)
 
-          talks : TalksAt (upper A) (AllByRecursion FiresNone run.occasions) past (timed (ticks run.occasions)) (lined (stands rest).line run.after)
-          talks = all_talks (upper A) (AllByRecursion FiresNone run.occasions) (says_frames A) Server run.occasions _ (λ still. still) run.runs
+      talks : TalksAt (upper A) (AllByRecursion FiresNone run.occasions) past (timed (ticks run.occasions)) (lined (stands rest).line run.after)
+      talks = all_talks (upper A) (AllByRecursion FiresNone run.occasions) (says_frames A) Server run.occasions _ (λ still. still) run.runs
 
-          silent : (stands rest).line.link ≡ None → SaidAll (stands rest)
-          silent off =
-              let acted = subst (λ (l : Option ℕ). Acted (upper A) (is_some l) run.after talks.waiting talks.talk) off talks.acted in
-              record { pieces = run.writable.off off; none_more = quiet (stands rest).host (alike_channels (stands rest).host run.after run.alike (off_at run.after talks.waiting talks.talk (acted.down refl) acted)) }
+      silent : (stands rest).line.link ≡ None → SaidAll (stands rest)
+      silent off =
+          let acted = subst (λ (l : Option ℕ). Acted (upper A) (is_some l) run.after talks.waiting talks.talk) off talks.acted in
+          record { pieces = run.writable.off off; none_more = quiet (stands rest).host (alike_channels (stands rest).host run.after run.alike (off_at run.after talks.waiting talks.talk (acted.down refl) acted)) }
 
-          by : (up : Option Link) → (linking past).up ≡ up → IsToldAtRest (news_of packet (stands rest).line) (stands rest)
-          by None is =
-              let off : (stands rest).line.link ≡ None = sym read.at.stands.link ∙ ap (option_map (λ (l : Link). l.handle)) is in
-              told_off (news_of packet (stands rest).line) (stands rest) (brings_none packet (stands rest).line off) (silent off)
-          by (Some link) is =
-              let on : (stands rest).line.link ≡ Some link.handle = sym read.at.stands.link ∙ ap (option_map (λ (l : Link). l.handle)) is in
-              let joins : JoinsOn (Some link) (stands rest).line.joining = subst (λ (u : Option Link). JoinsOn u (stands rest).line.joining) is read.at.stands.joining in
-              let takes : IsFreeOn (Some link) past packet = subst (λ (u : Option Link). IsFreeOn u past packet) is (free past run.moves) in
-              told_on link packet (news_of packet (stands rest).line) (stands rest) (packet_tells link packet (stands rest).line on joins)
-              (λ tells. lets_say N (stands rest) (rests rest) (none rest) (record { link = ap is_some on; buffer = takes_so past (stands rest).line read ∙ takes tells }))
+      all_said : FallsQuiet settings before past → AllGranted (answers_in (used ++ rest)) → SaidAll (stands rest)
+      all_said falls granted =
+          let all = falls run.occasions (lined (stands rest).line run.after) run.runs (record { untimed = run.untimed; granted = (run.granting granted).0 }) refl in
+          record { pieces = all.pieces; none_more = said_alike (stands rest).host run.after run.alike all.none_more }
+
+      by : (up : Option Link) → (linking past).up ≡ up → IsToldAtRest (news_of packet (stands rest).line) (stands rest)
+      by None is =
+          let off : (stands rest).line.link ≡ None = sym read.at.stands.link ∙ ap (option_map (λ (l : Link). l.handle)) is in
+          told_off (news_of packet (stands rest).line) (stands rest) (brings_none packet (stands rest).line off) (silent off)
+      by (Some link) is =
+          let on : (stands rest).line.link ≡ Some link.handle = sym read.at.stands.link ∙ ap (option_map (λ (l : Link). l.handle)) is in
+          let joins : JoinsOn (Some link) (stands rest).line.joining = subst (λ (u : Option Link). JoinsOn u (stands rest).line.joining) is read.at.stands.joining in
+          let finds : FindsQuiet (used ++ rest) (Some link) past packet = subst (λ (u : Option Link). FindsQuiet (used ++ rest) u past packet) is (comes past run.moves) in
+          told_on link packet (news_of packet (stands rest).line) (stands rest) (packet_tells link packet (stands rest).line on joins)
+          (λ tells. elim (finds tells) [
+            | inl more ↦ lets_say N (stands rest) (rests rest) none (record { link = ap is_some on; buffer = takes_so past (stands rest).line read ∙ more })
+            | inr falls ↦ all_said falls.0 falls.1
+          ])
 
   -- ---- turn by turn
 
-  leaves_room : (turn : Turn) → LeavesRoom turn → is_full turn.said ≡ false
-  leaves_room turn few = let less : nat_lt (length turn.said) 65536 ≡ true = grind (arith, tests, few) in ap not less
+  takes_quietly : (ahead : List Turn) (used rest : List Circumstance) (turn : Turn) (packet : Option Packet) (old : Posture (Noted ServerProfile)) (between after : Stand (Noted ServerProfile)) → turn.packet ≡ packet → (old.full ≡ false → between ≡ old.stands) → HearsIn N packet old.full between after
+      → HoldsNone turn.packet old → StandsAt settings before ahead used rest old → ((moved : List Move) → MoveFromStart said ahead moved → CameQuietly (used ++ rest) moved packet) → TakesInTurn packet (old.stands rest)
+  takes_quietly ahead used rest turn None old between after is still hears off at comes = tt
+  takes_quietly ahead used rest turn (Some packet) old between after is still hears off at comes =
+      let none = subst (λ (p : Option Packet). HoldsNone p old) is off in
+      hears_quietly ahead used rest packet old.stands at.reached (rests_there N packet old between after still hears none) (at.taken rest) comes
 
-  turns_free : (ahead turns : List Turn) (old new : Posture (Noted ServerProfile)) (runs : HasTurns N turns old new) → Reached ahead old.stands → old.full ≡ false → HasRest N old.stands → ((rest : List Circumstance) → (old.stands rest).line.out ≡ []) → AllByRecursion (IsPacket acl_limit) (packets_in turns) → AllByRecursion LeavesRoom turns
-      → ((more : List Turn) (turn : Turn) (behind : List Turn) → turns ≡ more ++ turn ∷ behind → (moved : List Move) → MoveFromStart said (ahead ++ more) moved → ComesFree moved turn.packet) → AreInTurn N turns old new runs
-  turns_free ahead [] old new runs reached off rests none each room free = tt
-  turns_free ahead (turn ∷ turns) old new (mid, one, more) reached off rests none each room free =
+  turns_quiet : (ahead turns : List Turn) (used : List Circumstance) (old new : Posture (Noted ServerProfile)) (runs : HasTurns N turns old new) → StandsAt settings before ahead used (answers_along N turns old new runs) old → AllByRecursion (IsPacket acl_limit) (packets_in turns)
+      → ((more : List Turn) (turn : Turn) (behind : List Turn) → turns ≡ more ++ turn ∷ behind → (moved : List Move) → MoveFromStart said (ahead ++ more) moved → CameQuietly (used ++ answers_along N turns old new runs) moved turn.packet) → AreInTurn N turns old new runs
+  turns_quiet ahead [] used old new runs at each comes = tt
+  turns_quiet ahead (turn ∷ turns) used old new (mid, one, more) at each comes =
       let parts = split_all (IsPacket acl_limit) turn.packet (packets_in turns) each in
-      let takes = takes_free ahead turn.packet old.stands reached rests none (λ moved moves. free [] turn turns refl moved (subst (λ (l : List Turn). MoveFromStart said l moved) (sym (append-nil ahead)) moves)) in
-      let left = leaves_room turn room.0 in (
-        off,
+      let here = answers_of N turn old mid one in
+      let later = answers_along N turns mid new more in
+      let off = none_held settings before ahead used (here ++ later) turn old mid one at in
+      let takes = takes_quietly ahead used (here ++ later) turn turn.packet old one.between one.after refl one.none_back one.hears off at (λ moved moves. comes [] turn turns refl moved (subst (λ (l : List Turn). MoveFromStart said l moved) (sym (append-nil ahead)) moves)) in (
         takes,
-        turns_free (ahead ++ turn ∷ []) turns mid new more (then_reached ahead turn old mid one reached off takes parts.0) (one.full ∙ left)
-            (subst (HasRest N) (sym one.stands) (rests_behind N turn.packet old.full one.between one.after turn.said off one.hears one.says left))
-            (λ rest. ap (λ (s : Stand (Noted ServerProfile)). (s rest).line.out) one.stands) parts.1 room.1
-            (λ others next behind is moved moves. free (turn ∷ others) next behind (ap (λ (l : List Turn). turn ∷ l) is) moved (subst (λ (l : List Turn). MoveFromStart said l moved) (append_assoc ahead (turn ∷ []) others) moves)),
+        turns_quiet (ahead ++ turn ∷ []) turns (used ++ here) mid new more (stands_then settings before ahead used later turn old mid one at takes parts.0) parts.1
+            (λ others next behind is moved moves. subst (λ (all : List Circumstance). CameQuietly all moved next.packet) (sym (append_assoc used here later))
+            (comes (turn ∷ others) next behind (ap (λ (l : List Turn). turn ∷ l) is) moved (subst (λ (l : List Turn). MoveFromStart said l moved) (append_assoc ahead (turn ∷ []) others) moves))),
       )
 
+  -- from the beginning on
+  all_quiet : (turns : List Turn) (last : Posture (Noted ServerProfile)) (runs : HasTurns N turns (new_server settings before).posture last) → AllByRecursion (IsPacket acl_limit) (packets_in turns)
+      → ((ahead : List Turn) (turn : Turn) (behind : List Turn) → turns ≡ ahead ++ turn ∷ behind → (moved : List Move) → MoveFromStart said ahead moved → CameQuietly (answers_along N turns (new_server settings before).posture last runs) moved turn.packet) → AreInTurn N turns (new_server settings before).posture last runs
+  all_quiet turns last runs each comes = turns_quiet [] turns [] (new_server settings before).posture last runs (stands_first settings before (answers_along N turns (new_server settings before).posture last runs)) each comes
+
+  finds_quiet : (all : List Circumstance) → AllGranted (answers_in all) → (up : Option Link) (moved : List Move) (packet : Packet) → IsQuietOn settings before up moved packet → FindsQuiet all up moved packet
+  finds_quiet all granted None moved packet quietly = tt
+  finds_quiet all granted (Some link) moved packet quietly = λ tells. elim (quietly tells) [ inl more ↦ inl more | inr falls ↦ inr (falls, granted) ]
+
+  came_quietly : (all : List Circumstance) → AllGranted (answers_in all) → (moved : List Move) (packet : Option Packet) → ComesQuietly settings before moved packet → CameQuietly all moved packet
+  came_quietly all granted moved None comes = tt
+  came_quietly all granted moved (Some packet) comes = finds_quiet all granted (linking moved).up moved packet comes
+
+  -- ---- where buffers are free
+
+  finds_free : (all : List Circumstance) (up : Option Link) (moved : List Move) (packet : Packet) → IsFreeOn up moved packet → FindsQuiet all up moved packet
+  finds_free all None moved packet free = tt
+  finds_free all (Some link) moved packet free = λ tells. inl (free tells)
+
+  came_free : (all : List Circumstance) (moved : List Move) (packet : Option Packet) → ComesFree moved packet → CameQuietly all moved packet
+  came_free all moved None free = tt
+  came_free all moved (Some packet) free = finds_free all (linking moved).up moved packet free
+
+  quiet_on : (up : Option Link) (moved : List Move) (packet : Packet) → IsFreeOn up moved packet → IsQuietOn settings before up moved packet
+  quiet_on None moved packet free = tt
+  quiet_on (Some link) moved packet free = λ tells. inl (free tells)
+
+  comes_quietly : (moved : List Move) (packet : Option Packet) → ComesFree moved packet → ComesQuietly settings before moved packet
+  comes_quietly moved None free = tt
+  comes_quietly moved (Some packet) free = quiet_on (linking moved).up moved packet free
+
+pub quiet_streams_come_in_turn : QuietStreamsComeInTurn
+quiet_streams_come_in_turn settings before turns last runs each granted quietly =
+    let all = answers_along (noted_server settings) turns (new_server settings before).posture last runs in
+    all_quiet settings before turns last runs each (λ ahead turn behind is moved moves. came_quietly settings before all granted moved turn.packet (quietly ahead turn behind is moved moves))
+
+pub free_streams_are_quiet : FreeStreamsAreQuiet
+free_streams_are_quiet settings before turns free = λ ahead turn behind is moved moves. comes_quietly settings before moved turn.packet (free ahead turn behind is moved moves)
+
 pub free_streams_come_in_turn : FreeStreamsComeInTurn
-free_streams_come_in_turn settings before turns last runs each stream =
-    turns_free settings before [] turns (new_server settings before).posture last runs (first_reached settings before) refl
-    (λ rest. rests_emptied (noted_server settings) (new_server_host settings (holding before) rest) (new_rests (noted_server settings) (new_server_host settings (holding before) rest).host usual_peer refl) refl)
-    (λ rest. refl) each stream.room stream.free
+free_streams_come_in_turn settings before turns last runs each free =
+    let all = answers_along (noted_server settings) turns (new_server settings before).posture last runs in
+    all_quiet settings before turns last runs each (λ ahead turn behind is moved moves. came_free settings before all moved turn.packet (free ahead turn behind is moved moves))

@@ -1,7 +1,10 @@
 pub mod Alike
+pub mod Ledgers
+pub mod Bursts
+pub mod Buffers
 pub mod Deeds
 pub mod Following
-pub mod Buffers
+pub mod Reaching
 pub mod Streams
 pub mod Freely
 pub mod Spelled

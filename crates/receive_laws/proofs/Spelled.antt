@@ -1,8 +1,7 @@
 -- The inbox of a server gains what the packets of its stream spell.
-use Rattle.std.proofs.Common.{◌≡◌, ◌≢◌, ℕ, List, [], ◌∷◌, ◌++◌, Option, sym, ap, subst, ◌∙◌}
+use Rattle.std.proofs.Common.{◌≡◌, ◌≢◌, ℕ, List, Option, sym, ap, subst, ◌∙◌}
 use Rattle.std.specs.Prelude.{Result, Ok, Err}
 use Rattle.std.specs.List.{AllByRecursion}
-use Rattle.std.proofs.lemmas.List.Concat.{flat_map-append}
 use Rattle.receiving.specs.bt_base.specs.declared.settings.Settings.{Settings}
 use Rattle.receiving.specs.bt_base.specs.Objects.{Object, Contents}
 use Rattle.receiving.specs.bt_base.specs.declared.settings.Transport.TheVariants.{Rfcomm}
@@ -10,9 +9,7 @@ use Rattle.receiving.specs.btpush_forms.specs.declared.status.Status.{Status}
 use Rattle.receiving.specs.btpush_forms.specs.declared.status.Status.TheVariants as status
 use Rattle.receiving.specs.push_terms.specs.declared.word.Side.TheVariants as sides
 use Rattle.noting_laws.specs.obex_session.specs.Counting.{Counts}
-use Rattle.noting_laws.specs.obex_session.specs.InboxCalls.{Answer}
 use Rattle.noting_laws.specs.push_laws.specs.Laws.{stored_in}
-use Rattle.noting_laws.specs.push_laws.specs.Premises.{AllGranted}
 use Rattle.noting_laws.specs.host_laws.specs.Carriers.{reader}
 use Rattle.orderly_laws.specs.Orderly.{IsGrant}
 use Rattle.orderly_laws.specs.unit_laws.specs.Calls.{gifts_in}
@@ -24,19 +21,16 @@ use Rattle.receiving.specs.declared.fault.ListenFault.{ListenFault}
 use Rattle.receiving.specs.declared.fault.ListenFault.TheVariants.{Refused, ReadFault, WriteFault, NoMemory}
 use Rattle.receiving.specs.Coming.{Unless}
 use Rattle.receiving.specs.Receiving.{Tells, stored_by, Receives}
-use Rattle.receiving.proofs.Turning.{all_append}
-use Rattle.receiving.specs.Turns.{Posture, Turn, HasTurns, answers_heard, answers_of, answers_along}
-use Rattle.receiving.specs.host_model.specs.Circumstances.{Circumstance, answer_of, answers_in}
-use Rattle.receiving.specs.host_model.specs.Profiles.{Profile}
+use Rattle.receiving.specs.Turns.{Posture, Turn, HasTurns}
 use Rattle.receiving.specs.host_model.specs.Servers.{ServerProfile}
 use Rattle.receiving.specs.bt_host.specs.Noting.{Noted}
 use Rattle.receiving.specs.bt_host.specs.NotedHosts.{noted_server}
 use Rattle.noting_laws.specs.scenario_laws.specs.Gains.{holding}
 use Rattle.noting_laws.specs.scenario_laws.specs.Parties.{party_of}
-use Rattle.receive_laws.specs.Answers.{used_in, GrantsAllAsked, RoseNever}
-use Rattle.receive_laws.specs.Freely.{IsFreeStream}
+use Rattle.receive_laws.specs.Answers.{RoseNever}
+use Rattle.receive_laws.specs.Quietly.{IsQuietStream}
 use Rattle.receive_laws.specs.Streams.{new_server, IsRunOverUnits, IsOrderlyStream, GainsSpelled, ReceivesSpelled, IsFramedStream, ReceivesFramed, ReceivesCarried, StoresSpelled}
-use Rattle.receive_laws.proofs.Freely.{free_streams_come_in_turn}
+use Rattle.receive_laws.proofs.Freely.{quiet_streams_come_in_turn}
 use Rattle.receive_laws.proofs.Streams.{streams_are_runs}
 
 -- the status tells want of memory
@@ -53,44 +47,26 @@ record Stored (settings : Settings) (before : List Object) (inbox' : Option Cont
   inbox_is : run.now.upper.profile.inbox.content ≡ inbox'
   grants : AllByRecursion IsGrant (gifts_in run.occasions)
 
--- of what was used up with each packet the inbox granted all, where it granted all that it was asked
-parts_granted : (xs ys : List Circumstance) → AllGranted (answers_in (xs ++ ys)) → AllGranted (answers_in xs) × AllGranted (answers_in ys)
-parts_granted xs ys all = all_parts (λ (answer : Answer). answer ≡ Ok tt) (answers_in xs) (answers_in ys) (subst AllGranted (flat_map-append answer_of xs ys) all)
-  where
-    all_parts : {A : Type 0} (Q : A → Type 0) (us vs : List A) → AllByRecursion Q (us ++ vs) → AllByRecursion Q us × AllByRecursion Q vs
-    all_parts Q [] vs both = (tt, both)
-    all_parts Q (u ∷ us) vs both = let rest = all_parts Q us vs both.1 in ((both.0, rest.0), rest.1)
-
-parts_both : (xs ys : List Circumstance) → AllGranted (answers_in xs) → AllGranted (answers_in ys) → AllGranted (answers_in (xs ++ ys))
-parts_both xs ys one two = subst AllGranted (sym (flat_map-append answer_of xs ys)) (all_append (λ (answer : Answer). answer ≡ Ok tt) (answers_in xs) (answers_in ys) one two)
-
-grants_all : {S : Type 0} (A : Profile S) (turns : List Turn) (old new : Posture S) (runs : HasTurns A turns old new) → AllGranted (answers_in (answers_along A turns old new runs)) → GrantsAllAsked A turns old new runs
-grants_all A [] old new runs all = tt
-grants_all A (turn ∷ turns) old new (mid, one, more) all =
-    let here = answers_heard A turn.packet old.full one.between one.after one.hears in
-    let parts = parts_granted (answers_of A turn old mid one) (answers_along A turns mid new more) all in
-    let heard = (parts_granted one.back.used (answers_heard A turn.packet old.full one.between one.after one.hears) parts.0).1 in
-    parts_both here (used_in A turns mid new more) heard (grants_all A turns mid new more parts.1)
-
 stored_by_run : (source source' sink sink' trace trace' : Option (List ℕ)) (before : List Object) (inbox' : Option Contents) (counts counts' : Counts) (result : Status)
     (received : Receives source source' sink sink' trace trace' (holding before) inbox' counts counts' result) → result ≢ status.NoMemory → RoseNever counts counts'
-    → IsFreeStream (new_server received.settings before).said received.comes.halts.turns → Stored received.settings before inbox' received.comes.halts.turns received.comes.halts.last received.comes.halts.runs
-stored_by_run source source' sink sink' trace trace' before inbox' counts counts' result received not unrisen free =
+    → IsQuietStream received.settings before (new_server received.settings before).said received.comes.halts.turns → Stored received.settings before inbox' received.comes.halts.turns received.comes.halts.last received.comes.halts.runs
+stored_by_run source source' sink sink' trace trace' before inbox' counts counts' result received not unrisen quiet =
     let settings = received.settings in
     let halts = received.comes.halts in
-    let run = streams_are_runs settings before halts.turns halts.last halts.runs halts.each (free_streams_come_in_turn settings before halts.turns halts.last halts.runs halts.each free) in
     let stands_are = stored_there received.end trace trace' result _ received.tells not halts.there in
     let stored = stored_there received.end trace trace' result _ received.tells not received.stored in
     let answered = stored_there received.end trace trace' result _ received.tells not halts.answered in
+    let granted = answered.granted unrisen.faults unrisen.shortages in
+    let run = streams_are_runs settings before halts.turns halts.last halts.runs halts.each (quiet_streams_come_in_turn settings before halts.turns halts.last halts.runs halts.each granted quiet) in
     record {
       run = run;
       inbox_is = sym (stored ∙ (ap stored_by stands_are ∙ sym run.inbox_is));
-      grants = run.granted (grants_all (noted_server settings) halts.turns (new_server settings before).posture halts.last halts.runs (answered.granted unrisen.faults unrisen.shortages));
+      grants = run.granted granted;
     }
 
 pub receives_spelled : ReceivesSpelled
 receives_spelled source source' sink sink' trace trace' before inbox' counts counts' result received not unrisen orderly =
-    let so = stored_by_run source source' sink sink' trace trace' before inbox' counts counts' result received not unrisen orderly.free in
+    let so = stored_by_run source source' sink sink' trace trace' before inbox' counts counts' result received not unrisen orderly.quiet in
     let run = so.run in
     record {
       moves = units run.occasions;
@@ -101,7 +77,7 @@ receives_spelled source source' sink sink' trace trace' before inbox' counts cou
 
 pub receives_framed : ReceivesFramed
 receives_framed source source' sink sink' trace trace' before inbox' counts counts' result received not unrisen framed =
-    let so = stored_by_run source source' sink sink' trace trace' before inbox' counts counts' result received not unrisen framed.free in
+    let so = stored_by_run source source' sink sink' trace trace' before inbox' counts counts' result received not unrisen framed.quiet in
     let run = so.run in
     record {
       moves = units run.occasions;
@@ -114,7 +90,7 @@ pub receives_carried : ReceivesCarried
 receives_carried = record {
   asks = servers_gain_served.asks;
   stores = λ source source' sink sink' trace trace' before inbox' counts counts' result received not unrisen carried.
-      let so = stored_by_run source source' sink sink' trace trace' before inbox' counts counts' result received not unrisen carried.free in
+      let so = stored_by_run source source' sink sink' trace trace' before inbox' counts counts' result received not unrisen carried.quiet in
       let run = so.run in
       record {
         occasions = run.occasions;

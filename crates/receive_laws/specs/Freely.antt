@@ -1,7 +1,6 @@
 -- Where the controller of a host that is fed a stream has a buffer free at each PDU that it brings, by the packets that move between the two alone: no
 -- answer waits for one then (Core 5.1, Volume 2 Part E, 4.1.1).
-use Rattle.std.specs.Prelude.{ℕ, ◌≡◌, ◌≢◌, ◌<◌, true, List, [], ◌∷◌, ◌++◌, length, Option, Some, None}
-use Rattle.std.specs.List.{AllByRecursion}
+use Rattle.std.specs.Prelude.{ℕ, ◌≡◌, ◌≢◌, true, List, [], ◌∷◌, ◌++◌, Option, Some, None}
 use Rattle.receiving.specs.h4_framing.specs.Packets.{Packet, Event}
 use Rattle.receiving.specs.capture.specs.Links.{Link, linking}
 use Rattle.receiving.specs.capture.specs.Moves.{Move}
@@ -25,11 +24,7 @@ abbrev pub ComesFree : List Move → Option Packet → Type 0
 ComesFree moved None = Unit {0}
 ComesFree moved (Some packet) = IsFreeOn (linking moved).up moved packet
 
--- what the host puts out behind a packet leaves room for more
-abbrev pub LeavesRoom : Turn → Type 0
-LeavesRoom turn = length turn.said < 65536
-
--- So it is in each turn of a stream, behind all that moved before it.
-pub record IsFreeStream (said : List ℕ) (turns : List Turn) : Type 0 where
-  pub room : AllByRecursion LeavesRoom turns
-  pub free : (ahead : List Turn) (turn : Turn) (behind : List Turn) → turns ≡ ahead ++ turn ∷ behind → (moved : List Move) → MoveFromStart said ahead moved → ComesFree moved turn.packet
+-- so it is in each turn of a stream, behind all that moved before it
+abbrev pub IsFreeStream : (said : List ℕ) → List Turn → Type 0
+IsFreeStream said turns =
+    (ahead : List Turn) (turn : Turn) (behind : List Turn) → turns ≡ ahead ++ turn ∷ behind → (moved : List Move) → MoveFromStart said ahead moved → ComesFree moved turn.packet

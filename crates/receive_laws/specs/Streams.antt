@@ -36,7 +36,8 @@ use Rattle.receiving.specs.Turns.{Begun, begun, Posture, Turn, HasTurns, packets
 use Rattle.receiving.specs.Receiving.{new_server_host, stored_by, Receives}
 use Rattle.receive_laws.specs.Answers.{GrantsAllAsked, RoseNever}
 use Rattle.receive_laws.specs.Freely.{IsFreeStream}
-use Rattle.receive_laws.specs.InTurn.{AreInTurn}
+use Rattle.receive_laws.specs.Quietly.{IsQuietStream}
+use Rattle.receive_laws.specs.InTurn.{AreInTurn, AreFree}
 use Rattle.receive_laws.specs.Moving.{MoveFromStart}
 
 -- a new server of these settings, whose inbox stored these, and which put its first command out
@@ -59,14 +60,28 @@ abbrev pub StreamsAreRuns : Type 0
 StreamsAreRuns = (settings : Settings) (before : List Object) (turns : List Turn) (last : Posture (Noted ServerProfile)) (runs : HasTurns (noted_server settings) turns (new_server settings before).posture last)
     → AllByRecursion (IsPacket acl_limit) (packets_in turns) → AreInTurn (noted_server settings) turns (new_server settings before).posture last runs → IsRunOverUnits settings before turns last runs
 
--- And each does where its controller has a buffer free at each PDU that it brings, by the packets that move alone.
+-- And each does where the ledger of the server has a buffer free at each PDU that it is told of.
+abbrev pub FreeBuffersSuffice : Type 0
+FreeBuffersSuffice = (settings : Settings) (before : List Object) (turns : List Turn) (last : Posture (Noted ServerProfile)) (runs : HasTurns (noted_server settings) turns (new_server settings before).posture last)
+    → AllByRecursion (IsPacket acl_limit) (packets_in turns) → AreFree (noted_server settings) turns (new_server settings before).posture last runs → AreInTurn (noted_server settings) turns (new_server settings before).posture last runs
+
+-- So it has where its controller has one by the packets that move alone.
 abbrev pub FreeStreamsComeInTurn : Type 0
 FreeStreamsComeInTurn = (settings : Settings) (before : List Object) (turns : List Turn) (last : Posture (Noted ServerProfile)) (runs : HasTurns (noted_server settings) turns (new_server settings before).posture last)
     → AllByRecursion (IsPacket acl_limit) (packets_in turns) → IsFreeStream (new_server settings before).said turns → AreInTurn (noted_server settings) turns (new_server settings before).posture last runs
 
--- The packets that `receive` heard, and behind each those that it put out: at each PDU that comes a buffer is free by them, and they are orderly input.
+-- And so does each where by them nothing that the server has to say waits at each PDU that comes, which is so of free ones, and no call of its inbox failed.
+abbrev pub QuietStreamsComeInTurn : Type 0
+QuietStreamsComeInTurn = (settings : Settings) (before : List Object) (turns : List Turn) (last : Posture (Noted ServerProfile)) (runs : HasTurns (noted_server settings) turns (new_server settings before).posture last)
+    → AllByRecursion (IsPacket acl_limit) (packets_in turns) → GrantsAllAsked (noted_server settings) turns (new_server settings before).posture last runs → IsQuietStream settings before (new_server settings before).said turns
+    → AreInTurn (noted_server settings) turns (new_server settings before).posture last runs
+
+abbrev pub FreeStreamsAreQuiet : Type 0
+FreeStreamsAreQuiet = (settings : Settings) (before : List Object) (turns : List Turn) → IsFreeStream (new_server settings before).said turns → IsQuietStream settings before (new_server settings before).said turns
+
+-- The packets that `receive` heard, and behind each those that it put out: at each PDU that comes nothing waits by them, and they are orderly input.
 pub record IsOrderlyStream (settings : Settings) (before : List Object) (turns : List Turn) : Type 0 where
-  pub free : IsFreeStream (new_server settings before).said turns
+  pub quiet : IsQuietStream settings before (new_server settings before).said turns
   pub orderly : (moves : List Move) → MoveFromStart (new_server settings before).said turns moves → IsOrderlyInput settings (lone_capture sides.B moves)
 
 -- The inbox gains exactly the objects that the packets spell which moved, in the order of their last packets, as this party reads them.
@@ -83,9 +98,9 @@ ReceivesSpelled = (source source' sink sink' trace trace' : Option (List ℕ)) (
 
 -- ---- over RFCOMM
 
--- At each PDU that comes a buffer is free by the packets that move, and they are orderly input over RFCOMM.
+-- At each PDU that comes nothing waits by the packets that move, and they are orderly input over RFCOMM.
 pub record IsFramedStream (settings : Settings) (before : List Object) (turns : List Turn) : Type 0 where
-  pub free : IsFreeStream (new_server settings before).said turns
+  pub quiet : IsQuietStream settings before (new_server settings before).said turns
   pub orderly : (moves : List Move) → MoveFromStart (new_server settings before).said turns moves → IsCarriedInput settings (lone_capture sides.B moves)
 
 -- Of such a stream the inbox gains exactly the objects that the packets spell which moved, as a server over RFCOMM reads them.
@@ -96,10 +111,10 @@ ReceivesFramed = (source source' sink sink' trace trace' : Option (List ℕ)) (b
 
 -- ---- over RFCOMM, where input is not orderly
 
--- At each PDU that comes a buffer is free by the packets that move, and on each link one channel is asked for, that of the multiplexer, besides that of service
+-- At each PDU that comes nothing waits by the packets that move, and on each link one channel is asked for, that of the multiplexer, besides that of service
 -- discovery.
 pub record IsCarriedStream (settings : Settings) (before : List Object) (turns : List Turn) : Type 0 where
-  pub free : IsFreeStream (new_server settings before).said turns
+  pub quiet : IsQuietStream settings before (new_server settings before).said turns
   pub asked : (moves : List Move) → MoveFromStart (new_server settings before).said turns moves → IsAskedOver Rfcomm (lone_capture sides.B moves)
 
 -- These packets are a run of the server over units, by which its inbox came to this; and if nothing that came over RFCOMM was lost as it lived through them, it

@@ -89,6 +89,7 @@ fares_first A framing old now sink sink' counts fresh rests room is wrote =
     (record {
       turns = [];
       full = false;
+      heard = false;
       runs = refl;
       each = tt;
       whole = refl;
@@ -100,6 +101,7 @@ fares_first A framing old now sink sink' counts fresh rests room is wrote =
       answered = counted_none counts;
       empty = λ rest. refl;
       rests = λ off rest. rests_emptied A (old rest) (rests rest) (room rest);
+      paused = λ both. absurd (true≢false (sym both));
     }))
 
 -- ---- a new server

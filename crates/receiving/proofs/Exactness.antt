@@ -1,12 +1,12 @@
 -- Turn for turn a host puts out exactly what its packets and the answers of its port lead to.
-use Rattle.std.proofs.Common.{◌≡◌, ◌∙◌, ℕ, Bool, List, [], ◌∷◌, ◌++◌, map, refl, sym, ap, ap₂}
+use Rattle.std.proofs.Common.{◌≡◌, ◌∙◌, ℕ, Bool, List, [], ◌∷◌, refl, sym, ap, ap₂}
 use Rattle.std.specs.Prelude.{Option, Some, None}
 use mathlib.Core.Path.{fun_ext}
 use Rattle.h4_framing.specs.Packets.{Packet}
 use Rattle.bt_host.specs.host_model.specs.Circumstances.{Circumstance}
 use Rattle.bt_host.specs.host_model.specs.Profiles.{Profile}
 use Rattle.receiving.specs.Turns.{Stand, Posture, Turn, HearsIn, HasTurn, HasTurns, emptied, answers_heard}
-use Rattle.receiving.specs.Exactness.{Prompt, back_out, heard_out, prompted, says_along, stands_behind, prompt_of, prompts_of, AreExact}
+use Rattle.receiving.specs.Exactness.{back_out, heard_out, prompted, says_along, stands_behind, prompt_of, prompts_of, AreExact}
 
 module _ {S : Type 0} (A : Profile S) where
   heard_exactly : (packet : Option Packet) (full : Bool) (between after : Stand S) (hears : HearsIn A packet full between after) → after ≡ heard_out A packet (answers_heard A packet full between after hears) between

@@ -1,4 +1,4 @@
--- An octet more ends one packet at most.
+-- An octet more ends one packet at most, and no octet stands behind it.
 use Rattle.std.proofs.Common.{◌≡◌, ◌≢◌, ◌∙◌, ◌⊎◌, inl, inr, ℕ, List, [], ◌∷◌, ◌++◌, refl, sym, ap, append_assoc}
 use Rattle.std.specs.List.{AllByRecursion}
 use Rattle.std.proofs.lemmas.List.{append-nil}
@@ -32,6 +32,14 @@ none_cons : (a : List ℕ) (y : ℕ) (ys : List ℕ) → [] ≡ a ++ y ∷ ys �
 none_cons [] y ys is = absurd cc
 none_cons (x ∷ a) y ys is = absurd cc
 
+-- one octet is no packet
+pub none_alone : (o : ℕ) (p : Packet) (rest : List ℕ) → o ∷ [] ≡ spelling p ++ rest → ⊥
+unfolding tail_of
+none_alone o (Command opcode params) rest is = let more = ap tail_of is in absurd cc
+none_alone o (Acl word octets) rest is = let more = ap tail_of is in absurd cc
+none_alone o (Sync word octets) rest is = let more = ap tail_of is in absurd cc
+none_alone o (Event code params) rest is = let more = ap tail_of is in absurd cc
+
 -- what ends before the last octet ends within those before it
 behind : (a held : List ℕ) (o y : ℕ) (ys : List ℕ) → held ++ o ∷ [] ≡ a ++ y ∷ ys → (front : List ℕ) × (held ≡ a ++ front)
 unfolding tail_of head_or
@@ -56,9 +64,11 @@ none_before limit held o (p ∷ packets) rest unfinished each split some =
     absurd (not_within limit held o p (spellings packets ++ rest) unfinished each.0 (split ∙ append_assoc (spelling p) (spellings packets) rest) (λ none. some (empty_parts (spellings packets) rest none).1))
 
 pub one_at_most : (limit : ℕ) (held : List ℕ) (o : ℕ) (packets : List Packet) (rest : List ℕ) → IsUnfinished limit held → AllByRecursion (IsPacket limit) packets → held ++ o ∷ [] ≡ spellings packets ++ rest
-    → (packets ≡ []) ⊎ ((p : Packet) × (packets ≡ p ∷ []))
+    → (packets ≡ []) ⊎ ((p : Packet) × (packets ≡ p ∷ []) × (rest ≡ []))
 one_at_most limit held o [] rest unfinished each split = inl refl
-one_at_most limit held o (p ∷ []) rest unfinished each split = inr (p, refl)
+one_at_most limit held o (p ∷ []) [] unfinished each split = inr (p, refl, refl)
+one_at_most limit held o (p ∷ []) (y ∷ ys) unfinished each split =
+    absurd (not_within limit held o p (y ∷ ys) unfinished each.0 (split ∙ append_assoc (spelling p) [] (y ∷ ys)) (λ none. absurd cc))
 one_at_most limit held o (p ∷ q ∷ packets) rest unfinished each split =
     absurd (not_within limit held o p (spellings (q ∷ packets) ++ rest) unfinished each.0 (split ∙ append_assoc (spelling p) (spellings (q ∷ packets)) rest)
     (λ none. some_spelled q (spellings packets ++ rest) (sym (append_assoc (spelling q) (spellings packets) rest) ∙ none)))

@@ -1,5 +1,5 @@
 -- A host is fed one octet more.
-use Rattle.std.proofs.Common.{◌≡◌, ◌≢◌, ◌∙◌, ◌⊎◌, inl, inr, ℕ, ◌<◌, ◌≤◌, Bool, true, false, not, nat_lt, List, [], ◌∷◌, ◌++◌, length, refl, sym, ap, subst, true≢false, append_assoc, length-append, arith}
+use Rattle.std.proofs.Common.{◌≡◌, ◌≢◌, ◌∙◌, ◌⊎◌, inl, inr, ℕ, ◌<◌, ◌≤◌, ◌&&◌, Bool, true, false, not, nat_lt, is_some, List, [], ◌∷◌, ◌++◌, length, refl, sym, ap, subst, true≢false, append_assoc, length-append, arith}
 use Rattle.std.specs.Prelude.{Option, Some, None, Ok, Err, option_to_list}
 use Rattle.std.specs.List.{AllByRecursion}
 use Rattle.std.proofs.lemmas.List.{append-nil}
@@ -33,9 +33,13 @@ use Rattle.receiving.specs.Feeding.{Listens, IsFed}
 use Rattle.receiving.specs.Coming.{input_limit, BeginsFaulty, Ends, Beside, Halts}
 use Rattle.receiving.specs.Faring.{Fares, told_by, IsOfSink}
 use Rattle.receiving.proofs.Answering.{Gave, gave_then, gave_none, answers_to, answers_snoc, hears_to}
-use Rattle.receiving.proofs.Lists.{none_before, one_at_most, some_spelled}
+use Rattle.receiving.proofs.Lists.{none_before, one_at_most, none_alone, some_spelled}
 use Rattle.receiving.proofs.Still.{rests_emptied, emptied_same, moves_still}
 use Rattle.receiving.proofs.Turning.{packets_snoc, said_snoc, Framed, whole_more, framed_more}
+
+never_both : (b : Bool) → (b && false) ≡ false
+never_both true = refl
+never_both false = refl
 
 not_not : (b : Bool) → not b ≡ false → b ≡ true
 not_not true is = refl
@@ -44,14 +48,16 @@ not_not false is = absurd (true≢false is)
 -- ---- the turns that an octet more makes
 
 -- the turns of before, and perhaps one more; the octets are their packets and a rest
-pub record Turned {S : Type 0} (A : Profile S) (first : Begun S) (before : List ℕ) (packets : List Packet) (heard now : Stand S) (said : List ℕ) (counts counts' : counting.Counts) : Type 0 where
+pub record Turned {S : Type 0} (A : Profile S) (first : Begun S) (before : List ℕ) (packets : List Packet) (rest : List ℕ) (heard now : Stand S) (said : List ℕ) (counts counts' : counting.Counts) : Type 0 where
   pub turns : List Turn
   pub full : Bool
-  pub runs : HasTurns A turns first.posture (record { stands = now; full = full })
+  pub by_packet : Bool
+  pub runs : HasTurns A turns first.posture (record { stands = now; full = full; heard = by_packet })
   pub packets_are : packets_in turns ≡ packets
   pub said_is : said_in turns ≡ before ++ said
-  pub answered : Gave (answers_along A turns first.posture (record { stands = now; full = full }) runs) counts counts'
+  pub answered : Gave (answers_along A turns first.posture (record { stands = now; full = full; heard = by_packet }) runs) counts counts'
   pub rests : HasRest A heard → full ≡ false → HasRest A now
+  pub paused : (full && by_packet) ≡ true → rest ≡ []
 
 -- what was said of a host, and that it was taken
 pub record Said {S : Type 0} (heard now : Stand S) (said : List ℕ) : Type 0 where
@@ -155,48 +161,55 @@ module _ {S : Type 0} (A : Profile S) (first : Begun S) (octets : List ℕ) (o :
   none_said : heard ≡ old → said ≡ []
   none_said is = sym (told.says []) ∙ ap (λ (f : Stand S). (f []).line.out) is ∙ F.empty []
 
-  abbrev at : Stand S → Bool → Posture S
-  at stands full = record { stands = stands; full = full }
+  abbrev at : Stand S → (full by_packet : Bool) → Posture S
+  at stands full by_packet = record { stands = stands; full = full; heard = by_packet }
 
   abbrev so_far : List Circumstance
-  so_far = answers_along A F.turns first.posture (at old F.full) F.runs
+  so_far = answers_along A F.turns first.posture (at old F.full F.heard) F.runs
 
-  no_turn : heard ≡ old → (more : List Circumstance) → answers_in more ≡ [] → Gave more mid.counts counts → Turned A first (said_in F.turns) (packets_in F.turns) heard now said before.counts counts
-  no_turn is more none gave =
-      let ran = answers_to A F.turns first.posture (at old F.full) (at now F.full) so_far (ap (λ (s : Stand S). at s F.full) (sym (same_now is))) (F.runs, refl) in
+  no_turn : (rest : List ℕ) → F.full ≡ false → heard ≡ old → (more : List Circumstance) → answers_in more ≡ [] → Gave more mid.counts counts → Turned A first (said_in F.turns) (packets_in F.turns) rest heard now said before.counts counts
+  no_turn rest off is more none gave =
+      let ran = answers_to A F.turns first.posture (at old F.full F.heard) (at now F.full F.heard) so_far (ap (λ (s : Stand S). at s F.full F.heard) (sym (same_now is))) (F.runs, refl) in
       record {
         turns = F.turns;
         full = F.full;
+        by_packet = F.heard;
         runs = ran.0;
         packets_are = refl;
         said_is = sym (append-nil (said_in F.turns)) ∙ ap (λ (xs : List ℕ). said_in F.turns ++ xs) (sym (none_said is));
         answered = subst (λ (used : List Circumstance). Gave used before.counts counts) (sym ran.1) (gave_none so_far more before.counts mid.counts counts none F.answered gave);
         rests = λ rests off. rests_now rests (ap is_full (none_said is));
+        paused = λ both. absurd (true≢false (sym both ∙ ap (λ (b : Bool). b && F.heard) off));
       }
 
   abbrev turn_with : Option Packet → Turn
   turn_with packet = record { packet = packet; said = said }
 
-  one_turn : (packet : Option Packet) (one : HasTurn A (turn_with packet) (at old F.full) (at now (is_full said))) → Gave (answers_of A (turn_with packet) (at old F.full) (at now (is_full said)) one) mid.counts counts
-      → Turned A first (said_in F.turns) (packets_in F.turns ++ option_to_list packet) heard now said before.counts counts
-  one_turn packet one gave =
-      let used = answers_of A (turn_with packet) (at old F.full) (at now (is_full said)) one in
-      let ran = answers_snoc A F.turns (turn_with packet) first.posture (at old F.full) (at now (is_full said)) F.runs one in
+  abbrev behind_turn : Option Packet → Posture S
+  behind_turn packet = at now (is_full said) (is_some packet)
+
+  one_turn : (rest : List ℕ) (packet : Option Packet) (one : HasTurn A (turn_with packet) (at old F.full F.heard) (behind_turn packet)) → Gave (answers_of A (turn_with packet) (at old F.full F.heard) (behind_turn packet) one) mid.counts counts
+      → ((is_full said && is_some packet) ≡ true → rest ≡ []) → Turned A first (said_in F.turns) (packets_in F.turns ++ option_to_list packet) rest heard now said before.counts counts
+  one_turn rest packet one gave paused =
+      let used = answers_of A (turn_with packet) (at old F.full F.heard) (behind_turn packet) one in
+      let ran = answers_snoc A F.turns (turn_with packet) first.posture (at old F.full F.heard) (behind_turn packet) F.runs one in
       record {
         turns = F.turns ++ turn_with packet ∷ [];
         full = is_full said;
+        by_packet = is_some packet;
         runs = ran.0;
         packets_are = packets_snoc F.turns (turn_with packet);
         said_is = said_snoc F.turns (turn_with packet);
         answered = subst (λ (list : List Circumstance). Gave list before.counts counts) (sym ran.1) (gave_then so_far used before.counts mid.counts counts F.answered gave);
         rests = rests_now;
+        paused = paused;
       }
 
   -- no packet was heard
-  quiet_by : (full : Bool) → F.full ≡ full → (listens : Listens A [] old heard mid.counts counts) → Turned A first (said_in F.turns) (packets_in F.turns) heard now said before.counts counts
-  quiet_by false is listens = no_turn (listens.hears ∙ between_is [] listens is) (listens.back.used ++ []) (ap answers_in (append-nil listens.back.used) ∙ (was_still [] listens is).1) listens.answered
-  quiet_by true is listens =
-      let one = one_turn None (record {
+  quiet_by : (rest : List ℕ) (full : Bool) → F.full ≡ full → (listens : Listens A [] old heard mid.counts counts) → Turned A first (said_in F.turns) (packets_in F.turns) rest heard now said before.counts counts
+  quiet_by rest false is listens = no_turn rest is (listens.hears ∙ between_is [] listens is) (listens.back.used ++ []) (ap answers_in (append-nil listens.back.used) ∙ (was_still [] listens is).1) listens.answered
+  quiet_by rest true is listens =
+      let one = one_turn rest None (record {
         between = listens.between;
         back = listens.back;
         none_back = between_is [] listens;
@@ -205,32 +218,38 @@ module _ {S : Type 0} (A : Profile S) (first : Begun S) (octets : List ℕ) (o :
         says = told.says;
         stands = told.now_is;
         full = refl;
-      }) listens.answered in
-      subst (λ (ps : List Packet). Turned A first (said_in F.turns) ps heard now said before.counts counts) (append-nil (packets_in F.turns)) one
+        heard = refl;
+        pauses = λ both. refl;
+      }) listens.answered (λ both. absurd (true≢false (sym both ∙ never_both (is_full said)))) in
+      subst (λ (ps : List Packet). Turned A first (said_in F.turns) ps rest heard now said before.counts counts) (append-nil (packets_in F.turns)) one
 
-  quiet : Listens A [] old heard mid.counts counts → Turned A first (said_in F.turns) (packets_in F.turns) heard now said before.counts counts
-  quiet listens = quiet_by F.full refl listens
+  quiet : (rest : List ℕ) → Listens A [] old heard mid.counts counts → Turned A first (said_in F.turns) (packets_in F.turns) rest heard now said before.counts counts
+  quiet rest listens = quiet_by rest F.full refl listens
 
   -- the octet was taken
-  taken_turn : (packets : List Packet) → (packets ≡ []) ⊎ ((p : Packet) × (packets ≡ p ∷ [])) → Listens A packets old heard mid.counts counts → HasRest A heard → Turned A first (said_in F.turns) (packets_in F.turns ++ packets) heard now said before.counts counts
-  taken_turn packets (inl none) listens rests =
-      subst (λ (ps : List Packet). Turned A first (said_in F.turns) ps heard now said before.counts counts) (sym (append-nil (packets_in F.turns)) ∙ ap (λ (ps : List Packet). packets_in F.turns ++ ps) (sym none))
-      (quiet (subst (λ (ps : List Packet). Listens A ps old heard mid.counts counts) none listens))
-  taken_turn packets (inr (p, one)) listens rests =
+  taken_turn : (packets : List Packet) (rest : List ℕ) → framing.held ++ o ∷ [] ≡ spellings packets ++ rest → (packets ≡ []) ⊎ ((p : Packet) × (packets ≡ p ∷ []) × (rest ≡ [])) → Listens A packets old heard mid.counts counts → HasRest A heard
+      → Turned A first (said_in F.turns) (packets_in F.turns ++ packets) rest heard now said before.counts counts
+  taken_turn packets rest split (inl none) listens rests =
+      subst (λ (ps : List Packet). Turned A first (said_in F.turns) ps rest heard now said before.counts counts) (sym (append-nil (packets_in F.turns)) ∙ ap (λ (ps : List Packet). packets_in F.turns ++ ps) (sym none))
+      (quiet rest (subst (λ (ps : List Packet). Listens A ps old heard mid.counts counts) none listens))
+  taken_turn packets rest split (inr (p, one, ends)) listens rests =
       let one_heard = subst (λ (ps : List Packet). Listens A ps old heard mid.counts counts) one listens in
       let hearing = hears_to A p one_heard.between one_heard.hears.0 heard (sym one_heard.hears.2) one_heard.hears.1 in
-      subst (λ (ps : List Packet). Turned A first (said_in F.turns) ps heard now said before.counts counts) (ap (λ (ps : List Packet). packets_in F.turns ++ ps) (sym one))
-      (one_turn (Some p) (record {
+      let whole : framing.held ++ o ∷ [] ≡ spelling p ++ ([] ++ rest) = split ∙ ap (λ (ps : List Packet). spellings ps ++ rest) one ∙ append_assoc (spelling p) [] rest in
+      subst (λ (ps : List Packet). Turned A first (said_in F.turns) ps rest heard now said before.counts counts) (ap (λ (ps : List Packet). packets_in F.turns ++ ps) (sym one))
+      (one_turn rest (Some p) (record {
         between = one_heard.between;
         back = one_heard.back;
         none_back = between_is (p ∷ []) one_heard;
         after = heard;
-        hears = (hearing.0, rests);
+        hears = (hearing.0, rests, λ off. subst (HasRest A) (sym (between_is (p ∷ []) one_heard off)) (F.rests off));
         says = told.says;
         stands = told.now_is;
         full = refl;
+        heard = refl;
+        pauses = λ both. absurd (none_alone o p rest (ap (λ (held : List ℕ). held ++ o ∷ []) (sym (F.paused both)) ∙ whole));
       })
-      (subst (λ (used : List Circumstance). Gave (one_heard.back.used ++ used) mid.counts counts) (append-nil one_heard.hears.1.moves.used ∙ sym hearing.1) one_heard.answered))
+      (subst (λ (used : List Circumstance). Gave (one_heard.back.used ++ used) mid.counts counts) (append-nil one_heard.hears.1.moves.used ∙ sym hearing.1) one_heard.answered) (λ both. ends))
 
   abbrev beside_then : Option (List ℕ) → Beside
   beside_then sink' = record { sink = sink'; counts = counts }
@@ -238,11 +257,12 @@ module _ {S : Type 0} (A : Profile S) (first : Begun S) (octets : List ℕ) (o :
   -- and it goes on
   pub fares_on : (framing' : Framing) (sink' : Option (List ℕ)) → IsFed A (o ∷ []) framing framing' old heard mid.counts counts (Ok tt) → HasRest A heard → length octets < input_limit → sink' ≡ gained mid.sink said → Fares A first (octets ++ o ∷ []) framing' now before (beside_then sink')
   fares_on framing' sink' (packets, taken, listens) rests small wrote =
-      let turn = taken_turn packets (one_at_most acl_limit framing.held o packets taken.rest F.unfinished taken.read.each taken.read.octets) listens rests in
+      let turn = taken_turn packets taken.rest taken.read.octets (one_at_most acl_limit framing.held o packets taken.rest F.unfinished taken.read.each taken.read.octets) listens rests in
       let behind = framed_more octets o (packets_in F.turns) packets framing framing' framed taken small in
       record {
         turns = turn.turns;
         full = turn.full;
+        heard = turn.by_packet;
         runs = turn.runs;
         each = subst (λ (ps : List Packet). AllByRecursion (IsPacket acl_limit) ps) (sym turn.packets_are) behind.each;
         whole = behind.whole ∙ ap (λ (ps : List Packet). spellings ps ++ framing'.held) (sym turn.packets_are);
@@ -254,46 +274,47 @@ module _ {S : Type 0} (A : Profile S) (first : Begun S) (octets : List ℕ) (o :
         answered = turn.answered;
         empty = empty_now;
         rests = turn.rests rests;
+        paused = λ both. ap (λ (f : Framing). f.held) taken.framing_is ∙ turn.paused both;
       }
     where
-      all_said : (turn : Turned A first (said_in F.turns) (packets_in F.turns ++ packets) heard now said before.counts counts) (sink' : Option (List ℕ)) → sink' ≡ gained mid.sink said → sink' ≡ gained before.sink (first.said ++ said_in turn.turns)
+      all_said : (turn : Turned A first (said_in F.turns) (packets_in F.turns ++ packets) taken.rest heard now said before.counts counts) (sink' : Option (List ℕ)) → sink' ≡ gained mid.sink said → sink' ≡ gained before.sink (first.said ++ said_in turn.turns)
       all_said turn sink' wrote =
           wrote ∙ ap (λ (k : Option (List ℕ)). gained k said) F.wrote ∙ gained-gained before.sink (first.said ++ said_in F.turns) said
           ∙ ap (gained before.sink) (append_assoc first.said (said_in F.turns) said ∙ ap (λ (xs : List ℕ). first.said ++ xs) (sym turn.said_is))
 
   -- ---- it stops
 
-  said_front : (packets : List Packet) (turn : Turned A first (said_in F.turns) packets heard now said before.counts counts) (sink' : Option (List ℕ)) → GainedFront mid.sink sink' said → GainedFront before.sink sink' (first.said ++ said_in turn.turns)
-  said_front packets turn sink' front =
+  said_front : (packets : List Packet) (rest : List ℕ) (turn : Turned A first (said_in F.turns) packets rest heard now said before.counts counts) (sink' : Option (List ℕ)) → GainedFront mid.sink sink' said → GainedFront before.sink sink' (first.said ++ said_in turn.turns)
+  said_front packets rest turn sink' front =
       subst (λ (xs : List ℕ). GainedFront before.sink sink' xs) (append_assoc first.said (said_in F.turns) said ∙ ap (λ (xs : List ℕ). first.said ++ xs) (sym turn.said_is))
       (front_then before.sink mid.sink sink' (first.said ++ said_in F.turns) said F.wrote front)
 
   -- since the sink failed, or wanted memory
-  sink_halts : (packets : List Packet) (rest : List ℕ) (turn : Turned A first (said_in F.turns) packets heard now said before.counts counts) (sink' : Option (List ℕ)) → AllByRecursion (IsPacket acl_limit) packets → octets ++ o ∷ [] ≡ spellings packets ++ rest
+  sink_halts : (packets : List Packet) (rest : List ℕ) (turn : Turned A first (said_in F.turns) packets rest heard now said before.counts counts) (sink' : Option (List ℕ)) → AllByRecursion (IsPacket acl_limit) packets → octets ++ o ∷ [] ≡ spellings packets ++ rest
       → GainedFront mid.sink sink' said → (why : ListenFault) → IsOfSink why → (behind : List ℕ) (left : Option (List ℕ)) → Halts A first (octets ++ o ∷ []) behind left now before (beside_then sink') (Err why)
   sink_halts packets rest turn sink' each whole front (Refused refusal place) of behind left = absurd of
   sink_halts packets rest turn sink' each whole front ReadFault of behind left = absurd of
   sink_halts packets rest turn sink' each whole front WriteFault of behind left = record {
     turns = turn.turns;
-    last = record { stands = now; full = turn.full };
+    last = record { stands = now; full = turn.full; heard = turn.by_packet };
     runs = turn.runs;
     each = subst (λ (ps : List Packet). AllByRecursion (IsPacket acl_limit) ps) (sym turn.packets_are) each;
     rest = rest;
     whole = whole ∙ ap (λ (ps : List Packet). spellings ps ++ rest) (sym turn.packets_are);
     ends = tt;
-    wrote = said_front packets turn sink' front;
+    wrote = said_front packets rest turn sink' front;
     there = refl;
     answered = turn.answered;
   }
   sink_halts packets rest turn sink' each whole front NoMemory of behind left = record {
     turns = turn.turns;
-    last = record { stands = now; full = turn.full };
+    last = record { stands = now; full = turn.full; heard = turn.by_packet };
     runs = turn.runs;
     each = subst (λ (ps : List Packet). AllByRecursion (IsPacket acl_limit) ps) (sym turn.packets_are) each;
     rest = rest;
     whole = whole ∙ ap (λ (ps : List Packet). spellings ps ++ rest) (sym turn.packets_are);
     ends = tt;
-    wrote = said_front packets turn sink' front;
+    wrote = said_front packets rest turn sink' front;
     there = tt;
     answered = tt;
   }
@@ -301,17 +322,17 @@ module _ {S : Type 0} (A : Profile S) (first : Begun S) (octets : List ℕ) (o :
   pub taken_halts : (framing' : Framing) (sink' : Option (List ℕ)) → IsFed A (o ∷ []) framing framing' old heard mid.counts counts (Ok tt) → HasRest A heard → length octets < input_limit → GainedFront mid.sink sink' said → (why : ListenFault) → IsOfSink why
       → (behind : List ℕ) (left : Option (List ℕ)) → Halts A first (octets ++ o ∷ []) behind left now before (beside_then sink') (Err why)
   taken_halts framing' sink' (packets, taken, listens) rests small front why of =
-      let turn = taken_turn packets (one_at_most acl_limit framing.held o packets taken.rest F.unfinished taken.read.each taken.read.octets) listens rests in
+      let turn = taken_turn packets taken.rest taken.read.octets (one_at_most acl_limit framing.held o packets taken.rest F.unfinished taken.read.each taken.read.octets) listens rests in
       let behind = framed_more octets o (packets_in F.turns) packets framing framing' framed taken small in
-      sink_halts (packets_in F.turns ++ packets) framing'.held turn sink' behind.each behind.whole front why of
+      sink_halts (packets_in F.turns ++ packets) framing'.held (subst (λ (rest : List ℕ). Turned A first (said_in F.turns) (packets_in F.turns ++ packets) rest heard now said before.counts counts) (sym (ap (λ (f : Framing). f.held) taken.framing_is)) turn) sink' behind.each behind.whole front why of
 
   -- no packet was heard with the octet at which it stops
   none_heard : (framing' : Framing) (why : FeedRefusal) (stops : StopsFor A framing framing' o old heard mid.counts counts why) → stops.0 ≡ []
   none_heard framing' why (packets, stopped, listens) =
       none_before acl_limit framing.held o packets stopped.rest F.unfinished stopped.read.each stopped.read.octets (is_some_refused (heard []).line (place_behind framing packets) stopped.rest why stopped.refused)
 
-  stopped_turn : (framing' : Framing) (why : FeedRefusal) (stops : StopsFor A framing framing' o old heard mid.counts counts why) → Turned A first (said_in F.turns) (packets_in F.turns) heard now said before.counts counts
-  stopped_turn framing' why stops = quiet (subst (λ (ps : List Packet). Listens A ps old heard mid.counts counts) (none_heard framing' why stops) stops.2)
+  stopped_turn : (framing' : Framing) (why : FeedRefusal) (stops : StopsFor A framing framing' o old heard mid.counts counts why) → Turned A first (said_in F.turns) (packets_in F.turns) stops.1.rest heard now said before.counts counts
+  stopped_turn framing' why stops = quiet stops.1.rest (subst (λ (ps : List Packet). Listens A ps old heard mid.counts counts) (none_heard framing' why stops) stops.2)
 
   stopped_whole : (framing' : Framing) (why : FeedRefusal) (stops : StopsFor A framing framing' o old heard mid.counts counts why) → octets ++ o ∷ [] ≡ spellings (packets_in F.turns) ++ stops.1.rest
   stopped_whole framing' why stops =
@@ -339,7 +360,7 @@ module _ {S : Type 0} (A : Profile S) (first : Begun S) (octets : List ℕ) (o :
       subst (λ (w : ListenFault). Halts A first (octets ++ o ∷ []) behind left now before (beside_then sink') (Err w)) (sym named.2)
       (record {
         turns = turn.turns;
-        last = record { stands = now; full = turn.full };
+        last = record { stands = now; full = turn.full; heard = turn.by_packet };
         runs = turn.runs;
         each = subst (λ (ps : List Packet). AllByRecursion (IsPacket acl_limit) ps) (sym turn.packets_are) F.each;
         rest = rest;
@@ -360,7 +381,7 @@ pub short_halts : {S : Type 0} (A : Profile S) (first : Begun S) (octets : List 
     → (behind : List ℕ) (left : Option (List ℕ)) → Halts A first (octets ++ o ∷ []) behind left now before (record { sink = mid.sink; counts = counts }) (Err NoMemory)
 short_halts A first octets o framing old now before mid counts F behind left = record {
   turns = F.turns;
-  last = record { stands = old; full = F.full };
+  last = record { stands = old; full = F.full; heard = F.heard };
   runs = F.runs;
   each = F.each;
   rest = framing.held ++ o ∷ [];

@@ -68,7 +68,7 @@ module _ {S : Type 0} (A : Profile S) (first : Begun S) (origin left : Option (L
       → Ends (stands []).line (length (spellings (packets_in F.turns))) framing.held behind left' result → Halts A first octets behind left' stands before near result
   halts_here octets behind left' result F ends = record {
     turns = F.turns;
-    last = record { stands = stands; full = F.full };
+    last = record { stands = stands; full = F.full; heard = F.heard };
     runs = F.runs;
     each = F.each;
     rest = framing.held;
@@ -76,7 +76,7 @@ module _ {S : Type 0} (A : Profile S) (first : Begun S) (origin left : Option (L
     ends = ends;
     wrote = writes_all before.sink near.sink (first.said ++ said_in F.turns) result F.wrote;
     there = unless_any result (stands ≡ stands) refl;
-    answered = unless_any result (counting.AreCounted (answers_in (answers_along A F.turns first.posture (record { stands = stands; full = F.full }) F.runs)) before.counts near.counts) F.answered;
+    answered = unless_any result (counting.AreCounted (answers_in (answers_along A F.turns first.posture (record { stands = stands; full = F.full; heard = F.heard }) F.runs)) before.counts near.counts) F.answered;
   }
 
   module _ (count : ℕ) (follows : Follows A first origin left framing stands before near count) where

@@ -1,5 +1,5 @@
 -- What a host puts out in a turn, as a function of where it stood, the packet that came, and what its port answered (this project's own).
-use Rattle.std.specs.Prelude.{ℕ, ◌≡◌, Bool, List, [], ◌∷◌, ◌++◌, map, Option, Some, None}
+use Rattle.std.specs.Prelude.{ℕ, ◌≡◌, List, [], ◌∷◌, ◌++◌, map, Option, Some, None}
 use Rattle.h4_framing.specs.Packets.{Packet}
 use Rattle.bt_host.specs.host_model.specs.Circumstances.{Circumstance}
 use Rattle.bt_host.specs.host_model.specs.Profiles.{Profile}

@@ -1,5 +1,5 @@
 -- How far a host has come with what it is fed (this project's own).
-use Rattle.std.specs.Prelude.{ℕ, ◌≡◌, ◌≢◌, ◌+◌, ◌<◌, ◌≤◌, ◌⊎◌, Bool, true, false, List, [], ◌∷◌, ◌++◌, length, Option, None, IfSome, Result, Ok, Err}
+use Rattle.std.specs.Prelude.{ℕ, ◌≡◌, ◌≢◌, ◌+◌, ◌<◌, ◌≤◌, ◌⊎◌, ◌&&◌, Bool, true, false, List, [], ◌∷◌, ◌++◌, length, Option, None, IfSome, Result, Ok, Err}
 use Rattle.std.specs.List.{AllByRecursion}
 use Rattle.bt_base.specs.Streams.{gained}
 use Rattle.h4_framing.specs.Packets.{spellings, IsPacket}
@@ -19,12 +19,13 @@ use Rattle.receiving.specs.declared.fault.ListenFault.TheVariants.{Refused, Read
 use Rattle.receiving.specs.Turns.{Stand, HasRest, Begun, Turn, HasTurns, answers_along, packets_in, said_in}
 use Rattle.receiving.specs.Coming.{input_limit, Beside, Halts, Comes}
 
--- It heard the packets of the octets that it was fed, and holds what stands behind them; all that it said is written, and the counts of its port say what
--- that answered.
+-- It heard the packets of the octets that it was fed, and holds what stands behind them: nothing, where the last of these left it no room. All that it said
+-- is written, and the counts of its port say what that answered.
 pub record Fares {S : Type 0} (A : Profile S) (first : Begun S) (octets : List ℕ) (framing : Framing) (stands : Stand S) (before after : Beside) : Type 0 where
   pub turns : List Turn
   pub full : Bool
-  pub runs : HasTurns A turns first.posture (record { stands = stands; full = full })
+  pub heard : Bool
+  pub runs : HasTurns A turns first.posture (record { stands = stands; full = full; heard = heard })
   pub each : AllByRecursion (IsPacket acl_limit) (packets_in turns)
   pub whole : octets ≡ spellings (packets_in turns) ++ framing.held
   pub place : framing.before ≡ length (spellings (packets_in turns))
@@ -32,9 +33,10 @@ pub record Fares {S : Type 0} (A : Profile S) (first : Begun S) (octets : List �
   pub sound : framing.fault ≡ None
   pub unfinished : IsUnfinished acl_limit framing.held
   pub wrote : after.sink ≡ gained before.sink (first.said ++ said_in turns)
-  pub answered : counting.AreCounted (answers_in (answers_along A turns first.posture (record { stands = stands; full = full }) runs)) before.counts after.counts
+  pub answered : counting.AreCounted (answers_in (answers_along A turns first.posture (record { stands = stands; full = full; heard = heard }) runs)) before.counts after.counts
   pub empty : (rest : List Circumstance) → (stands rest).line.out ≡ []
   pub rests : full ≡ false → HasRest A stands
+  pub paused : (full && heard) ≡ true → framing.held ≡ []
 
 -- it is fed one octet more
 abbrev pub HearsOctet : {S : Type 0} → Profile S → Begun S → List ℕ → Framing → Stand S → (before after : Beside) → Result (Unit {0}) ListenFault → Type 0

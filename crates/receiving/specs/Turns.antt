@@ -1,5 +1,5 @@
 -- What a host hears and says that is fed octets, one turn after the other (this project's own).
-use Rattle.std.specs.Prelude.{ℕ, ◌≡◌, Bool, true, false, not, nat_lt, List, [], ◌∷◌, ◌++◌, length, Option, Some, None, option_to_list}
+use Rattle.std.specs.Prelude.{ℕ, ◌≡◌, ◌&&◌, Bool, true, false, not, nat_lt, List, [], ◌∷◌, ◌++◌, length, is_some, Option, Some, None, option_to_list}
 use Rattle.std.specs.List.{flat_map}
 use Rattle.h4_framing.specs.Packets.{Packet}
 use Rattle.bt_host.specs.host_link.specs.Hearing.{fault_of}
@@ -32,11 +32,12 @@ HasRest A now = (rest : List Circumstance) → Rests A (now rest)
 abbrev pub emptied : {S : Type 0} → Standing S → Standing S
 emptied now = record now { line = record now.line { out = [] } }
 
--- A host between two turns, where all that it put out was taken; and whether it may hold something back, since what it put out
--- last left it no room for more.
+-- A host between two turns, where all that it put out was taken; whether it may hold something back, since what it put out last left
+-- it no room for more; and whether it heard a packet last.
 pub record Posture (S : Type 0) : Type 0 where
   pub stands : Stand S
   pub full : Bool
+  pub heard : Bool
 
 -- where it begins, and what it put out until then
 pub record Begun (S : Type 0) : Type 0 where
@@ -45,7 +46,7 @@ pub record Begun (S : Type 0) : Type 0 where
 
 -- what stands in `out` was said
 abbrev pub begun : {S : Type 0} → Stand S → Begun S
-begun stands = record { posture = record { stands = λ rest. emptied (stands rest); full = false }; said = (stands []).line.out }
+begun stands = record { posture = record { stands = λ rest. emptied (stands rest); full = false; heard = false }; said = (stands []).line.out }
 
 -- so many octets leave no room for a packet more
 abbrev pub is_full : List ℕ → Bool
@@ -56,13 +57,14 @@ pub record Turn : Type 0 where
   pub packet : Option Packet
   pub said : List ℕ
 
--- It hears a packet, goes on by itself, and does all that it can. A turn without a packet comes only where it may hold something
--- back.
+-- It hears a packet, goes on by itself, and does all that it can; where it holds nothing back it had done so before. A turn without a packet
+-- comes only where it may hold something back.
 abbrev pub HearsIn : {S : Type 0} → Profile S → Option Packet → Bool → Stand S → Stand S → Type 0
 HearsIn A None full before after = (full ≡ true) × (after ≡ before)
-HearsIn A (Some packet) full before after = HearsOne A packet before after × HasRest A after
+HearsIn A (Some packet) full before after = HearsOne A packet before after × HasRest A after × (full ≡ false → HasRest A before)
 
--- One turn: what it held back goes out, which is nothing where there was room for all; it hears; and all that it put out is taken.
+-- One turn: what it held back goes out, which is nothing where there was room for all; it hears; and all that it put out is taken. A packet
+-- has more octets than one, so behind one that left no room a turn without a packet comes before the next is whole.
 pub record HasTurn {S : Type 0} (A : Profile S) (turn : Turn) (old new : Posture S) : Type 0 where
   pub between : Stand S
   pub back : Moves A old.stands between
@@ -72,6 +74,8 @@ pub record HasTurn {S : Type 0} (A : Profile S) (turn : Turn) (old new : Posture
   pub says : (rest : List Circumstance) → (after rest).line.out ≡ turn.said
   pub stands : new.stands ≡ (λ rest. emptied (after rest))
   pub full : new.full ≡ is_full turn.said
+  pub heard : new.heard ≡ is_some turn.packet
+  pub pauses : (old.full && old.heard) ≡ true → turn.packet ≡ None
 
 -- one after the other
 abbrev pub HasTurns : {S : Type 0} → Profile S → List Turn → Posture S → Posture S → Type 0

@@ -1,5 +1,5 @@
-use Rattle.receive_laws.proofs.Buffers.{free_buffers_suffice}
+use Rattle.receive_laws.proofs.Reaching.{free_buffers_suffice}
 use Rattle.receive_laws.proofs.free_buffers_suffice.Goals as goal
 
 pub returns : goal.returns
-returns g c = free_buffers_suffice
+returns c = free_buffers_suffice
