@@ -1,0 +1,4 @@
+pub mod Comings
+pub mod Finding
+pub mod Exactly
+pub mod Reporting
