@@ -238,11 +238,11 @@ module _ (c : Client) (has : c.cause ≡ Some NoService) where
 -- ---- of one that has none yet
 
 -- another outcome than that
-abbrev is_other : Outcome → Bool
+abbrev pub is_other : Outcome → Bool
 is_other NoService = false
 is_other outcome = true
 
-unsaid_other : (outcome : Outcome) → is_unsaid outcome ≡ true → is_other outcome ≡ true
+pub unsaid_other : (outcome : Outcome) → is_unsaid outcome ≡ true → is_other outcome ≡ true
 unsaid_other NoService is = is
 unsaid_other outcome is = refl
 
@@ -250,10 +250,10 @@ responded_other : (outcome : Outcome) → is_responded outcome ≡ true → is_o
 responded_other NoService is = is
 responded_other outcome is = refl
 
-other_not : {X : Type 0} (shown : Option Outcome) → Within is_other shown → shown ≡ Some NoService → X
+pub other_not : {X : Type 0} (shown : Option Outcome) → Within is_other shown → shown ≡ Some NoService → X
 other_not shown within is = never (subst (Within is_other) is within)
 
-link_unsaid : (by_user : Bool) → Within is_unsaid (Some (if by_user then outcomes.PeerClosed else outcomes.LinkLost))
+pub link_unsaid : (by_user : Bool) → Within is_unsaid (Some (if by_user then outcomes.PeerClosed else outcomes.LinkLost))
 link_unsaid true = refl
 link_unsaid false = refl
 
@@ -263,11 +263,11 @@ up_other opened c = tt
 up_other (bytes octets) c = within_more is_responded is_other responded_other _ (stream_responds (length (c.held ++ octets)) (c.held ++ octets) c)
 up_other (closed reason) c = either is_other (is_left c.contact reason) None (Some (cause_of_mux reason)) tt refl
 
-object_other : (transport : Transport) (sdu : List ℕ) (c : Client) → Within is_other (object_shows transport sdu c)
+pub object_other : (transport : Transport) (sdu : List ℕ) (c : Client) → Within is_other (object_shows transport sdu c)
 object_other L2cap sdu c = within_more is_responded is_other responded_other _ (response_responds sdu c)
 object_other Rfcomm sdu c = up_other (up sdu c.mux) (record c { mux = hears sdu c.mux })
 
-outside_other : (transport : Transport) → Within is_other (outside_shows transport)
+pub outside_other : (transport : Transport) → Within is_other (outside_shows transport)
 outside_other L2cap = refl
 outside_other Rfcomm = tt
 
@@ -360,7 +360,7 @@ module _ (c : Client) (none : c.cause ≡ None) where
 
 -- ---- whatever happens
 
-fares_done : (deed : Deed) (c : Client) → Fares c → Fares (done deed c)
+pub fares_done : (deed : Deed) (c : Client) → Fares c → Fares (done deed c)
 fares_done deed c fares = by c.cause refl
   where
     stays : (so : OffOrLacks c) → c.cause ≡ Some NoService → OffOrLacks (done deed c)

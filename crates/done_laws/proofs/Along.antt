@@ -58,7 +58,7 @@ module _ (scenario : Scenario) (shelf before : List Object) (answers : List Answ
   more_spelled done world runs at last why =
       let past = all_entries done in
       let link = one_since scenario (holding before) done (untaped_world world) (bare_run scenario shelf before answers done world runs) at.none_a at.none_b (some_piece (since_begun past) why) in
-      record { object = last.object; spelled = one_more (party_of scenario.settings sides.B) sides.B past last.ahead last.last last.object link.down link.one last.links_are last.spelled }
+      record { object = last.object; spelled = one_more (party_of scenario.settings sides.B) sides.B past last.ahead last.last (last.object ∷ []) link.down link.one last.links_are last.spelled }
 
   entries_then : (done : List Happening) (happening : Happening) → all_entries done ++ entries_of happening ≡ all_entries (done ++ happening ∷ [])
   entries_then done happening = sym (flat_map-append entries_of done (happening ∷ []) ∙ ap (λ (l : List Entry). all_entries done ++ l) (append-nil (entries_of happening)))

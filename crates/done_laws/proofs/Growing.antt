@@ -150,10 +150,10 @@ counted_by side past ahead number [] is = is
 counted_by side past ahead number (Begun push ∷ rest) is = counted_by side (past ++ Begun push ∷ []) past (links_told side past) rest refl
 counted_by side past ahead number (entry ∷ rest) is = counted_by side (past ++ entry ∷ []) ahead number rest is
 
--- with one link since then, the last, on which one object is spelled, one more is spelled than before
-pub one_more : (party : Party) (side : Side) (past : List Entry) (ahead : List (List Saying)) (last : List Saying) (object : Object) → link_up side (before_begun past) ≡ None → links_told side past ≡ links_at_begin side past + 1 → talks side past ≡ ahead ++ last ∷ []
-    → objects_on party last ≡ object ∷ [] → objects_heard party side past ≡ objects_heard party side (before_begun past) ++ object ∷ []
-one_more party side past ahead last object down told talks_are spelled =
+-- With one link since then, the last, so much more is spelled than before as on that link.
+pub one_more : (party : Party) (side : Side) (past : List Entry) (ahead : List (List Saying)) (last : List Saying) (here : List Object) → link_up side (before_begun past) ≡ None → links_told side past ≡ links_at_begin side past + 1 → talks side past ≡ ahead ++ last ∷ []
+    → objects_on party last ≡ here → objects_heard party side past ≡ objects_heard party side (before_begun past) ++ here
+one_more party side past ahead last here down told talks_are spelled =
     let front = before_begun past in
     let cut = front_by [] [] [] past refl in
     let told' : links_told side (front ++ cut.0) ≡ links_told side front + 1 = ap (links_told side) (sym cut.1) ∙ (told ∙ ap (λ (n : ℕ). n + 1) (counted_by side [] [] 0 past refl)) in
@@ -163,3 +163,26 @@ one_more party side past ahead last object down told talks_are spelled =
     ap (flat_map (objects_on party)) all
     ∙ (flat_map-append (objects_on party) (talks side front) (talk link.0 ∷ [])
     ∙ ap (λ (l : List Object). objects_heard party side front ++ l) (append-nil (objects_on party (talk link.0)) ∙ (ap (objects_on party) same ∙ spelled)))
+
+-- with none since then, no more
+pub none_more : (party : Party) (side : Side) (past : List Entry) → link_up side (before_begun past) ≡ None → links_told side past ≤ links_at_begin side past → objects_heard party side past ≡ objects_heard party side (before_begun past)
+none_more party side past down few =
+    let front = before_begun past in
+    let cut = front_by [] [] [] past refl in
+    let old = linking (moves side front) in
+    let new = linking (moves side (front ++ cut.0)) in
+    let grown = past_grows side front cut.0 in
+    let rest = grown.0 ++ option_to_list new.up in
+    let were : links side front ≡ old.past = ap (λ (up : Option Link). old.past ++ option_to_list up) down ∙ append-nil old.past in
+    let all : links side (front ++ cut.0) ≡ old.past ++ rest = ap (λ (l : List Link). l ++ option_to_list new.up) grown.1 ∙ append_assoc old.past grown.0 (option_to_list new.up) in
+    let long = length-append old.past rest in
+    let told = ap (links_told side) cut.1 in
+    let begun = counted_by side [] [] 0 past refl in
+    let a = ap length were in
+    let b = ap length all in
+    let nothing : rest ≡ [] = none_there rest (omega (arith, long, told, begun, a, b, few)) in
+    ap (λ (l : List Link). flat_map (objects_on party) (map talk l)) (ap (links side) cut.1 ∙ (all ∙ (ap (λ (l : List Link). old.past ++ l) nothing ∙ (append-nil old.past ∙ sym were))))
+  where
+    none_there : (xs : List Link) → length xs ≤ 0 → xs ≡ []
+    none_there [] few' = refl
+    none_there (x ∷ xs) few' = absurd (omega (arith, few'))

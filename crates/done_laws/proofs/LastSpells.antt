@@ -77,7 +77,7 @@ use Rattle.done_laws.specs.Kept.{client_of, SpellsHere, SpellEach}
 use Rattle.done_laws.proofs.Kept.{serve_front, pushes-spell_each}
 use Rattle.done_laws.proofs.Lasts.{one_object}
 use Rattle.done_laws.proofs.Linked.{here_gained, side_gained, one_on, zip_split, at_place}
-use Rattle.done_laws.proofs.Off.{HasDone, IsDoneAs, between_off, turned_off}
+use Rattle.done_laws.proofs.Off.{HasDone, CameTo, between_off, turned_off}
 
 -- ---- of the last push
 
@@ -89,11 +89,11 @@ last_here settings before past (push ∷ pushes) last each =
 
 -- ---- lists
 
-all_lists : (E : List channels.Occurrence → Type 0) (spans : List Span) (now : List channels.Occurrence) → AllByRecursion (λ (span : Span). E span.list) spans → E now → AllByRecursion E (lists_of spans now)
+pub all_lists : (E : List channels.Occurrence → Type 0) (spans : List Span) (now : List channels.Occurrence) → AllByRecursion (λ (span : Span). E span.list) spans → E now → AllByRecursion E (lists_of spans now)
 all_lists E [] now all last = (last, tt)
 all_lists E (span ∷ spans) now all last = (all.0, all_lists E spans now all.1 last)
 
-split_links : (list : List Link) (ahead : List (List Pdu)) (link : List Pdu) → map pdus list ≡ ahead ++ link ∷ [] → (before : List Link) × (one : Link) × (list ≡ before ++ one ∷ []) × (pdus one ≡ link)
+pub split_links : (list : List Link) (ahead : List (List Pdu)) (link : List Pdu) → map pdus list ≡ ahead ++ link ∷ [] → (before : List Link) × (one : Link) × (list ≡ before ++ one ∷ []) × (pdus one ≡ link)
 split_links [] [] link is = cc
 split_links [] (first ∷ ahead) link is = cc
 split_links (one ∷ []) [] link is = ([], one, refl, cc)
@@ -186,7 +186,7 @@ module _ (scenario : Scenario) (shelf before : List Object) (answers : List Answ
       all_plain (push ∷ pushes) all = (all.0.0, all_plain pushes all.1)
 
   -- and what the capture has of its link
-  of_link : RunOffered NoneShort scenario before capture ran turns → AllServeDirectly NoneShort (new_over scenario.settings before) served → Reached set IsTold (IsDoneAs ran.world.a.upper.profile.client.name) served lists → SpellsLast (party_of scenario.settings sides.B) (talks sides.B capture)
+  of_link : RunOffered NoneShort scenario before capture ran turns → AllServeDirectly NoneShort (new_over scenario.settings before) served → Reached set IsTold (CameTo Done ran.world.a.upper.profile.client.name) served lists → SpellsLast (party_of scenario.settings sides.B) (talks sides.B capture)
   of_link run serve found =
       let settings = scenario.settings in
       let b = turns.pairs.b in
@@ -230,7 +230,7 @@ module _ (scenario : Scenario) (shelf before : List Object) (answers : List Answ
       let serve = serve_all NoneShort settings (holding before) far.lives.feeds B.first answered run.direct in
       let given = clients_are_given_objects (Some shelf) settings A.first near.lives.feeds tt told in
       elim (reached set (IsAskedSo (Some shelf) longest_octets) (Good L2cap maximum wanted) IsTold (Sound set) (λ one client asked. good_affair L2cap maximum wanted longest_octets (omega arith) one client asked.0)
-      (one_sound (Some shelf) set maximum wanted longest_octets (omega arith)) (none_sound (Some shelf) set maximum wanted longest_octets (omega arith)) (IsDoneAs ran.world.a.upper.profile.client.name) (between_off ran.world.a.upper.profile.client.name settings (both_ask.clients settings)) (turned_off ran.world.a.upper.profile.client.name settings)
+      (one_sound (Some shelf) set maximum wanted longest_octets (omega arith)) (none_sound (Some shelf) set maximum wanted longest_octets (omega arith)) (CameTo Done ran.world.a.upper.profile.client.name) (between_off Done refl ran.world.a.upper.profile.client.name settings (both_ask.clients settings)) (turned_off Done refl ran.world.a.upper.profile.client.name settings)
       (λ k. k) near.lives.spans near.lives.now near.lives.feeds A.first ran.world.a.upper.profile far.lives.spans far.lives.now far.lives.feeds B.first ran.world.b.upper.profile pairs.a.fed.fed pairs.b.fed.fed sound
       (subst (AreTimely false) (sym near.lives.marks_are) near.timely) (subst (AreTimely false) (sym far.lives.marks_are) far.timely) refl (good_first settings L2cap direct)
       (both_asked (Some shelf) longest_octets (pushed_from settings A.first near.lives.feeds) A.first.client (clients_are_answered longest_octets settings A.first near.lives.feeds small) given) level (done, refl)) [

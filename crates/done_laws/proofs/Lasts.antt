@@ -27,7 +27,7 @@ module _ (settings : Settings) (before : List Object) where
   abbrev Each : List Occurrence → List Push → Push → Type 0
   Each past pushes last = SpellEach settings before past pushes last
 
-  over_one : (push : Push) (pushes : List Push) (last : Push) (past : List Occurrence) → (past ++ ended_with push) ++ over_pushes pushes last ≡ past ++ over_pushes (push ∷ pushes) last
+  pub over_one : (push : Push) (pushes : List Push) (last : Push) (past : List Occurrence) → (past ++ ended_with push) ++ over_pushes pushes last ≡ past ++ over_pushes (push ∷ pushes) last
   over_one push pushes last past = append_assoc past (ended_with push) (over_pushes pushes last) ∙ ap (λ (os : List Occurrence). past ++ os) (sym (append_assoc (ended_with push) (flat_map ended_with pushes) (server_side last.moves)))
 
   -- ---- pushes whose clients did nothing

@@ -63,7 +63,7 @@ stays_or_ends packets LinkDown none = inr refl
 stays_or_ends packets Asked none = inl refl
 stays_or_ends packets (Answering answers) none = inl refl
 
-gain_none : (most : ℕ) (packets : List (List ℕ)) (list : List Occurrence) → AllByRecursion ComesNone list → gain most packets list ≡ []
+pub gain_none : (most : ℕ) (packets : List (List ℕ)) (list : List Occurrence) → AllByRecursion ComesNone list → gain most packets list ≡ []
 gain_none most packets [] quiet = refl
 gain_none most packets (one ∷ list) quiet =
     elim (stays_or_ends packets one quiet.0) [ inl same ↦ gain-still most packets one list same ∙ gain_none most packets list quiet.1 | inr none ↦ gain-over most packets one list none ∙ gain_none most [] list quiet.1 ]
@@ -73,10 +73,10 @@ states_none [] quiet = refl
 states_none (one ∷ list) quiet = ap (λ (packets : List (List ℕ)). states packets list) (elim (stays_or_ends [] one quiet.0) [ inl same ↦ same | inr none ↦ none ]) ∙ states_none list quiet.1
 
 -- behind the end of a link nothing is left
-ended : (push : Push) (packets : List (List ℕ)) → states packets (ended_with push) ≡ []
+pub ended : (push : Push) (packets : List (List ℕ)) → states packets (ended_with push) ≡ []
 ended push packets = fold-append state packets (server_side push.moves) (LinkDown ∷ [])
 
-all_ended : (pushes : List Push) → states [] (flat_map ended_with pushes) ≡ []
+pub all_ended : (pushes : List Push) → states [] (flat_map ended_with pushes) ≡ []
 all_ended [] = refl
 all_ended (push ∷ pushes) = fold-append state [] (ended_with push) (flat_map ended_with pushes) ∙ (ap (λ (packets : List (List ℕ)). states packets (flat_map ended_with pushes)) (ended push []) ∙ all_ended pushes)
 
@@ -93,7 +93,7 @@ here_gained settings pushes side here direct spelled =
 
 -- ---- what is told on a link
 
-served_none : (told : List Tiding) → AllByRecursion IsNoSdu told → AllByRecursion ComesNone (all_served told)
+pub served_none : (told : List Tiding) → AllByRecursion IsNoSdu told → AllByRecursion ComesNone (all_served told)
 served_none [] none = tt
 served_none (Brings own psm sdu ∷ told) none = absurd none.0
 served_none (Tells event ∷ told) none = all_both ComesNone _ (all_served told) (event_shape event) (served_none told none.1)

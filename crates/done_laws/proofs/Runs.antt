@@ -2,6 +2,7 @@
 use Rattle.std.proofs.Common.{arith, ◌≡◌, ◌-◌, true, ◌<◌, ◌^◌, ◌⊎◌, ℕ, Bool, false, List, [], ◌∷◌, ◌++◌, length, Option, Some, None, inl, inr, refl, sym, ap, subst, ◌∙◌, append-nil, append_assoc}
 use Rattle.std.specs.Prelude.{slice_get}
 use Rattle.std.specs.List.{AllByRecursion}
+use Rattle.cause_laws.proofs.Clients.{is_unsaid}
 use Rattle.tape_laws.specs.bt_base.specs.declared.settings.Transport.TheVariants.{L2cap}
 use Rattle.std.proofs.lemmas.List.{length-append}
 use Rattle.std.proofs.lemmas.Str.{IsUtf8-from_is_utf8}
@@ -11,6 +12,7 @@ use Rattle.tape_laws.specs.bt_base.specs.Objects.{Object, octets_of}
 use Rattle.tape_laws.specs.obex_session.specs.PutPackets.{units_in}
 use Rattle.tape_laws.specs.obex_session.proofs.UnitLaws.{names-have_units}
 use Rattle.tape_laws.specs.push_script.specs.Names.{IsName}
+use Rattle.tape_laws.specs.push_terms.specs.declared.outcome.Outcome.{Outcome}
 use Rattle.tape_laws.specs.push_terms.specs.declared.outcome.Outcome.TheVariants.{Done, ShelfFault}
 use Rattle.tape_laws.specs.push_model.specs.Client.{Client, new_client}
 use Rattle.tape_laws.specs.push_model.specs.Laws as deeds
@@ -24,7 +26,7 @@ use Rattle.tape_laws.specs.push_laws.specs.Faults.{spent_from}
 use Rattle.tape_laws.specs.push_laws.specs.Gains.{objects}
 use Rattle.tape_laws.specs.push_laws.specs.Laws.{new_over, stored_in}
 use Rattle.tape_laws.specs.push_laws.specs.Occurrences.{Occurrence, all_done}
-use Rattle.tape_laws.specs.push_laws.specs.Parties.{client_side, Push, begun_of, over_pushes, AllServeDirectly}
+use Rattle.tape_laws.specs.push_laws.specs.Parties.{client_side, Push, IsOffered, begun_of, over_pushes, AllServeDirectly}
 use Rattle.tape_laws.specs.push_laws.specs.OneName.{TellsEach}
 use Rattle.tape_laws.specs.push_laws.specs.Premises.{NoneShort}
 use Rattle.tape_laws.specs.push_laws.specs.Spelled.{AreAmong, IsOfShelfOrStill, name_by, name_of, names_of}
@@ -58,7 +60,7 @@ use Rattle.tape_laws.specs.pair_laws.proofs.Carrying.{as_it_is}
 use Rattle.tape_laws.specs.pair_laws.proofs.Pairing.{answers_allowed}
 use Rattle.tape_laws.specs.inbox_laws.proofs.Keeping.{KeepsSo}
 use Rattle.tape_laws.specs.request_laws.specs.Losing.{served_in}
-use Rattle.tape_laws.specs.request_laws.proofs.AllSizes.{run_offered}
+use Rattle.tape_laws.specs.request_laws.proofs.AllSizes.{RunOffered, run_offered}
 use Rattle.tape_laws.specs.request_laws.proofs.Feeding.{all_ahead, all_both, served-both}
 use Rattle.tape_laws.specs.request_laws.proofs.Heard.{Offered, all_offered}
 use Rattle.tape_laws.specs.request_laws.proofs.Latest.{IsIdle, IsLast}
@@ -78,7 +80,7 @@ use Rattle.tape_laws.proofs.Hearing.{taped_runs_are_runs}
 use Rattle.tape_laws.proofs.Once.{servers_hear_news_alone, servers_spend_once}
 use Rattle.tape_laws.proofs.Own.{own_servers_are_taped}
 use Rattle.tape_laws.proofs.OwnPairs.{there_so}
-use Rattle.tape_laws.proofs.Pairs.{takes_turns}
+use Rattle.tape_laws.proofs.Pairs.{TurnsSo, takes_turns}
 use Rattle.tape_laws.proofs.Untaping.{both}
 use Rattle.done_laws.specs.Kept.{IsDone, AreKept, KeepsDone, KeepsLast}
 use Rattle.done_laws.specs.Runs.{EndsDone, IsDoneAt, KeepsPushes, OwnServersKeepDone}
@@ -87,7 +89,7 @@ use Rattle.done_laws.proofs.Keeping.{runs_keep}
 use Rattle.done_laws.proofs.Kept.{pushes-spell_each}
 use Rattle.done_laws.proofs.Lasts.{done_is_last, done-pushes_are_kept}
 use Rattle.done_laws.proofs.Names.{all_named, HasName, HasLast, has_last}
-use Rattle.done_laws.proofs.Off.{IsDoneAs, between_off, turned_off}
+use Rattle.done_laws.proofs.Off.{CameTo, between_off, turned_off}
 
 -- ---- of a shelf
 
@@ -122,7 +124,7 @@ module _ (shelf : List Object) where
 -- ---- the last push
 
 -- a new client is not done
-ended : (name : List ℕ) (settings : Settings) (pushes : List Push) → AllByRecursion GoesToObject pushes → (IsDoneAs name (new_client settings) × AllByRecursion IsIdle pushes) ⊎ IsLast (IsDoneAs name) pushes → (ends : EndsDone pushes) × (ends.one.name ≡ name)
+ended : (name : List ℕ) (settings : Settings) (pushes : List Push) → AllByRecursion GoesToObject pushes → (CameTo Done name (new_client settings) × AllByRecursion IsIdle pushes) ⊎ IsLast (CameTo Done name) pushes → (ends : EndsDone pushes) × (ends.one.name ≡ name)
 ended name settings pushes go (inl first) = absurd (let never : None ≡ Some Done = first.0.0 in cc)
 ended name settings pushes go (inr last) =
     let there = (all_ahead GoesToObject last.ahead (last.one ∷ last.behind) (subst (AllByRecursion GoesToObject) last.is go)).1.0 in (
@@ -200,6 +202,53 @@ pub record Reading (scenario : Scenario) (shelf before : List Object) (answers :
   pub link : IsDoneAt world → SpellsLast (party_of scenario.settings sides.B) (talks sides.B capture)
 
 module _ (scenario : Scenario) (shelf before : List Object) (answers : List Answer) (enough : NoneShort answers) (direct : scenario.settings.transport ≡ L2cap) (capture : List Entry) (ran : Ran scenario (holding before) capture) where
+  -- Host a's pushes. Where both hosts are level and its client came to that outcome, so did that of the last of them in which it did anything.
+  pub record Pushed (outcome : Outcome) (turns : PairsInTurn both_ask scenario (holding before) capture ran) : Type 0 where
+    pub pushes : List Push
+    pub last : Push
+    pub offered : AllByRecursion IsOffered pushes
+    pub last_offered : IsOffered last
+    pub go : AllByRecursion GoesToObject (pushes ++ last ∷ [])
+    pub begun : AreAmong (names_of (pushes ++ last ∷ [])) (names_begun (pushed_from scenario.settings (client_profile scenario.settings).first turns.pairs.a.fed.so.lives.feeds))
+    pub named : AreAmong (names_of (pushes ++ last ∷ [])) scenario.names
+    pub of_shelf : AllByRecursion (IsOfShelfOrStill shelf) (pushes ++ last ∷ [])
+    pub is : served_in both_ask scenario before capture ran turns.pairs ≡ over_pushes pushes last
+    pub ties : length turns.pairs.a.fed.so.lives.spans ≡ length turns.pairs.b.fed.so.lives.spans → CameTo outcome ran.world.a.upper.profile.client.name ran.world.a.upper.profile.client
+        → (CameTo outcome ran.world.a.upper.profile.client.name (new_client scenario.settings) × AllByRecursion IsIdle (pushes ++ last ∷ [])) ⊎ IsLast (CameTo outcome ran.world.a.upper.profile.client.name) (pushes ++ last ∷ [])
+
+  pub pushed : (outcome : Outcome) → is_unsaid outcome ≡ false → (turns : PairsInTurn both_ask scenario (holding before) capture ran) → AllByRecursion (AnswersOf (Some shelf)) turns.pairs.a.fed.so.lives.feeds → RunOffered NoneShort scenario before capture ran turns → Pushed outcome turns
+  pushed outcome said turns told run =
+      let settings = scenario.settings in
+      let pairs = turns.pairs in
+      let A = client_profile settings in
+      let near = pairs.a.fed.so.lives.feeds in
+      let small = none_longer (Some shelf) near told in
+      let sound = runs_sound scenario before capture ran pairs run.offered.twined in
+      let name = ran.world.a.upper.profile.client.name in
+      let tied = links_told (CameTo outcome name) (Some shelf) longest_octets (omega arith) both_ask settings before direct (between_off outcome said name settings (both_ask.clients settings)) (turned_off outcome said name settings) pairs.a.came.talk pairs.b.came.talk ran.world.a.upper ran.world.b.upper pairs.a.fed pairs.b.fed sound small
+      (clients_are_given_objects (Some shelf) settings A.first near tt told) in
+      let all = tied.all in
+      let so = both_so (Some shelf) longest_octets all.pushes all.pushed in
+      let last = all.last_pushed in
+      let told_names = names_told near in
+      let begun : AreAmong (names_begun (pushed_from settings A.first near)) scenario.names =
+      subst (AreAmong (names_begun (pushed_from settings A.first near))) (sym turns.named.1)
+      (among_trans (names_begun (pushed_from settings A.first near)) told_names (told_names ++ turns.named.0) (clients_begin_what_is_told settings A.first near) (ahead_among told_names told_names turns.named.0 (all_among told_names))) in
+      let among = among_trans (names_of (all.pushes ++ all.last ∷ [])) (names_begun (pushed_from settings A.first near)) scenario.names all.named begun in
+      let units = among_all HasUnits (names_of (all.pushes ++ all.last ∷ [])) scenario.names among (have_units scenario.names scenario.named) in
+      record {
+        pushes = all.pushes;
+        last = all.last;
+        offered = all_offered (Some shelf) longest_octets all.pushes so.offered;
+        last_offered = last.0.0;
+        go = all_both GoesToObject all.pushes (all.last ∷ []) so.go (last.1, tt);
+        begun = all.named;
+        named = among;
+        of_shelf = pushed_of_shelf shelf longest_octets all.pushes all.last so.offered last.0 units;
+        is = all.is;
+        ties = tied.ties;
+      }
+
   -- of hosts that go through it side by side
   reads : (turns : PairsInTurn both_ask scenario (holding before) capture ran) → AllByRecursion (AnswersOf (Some shelf)) turns.pairs.a.fed.so.lives.feeds → SpendsOnce scenario.settings (holding before) answers turns.pairs.b.fed.so.lives.feeds
       → (ran.world.radio.a.owed ≡ [] → ran.world.radio.b.owed ≡ [] → length turns.pairs.a.fed.so.lives.spans ≡ length turns.pairs.b.fed.so.lives.spans) → IsCaptured sides.B capture turns.pairs.b.came.talk
@@ -214,37 +263,24 @@ module _ (scenario : Scenario) (shelf before : List Object) (answers : List Answ
       let far = pairs.b.fed.so.lives.feeds in
       let small = none_longer (Some shelf) near told in
       let answered = all_answer NoneShort far (spends.enough enough) in
-      let served = served_in both_ask scenario before capture ran pairs in
       let run = run_offered NoneShort scenario before capture ran turns direct small answered in
-      let sound = runs_sound scenario before capture ran pairs run.offered.twined in
       let name = ran.world.a.upper.profile.client.name in
-      let tied = links_told (IsDoneAs name) (Some shelf) longest_octets (omega arith) both_ask settings before direct (between_off name settings (both_ask.clients settings)) (turned_off name settings) pairs.a.came.talk pairs.b.came.talk ran.world.a.upper ran.world.b.upper pairs.a.fed pairs.b.fed sound small
-      (clients_are_given_objects (Some shelf) settings A.first near tt told) in
-      let all = tied.all in
-      let so = both_so (Some shelf) longest_octets all.pushes all.pushed in
-      let last = all.last_pushed in
+      let all = pushed Done refl turns told run in
       let told_names = names_told near in
-      let begun : AreAmong (names_begun (pushed_from settings A.first near)) scenario.names =
-      subst (AreAmong (names_begun (pushed_from settings A.first near))) (sym turns.named.1)
-      (among_trans (names_begun (pushed_from settings A.first near)) told_names (told_names ++ turns.named.0) (clients_begin_what_is_told settings A.first near) (ahead_among told_names told_names turns.named.0 (all_among told_names))) in
-      let among = among_trans (names_of (all.pushes ++ all.last ∷ [])) (names_begun (pushed_from settings A.first near)) scenario.names all.named begun in
-      let units = among_all HasUnits (names_of (all.pushes ++ all.last ∷ [])) scenario.names among (have_units scenario.names scenario.named) in
-      let of_shelf = pushed_of_shelf shelf longest_octets all.pushes all.last so.offered last.0 units in
-      let offered = all_offered (Some shelf) longest_octets all.pushes so.offered in
       let serves = serve_all NoneShort settings (holding before) far B.first answered run.direct in
       let serve : AllServeDirectly NoneShort (new_over settings before) (over_pushes all.pushes all.last) = subst (AllServeDirectly NoneShort (new_over settings before)) all.is serves in
-      let kept : KeepsDone settings before all.pushes all.last = done-pushes_are_kept settings before all.pushes all.last offered last.0.0 serve in
-      let each = pushes-spell_each settings before all.pushes all.last offered last.0.0 serve in
-      let tells = subst (TellsEach settings before) (sym all.is) (pushes-tell_each settings before all.pushes all.last offered last.0.0 serve) in
+      let kept : KeepsDone settings before all.pushes all.last = done-pushes_are_kept settings before all.pushes all.last all.offered all.last_offered serve in
+      let each = pushes-spell_each settings before all.pushes all.last all.offered all.last_offered serve in
+      let tells = subst (TellsEach settings before) (sym all.is) (pushes-tell_each settings before all.pushes all.last all.offered all.last_offered serve) in
       let spells : objects settings (over_pushes all.pushes all.last) ≡ objects_heard (party_of settings sides.B) sides.B capture = ap (objects settings) (sym all.is) ∙ run.spells in
       let holds : stored_in ran.world.b.upper.profile.inbox.content ≡ Some (before ++ kept.gain) =
       run.holds ∙ ap (λ (os : List Occurrence). stored_in (all_done os (new_over settings before)).gift.content) all.is ∙ kept.stored in
-      let ends : IsDoneAt ran.world → (ends : EndsDone (all.pushes ++ all.last ∷ [])) × (ends.one.name ≡ name) = λ done. ended name settings (all.pushes ++ all.last ∷ []) (all_both GoesToObject all.pushes (all.last ∷ []) so.go (last.1, tt)) (tied.ties (level done.none_a done.none_b) (done.cause, refl)) in
+      let ends : IsDoneAt ran.world → (ends : EndsDone (all.pushes ++ all.last ∷ [])) × (ends.one.name ≡ name) = λ done. ended name settings (all.pushes ++ all.last ∷ []) all.go (all.ties (level done.none_a done.none_b) (done.cause, refl)) in
       record {
         keeps = record {
           pushes = all.pushes ++ all.last ∷ [];
-          named = among;
-          of_shelf = of_shelf;
+          named = all.named;
+          of_shelf = all.of_shelf;
           gain = kept.gain;
           stored_is = holds;
           kept = subst (AreKept (all.pushes ++ all.last ∷ []) kept.gain) spells kept.kept;
@@ -264,7 +300,7 @@ module _ (scenario : Scenario) (shelf before : List Object) (answers : List Answ
             record {
               one = end.one;
               named = named;
-              of_shelf = (all_ahead (IsOfShelfOrStill shelf) end.ahead (end.one ∷ end.behind) (subst (AllByRecursion (IsOfShelfOrStill shelf)) end.pushes_are of_shelf)).1.0;
+              of_shelf = (all_ahead (IsOfShelfOrStill shelf) end.ahead (end.one ∷ end.behind) (subst (AllByRecursion (IsOfShelfOrStill shelf)) end.pushes_are all.of_shelf)).1.0;
               keeps = subst (KeepsLast settings before end.one) (sym all.is) (done_is_last settings before all.pushes all.last each end.ahead end.one end.behind end.pushes_are end.done end.idle);
             };
         name_is = λ done able.
@@ -272,7 +308,7 @@ module _ (scenario : Scenario) (shelf before : List Object) (answers : List Answ
             let told_so = subst (HasLast told_names) (sym (ap (λ (p : ClientProfile). p.client) pairs.a.fed.so.lives.profile_is)) (has_last settings near [] A.first (inl refl)) in
             name_by_count scenario.names told_names turns.named.0 ran.world.pushes.begun ran.world.a.upper.profile.client turns.named.1 begun_so done.cause able told_so (λ none. some_named end.ahead end.one end.behind end.done
             (none_of (names_of (end.ahead ++ end.one ∷ end.behind)) told_names none (subst (λ (ps : List Push). AreAmong (names_of ps) told_names) end.pushes_are
-            (among_trans (names_of (all.pushes ++ all.last ∷ [])) (names_begun (pushed_from settings A.first near)) told_names all.named (clients_begin_what_is_told settings A.first near)))));
+            (among_trans (names_of (all.pushes ++ all.last ∷ [])) (names_begun (pushed_from settings A.first near)) told_names all.begun (clients_begin_what_is_told settings A.first near)))));
         link = λ done. last_spells scenario shelf before answers capture enough direct ran turns captured_b told spends (level done.none_a done.none_b) done.cause;
       }
 
@@ -300,13 +336,23 @@ module _ (scenario : Scenario) (shelf before : List Object) (answers : List Answ
   bare_run done world runs =
       taped_runs_are_runs (client_of scenario) B (once answers) (servers_hear_news_alone scenario.settings (holding before)) done begins world (runs-so (client_of scenario) V (held_by (Some shelf)) as_it_is done begins world runs)
 
+  -- the run without the tape up to such a moment, and its hosts side by side
+  module _ (capture : List Entry) (done : List Happening) (ends : List Entry) (world : TapedHosts Bool) (runs : Runs U V done begins world) (last : IsLastEnd world.pushes ends) (capture_is : capture ≡ all_entries done ++ ends) where
+    abbrev pub ran_by : Ran scenario (holding before) capture
+    ran_by = record { happenings = done; world = untaped_world world; happened = bare_run done world runs; ends = ends; last = last; capture_is = capture_is }
+
+    pub turns_by : TurnsSo false both_ask scenario (holding before) (once answers) (held_by (Some shelf)) (AnswersOf (Some shelf)) (answers_allowed (Some shelf)) capture ran_by world
+    turns_by = takes_turns false both_ask scenario (holding before) (once answers) (held_by (Some shelf)) (AnswersOf (Some shelf)) (answers_allowed (Some shelf)) capture ran_by world runs refl (λ on. cc)
+
+    pub spends_by : SpendsOnce scenario.settings (holding before) answers turns_by.turns.pairs.b.fed.so.lives.feeds
+    spends_by = subst (SpendsOnce scenario.settings (holding before) answers) (sym turns_by.given.2) (servers_spend_once scenario.settings (holding before) answers turns_by.given.0 turns_by.given.1)
+
   pub moment : NoneShort answers → scenario.settings.transport ≡ L2cap → (capture : List Entry) (done : List Happening) (ends : List Entry) (world : TapedHosts Bool) → Runs U V done begins world → IsLastEnd world.pushes ends → capture ≡ all_entries done ++ ends
       → Reading scenario shelf before answers capture (served_by world) (untaped_world world)
   moment enough direct capture done ends world runs last capture_is =
-      let ran : Ran scenario (holding before) capture = record { happenings = done; world = untaped_world world; happened = bare_run done world runs; ends = ends; last = last; capture_is = capture_is } in
-      let so = takes_turns false both_ask scenario (holding before) (once answers) (held_by (Some shelf)) (AnswersOf (Some shelf)) (answers_allowed (Some shelf)) capture ran world runs refl (λ on. cc) in
-      let spends = subst (SpendsOnce scenario.settings (holding before) answers) (sym so.given.2) (servers_spend_once scenario.settings (holding before) answers so.given.0 so.given.1) in
-      let reading = reads scenario shelf before answers enough direct capture ran so.turns so.told spends so.level so.captured_b so.begun in
+      let so = turns_by capture done ends world runs last capture_is in
+      let spends = spends_by capture done ends world runs last capture_is in
+      let reading = reads scenario shelf before answers enough direct capture (ran_by capture done ends world runs last capture_is) so.turns so.told spends so.level so.captured_b so.begun in
       subst (λ (feeds : List Feed). Reading scenario shelf before answers capture (served_from scenario.settings (holding before) B.first feeds) (untaped_world world)) so.past reading
 
   -- all that its profile went through it keeps

@@ -139,6 +139,44 @@ module _ {S T G H : Type 0} (U : Upper S G) (V : Upper T H) where
 
 -- ---- a run
 
+module _ (scenario : Scenario) (content : Option Contents) (happenings : List Happening) (w : BothHosts) (happened : Happened scenario content happenings w) (none_a : w.radio.a.owed ≡ []) (none_b : w.radio.b.owed ≡ []) where
+  -- Host b had no link as the push was begun that was begun last, and both hosts were told of as many since then, of one at most.
+  record Lately : Type 0 where
+    since : Since (all_entries happenings)
+    level : links_told A (all_entries happenings) ≡ links_told B (all_entries happenings)
+    most : HasOneLink B (all_entries happenings)
+
+  lately : Lately
+  lately =
+      let U = client_of scenario in
+      let V = server_of scenario content in
+      let first = first_world U V scenario.acl_length scenario.acl_count scenario.names in
+      let fit = fits scenario content in
+      let past = all_entries happenings in
+      let first_since : Since [] = record { low = omega arith; same = refl; down = refl; still = λ few. (refl, tt) } in
+      let all = along U V happenings first (λ past words w. Since past) happenings [] [] first w fit.frames_a fit.frames_b fit.idles (keeps U V happenings first) happened (reached_first U V scenario.acl_length scenario.acl_count scenario.names happenings fit) first_since in
+      let kept = all.reached.kept in
+      let a = all_told U V w.radio.a w.radio.number (is_together w.radio.phase) (ap tidings none_a) kept.one.led in
+      let b = all_told U V w.radio.b w.radio.number (is_together w.radio.phase) (ap tidings none_b) kept.other.led in
+      let near = (known_a U V happenings first [] past _ w all.reached).count in
+      let far = (known_b U V happenings first [] past _ w all.reached).count in
+      let told_a = a.0 in
+      let told_b = b.0 in
+      let ran : Ran scenario content past = record { happenings = happenings; world = w; happened = happened; ends = []; last = tt; capture_is = sym (append-nil past) } in
+      record { since = all.now; level = omega (arith, near, far, told_a, told_b); most = at_each-whole (HasOneLink B) past (pushes_have_one_link scenario content past B ran) }
+
+  -- host b had no link as the push was begun that was begun last, and has had none since then or one
+  pub record HadLinks : Type 0 where
+    pub down : link_up B (before_begun (all_entries happenings)) ≡ None
+    pub links : (links_told B (all_entries happenings) ≤ links_at_begin B (all_entries happenings)) ⊎ (links_told B (all_entries happenings) ≡ links_at_begin B (all_entries happenings) + 1)
+
+  pub had_links : HadLinks
+  had_links =
+      let past = all_entries happenings in
+      let so = lately in
+      let most = so.most in
+      record { down = so.since.down; links = elim (cases_lt (links_at_begin B past) (links_told B past)) [ inl more ↦ inr (omega (arith, more, most)) | inr few ↦ inl few ] }
+
 -- host b had no link as the push was begun that was begun last, and one since then
 pub record HadOneLink (past : List Entry) : Type 0 where
   pub down : link_up B (before_begun past) ≡ None
@@ -146,28 +184,15 @@ pub record HadOneLink (past : List Entry) : Type 0 where
 
 pub one_since : (scenario : Scenario) (content : Option Contents) (happenings : List Happening) (w : BothHosts) → Happened scenario content happenings w → w.radio.a.owed ≡ [] → w.radio.b.owed ≡ [] → (NoPieceCame (since_begun (all_entries happenings)) → ⊥) → HadOneLink (all_entries happenings)
 one_since scenario content happenings w happened none_a none_b some =
-    let U = client_of scenario in
-    let V = server_of scenario content in
-    let first = first_world U V scenario.acl_length scenario.acl_count scenario.names in
-    let fit = fits scenario content in
     let past = all_entries happenings in
-    let first_since : Since [] = record { low = omega arith; same = refl; down = refl; still = λ few. (refl, tt) } in
-    let all = along U V happenings first (λ past words w. Since past) happenings [] [] first w fit.frames_a fit.frames_b fit.idles (keeps U V happenings first) happened (reached_first U V scenario.acl_length scenario.acl_count scenario.names happenings fit) first_since in
-    let since = all.now in
-    let kept = all.reached.kept in
-    let a = all_told U V w.radio.a w.radio.number (is_together w.radio.phase) (ap tidings none_a) kept.one.led in
-    let b = all_told U V w.radio.b w.radio.number (is_together w.radio.phase) (ap tidings none_b) kept.other.led in
-    let near = (known_a U V happenings first [] past _ w all.reached).count in
-    let far = (known_b U V happenings first [] past _ w all.reached).count in
-    let told_a = a.0 in
-    let told_b = b.0 in
-    let ran : Ran scenario content past = record { happenings = happenings; world = w; happened = happened; ends = []; last = tt; capture_is = sym (append-nil past) } in
-    let one : HasOneLink B past = at_each-whole (HasOneLink B) past (pushes_have_one_link scenario content past B ran) in
-    let same = since.same in
+    let so = lately scenario content happenings w happened none_a none_b in
+    let level = so.level in
+    let most = so.most in
+    let same = so.since.same in
     record {
-      down = since.down;
+      down = so.since.down;
       one = elim (cases_lt (links_at_begin A past) (links_told A past)) [
-        | inl more ↦ omega (arith, more, near, far, told_a, told_b, one, same)
-        | inr few ↦ absurd (some (since.still few).1)
+        | inl more ↦ omega (arith, more, level, most, same)
+        | inr few ↦ absurd (some (so.since.still few).1)
       ];
     }

@@ -14,7 +14,7 @@ use Rattle.tape_laws.specs.link_talk.specs.ObjectsHeard.{put_within, spelled_wit
 use Rattle.tape_laws.specs.push_laws.specs.Sending.{end_of}
 use Rattle.done_laws.proofs.Replies.{code_front}
 
-abbrev IsOpen : List ℕ → Type 0
+abbrev pub IsOpen : List ℕ → Type 0
 IsOpen packet = (slice_index packet 0 == 0x82) ≡ false
 
 goes_by : (ends final : Bool) (a c : List Object) (object : Object) → final ≡ false → a ≡ [] → c ≡ [] → cond ends a (cond final (object ∷ a) c) ≡ []
@@ -46,19 +46,19 @@ module _ (most : ℕ) where
       let hs : List PlainHeader = run_headers (run ++ put ∷ []) in
       goes_by (breaks hs || (is_final put && lacks hs)) (is_final put) (objects_from [] rest) (objects_from (run ++ put ∷ []) rest) (object_of hs) (not_final packet put open_ is) (goes []) (goes (run ++ put ∷ []))
 
-  unfinal_none : (run : List PlainPacket) (packets : List (List ℕ)) → AllByRecursion IsOpen packets → objects_from run (map (put_within most) packets) ≡ []
+  pub unfinal_none : (run : List PlainPacket) (packets : List (List ℕ)) → AllByRecursion IsOpen packets → objects_from run (map (put_within most) packets) ≡ []
   unfinal_none run [] all = refl
   unfinal_none run (packet ∷ packets) all = unfinal_put run (put_within most packet) packet (map (put_within most) packets) all.0 refl (λ later. unfinal_none later packets all.1)
 
-  all_open : (xs ys : List (List ℕ)) → AllByRecursion IsOpen xs → AllByRecursion IsOpen ys → AllByRecursion IsOpen (xs ++ ys)
+  pub all_open : (xs ys : List (List ℕ)) → AllByRecursion IsOpen xs → AllByRecursion IsOpen ys → AllByRecursion IsOpen (xs ++ ys)
   all_open [] ys a b = b
   all_open (x ∷ xs) ys a b = (a.0, all_open xs ys a.1 b)
 
-  fronts_open : (ahead : List PlainHeader) (parts : List (List ℕ)) → AllByRecursion IsOpen (map packet_octets (front_packets ahead parts))
+  pub fronts_open : (ahead : List PlainHeader) (parts : List (List ℕ)) → AllByRecursion IsOpen (map packet_octets (front_packets ahead parts))
   fronts_open ahead [] = tt
   fronts_open ahead (part ∷ parts) = (refl, fronts_open [] parts)
 
-  ends_open : (gave_up left : Bool) → AllByRecursion IsOpen (end_of gave_up left)
+  pub ends_open : (gave_up left : Bool) → AllByRecursion IsOpen (end_of gave_up left)
   ends_open true true = (refl, (refl, tt))
   ends_open true false = (refl, tt)
   ends_open false true = (refl, tt)

@@ -38,17 +38,17 @@ same_captured side past capture same = ap captured_of (sym same)
 
 -- ---- whether a link is up
 
-abbrev up_after : Bool → List Talk → Bool
+abbrev pub up_after : Bool → List Talk → Bool
 up_after up [] = up
 up_after up (Told (Linked Up) ∷ talk) = up_after true talk
 up_after up (Told (Linked (Down reason)) ∷ talk) = up_after false talk
 up_after up (one ∷ talk) = up_after up talk
 
-still_some : {X Y : Type 0} (f : X → Y) (found : Option X) → is_some (option_map f found) ≡ is_some found
+pub still_some : {X Y : Type 0} (f : X → Y) (found : Option X) → is_some (option_map f found) ≡ is_some found
 still_some f None = refl
 still_some f (Some x) = refl
 
-up_linked : (l : Linkage) (talk : List Talk) → is_some (linkage_from l talk).up ≡ up_after (is_some l.up) talk
+pub up_linked : (l : Linkage) (talk : List Talk) → is_some (linkage_from l talk).up ≡ up_after (is_some l.up) talk
 up_linked l [] = refl
 up_linked l (Told (Linked Up) ∷ talk) = up_linked (link_begins l) talk
 up_linked l (Told (Linked (Down reason)) ∷ talk) = up_linked (link_ends l) talk
@@ -56,26 +56,26 @@ up_linked l (Told (Heard pdu) ∷ talk) = up_linked (with_moved Into (pdu ∷ []
 up_linked l (Said pdu ∷ talk) = up_linked (with_moved Out (pdu ∷ []) l) talk ∙ ap (λ (b : Bool). up_after b talk) (still_some (λ (now : List Pdu). now ++ pdus_of Out (pdu ∷ [])) l.up)
 up_linked l (one ∷ talk) = up_linked l talk
 
-not_empty : {X : Type 0} (xs : List X) (x : X) → xs ++ x ∷ [] ≡ [] → ⊥
+pub not_empty : {X : Type 0} (xs : List X) (x : X) → xs ++ x ∷ [] ≡ [] → ⊥
 not_empty [] x is = cc
 not_empty (y ∷ xs) x is = cc
 
-some_parts : (part talk : List Talk) → parts_from part talk ≡ [] → ⊥
+pub some_parts : (part talk : List Talk) → parts_from part talk ≡ [] → ⊥
 some_parts part talk is = not_empty (past_from part talk) (now_from part talk) (sym (parts_are part talk) ∙ is)
 
 -- with one part alone it stays as it was
-one_part : (up : Bool) (part talk x : List Talk) → parts_from part talk ≡ x ∷ [] → up_after up talk ≡ up
+pub one_part : (up : Bool) (part talk x : List Talk) → parts_from part talk ≡ x ∷ [] → up_after up talk ≡ up
 one_part up part [] x is = refl
 one_part up part (Told (Linked event) ∷ talk) x is = let none : parts_from [] talk ≡ [] = cc in absurd (some_parts [] talk none)
 one_part up part (one ∷ talk) x is = one_part up (part ++ one ∷ []) talk x is
 
 -- ---- what is heard between two links
 
-abbrev IsUnheard : Talk → Type 0
+abbrev pub IsUnheard : Talk → Type 0
 IsUnheard (Told (Heard pdu)) = ⊥
 IsUnheard one = Unit {0}
 
-unheard_out : (part : List Talk) → AllByRecursion IsUnheard part → (outs : List (List ℕ)) × (flat_map pdus_in part ≡ map out_of outs)
+pub unheard_out : (part : List Talk) → AllByRecursion IsUnheard part → (outs : List (List ℕ)) × (flat_map pdus_in part ≡ map out_of outs)
 unheard_out [] none = ([], refl)
 unheard_out (Told (Heard pdu) ∷ part) none = absurd none.0
 unheard_out (Said pdu ∷ part) none = let rest = unheard_out part none.1 in (pdu ∷ rest.0, ap (λ (l : List Pdu). out_of pdu ∷ l) rest.1)
