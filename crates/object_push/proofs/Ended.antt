@@ -11,7 +11,6 @@ use Rattle.push_script.specs.declared.scenario.Scenario.{Scenario}
 use Rattle.push_terms.specs.declared.outcome.Outcome.{Outcome}
 use Rattle.push_terms.specs.declared.outcome.Outcome.TheVariants.{ScriptEnded}
 use Rattle.push_terms.specs.declared.peaks.Peaks.{Peaks}
-use Rattle.push_terms.specs.declared.word.Word.{Word}
 use Rattle.scenario_play.specs.capture.specs.Entries.{Entry, Ended, entry_octets, capture_octets, IsEntry}
 use Rattle.scenario_play.specs.world_model.specs.Pushes.{Pushes}
 use Rattle.scenario_play.specs.world_model.specs.Worlds.{Happening, all_entries, all_words}
@@ -46,7 +45,7 @@ without_ends answered =
       happenings_are = answered.happenings_are;
       stored = answered.stored;
       able = answered.able;
-      at_end = λ push is. cc;
+      at_end = λ push outcome decided is. cc;
     }
 
 pub broken_at_end : (scenario : Scenario) (shelf : Option (List Object)) (before after : Option Contents) (trace trace' : Option (List ℕ)) (outcomes : List Outcome) (peaks : Peaks) (counts counts' : Counts) → IsPlayed scenario shelf before after trace trace' outcomes peaks counts counts'

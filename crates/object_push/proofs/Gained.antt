@@ -1,5 +1,5 @@
 -- What an inbox gained while it was watched.
-use Rattle.std.proofs.Common.{◌≡◌, ℕ, ◌-◌, ◌++◌, length, take, drop, Option, Some, None, refl, sym, ap, ◌∙◌, arith, List, length-drop}
+use Rattle.std.proofs.Common.{ℕ, ◌++◌, length, drop, Option, Some, None, refl, sym, ap, ◌∙◌, List, length-drop}
 use Rattle.std.specs.Prelude.{min}
 use Rattle.std.proofs.lemmas.List.{take-append-drop}
 use Rattle.bt_base.specs.Objects.{Object, Contents}

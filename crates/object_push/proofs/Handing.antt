@@ -1,5 +1,5 @@
 -- What ports that were watched say of a run.
-use Rattle.std.proofs.Common.{◌≡◌, ℕ, ◌<◌, ◌&&◌, ◌||◌, Bool, true, false, Result, Ok, Err, refl, sym, ap, ◌∙◌, subst}
+use Rattle.std.proofs.Common.{◌≡◌, ℕ, ◌&&◌, ◌||◌, Bool, true, false, Result, Ok, Err, refl, ap, ◌∙◌}
 use Rattle.std.specs.Prelude.{IsErrOf, is_ok, IfErr, IfOk, OnErr}
 use Rattle.btpush_forms.specs.h4_view.specs.View.{IsAnswered}
 use Rattle.watched_ports.specs.Counts.{IsNoted}

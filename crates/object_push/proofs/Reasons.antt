@@ -1,10 +1,8 @@
 -- Why a run of a scenario stops short, by what its ports noted.
-use Rattle.std.proofs.Common.{◌≡◌, ℕ, ◌<◌, ◌≤◌, ◌⊎◌, ◌||◌, Bool, true, false, List, Option, Result, Ok, Err, inl, inr, refl, sym, ap, ◌∙◌, subst, arith}
-use Rattle.std.specs.Prelude.{IsErrOf, is_ok, IfErr, IfOk}
+use Rattle.std.proofs.Common.{◌≡◌, ℕ, ◌⊎◌, ◌||◌, Bool, true, false, List, Option, Result, inl, inr, refl, sym, ◌∙◌, subst}
 use Rattle.std.proofs.lemmas.Bool.{cases_lt}
 use Rattle.bt_base.specs.Counts.{HasRisen, last_count}
 use Rattle.bt_base.specs.Objects.{Contents}
-use Rattle.btpush_forms.specs.h4_view.specs.View.{IsAnswered}
 use Rattle.watched_ports.specs.Counts.{IsNoted, count_behind}
 use Rattle.push_script.specs.declared.scenario.Scenario.{Scenario}
 use Rattle.radio_world.specs.Causes.{Blames}

@@ -1,5 +1,5 @@
 -- What a run of a scenario over RFCOMM comes to.
-use Rattle.std.proofs.Common.{◌≡◌, ℕ, List, Option, subst}
+use Rattle.std.proofs.Common.{◌≡◌, List, Option, subst}
 use Rattle.bt_base.specs.Objects.{Object, Contents}
 use Rattle.bt_base.specs.declared.settings.Transport.TheVariants.{Rfcomm}
 use Rattle.push_script.specs.declared.scenario.Scenario.{Scenario}

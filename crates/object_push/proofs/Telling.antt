@@ -1,5 +1,5 @@
 -- What a push of a scenario comes to, over its ports and its capture alone.
-use Rattle.std.proofs.Common.{◌≡◌, ℕ, ◌<◌, arith, List, [], ◌++◌, length, Option, Some, None, IfSome, inl, inr, refl, sym, ap, subst, ◌∙◌}
+use Rattle.std.proofs.Common.{◌≡◌, ℕ, ◌<◌, arith, List, ◌++◌, length, Option, Some, None, IfSome, inl, inr, refl, sym, ap, subst, ◌∙◌}
 use Rattle.std.proofs.lemmas.List.{append_cancel_left}
 use Rattle.std.specs.Prelude.{◌^◌}
 use Rattle.bt_base.specs.Counts.{HasRisen}
@@ -32,12 +32,10 @@ use Rattle.scenario_play.proofs.Pushed.{plays_spell_pushed}
 use Rattle.scenario_play.proofs.Services.{plays_keep_service}
 use Rattle.scenario_play.proofs.Solvent.{plays_stay_solvent}
 use Rattle.scenario_play.proofs.WindowPeaks.{window_peaks_are_told}
-use Rattle.btpush_forms.specs.declared.status.Status.{Status}
 use Rattle.object_push.specs.Gains.{Gains, Grows}
-use Rattle.object_push.specs.Halting.{HasReason}
 use Rattle.object_push.specs.Ports.{Ports, counts_in}
-use Rattle.object_push.specs.Running.{Stops, Runs, RanToEnd, RanShort}
-use Rattle.object_push.specs.Told.{spelled_in, GainsSo, HasGained, ArePeaks, EndsSo, StopsSo, WantsMemory, TraceLacked, ShelfLacked, InboxLacked, NothingYet, AirCrowded, HasWhy, Tells, ToTheEnd, NotToTheEnd, RunsTell}
+use Rattle.object_push.specs.Running.{Stops, RanToEnd, RanShort}
+use Rattle.object_push.specs.Told.{spelled_in, GainsSo, EndsSo, StopsSo, WantsMemory, TraceLacked, ShelfLacked, InboxLacked, NothingYet, AirCrowded, HasWhy, ToTheEnd, NotToTheEnd, RunsTell}
 
 some_is : (one other : List Object) → Some one ≡ Some other → one ≡ other
 some_is one other is = cc

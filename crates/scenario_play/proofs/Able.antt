@@ -1,5 +1,5 @@
 -- A client in code finds its memory at each moment of a run.
-use Rattle.std.proofs.Common.{◌≡◌, ℕ, Bool, false, List, Some, sym, subst}
+use Rattle.std.proofs.Common.{◌≡◌, false, List, sym, subst}
 use Rattle.noting_laws.specs.world_model.specs.Worlds.{Happening, Runs}
 use Rattle.bt_host.specs.host_model.specs.Hosts.{next}
 use Rattle.bt_host.specs.host_model.specs.Servers.{ServerProfile}

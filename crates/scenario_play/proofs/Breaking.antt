@@ -128,7 +128,7 @@ untouched scenario shelf content content' trace trace' counts counts' stay store
     happenings_are = refl;
     stored = stored;
     able = refl;
-    at_end = λ push is. cc;
+    at_end = λ push outcome decided is. cc;
   };
   stored = inl stored;
 }
@@ -253,7 +253,7 @@ module _ {P Q : Type 0} (holds : P → Option (List Object)) (content : Q → Op
       → Plays noted_client_machine noted_server_machine happenings (first_moment (starting (new_client holds shelf scenario.settings for_a) noted_client_machine) (starting (new_server content inbox scenario.settings for_b) noted_server_machine) scenario.acl_length scenario.acl_count scenario.names) at
       → (counts counts' : Counts) → Says (answers_in for_b) counts counts' → LackedNever counts counts' → content inbox' ≡ at.b.upper.host.profile.end.inbox.content → RanAnswered scenario (holds shelf) (content inbox) (content inbox') counts counts' happenings (all_entries happenings)
   answered_so_far shelf inbox inbox' for_a for_b happenings at plays counts counts' says none stored =
-      ran_answered holds content scenario shelf inbox for_a for_b happenings at plays [] (all_entries happenings) tt (sym (append-nil (all_entries happenings))) (λ push is. cc) (content inbox') stored counts counts' says none
+      ran_answered holds content scenario shelf inbox for_a for_b happenings at plays [] (all_entries happenings) tt (sym (append-nil (all_entries happenings))) (λ push outcome decided is. cc) (content inbox') stored counts counts' says none
 
   pub broke :
       (first : Hosts) (shelf shelf' : P) (inbox inbox' : Q) (trace trace' : Option (List ℕ)) → first ≡ fresh_world scenario

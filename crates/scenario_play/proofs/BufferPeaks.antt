@@ -2,7 +2,6 @@
 use Rattle.std.proofs.Common.{◌≡◌, ℕ, suc, ◌≤◌, List, [], ◌∷◌, ◌++◌, take, fold, min, max, Option, inl, refl, sym, ap, subst, ◌∙◌, arith, append_assoc}
 use Rattle.std.proofs.lemmas.List.{append-nil}
 use Rattle.bt_base.specs.Objects.{Contents}
-use Rattle.noting_laws.specs.obex_session.specs.Counting.{Counts}
 use Rattle.push_script.specs.declared.scenario.Scenario.{Scenario}
 use Rattle.push_terms.specs.declared.peaks.Peaks.{Peaks}
 use Rattle.push_terms.specs.declared.word.Side.{Side}
@@ -16,7 +15,7 @@ use Rattle.noting_laws.specs.world_model.specs.Worlds.{Happening, all_entries}
 use Rattle.noting_laws.specs.air_laws.specs.AirLaws.{IsLastEnd}
 use Rattle.radio_world.proofs.BufferPeaks.{buffer_peaks_are_seen, same_peak}
 use Rattle.bt_host.specs.NotedHosts.{noted_client_machine, noted_server_machine}
-use Rattle.scenario_play.specs.BufferPeaks.{AreBufferPeaks, BufferPeaksAreTold}
+use Rattle.scenario_play.specs.BufferPeaks.{BufferPeaksAreTold}
 use Rattle.scenario_play.specs.Peaks.{asked_client, asked_server, AreReached}
 use Rattle.scenario_play.proofs.Gained.{accounts_kept}
 use Rattle.scenario_play.proofs.Plainness.{orderly}

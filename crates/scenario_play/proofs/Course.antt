@@ -1,13 +1,13 @@
 -- The world of two new hosts from its beginning to its end.
-use Rattle.std.proofs.Common.{◌≡◌, ◌⊎◌, ℕ, Bool, true, false, cond, List, [], ◌∷◌, ◌++◌, Option, Some, None, refl, sym, ap, ◌∙◌, subst, arith}
+use Rattle.std.proofs.Common.{◌≡◌, ℕ, Bool, true, false, cond, List, [], ◌∷◌, ◌++◌, Option, Some, None, refl, sym, ap, ◌∙◌, subst, arith}
 use Rattle.std.specs.Prelude.{unwrap_or}
 use Rattle.std.proofs.lemmas.Grind.{flat_map-append}
 use Rattle.bt_base.specs.Objects.{Object, Contents}
 use Rattle.bt_base.specs.Streams.{gained}
-use Rattle.noting_laws.specs.obex_session.specs.Counting.{Counts, counts_of}
+use Rattle.noting_laws.specs.obex_session.specs.Counting.{counts_of}
 use Rattle.push_script.specs.declared.scenario.Scenario.{Scenario}
 use Rattle.push_terms.specs.declared.outcome.Outcome.{Outcome}
-use Rattle.push_terms.specs.declared.outcome.Outcome.TheVariants.{Done, ScriptEnded}
+use Rattle.push_terms.specs.declared.outcome.Outcome.TheVariants.{ScriptEnded}
 use Rattle.push_terms.specs.declared.peaks.Peaks.{Peaks}
 use Rattle.push_terms.specs.declared.word.Word.{Word}
 use Rattle.capture.specs.Air.{words_of}
@@ -23,7 +23,7 @@ use Rattle.radio_world.proofs.Advancing.{plays_then}
 use Rattle.radio_world.proofs.Spelled.{AreEntries, each_of_both, each_then}
 use Rattle.radio_world.proofs.Moving.{written_then}
 use Rattle.radio_world.proofs.Standing.{runs_of, at_rest}
-use Rattle.bt_host.specs.host_model.specs.Circumstances.{Circumstance, answers_in}
+use Rattle.bt_host.specs.host_model.specs.Circumstances.{Circumstance}
 use Rattle.bt_host.specs.host_model.specs.Clients.{ClientProfile}
 use Rattle.bt_host.specs.host_model.specs.Servers.{ServerProfile}
 use Rattle.bt_host.specs.host_model.specs.Settings.{SetHost, set_to, client_machine, server_machine}
@@ -40,6 +40,7 @@ use Rattle.noting_laws.specs.scenario_laws.proofs.SetHosts.{set_hosts_are_hosts}
 use Rattle.noting_laws.specs.pair_laws.specs.Enough.{HappenedEnough}
 use Rattle.noting_laws.specs.pair_laws.specs.Served.{HappenedServed}
 use Rattle.scenario_play.specs.Playing.{fresh_world, KeepsShelf, RoseNever, RanAnswered, IsPlayed}
+use Rattle.unmarked_laws.specs.Ends.{IsDecided}
 use Rattle.noting_laws.specs.Noting.{plain_set}
 use Rattle.scenario_play.specs.Shelving.{plain_client}
 use Rattle.scenario_play.specs.Peaks.{NotedMoment, AreNoted, AreReached}
@@ -47,7 +48,7 @@ use Rattle.scenario_play.specs.Running.{RunsThrough}
 use Rattle.scenario_play.proofs.Plainness.{PlainWorld, plain_world, orderly, enough_runs, served_runs, plain_rest}
 use Rattle.scenario_play.proofs.Newness.{new_client, new_server, client_twins, holding_twins, server_twins, answering_twins, beginning, hosts_begin}
 use Rattle.scenario_play.proofs.Alikeness.{IsLike, IsWhole, IsLikeServed, like_served, like_ends, told_a, told_b}
-use Rattle.scenario_play.proofs.Counting.{Says, rose_or_not, asked_twice, asked_says}
+use Rattle.scenario_play.proofs.Counting.{rose_or_not, asked_twice, asked_says}
 use Rattle.scenario_play.proofs.OwnServers.{EndsAtRest, ran_answered}
 
 pub shelf_kept :
@@ -122,14 +123,14 @@ module _ {P Q : Type 0} (holds : P → Option (List Object)) (content : Q → Op
   abbrev came : Hosts → P → Option Outcome
   came end shelf' = noted_client_machine.outcome ((client_at end shelf').upper [])
 
-  -- where the push that goes on ends as done, nothing is owed to either host, which are at rest
-  ends_at_rest : (now : NotedMoment) (outcome : Option Outcome) (pushes : Pushes) → client_machine.outcome (plain_world (world_at now)).a.upper ≡ outcome → IsAtRest client_machine server_machine (plain_world (world_at now)) → (push : ℕ) → last_entries outcome pushes ≡ Ended push Done ∷ [] → EndsAtRest (plain_world (world_at now))
-  ends_at_rest now outcome pushes is rests push ends = record { none_a = rests.still_a.none_owed; none_b = rests.still_b.none_owed; came = is ∙ by pushes.going outcome ends }
+  -- where the push that goes on ends with what an SDU alone brings about, nothing is owed to either host, which are at rest
+  ends_at_rest : (now : NotedMoment) (outcome : Option Outcome) (pushes : Pushes) → client_machine.outcome (plain_world (world_at now)).a.upper ≡ outcome → IsAtRest client_machine server_machine (plain_world (world_at now)) → (push : ℕ) (ended : Outcome) → IsDecided ended → last_entries outcome pushes ≡ Ended push ended ∷ [] → EndsAtRest ended (plain_world (world_at now))
+  ends_at_rest now outcome pushes is rests push ended decided ends = record { none_a = rests.still_a.none_owed; none_b = rests.still_b.none_owed; came = is ∙ by pushes.going outcome ends }
     where
-      by : (going : Bool) (outcome : Option Outcome) → cond going (Ended pushes.begun (unwrap_or outcome ScriptEnded) ∷ []) [] ≡ Ended push Done ∷ [] → outcome ≡ Some Done
+      by : (going : Bool) (outcome : Option Outcome) → cond going (Ended pushes.begun (unwrap_or outcome ScriptEnded) ∷ []) [] ≡ Ended push ended ∷ [] → outcome ≡ Some ended
       by false outcome ends = cc
-      by true None ends = cc
-      by true (Some other) ends = let same : other ≡ Done = cc in ap (λ (o : Outcome). Some o) same
+      by true None ends = let same : ended ≡ ScriptEnded = cc in let none : true ≡ false = subst IsDecided same decided in cc
+      by true (Some other) ends = let same : other ≡ ended = cc in ap (λ (o : Outcome). Some o) same
 
   pub played : (first end : Hosts) (shelf shelf' : P) (inbox inbox' : Q) (trace trace' : Option (List ℕ)) (outcomes : List Outcome) (peaks : Peaks) → first ≡ fresh_world scenario → Through first end shelf shelf' inbox inbox' trace trace'
       → end.a.stack.upper.end.end.client.failed ≡ false → outcomes ≡ end.scene.pushes.outcomes → AreNoted end.scene.medium (at_moment end shelf' inbox' [] []) peaks → IsPlayed scenario (holds shelf) (content inbox) (content inbox') trace trace' outcomes peaks (counts_of faults shortages inbox) (counts_of faults shortages inbox')

@@ -1,5 +1,5 @@
 -- Each push that ends for a fault of the shelf uses up a fault of it.
-use Rattle.std.proofs.Common.{◌≡◌, ℕ, ◌≤◌, ◌+◌, ◌-◌, Bool, true, false, ◌&&◌, ◌||◌, List, [], ◌∷◌, ◌++◌, length, Option, Some, None, unwrap_or, Err, inl, inr, refl, sym, ap, subst, ◌∙◌, arith, if◌then◌else◌}
+use Rattle.std.proofs.Common.{◌≡◌, ℕ, ◌≤◌, ◌+◌, ◌-◌, Bool, true, false, ◌&&◌, List, [], ◌∷◌, ◌++◌, length, Option, Some, None, unwrap_or, Err, inl, inr, refl, sym, ap, subst, ◌∙◌, arith, if◌then◌else◌}
 use Rattle.std.specs.Prelude.{zero, suc, replicate}
 use Rattle.bt_base.specs.declared.ports.PortFault.TheVariants as fault
 use Rattle.bt_base.specs.Objects.{Object, Contents}
@@ -13,7 +13,6 @@ use Rattle.push_terms.specs.declared.word.Side.TheVariants.{A, B}
 use Rattle.push_terms.specs.declared.word.Way.TheVariants.{Ab, Ba}
 use Rattle.radio_world.specs.radio_model.specs.declared.deed.Deed.{Deed}
 use Rattle.radio_world.specs.radio_model.specs.declared.deed.Deed.TheVariants.{Nothing, Meets, Fires, FiresBoth, Breaks, Cancels}
-use Rattle.radio_world.specs.radio_model.specs.Controllers.{Answer}
 use Rattle.radio_world.specs.radio_model.specs.Radio.{found}
 use Rattle.noting_laws.specs.world_model.specs.Machines.{News, LinkEvent, Linked, Heard, TimerFired, Cancelled, Opening, Upper}
 use Rattle.noting_laws.specs.world_model.specs.Pushes.{Pushes, one_begun, one_ended}
@@ -29,10 +28,9 @@ use Rattle.bt_host.specs.host_model.specs.Hosts.{most_steps, hears_news, ready, 
 use Rattle.bt_host.specs.host_model.specs.Settings.{SetHost}
 use Rattle.bt_host.specs.host_model.proofs.Keeping.{drives_on, hears_on, goes_next}
 use Rattle.bt_host.specs.host_model.proofs.Setting.{said_by}
-use Rattle.bt_host.specs.NotedHosts.{client_noting, noted_client_machine, noted_server_machine}
+use Rattle.bt_host.specs.NotedHosts.{noted_client_machine, noted_server_machine}
 use Rattle.bt_host.specs.Pushing.{failures_in}
 use Rattle.bt_host.specs.PushingLaws.{Answers, failures_join}
-use Rattle.bt_host.specs.Serving.{Asks}
 use Rattle.bt_host.specs.Shelving.{Shelved, is_shelf_fault, is_failed, owed, shelf_profile}
 use Rattle.bt_host.specs.Uppers.{IsAside}
 use Rattle.noting_laws.specs.inbox_laws.specs.Owned.{own_machine}
@@ -41,8 +39,8 @@ use Rattle.scenario_play.specs.Playing.{fresh_world}
 use Rattle.scenario_play.proofs.Bare.{shelf_machine}
 use Rattle.scenario_play.proofs.Course.{Hosts, at_moment, client_at, server_at, Through}
 use Rattle.scenario_play.proofs.Newness.{new_client, new_server, beginning, hosts_begin}
-use Rattle.scenario_play.proofs.Plainness.{NotedWorld, shelf_world, unnoted_runs}
-use Rattle.scenario_play.proofs.Shelves.{cost, Pays, PaysSo, keeps_paying, told_pays, opens_pays}
+use Rattle.scenario_play.proofs.Plainness.{shelf_world, unnoted_runs}
+use Rattle.scenario_play.proofs.Shelves.{cost, PaysSo, keeps_paying, told_pays, opens_pays}
 
 -- ---- lists of outcomes
 

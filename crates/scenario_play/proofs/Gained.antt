@@ -53,6 +53,7 @@ use Rattle.credit_laws.specs.request_laws.proofs.ObjectPipes.{are_piped}
 use Rattle.credit_laws.specs.request_laws.proofs.Paired.{paired_servers_serve}
 use Rattle.credit_laws.specs.request_laws.proofs.Summing.{both_ask}
 use Rattle.parting_laws.specs.Parting.{FewWordsPartNone}
+use Rattle.window_laws.proofs.Runs.{runs-hold_absolutely}
 use Rattle.scenario_play.proofs.Causes.{causes_shown, losses_shown, peer_spared, none_parted, none_parted_so_far}
 use Rattle.scenario_play.specs.Breaking.{IsBroken}
 use Rattle.scenario_play.specs.Gaining.{HaveAnswered, HaveGranted, HaveOffered, HoldsAtMost, KeepsAccounts, ServesAndGains, KeepsPlayed, KeepsBroken, GainsPlayed, GainsBroken, PlaysKeep, PlaysGain}
@@ -78,6 +79,10 @@ accounts_kept scenario content capture ran = record {
   window_b = windows_held.throughout scenario content capture B ran;
   on_links_a = windows_held.on_links scenario content capture A ran;
   on_links_b = windows_held.on_links scenario content capture B ran;
+  absolute_a = runs-hold_absolutely.throughout scenario content capture A ran;
+  absolute_b = runs-hold_absolutely.throughout scenario content capture B ran;
+  absolute_on_links_a = runs-hold_absolutely.on_links scenario content capture A ran;
+  absolute_on_links_b = runs-hold_absolutely.on_links scenario content capture B ran;
   honest = controllers_honest scenario content capture ran;
   in_turn = pushes_in_turn scenario content capture ran;
   one_link_a = pushes_have_one_link scenario content capture A ran;

@@ -3,7 +3,7 @@ pub mod Causes
 mod Embedded
 mod Counting
 pub mod Bare
-mod Plainness
+pub mod Plainness
 mod Newness
 mod Alikeness
 mod OwnServers

@@ -1,7 +1,7 @@
 -- What the inbox of a played scenario gained where calls of it failed.
 use Rattle.std.proofs.Common.{◌≡◌, ◌≤◌, ℕ, List, Option, inl, inr, sym, ap, ◌∙◌, subst, arith}
 use Rattle.std.proofs.lemmas.Bool.{cases_lt}
-use Rattle.bt_base.specs.Counts.{HasRisen, last_count}
+use Rattle.bt_base.specs.Counts.{HasRisen}
 use Rattle.bt_base.specs.declared.settings.Transport.TheVariants.{Rfcomm}
 use Rattle.bt_base.specs.Objects.{Object, Contents}
 use Rattle.noting_laws.specs.obex_session.specs.Counting.{Counts, faults_of, HasRisenBy}

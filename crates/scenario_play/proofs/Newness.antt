@@ -1,5 +1,5 @@
 -- New hosts in code: whatever their ports are to answer, they are those of the scenario.
-use Rattle.std.proofs.Common.{◌≡◌, List, [], ◌∷◌, Option, refl, ap₂}
+use Rattle.std.proofs.Common.{List, [], ◌∷◌, Option, refl, ap₂}
 use Rattle.bt_base.specs.Objects.{Object, Contents}
 use Rattle.bt_base.specs.declared.settings.Settings.{Settings}
 use Rattle.push_script.specs.declared.scenario.Scenario.{Scenario}
@@ -16,7 +16,7 @@ use Rattle.radio_world.specs.Scenes.{first_scene, moment, Plays}
 use Rattle.radio_world.specs.Standing.{starting, first_moment}
 use Rattle.bt_host.specs.line_laws.specs.Laws.{GoesAsSeen}
 use Rattle.bt_host.specs.line_laws.proofs.Seeing.{stations_are_seen}
-use Rattle.bt_host.specs.host_model.specs.Circumstances.{Circumstance, answers_in}
+use Rattle.bt_host.specs.host_model.specs.Circumstances.{Circumstance}
 use Rattle.bt_host.specs.host_model.specs.Profiles.{Profile}
 use Rattle.bt_host.specs.host_model.specs.Servers.{ServerProfile}
 use Rattle.bt_host.specs.host_model.specs.Machines.{client_host, server_host}

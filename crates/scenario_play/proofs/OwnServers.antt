@@ -6,7 +6,7 @@ use Rattle.bt_host.specs.channel_model.specs.Giving.{next_given}
 use Rattle.noting_laws.specs.obex_session.specs.Counting.{Counts}
 use Rattle.noting_laws.specs.obex_session.specs.InboxCalls.{Answer}
 use Rattle.push_script.specs.declared.scenario.Scenario.{Scenario}
-use Rattle.push_terms.specs.declared.outcome.Outcome.TheVariants.{Done}
+use Rattle.push_terms.specs.declared.outcome.Outcome.{Outcome}
 use Rattle.capture.specs.Entries.{Entry, Ended}
 use Rattle.radio_world.specs.radio_model.specs.Radio.{Radio}
 use Rattle.noting_laws.specs.world_model.specs.Worlds.{Happening, all_entries}
@@ -25,6 +25,7 @@ use Rattle.noting_laws.specs.scenario_laws.specs.Captures.{client_of}
 use Rattle.noting_laws.specs.scenario_laws.proofs.SetHosts.{set_hosts_are_hosts, hear_same, says_same}
 use Rattle.noting_laws.specs.inbox_laws.specs.Owned.{own_profile, own_machine}
 use Rattle.done_laws.specs.tape_laws.specs.Own.{own_server}
+use Rattle.unmarked_laws.specs.Ends.{IsDecided}
 use Rattle.scenario_play.specs.Peaks.{NotedMoment}
 use Rattle.scenario_play.specs.Playing.{LackedNever, RanAnswered}
 use Rattle.scenario_play.specs.Shelving.{plain_client}
@@ -51,11 +52,11 @@ own_stays settings content answers =
       has_check = λ host own. refl;
     }
 
--- nothing is owed to either host, and the client is done
-pub record EndsAtRest (at : PlainWorld) : Type 0 where
+-- nothing is owed to either host, and the client came to that outcome
+pub record EndsAtRest (outcome : Outcome) (at : PlainWorld) : Type 0 where
   pub none_a : at.radio.a.owed ≡ []
   pub none_b : at.radio.b.owed ≡ []
-  pub came : client_machine.outcome at.a.upper ≡ Some Done
+  pub came : client_machine.outcome at.a.upper ≡ Some outcome
 
 module _ {P Q : Type 0} (holds : P → Option (List Object)) (content : Q → Option Contents) (scenario : Scenario) (shelf : P) (inbox : Q) (for_a for_b : List Circumstance) where
   abbrev Happened : List Happening → NotedMoment → Type 0
@@ -77,7 +78,7 @@ module _ {P Q : Type 0} (holds : P → Option (List Object)) (content : Q → Op
       able_along happenings (world_at begun) (world_at at) (record { works = refl; found = parts_found (holds shelf) for_a }) (runs_of noted_client_machine noted_server_machine happenings begun at plays)
 
   -- so a world in code went, with the end of the push that goes on behind it
-  pub ran_answered : (happenings : List Happening) (at : NotedMoment) → Happened happenings at → (ends capture : List Entry) → IsLastEnd (world_at at).pushes ends → capture ≡ all_entries happenings ++ ends → ((push : ℕ) → ends ≡ Ended push Done ∷ [] → EndsAtRest (plain_world (world_at at)))
+  pub ran_answered : (happenings : List Happening) (at : NotedMoment) → Happened happenings at → (ends capture : List Entry) → IsLastEnd (world_at at).pushes ends → capture ≡ all_entries happenings ++ ends → ((push : ℕ) (outcome : Outcome) → IsDecided outcome → ends ≡ Ended push outcome ∷ [] → EndsAtRest outcome (plain_world (world_at at)))
       → (after : Option Contents) → after ≡ at.b.upper.host.profile.end.inbox.content → (counts counts' : Counts) → Says (answers_in for_b) counts counts' → LackedNever counts counts' → RanAnswered scenario (holds shelf) (content inbox) after counts counts' happenings capture
   ran_answered happenings at plays ends capture last is rests after stored counts counts' says none =
       let settings = scenario.settings in
@@ -92,8 +93,8 @@ module _ {P Q : Type 0} (holds : P → Option (List Object)) (content : Q → Op
         stored = stored ∙ sym (ap (λ (s : SetHost ServerProfile). s.host.profile.inbox.content) like.server_is);
         able = told_same (λ (x : SetHost ClientProfile). x.host.profile.client.failed) (plain_client (new_client holds shelf settings for_a)) (set_to settings (client_of scenario).first) (plain_world (world_at at)).a.upper (set_to settings like.world.a.upper) refl like.client_is
             ∙ able_in happenings at plays;
-        at_end = λ push ends_are.
-            let rest = rests push ends_are in
+        at_end = λ push outcome decided ends_are.
+            let rest = rests push outcome decided ends_are in
             record {
               none_a = ap (λ (r : Radio). r.a.owed) like.radio_is ∙ rest.none_a;
               none_b = ap (λ (r : Radio). r.b.owed) like.radio_is ∙ rest.none_b;

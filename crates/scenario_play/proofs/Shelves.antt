@@ -1,5 +1,5 @@
 -- What a client with its shelf keeps: it finds its memory, and its pushes that end for a fault of the shelf use up its faults.
-use Rattle.std.proofs.Common.{◌≡◌, ℕ, zero, suc, ◌-◌, ◌≤◌, ◌+◌, ◌==◌, Bool, true, false, not, ◌&&◌, List, [], ◌∷◌, map, length, drop, Option, Some, None, is_some, Result, Ok, Err, inl, inr, refl, sym, ap, subst, ◌∙◌, arith, if◌then◌else◌}
+use Rattle.std.proofs.Common.{◌≡◌, ℕ, zero, suc, ◌-◌, ◌≤◌, ◌+◌, ◌==◌, Bool, true, false, not, ◌&&◌, List, [], ◌∷◌, map, length, drop, Option, Some, None, Result, Ok, Err, refl, sym, ap, subst, ◌∙◌, arith, if◌then◌else◌}
 use Rattle.std.specs.List.{AllByRecursion}
 use Rattle.bt_base.specs.Objects.{Object, octets_of}
 use Rattle.bt_base.specs.declared.ports.PortFault.{PortFault}
@@ -26,9 +26,8 @@ use Rattle.bt_host.specs.host_model.specs.Clients as clients
 use Rattle.bt_host.specs.host_model.specs.Clients.{ClientProfile, calls, ended, fitted, takes}
 use Rattle.bt_host.specs.host_model.specs.Endpoints.{endpoint_of, takes_sdu}
 use Rattle.bt_host.specs.host_model.specs.Pdus.{sdu_of}
-use Rattle.bt_host.specs.host_model.specs.Profiles.{Profile}
 use Rattle.bt_host.specs.host_model.specs.Shelves.{is_short, size_if, size_for, name_for, measured, is_next, part_for, bare_part, fitting, unused}
-use Rattle.bt_host.specs.shelf_model.specs.Held.{part_in_octets, size_in_octets, is_at, part_where, given_at, given_by, length_of, is_length, size_where, sized, sized_in, told_by, held_by}
+use Rattle.bt_host.specs.shelf_model.specs.Held.{part_in_octets, size_in_octets, is_at, part_where, given_at, given_by, length_of, is_length, size_where, sized, held_by}
 use Rattle.bt_host.specs.host_model.proofs.Keeping.{Keeps as HostKeeps, KeepsNews}
 use Rattle.noting_laws.specs.inbox_laws.proofs.Keeping.{KeepsSo}
 use Rattle.bt_host.specs.Pushing.{FoundMemory}

@@ -7,7 +7,6 @@ use Rattle.noting_laws.specs.obex_session.specs.Counting.{Counts}
 use Rattle.push_script.specs.declared.scenario.Scenario.{Scenario}
 use Rattle.push_terms.specs.declared.outcome.Outcome.{Outcome}
 use Rattle.push_terms.specs.declared.peaks.Peaks.{Peaks}
-use Rattle.push_terms.specs.declared.word.Side.TheVariants.{B}
 use Rattle.capture.specs.Entries.{Entry}
 use Rattle.noting_laws.specs.push_laws.specs.Laws.{stored_in}
 use Rattle.noting_laws.specs.world_model.specs.Worlds.{all_entries, all_words}

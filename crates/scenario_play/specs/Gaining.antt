@@ -38,6 +38,7 @@ use Rattle.drop_laws.specs.Dropped.{LossesAreDrops}
 use Rattle.blame_laws.specs.Blamed.{SparesPeer}
 use Rattle.parting_laws.specs.Parting.{PeersCloseNone}
 use Rattle.credit_laws.specs.request_laws.specs.AllSizes.{InboxGrants}
+use Rattle.window_laws.specs.Runs.{HoldsAbsolutelyOnLinks, HoldsAbsolutelyThroughout}
 use Rattle.credit_laws.specs.request_laws.specs.BothFed.{most_octets, GrantsAll}
 use Rattle.credit_laws.specs.request_laws.specs.Together.{PortsAnswer}
 use Rattle.scenario_play.specs.Breaking.{IsBroken}
@@ -70,8 +71,9 @@ HoldsAtMost most (Some objects) = (name : List ℕ) (size : ℕ) → length_of n
 
 -- ---- what is so
 
--- Whatever ports answer: the buffers of both controllers at each moment, and so the windows of both hosts, on the link that is up then and on each link to its end, also
--- of a channel that was closed; honest controllers, and pushes in turn, each of them over one link at most, and no more of them than objects.
+-- Whatever ports answer: the buffers of both controllers at each moment, and so the windows of both hosts, by the last ReqSeq and in numbers that never wrap, on the link
+-- that is up then and on each link to its end, also of a channel that was closed; honest controllers, and pushes in turn, each of them over one link at most, and no more of
+-- them than objects.
 pub record KeepsAccounts (scenario : Scenario) (capture : List Entry) : Type 0 where
   pub within_a : KeepsWithin A scenario.acl_count capture
   pub within_b : KeepsWithin B scenario.acl_count capture
@@ -79,6 +81,10 @@ pub record KeepsAccounts (scenario : Scenario) (capture : List Entry) : Type 0 w
   pub window_b : HoldsThroughout scenario.settings B capture
   pub on_links_a : HoldsOnLinks scenario.settings A capture
   pub on_links_b : HoldsOnLinks scenario.settings B capture
+  pub absolute_a : HoldsAbsolutelyThroughout scenario.settings A capture
+  pub absolute_b : HoldsAbsolutelyThroughout scenario.settings B capture
+  pub absolute_on_links_a : HoldsAbsolutelyOnLinks scenario.settings A capture
+  pub absolute_on_links_b : HoldsAbsolutelyOnLinks scenario.settings B capture
   pub honest : AreHonest capture
   pub in_turn : PushesInTurn capture
   pub one_link_a : AtEach (HasOneLink A) capture

@@ -12,6 +12,7 @@ pub use Rattle.noting_laws.specs.pair_laws
 pub use Rattle.parting_laws
 pub use Rattle.noting_laws.specs.push_laws
 pub use Rattle.noting_laws.specs.scenario_laws
+pub use Rattle.window_laws
 pub use Rattle.noting_laws.specs.world_model
 pub mod Shelving
 pub mod Peaks

@@ -8,7 +8,6 @@ use Rattle.noting_laws.specs.obex_session.specs.Counting.{Counts, faults_of, Has
 use Rattle.noting_laws.specs.obex_session.specs.InboxCalls.{Answer}
 use Rattle.push_script.specs.declared.scenario.Scenario.{Scenario}
 use Rattle.push_terms.specs.declared.outcome.Outcome.{Outcome}
-use Rattle.push_terms.specs.declared.outcome.Outcome.TheVariants.{Done}
 use Rattle.push_terms.specs.declared.peaks.Peaks.{Peaks}
 use Rattle.capture.specs.Entries.{Entry, Ended, capture_octets, IsEntry}
 use Rattle.noting_laws.specs.world_model.specs.Worlds.{Happening}
@@ -28,7 +27,7 @@ use Rattle.noting_laws.specs.scenario_laws.specs.Outcomes.{outcomes_of}
 use Rattle.noting_laws.specs.pair_laws.specs.Enough.{HappenedEnough}
 use Rattle.noting_laws.specs.pair_laws.specs.Served.{HappenedServed}
 use Rattle.done_laws.specs.tape_laws.specs.OwnPairs.{RanOwn}
-use Rattle.done_laws.specs.Runs.{IsDoneAt}
+use Rattle.unmarked_laws.specs.Ends.{IsDecided, IsOverAt}
 use Rattle.scenario_play.specs.Peaks.{AreReached}
 
 -- two new hosts with the settings of a scenario, and its air, to which nothing has happened
@@ -54,8 +53,8 @@ abbrev pub RoseNever : Counts → Counts → Type 0
 RoseNever counts counts' = (HasRisen counts.faults counts'.faults → ⊥) × LackedNever counts counts'
 
 -- So the scenario ran with a server that has these answers of its inbox from its first moment on, and this is what the inbox then holds. None of them
--- is want of memory, and the count of faults rose with each that says that a call failed; host a lacked no memory either. Where the last push ended as done behind
--- all that happened, nothing was owed to either host.
+-- is want of memory, and the count of faults rose with each that says that a call failed; host a lacked no memory either. Where the last push ended behind
+-- all that happened, with an outcome that an SDU alone brings about, nothing was owed to either host.
 pub record RanAnswered (scenario : Scenario) (shelf : Option (List Object)) (before after : Option Contents) (counts counts' : Counts) (happenings : List Happening) (capture : List Entry) : Type 0 where
   pub answers : List Answer
   pub enough : NoneShort answers
@@ -64,7 +63,7 @@ pub record RanAnswered (scenario : Scenario) (shelf : Option (List Object)) (bef
   pub happenings_are : own.happenings ≡ happenings
   pub stored : after ≡ own.world.b.upper.profile.inbox.content
   pub able : own.world.a.upper.profile.client.failed ≡ false
-  pub at_end : (push : ℕ) → own.ends ≡ Ended push Done ∷ [] → IsDoneAt own.world
+  pub at_end : (push : ℕ) (outcome : Outcome) → IsDecided outcome → own.ends ≡ Ended push outcome ∷ [] → IsOverAt outcome own.world
 
 -- The scenario ran to its end, as the trace gained it: from an inbox that held `before` both hosts came to where all words were turned and
 -- all is at rest. The push that went on then ended with what had come of it, or else with the script; the outcomes are those that the

@@ -37,8 +37,8 @@ pub fn wants_are_told()
 {}
 
 /// What is so of every scenario that was played, over L2CAP or over RFCOMM, to its end or as far as it came, over its capture alone and whatever
-/// ports answer: the buffers of both controllers and the windows of both hosts at each moment, honest controllers, the pushes and their outcomes, none as closed by the peer while
-/// fewer words of the script are adverse than the hosts try; at its end the air obeyed the script, and as far as it came each entry keeps to the script.
+/// ports answer: the buffers of both controllers and the windows of both hosts at each moment, also in numbers of I-frames that never wrap, honest controllers, the pushes and their
+/// outcomes, none as closed by the peer while fewer words of the script are adverse than the hosts try; at its end the air obeyed the script, and as far as it came each entry keeps to the script.
 pub fn plays_keep()
     ensures { PlaysKeep }
 {

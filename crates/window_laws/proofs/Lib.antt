@@ -1,0 +1,11 @@
+pub mod Numbers
+pub mod Machines
+pub mod Hosts
+pub mod Fronts
+pub mod Climbing
+pub mod Spent
+pub mod Growing
+pub mod Watching
+pub mod Taking
+pub mod Pairs
+pub mod Runs
