@@ -5,6 +5,8 @@
 #[cfg(test)]
 mod bt_host_tests;
 #[cfg(test)]
+mod fronts_tests;
+#[cfg(test)]
 mod host_link_tests;
 #[cfg(test)]
 mod l2cap_channels_tests;
