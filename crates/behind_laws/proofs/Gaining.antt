@@ -59,10 +59,10 @@ use Rattle.orderly_laws.proofs.Given.{FiresNot, parts_still, zip_still, nothing-
 use Rattle.orderly_laws.proofs.Granting.{runs-same, frames-same, over-so, over-acts}
 use Rattle.orderly_laws.proofs.Linking.{NoneMuxed, no_pdus, all-direct}
 use Rattle.following_laws.specs.Following.{IsNotMuxed, IsWholeEntry, ObjectsFollow, ObjectsFollowed, ObjectsFollowNow}
-use Rattle.following_laws.specs.OneAtATime.{AtMostOneLeft, IsOneAtATime, FiresNever}
+use Rattle.following_laws.specs.OneAtATime.{AtMostOneLeft, IsOneAtATime, IsNoFiring}
 use Rattle.following_laws.proofs.Links.{hosts_read_following}
 use Rattle.following_laws.proofs.Singles.{no_channel, singles_follow}
-use Rattle.behind_laws.specs.InTurn.{AsksDirectly, IsAskedInTurn, LosesNone, ServersGainInTurn}
+use Rattle.behind_laws.specs.InTurn.{AsksDirectly, IsAskedInTurn, LosesNoneInTurn, ServersGainInTurn}
 use Rattle.behind_laws.proofs.Direct.{entries-direct, out-directly}
 use Rattle.behind_laws.proofs.Moved.{MovedOn, moved_of, parts_spell}
 use Rattle.behind_laws.proofs.Told.{IsPrompt, LivesTold, lives-told}
@@ -88,7 +88,7 @@ all_of settings (list ∷ lists) calm prompt nothing untimed gives moved said wh
   all_of settings lists calm.1 prompt.1 nothing.1 untimed.1 gives.1 moved.1 said.1 whole.1,
 )
 
-fires_never : (list : List Occurrence) → AllByRecursion FiresNot list → AllByRecursion FiresNever list
+fires_never : (list : List Occurrence) → AllByRecursion FiresNot list → AllByRecursion IsNoFiring list
 fires_never [] untimed = tt
 fires_never (Comes pdu ∷ list) untimed = (tt, fires_never list untimed.1)
 fires_never (Connects psm ∷ list) untimed = (tt, fires_never list untimed.1)
@@ -202,7 +202,7 @@ lived settings before occasions now did grants have =
 -- ---- the law
 
 gains_over : (settings : Settings) (before : List Object) (occasions : List (Occasion Circumstance)) (now : Host ServerProfile) (life : Life settings before occasions now) → AllByRecursion FiresNone occasions → IsAskedInTurn (lone_capture sides.B (units occasions))
-    → LosesNone hosts_ask settings before life.came.talk now life.lives.fed.so → GainsOver settings before L2cap occasions now
+    → LosesNoneInTurn hosts_ask settings before life.came.talk now life.lives.fed.so → GainsOver settings before L2cap occasions now
 gains_over settings before occasions now life untimed asked loses =
     let content = holding before in
     let A = serving settings before in

@@ -63,7 +63,7 @@ pub record IsAskedInTurn (capture : List Entry) : Type 0 where
 -- ---- what is asked of how it lived
 
 -- No request is ignored because a response waits, and all that comes on its channels is handed up.
-pub record LosesNone (asks : HostsAsk) (settings : Settings) (before : List Object) (talk : List Talk) (now : Host ServerProfile) (so : TalksOverLinks (serving settings before) (asked_by asks settings before) talk now) : Type 0 where
+pub record LosesNoneInTurn (asks : HostsAsk) (settings : Settings) (before : List Object) (talk : List Talk) (now : Host ServerProfile) (so : TalksOverLinks (serving settings before) (asked_by asks settings before) talk now) : Type 0 where
   pub come : AllMayCome settings [] (begun settings (holding before)) (all_served asks settings before talk now so)
   pub whole : AllByRecursion (IsWhole (policy settings true)) (on_links (serving settings before) (asked_by asks settings before) (flat_map talk_marks talk) now so.lives)
 
@@ -75,7 +75,7 @@ pub record GainsInTurn (asks : HostsAsk) (settings : Settings) (before : List Ob
   pub came : CameOver (serving settings before) sides.B (lone_capture sides.B (units occasions)) now
   pub so : TalksOverLinks (serving settings before) (asked_by asks settings before) came.talk now
   pub granted : AllByRecursion IsGrant (gifts_of so.lives.feeds)
-  pub gains : LosesNone asks settings before came.talk now so → GainsOver settings before L2cap occasions now
+  pub gains : LosesNoneInTurn asks settings before came.talk now so → GainsOver settings before L2cap occasions now
 
 -- So it is of each server whose timer never fires and whose inbox grants all that it is asked.
 pub record ServersGainInTurn : Type 0 where

@@ -20,7 +20,7 @@ use Rattle.host_laws.specs.Serving.{event_served}
 use Rattle.host_laws.specs.Told.{event_told, events_told}
 use Rattle.host_laws.proofs.Gains.{state, states}
 use Rattle.host_laws.proofs.Gaining.{served_by, all_served, NoTurn}
-use Rattle.following_laws.specs.Following.{object_told, objects_told, ends_objects, is_over, OthersAreOver, ComesBehind}
+use Rattle.following_laws.specs.Following.{object_told, object_sdus_told, ends_objects, is_object_over, OthersAreOver, FollowsOthers}
 
 -- ---- one tiding more
 
@@ -32,10 +32,10 @@ packets_more past one =
     ap (states []) (flat_map-append served_by past (one ∷ []) ∙ ap (λ (l : List push.Occurrence). all_served past ++ l) (append-nil (served_by one)))
     ∙ fold-append state [] (all_served past) (served_by one)
 
-told_more : (own : ℕ) (past : List Tiding) (one : Tiding) → objects_told own (past ++ one ∷ []) ≡ objects_told own past ++ cons_option (object_told own one) []
+told_more : (own : ℕ) (past : List Tiding) (one : Tiding) → object_sdus_told own (past ++ one ∷ []) ≡ object_sdus_told own past ++ cons_option (object_told own one) []
 told_more own past one = filter_map-append (object_told own) past (one ∷ [])
 
-over_more : (own : ℕ) (past : List Tiding) (one : Tiding) → is_over own (past ++ one ∷ []) ≡ (is_over own past || list_any (ends_objects own) (events_told (one ∷ [])))
+over_more : (own : ℕ) (past : List Tiding) (one : Tiding) → is_object_over own (past ++ one ∷ []) ≡ (is_object_over own past || list_any (ends_objects own) (events_told (one ∷ [])))
 over_more own past one = ap (list_any (ends_objects own)) (filter_map-append event_told past (one ∷ [])) ∙ list_any-append (ends_objects own) (events_told past) (events_told (one ∷ []))
 
 or_off : (b : Bool) → (b || false) ≡ b
@@ -45,19 +45,19 @@ or_off false = refl
 -- ---- what stands there
 
 abbrev pub IsCurrent : List Tiding → Type 0
-IsCurrent past = (own : ℕ) → OthersAreOver own past → is_over own past ≡ false → packets past ≡ objects_told own past
+IsCurrent past = (own : ℕ) → OthersAreOver own past → is_object_over own past ≡ false → packets past ≡ object_sdus_told own past
 
 -- an SDU comes on a channel that is not over
 abbrev pub BringsOpen : List Tiding → Tiding → Type 0
-BringsOpen past (Brings own psm sdu) = is_over own past ≡ false
+BringsOpen past (Brings own psm sdu) = is_object_over own past ≡ false
 BringsOpen past (Tells event) = Unit {0}
 BringsOpen past (Turns event) = Unit {0}
 
 -- a tiding that brings and closes nothing of objects
 record IsNothing (past : List Tiding) (one : Tiding) : Type 0 where
   packets_are : packets (past ++ one ∷ []) ≡ packets past
-  told_are : (own : ℕ) → objects_told own (past ++ one ∷ []) ≡ objects_told own past
-  over_are : (own : ℕ) → is_over own (past ++ one ∷ []) ≡ is_over own past
+  told_are : (own : ℕ) → object_sdus_told own (past ++ one ∷ []) ≡ object_sdus_told own past
+  over_are : (own : ℕ) → is_object_over own (past ++ one ∷ []) ≡ is_object_over own past
 
 nothing_more : (past : List Tiding) (one : Tiding) → IsNothing past one → IsCurrent past → IsCurrent (past ++ one ∷ [])
 nothing_more past one nothing current own others open' =
@@ -66,7 +66,7 @@ nothing_more past one nothing current own others open' =
     before : OthersAreOver own past
     before other apart = by (others other apart)
       where
-        by : (objects_told other (past ++ one ∷ []) ≡ []) ⊎ (is_over other (past ++ one ∷ []) ≡ true) → (objects_told other past ≡ []) ⊎ (is_over other past ≡ true)
+        by : (object_sdus_told other (past ++ one ∷ []) ≡ []) ⊎ (is_object_over other (past ++ one ∷ []) ≡ true) → (object_sdus_told other past ≡ []) ⊎ (is_object_over other past ≡ true)
         by (inl none) = inl (sym (nothing.told_are other) ∙ none)
         by (inr over) = inr (sym (nothing.over_are other) ∙ over)
 
@@ -76,40 +76,40 @@ module _ (past : List Tiding) (at psm : ℕ) (sdu : List ℕ) where
   abbrev brought : Tiding
   brought = Brings at psm sdu
 
-  not_over : (own : ℕ) → is_over own (past ++ Brings at psm sdu ∷ []) ≡ is_over own past
-  not_over own = over_more own past (Brings at psm sdu) ∙ or_off (is_over own past)
+  not_over : (own : ℕ) → is_object_over own (past ++ Brings at psm sdu ∷ []) ≡ is_object_over own past
+  not_over own = over_more own past (Brings at psm sdu) ∙ or_off (is_object_over own past)
 
   aside_more : eqb psm object_psm ≡ false → IsNothing past (Brings at psm sdu)
   aside_more aside = record {
     packets_are = packets_more past (Brings at psm sdu) ∙ ap (λ (b : Bool). cond b (packets past ++ sdu ∷ []) (packets past)) aside;
-    told_are = λ own. told_more own past (Brings at psm sdu) ∙ (ap (λ (b : Bool). objects_told own past ++ cons_option (cond (eqb at own && b) (Some sdu) None) []) aside ∙ by own (eqb at own));
+    told_are = λ own. told_more own past (Brings at psm sdu) ∙ (ap (λ (b : Bool). object_sdus_told own past ++ cons_option (cond (eqb at own && b) (Some sdu) None) []) aside ∙ by own (eqb at own));
     over_are = not_over;
   }
     where
-      by : (own : ℕ) (here : Bool) → objects_told own past ++ cons_option (cond (here && false) (Some sdu) None) [] ≡ objects_told own past
-      by own true = append-nil (objects_told own past)
-      by own false = append-nil (objects_told own past)
+      by : (own : ℕ) (here : Bool) → object_sdus_told own past ++ cons_option (cond (here && false) (Some sdu) None) [] ≡ object_sdus_told own past
+      by own true = append-nil (object_sdus_told own past)
+      by own false = append-nil (object_sdus_told own past)
 
-  told_now : (own : ℕ) (here : Bool) → eqb at own ≡ here → eqb psm object_psm ≡ true → objects_told own (past ++ Brings at psm sdu ∷ []) ≡ objects_told own past ++ cons_option (cond here (Some sdu) None) []
-  told_now own true here is = told_more own past (Brings at psm sdu) ∙ ap₂ (λ (a b : Bool). objects_told own past ++ cons_option (cond (a && b) (Some sdu) None) []) here is
-  told_now own false here is = told_more own past (Brings at psm sdu) ∙ ap₂ (λ (a b : Bool). objects_told own past ++ cons_option (cond (a && b) (Some sdu) None) []) here is
+  told_now : (own : ℕ) (here : Bool) → eqb at own ≡ here → eqb psm object_psm ≡ true → object_sdus_told own (past ++ Brings at psm sdu ∷ []) ≡ object_sdus_told own past ++ cons_option (cond here (Some sdu) None) []
+  told_now own true here is = told_more own past (Brings at psm sdu) ∙ ap₂ (λ (a b : Bool). object_sdus_told own past ++ cons_option (cond (a && b) (Some sdu) None) []) here is
+  told_now own false here is = told_more own past (Brings at psm sdu) ∙ ap₂ (λ (a b : Bool). object_sdus_told own past ++ cons_option (cond (a && b) (Some sdu) None) []) here is
 
-  object_more : eqb psm object_psm ≡ true → OthersAreOver at past → is_over at past ≡ false → IsCurrent past → IsCurrent (past ++ Brings at psm sdu ∷ [])
+  object_more : eqb psm object_psm ≡ true → OthersAreOver at past → is_object_over at past ≡ false → IsCurrent past → IsCurrent (past ++ Brings at psm sdu ∷ [])
   object_more is behind open' current own others shut = by (eqb at own) refl
     where
       now : packets (past ++ Brings at psm sdu ∷ []) ≡ packets past ++ sdu ∷ []
       now = packets_more past (Brings at psm sdu) ∙ ap (λ (b : Bool). cond b (packets past ++ sdu ∷ []) (packets past)) is
 
-      never : {X : Type 0} → (objects_told at (past ++ Brings at psm sdu ∷ []) ≡ []) ⊎ (is_over at (past ++ Brings at psm sdu ∷ []) ≡ true) → X
-      never (inl none) = none_more (objects_told at past) (sym (told_now at true (eq-eqb at at refl) is) ∙ none)
+      never : {X : Type 0} → (object_sdus_told at (past ++ Brings at psm sdu ∷ []) ≡ []) ⊎ (is_object_over at (past ++ Brings at psm sdu ∷ []) ≡ true) → X
+      never (inl none) = none_more (object_sdus_told at past) (sym (told_now at true (eq-eqb at at refl) is) ∙ none)
         where
           none_more : {X : Type 0} (list : List (List ℕ)) → list ++ sdu ∷ [] ≡ [] → X
           none_more [] some = cc
           none_more (first ∷ list) some = cc
       never (inr over) = let never' : true ≡ false = sym over ∙ (not_over at ∙ open') in cc
 
-      by : (here : Bool) → eqb at own ≡ here → packets (past ++ Brings at psm sdu ∷ []) ≡ objects_told own (past ++ Brings at psm sdu ∷ [])
-      by true here = now ∙ (ap (λ (l : List (List ℕ)). l ++ sdu ∷ []) (current at behind open') ∙ sym (ap (λ n. objects_told n (past ++ Brings at psm sdu ∷ [])) (sym (eqb-true at own here)) ∙ told_now at true (eq-eqb at at refl) is))
+      by : (here : Bool) → eqb at own ≡ here → packets (past ++ Brings at psm sdu ∷ []) ≡ object_sdus_told own (past ++ Brings at psm sdu ∷ [])
+      by true here = now ∙ (ap (λ (l : List (List ℕ)). l ++ sdu ∷ []) (current at behind open') ∙ sym (ap (λ n. object_sdus_told n (past ++ Brings at psm sdu ∷ [])) (sym (eqb-true at own here)) ∙ told_now at true (eq-eqb at at refl) is))
       by false here = never (others at here)
 
 -- ---- one is closed
@@ -118,11 +118,11 @@ module _ (past : List Tiding) (at psm : ℕ) (reason : CloseReason) where
   abbrev closing : Tiding
   closing = Tells (events.Closed at psm reason)
 
-  told_same : (own : ℕ) → objects_told own (past ++ Tells (events.Closed at psm reason) ∷ []) ≡ objects_told own past
-  told_same own = told_more own past (Tells (events.Closed at psm reason)) ∙ append-nil (objects_told own past)
+  told_same : (own : ℕ) → object_sdus_told own (past ++ Tells (events.Closed at psm reason) ∷ []) ≡ object_sdus_told own past
+  told_same own = told_more own past (Tells (events.Closed at psm reason)) ∙ append-nil (object_sdus_told own past)
 
-  over_now : (own : ℕ) (object told : Bool) → eqb psm object_psm ≡ object → is_told reason ≡ told → is_over own (past ++ Tells (events.Closed at psm reason) ∷ []) ≡ (is_over own past || ((eqb at own && (object && told)) || false))
-  over_now own object told is heeds = over_more own past (Tells (events.Closed at psm reason)) ∙ ap₂ (λ (a b : Bool). is_over own past || ((eqb at own && (a && b)) || false)) is heeds
+  over_now : (own : ℕ) (object told : Bool) → eqb psm object_psm ≡ object → is_told reason ≡ told → is_object_over own (past ++ Tells (events.Closed at psm reason) ∷ []) ≡ (is_object_over own past || ((eqb at own && (object && told)) || false))
+  over_now own object told is heeds = over_more own past (Tells (events.Closed at psm reason)) ∙ ap₂ (λ (a b : Bool). is_object_over own past || ((eqb at own && (a && b)) || false)) is heeds
 
   packets_now : (object told : Bool) → eqb psm object_psm ≡ object → is_told reason ≡ told
       → packets (past ++ Tells (events.Closed at psm reason) ∷ []) ≡ cond told (cond object [] (packets past)) (packets past)
@@ -135,7 +135,7 @@ module _ (past : List Tiding) (at psm : ℕ) (reason : CloseReason) where
   unheeded object told is heeds off = record {
     packets_are = packets_now object told is heeds ∙ by object told off;
     told_are = told_same;
-    over_are = λ own. over_now own object told is heeds ∙ (ap (λ (b : Bool). is_over own past || ((eqb at own && b) || false)) off ∙ (ap (λ (b : Bool). is_over own past || (b || false)) (and_off (eqb at own)) ∙ or_off (is_over own past)));
+    over_are = λ own. over_now own object told is heeds ∙ (ap (λ (b : Bool). is_object_over own past || ((eqb at own && b) || false)) off ∙ (ap (λ (b : Bool). is_object_over own past || (b || false)) (and_off (eqb at own)) ∙ or_off (is_object_over own past)));
   }
     where
       and_off : (b : Bool) → (b && false) ≡ false
@@ -151,18 +151,18 @@ module _ (past : List Tiding) (at psm : ℕ) (reason : CloseReason) where
   closed_more : eqb psm object_psm ≡ true → is_told reason ≡ true → OthersAreOver at past → IsCurrent (past ++ Tells (events.Closed at psm reason) ∷ [])
   closed_more is heeds behind own others open' = packets_now true true is heeds ∙ sym (told_same own ∙ none)
     where
-      shut : (is_over own past ≡ false) × (((eqb at own && true) || false) ≡ false)
-      shut = either_false (is_over own past) ((eqb at own && true) || false) (sym (over_now own true true is heeds) ∙ open')
+      shut : (is_object_over own past ≡ false) × (((eqb at own && true) || false) ≡ false)
+      shut = either_false (is_object_over own past) ((eqb at own && true) || false) (sym (over_now own true true is heeds) ∙ open')
 
       apart_by : (b : Bool) → ((b && true) || false) ≡ false → b ≡ false
       apart_by true off = cc
       apart_by false off = refl
 
-      by : (objects_told own past ≡ []) ⊎ (is_over own past ≡ true) → objects_told own past ≡ []
+      by : (object_sdus_told own past ≡ []) ⊎ (is_object_over own past ≡ true) → object_sdus_told own past ≡ []
       by (inl nothing) = nothing
       by (inr over) = let never' : true ≡ false = sym over ∙ shut.0 in cc
 
-      none : objects_told own past ≡ []
+      none : object_sdus_told own past ≡ []
       none = by (behind own (eqb_other at own (apart_by (eqb at own) shut.1)))
 
 -- ---- all of it
@@ -170,11 +170,11 @@ module _ (past : List Tiding) (at psm : ℕ) (reason : CloseReason) where
 event_nothing : (past : List Tiding) (event : ChannelEvent) → event_served event ≡ [] → ((own : ℕ) → ends_objects own event ≡ false) → IsNothing past (Tells event)
 event_nothing past event silent ends = record {
   packets_are = packets_more past (Tells event) ∙ ap (states (packets past)) silent;
-  told_are = λ own. told_more own past (Tells event) ∙ append-nil (objects_told own past);
-  over_are = λ own. over_more own past (Tells event) ∙ (ap (λ (b : Bool). is_over own past || (b || false)) (ends own) ∙ or_off (is_over own past));
+  told_are = λ own. told_more own past (Tells event) ∙ append-nil (object_sdus_told own past);
+  over_are = λ own. over_more own past (Tells event) ∙ (ap (λ (b : Bool). is_object_over own past || (b || false)) (ends own) ∙ or_off (is_object_over own past));
 }
 
-current_one : (past : List Tiding) (one : Tiding) → ComesBehind past one → BringsOpen past one → NoTurn one → IsCurrent past → IsCurrent (past ++ one ∷ [])
+current_one : (past : List Tiding) (one : Tiding) → FollowsOthers past one → BringsOpen past one → NoTurn one → IsCurrent past → IsCurrent (past ++ one ∷ [])
 current_one past (Brings at psm sdu) behind open' still current = by (eqb psm object_psm) refl
   where
     by : (object : Bool) → eqb psm object_psm ≡ object → IsCurrent (past ++ Brings at psm sdu ∷ [])
@@ -192,7 +192,7 @@ current_one past (Tells events.FeaturesLost) behind open' still current = nothin
 current_one past (Tells (events.DisconnectLost at)) behind open' still current = nothing_more past (Tells (events.DisconnectLost at)) (event_nothing past (events.DisconnectLost at) refl (λ own. refl)) current
 current_one past (Turns event) behind open' still current = absurd still
 
-pub current-on : (past rest : List Tiding) → EachAfter ComesBehind past rest → EachAfter BringsOpen past rest → AllByRecursion NoTurn rest → IsCurrent past → IsCurrent (past ++ rest)
+pub current-on : (past rest : List Tiding) → EachAfter FollowsOthers past rest → EachAfter BringsOpen past rest → AllByRecursion NoTurn rest → IsCurrent past → IsCurrent (past ++ rest)
 current-on past [] behind open' still current = subst IsCurrent (sym (append-nil past)) current
 current-on past (one ∷ rest) behind open' still current =
     subst IsCurrent (append_assoc past (one ∷ []) rest) (current-on (past ++ one ∷ []) rest behind.1 open'.1 still.1 (current_one past one behind.0 open'.0 still.0 current))

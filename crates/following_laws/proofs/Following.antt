@@ -35,7 +35,7 @@ use Rattle.host_laws.proofs.Profiles.{sdus-so}
 use Rattle.host_laws.proofs.SearchingWeave.{each_split}
 use Rattle.host_laws.proofs.Silence.{ends-are_last}
 use Rattle.host_laws.proofs.Telling.{sdus_run}
-use Rattle.following_laws.specs.Following.{objects_told, ends_objects, is_over, ComesBehind, IsNotMuxed, ObjectsFollow}
+use Rattle.following_laws.specs.Following.{object_sdus_told, ends_objects, is_object_over, FollowsOthers, IsNotMuxed, ObjectsFollow}
 use Rattle.following_laws.proofs.Current.{packets, IsCurrent, BringsOpen, current-on, current-none}
 use Rattle.following_laws.proofs.Moments.{Stands, one-more}
 use Rattle.following_laws.proofs.Whole.{whole-before}
@@ -57,9 +57,9 @@ closed_by own (events.DisconnectLost other ∷ told) is = closed_by own told is
 module _ (policy : Policy) (list : List Occurrence) where
   opens_on : (past rest : List Tiding) → told_on policy list ≡ past ++ rest → EachAfter BringsOpen past rest
   opens_on past [] is = tt
-  opens_on past (Brings own psm sdu ∷ rest) is = (by (is_over own past) refl, opens_on (past ++ Brings own psm sdu ∷ []) rest (is ∙ sym (append_assoc past (Brings own psm sdu ∷ []) rest)))
+  opens_on past (Brings own psm sdu ∷ rest) is = (by (is_object_over own past) refl, opens_on (past ++ Brings own psm sdu ∷ []) rest (is ∙ sym (append_assoc past (Brings own psm sdu ∷ []) rest)))
     where
-      by : (over : Bool) → is_over own past ≡ over → over ≡ false
+      by : (over : Bool) → is_object_over own past ≡ over → over ≡ false
       by false at = refl
       by true at =
           let none = ends-are_last policy list own past (Brings own psm sdu ∷ rest) is (closed_by own (events_told past) at) in
@@ -122,14 +122,14 @@ module _ (policy : Policy) (party : Party) (states_frame : StatesFrame policy pa
 
       current : IsCurrent T
       current =
-          current-on [] T (each_split ComesBehind [] T behind (subst (EachAfter ComesBehind []) told_is follow.behind)).0
+          current-on [] T (each_split FollowsOthers [] T behind (subst (EachAfter FollowsOthers []) told_is follow.behind)).0
           (each_split BringsOpen [] T behind (subst (EachAfter BringsOpen []) told_is (opens_on policy list [] (told_on policy list) refl))).0 (no_turns policy no_channels front) current-none
 
-      follows : (own psm : ℕ) (sdu : List ℕ) → up_with one (run_of policy front).value ≡ Received own psm sdu → psm ≡ object_psm → packets T ≡ objects_told own T
+      follows : (own psm : ℕ) (sdu : List ℕ) → up_with one (run_of policy front).value ≡ Received own psm sdu → psm ≡ object_psm → packets T ≡ object_sdus_told own T
       follows own psm sdu up object =
           let first : behind ≡ Brings own psm sdu ∷ (map TellsIt (told_in one (values_after policy no_channels front)) ++ tidings_from policy (value_after policy one (values_after policy no_channels front)) rest) =
           ap (λ (u : Handed). (brought_by u ++ map TellsIt (told_in one (values_after policy no_channels front))) ++ tidings_from policy (value_after policy one (values_after policy no_channels front)) rest) (ap (up_with one) (sym (value_run policy front new_link)) ∙ up) in
-          let comes = subst (EachAfter ComesBehind T) first (each_split ComesBehind [] T behind (subst (EachAfter ComesBehind []) told_is follow.behind)).1 in
+          let comes = subst (EachAfter FollowsOthers T) first (each_split FollowsOthers [] T behind (subst (EachAfter FollowsOthers []) told_is follow.behind)).1 in
           let opens = subst (EachAfter BringsOpen T) first (each_split BringsOpen [] T behind (subst (EachAfter BringsOpen []) told_is (opens_on policy list [] (told_on policy list) refl))).1 in
           current own (comes.0 object) opens.0
 

@@ -42,7 +42,7 @@ use Rattle.host_laws.proofs.Links.{value_run}
 use Rattle.host_laws.proofs.OneWay.{packets-are_sdus, packets-aside}
 use Rattle.host_laws.proofs.Silence.{channels-are_named}
 use Rattle.host_laws.proofs.Telling.{sdus_run}
-use Rattle.following_laws.specs.Following.{objects_told, IsNotMuxed}
+use Rattle.following_laws.specs.Following.{object_sdus_told, IsNotMuxed}
 use Rattle.following_laws.proofs.Current.{packets}
 use Rattle.following_laws.proofs.Placed.{objects_at, at-none, at-some, objects-grow_at, objects-stay_at}
 
@@ -90,12 +90,12 @@ with_told most stand (Received own psm sdu) told =
 
 -- ---- the SDUs of a channel of objects are those that were told of it
 
-told_same : (entries : List Entry) (own peer : ℕ) → IsOf (channel_by object_psm own peer) (read_at own entries) → (tidings : List Tiding) → AllByRecursion (IsOfChannel entries) tidings → objects_told own tidings ≡ sdus_told own tidings
+told_same : (entries : List Entry) (own peer : ℕ) → IsOf (channel_by object_psm own peer) (read_at own entries) → (tidings : List Tiding) → AllByRecursion (IsOfChannel entries) tidings → object_sdus_told own tidings ≡ sdus_told own tidings
 told_same entries own peer is [] all = refl
 told_same entries own peer is (Brings other psm sdu ∷ tidings) all = by (eqb other own) refl (told_same entries own peer is tidings all.1)
   where
-    by : (here : Bool) → eqb other own ≡ here → objects_told own tidings ≡ sdus_told own tidings
-        → cons_option (cond (here && eqb psm object_psm) (Some sdu) None) (objects_told own tidings) ≡ cons_option (cond here (Some sdu) None) (sdus_told own tidings)
+    by : (here : Bool) → eqb other own ≡ here → object_sdus_told own tidings ≡ sdus_told own tidings
+        → cons_option (cond (here && eqb psm object_psm) (Some sdu) None) (object_sdus_told own tidings) ≡ cons_option (cond here (Some sdu) None) (sdus_told own tidings)
     by false apart rest = rest
     by true here rest =
         let same = one_of (channel_by psm other all.0.0) (channel_by object_psm own peer) (read_at own entries) (subst (λ n. IsOf (channel_by psm other all.0.0) (read_at n entries)) (eqb-true other own here) all.0.1) is in
@@ -124,7 +124,7 @@ module _ (policy : Policy) (party : Party) (states_frame : StatesFrame policy pa
     pub behind : (n : ℕ) (entry : Entry) → read_at n (reading after.said).entries ≡ Some entry → entry.channel.psm ≡ object_psm → sdus party entry.channel Into after.said ≡ sdus_up entry.channel.own after.up
     pub plain : (n : ℕ) (entry : Entry) → read_at n (reading after.said).entries ≡ Some entry → IsNotMuxed entry
     -- an SDU of a channel of objects comes where the others are over and it is not
-    pub follows : (own psm : ℕ) (sdu : List ℕ) → up_with one run.value ≡ Received own psm sdu → psm ≡ object_psm → packets (told_on policy front) ≡ objects_told own (told_on policy front)
+    pub follows : (own psm : ℕ) (sdu : List ℕ) → up_with one run.value ≡ Received own psm sdu → psm ≡ object_psm → packets (told_on policy front) ≡ object_sdus_told own (told_on policy front)
 
   module _ (stands : Stands) where
     -- the objects of a channel, by its PSM

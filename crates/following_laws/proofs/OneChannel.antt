@@ -16,7 +16,7 @@ use Rattle.host_laws.specs.OneCarrier.{IsFor}
 use Rattle.host_laws.specs.Told.{told_on}
 use Rattle.host_laws.proofs.Gaining.{Fits, no_turns, all_fit}
 use Rattle.host_laws.proofs.Silence.{channels-are_named}
-use Rattle.following_laws.specs.Following.{objects_told, OthersAreOver, ComesBehind, IsNotMuxed, IsWholeEntry, ObjectsFollow, OneChannelFollows}
+use Rattle.following_laws.specs.Following.{object_sdus_told, OthersAreOver, FollowsOthers, IsNotMuxed, IsWholeEntry, ObjectsFollow, OneChannelFollows}
 
 module _ (channel : Channel) (psm_is : channel.psm ≡ object_psm) where
   -- ---- what is read
@@ -46,11 +46,11 @@ module _ (channel : Channel) (psm_is : channel.psm ≡ object_psm) where
 
   -- ---- what is told
 
-  no_others : (past : List Tiding) → AllByRecursion (Fits channel) past → (other : ℕ) → eqb other channel.own ≡ false → objects_told other past ≡ []
+  no_others : (past : List Tiding) → AllByRecursion (Fits channel) past → (other : ℕ) → eqb other channel.own ≡ false → object_sdus_told other past ≡ []
   no_others [] fits other apart = refl
   no_others (Brings own psm sdu ∷ past) fits other apart = by (eqb own other) (eqb psm object_psm) refl refl (no_others past fits.1 other apart)
     where
-      by : (here object : Bool) → eqb own other ≡ here → eqb psm object_psm ≡ object → objects_told other past ≡ [] → cons_option (cond (here && object) (Some sdu) None) (objects_told other past) ≡ []
+      by : (here object : Bool) → eqb own other ≡ here → eqb psm object_psm ≡ object → object_sdus_told other past ≡ [] → cons_option (cond (here && object) (Some sdu) None) (object_sdus_told other past) ≡ []
       by false object is at rest = rest
       by true false is at rest = rest
       by true true is at rest =
@@ -62,7 +62,7 @@ module _ (channel : Channel) (psm_is : channel.psm ≡ object_psm) where
   over : (own : ℕ) (past : List Tiding) → own ≡ channel.own → AllByRecursion (Fits channel) past → OthersAreOver own past
   over own past same fits = λ other apart. inl (no_others past fits other (ap (eqb other) (sym same) ∙ apart))
 
-  comes : (past : List Tiding) (one : Tiding) → AllByRecursion (Fits channel) past → Fits channel one → ComesBehind past one
+  comes : (past : List Tiding) (one : Tiding) → AllByRecursion (Fits channel) past → Fits channel one → FollowsOthers past one
   comes past (Brings own psm sdu) fits fit = λ object. by object (eqb own channel.own) refl
     where
       by : psm ≡ object_psm → (here : Bool) → eqb own channel.own ≡ here → OthersAreOver own past
@@ -79,7 +79,7 @@ module _ (channel : Channel) (psm_is : channel.psm ≡ object_psm) where
   fits_more [] one all fit = (fit, tt)
   fits_more (first ∷ past) one all fit = (all.0, fits_more past one all.1 fit)
 
-  each_comes : (past rest : List Tiding) → AllByRecursion (Fits channel) past → AllByRecursion (Fits channel) rest → EachAfter ComesBehind past rest
+  each_comes : (past rest : List Tiding) → AllByRecursion (Fits channel) past → AllByRecursion (Fits channel) rest → EachAfter FollowsOthers past rest
   each_comes past [] before fits = tt
   each_comes past (one ∷ rest) before fits = (comes past one before fits.0, each_comes (past ++ one ∷ []) rest (fits_more past one before fits.0) fits.1)
 

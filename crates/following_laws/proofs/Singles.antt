@@ -58,8 +58,8 @@ use Rattle.host_laws.proofs.Silence.{channels-are_named}
 use Rattle.host_laws.proofs.Telling.{events_run}
 use Rattle.refusal_laws.specs.Refused.{ClosesRightly, TellsRightly}
 use Rattle.refusal_laws.proofs.Refused.{refusals_have_results}
-use Rattle.following_laws.specs.Following.{object_told, objects_told, ends_objects, is_over, OthersAreOver, ClosesBehind, ComesBehind}
-use Rattle.following_laws.specs.OneAtATime.{is_left, is_object_left, AtMostOneLeft, IsToldBefore, FiresNever, HearsOneAtATime, SinglesFollow}
+use Rattle.following_laws.specs.Following.{object_told, object_sdus_told, ends_objects, is_object_over, OthersAreOver, ClosesBehind, FollowsOthers}
+use Rattle.following_laws.specs.OneAtATime.{is_unended, is_object_left, AtMostOneLeft, IsToldBefore, IsNoFiring, HearsOneAtATime, SinglesFollow}
 use Rattle.following_laws.proofs.Moments.{one_of}
 use Rattle.following_laws.proofs.Shedding.{IsObjectHeld, OnObject, closes_object, comes-held, gives-tell_none, sends-tell_none}
 
@@ -228,12 +228,12 @@ over_of entries own peer of (events.FeaturesLost ∷ told) read heeds is = over_
 over_of entries own peer of (events.DisconnectLost other ∷ told) read heeds is = over_of entries own peer of told read.1 heeds.1 is
 
 -- one that brought an SDU is read
-brought_read : (entries : List Entry) (own : ℕ) (tidings : List Tiding) → AllByRecursion (IsOfChannel entries) tidings → (objects_told own tidings ≡ []) ⊎ ((peer : ℕ) × IsOf (channel_by object_psm own peer) (read_at own entries))
+brought_read : (entries : List Entry) (own : ℕ) (tidings : List Tiding) → AllByRecursion (IsOfChannel entries) tidings → (object_sdus_told own tidings ≡ []) ⊎ ((peer : ℕ) × IsOf (channel_by object_psm own peer) (read_at own entries))
 brought_read entries own [] all = inl refl
 brought_read entries own (Brings other psm sdu ∷ tidings) all = by (eqb other own) (eqb psm object_psm) refl refl (brought_read entries own tidings all.1)
   where
-    by : (here object : Bool) → eqb other own ≡ here → eqb psm object_psm ≡ object → (objects_told own tidings ≡ []) ⊎ ((peer : ℕ) × IsOf (channel_by object_psm own peer) (read_at own entries))
-        → (cons_option (cond (here && object) (Some sdu) None) (objects_told own tidings) ≡ []) ⊎ ((peer : ℕ) × IsOf (channel_by object_psm own peer) (read_at own entries))
+    by : (here object : Bool) → eqb other own ≡ here → eqb psm object_psm ≡ object → (object_sdus_told own tidings ≡ []) ⊎ ((peer : ℕ) × IsOf (channel_by object_psm own peer) (read_at own entries))
+        → (cons_option (cond (here && object) (Some sdu) None) (object_sdus_told own tidings) ≡ []) ⊎ ((peer : ℕ) × IsOf (channel_by object_psm own peer) (read_at own entries))
     by false object at is later = later
     by true false at is later = later
     by true true at is later =
@@ -244,7 +244,7 @@ brought_read entries own (Turns event ∷ tidings) all = brought_read entries ow
 some_left : (own : ℕ) (entries : List Entry) (peer : ℕ) → IsOf (channel_by object_psm own peer) (read_at own entries) → (HasEnded (read_at own entries) → ⊥) → LeftAt own entries
 some_left own entries peer of lasts = by (read_at own entries) refl of lasts
   where
-    lives : (life : Life) → (is_there life ≡ false → ⊥) → is_left life ≡ true
+    lives : (life : Life) → (is_there life ≡ false → ⊥) → is_unended life ≡ true
     lives Alive there = refl
     lives IsLeaving there = refl
     lives HasCrossed there = refl
@@ -268,11 +268,11 @@ module _ (policy : Policy) (front : List Occurrence) (nothing : AllByRecursion A
   held_left : (own : ℕ) → IsObjectHeld own run.value → LeftAt own entries
   held_left own held = by (held_at own run.value) refl held
     where
-      psm_left : (held' : Held) (entry : Entry) (peer : ℕ) (life : Life) → held'.psm ≡ object_psm → read_at own entries ≡ Some entry → entry.channel ≡ channel_by held'.psm held'.own peer → entry.life ≡ life → is_left life ≡ true → LeftAt own entries
+      psm_left : (held' : Held) (entry : Entry) (peer : ℕ) (life : Life) → held'.psm ≡ object_psm → read_at own entries ≡ Some entry → entry.channel ≡ channel_by held'.psm held'.own peer → entry.life ≡ life → is_unended life ≡ true → LeftAt own entries
       psm_left held' entry peer life object at channel_is life_is left =
-          (entry, at, ap₂ (λ (a b : Bool). a && b) (eq-eqb entry.channel.psm object_psm (ap (λ (c : Channel). c.psm) channel_is ∙ object)) (ap is_left life_is ∙ left))
+          (entry, at, ap₂ (λ (a b : Bool). a && b) (eq-eqb entry.channel.psm object_psm (ap (λ (c : Channel). c.psm) channel_is ∙ object)) (ap is_unended life_is ∙ left))
 
-      there : (held' : Held) (peer : ℕ) (stage : Stage) → held'.psm ≡ object_psm → held'.stage ≡ stage → is_left (life_of stage) ≡ true → (found : Option Entry) → read_at own entries ≡ found → IsReadBy policy held' (Some peer) found → LeftAt own entries
+      there : (held' : Held) (peer : ℕ) (stage : Stage) → held'.psm ≡ object_psm → held'.stage ≡ stage → is_unended (life_of stage) ≡ true → (found : Option Entry) → read_at own entries ≡ found → IsReadBy policy held' (Some peer) found → LeftAt own entries
       there held' peer stage object is left None at read = absurd read
       there held' peer stage object is left (Some entry) at read = psm_left held' entry peer (life_of stage) object at read.0.channel_is (read.0.life_is ∙ ap life_of is) left
 
@@ -296,7 +296,7 @@ module _ (policy : Policy) (front : List Occurrence) (nothing : AllByRecursion A
           at_stage held' held'.stage object refl at (subst (λ (h : Option Held). IsRead policy h (read_at own entries)) at (channels-are_read policy front own))
 
   -- one that brought an SDU and is not over is left
-  open_left : (own : ℕ) → is_over own (told_on policy front) ≡ false → (objects_told own (told_on policy front) ≡ []) ⊎ LeftAt own entries
+  open_left : (own : ℕ) → is_object_over own (told_on policy front) ≡ false → (object_sdus_told own (told_on policy front) ≡ []) ⊎ LeftAt own entries
   open_left own open' = by (brought_read entries own (told_on policy front) (channels-are_named policy front))
     where
       told_is : run.told ≡ events_told (told_on policy front)
@@ -309,19 +309,19 @@ module _ (policy : Policy) (front : List Occurrence) (nothing : AllByRecursion A
           let never : true ≡ false = sym over ∙ (ap (list_any (ends_objects own)) told_is ∙ open') in
           cc
 
-      by : (objects_told own (told_on policy front) ≡ []) ⊎ ((peer : ℕ) × IsOf (channel_by object_psm own peer) (read_at own entries)) → (objects_told own (told_on policy front) ≡ []) ⊎ LeftAt own entries
+      by : (object_sdus_told own (told_on policy front) ≡ []) ⊎ ((peer : ℕ) × IsOf (channel_by object_psm own peer) (read_at own entries)) → (object_sdus_told own (told_on policy front) ≡ []) ⊎ LeftAt own entries
       by (inl none) = inl none
       by (inr (peer, of)) = inr (some_left own entries peer of (lasts peer of))
 
   -- so all others are over where one is left, also behind what this PDU brings
   others_over : (own : ℕ) → LeftAt own entries → OthersAreOver own (told_on policy front)
-  others_over own left other apart = by (is_over other (told_on policy front)) refl
+  others_over own left other apart = by (is_object_over other (told_on policy front)) refl
     where
-      by : (over : Bool) → is_over other (told_on policy front) ≡ over → (objects_told other (told_on policy front) ≡ []) ⊎ (is_over other (told_on policy front) ≡ true)
+      by : (over : Bool) → is_object_over other (told_on policy front) ≡ over → (object_sdus_told other (told_on policy front) ≡ []) ⊎ (is_object_over other (told_on policy front) ≡ true)
       by true is = inr is
       by false is = on (open_left other is)
         where
-          on : (objects_told other (told_on policy front) ≡ []) ⊎ LeftAt other entries → (objects_told other (told_on policy front) ≡ []) ⊎ (is_over other (told_on policy front) ≡ true)
+          on : (object_sdus_told other (told_on policy front) ≡ []) ⊎ LeftAt other entries → (object_sdus_told other (told_on policy front) ≡ []) ⊎ (is_object_over other (told_on policy front) ≡ true)
           on (inl none) = inl none
           on (inr also) = let never : true ≡ false = sym (eq-eqb other own (same_left other own entries single also left)) ∙ apart in cc
 
@@ -329,7 +329,7 @@ module _ (policy : Policy) (front : List Occurrence) (nothing : AllByRecursion A
     brings_behind : (own psm : ℕ) (sdu : List ℕ) → up_with one run.value ≡ Received own psm sdu → psm ≡ object_psm → OthersAreOver own (told_on policy front)
     brings_behind own psm sdu is object = others_over own (held_left own (up_object own psm sdu run.value one is object))
 
-    all_behind : (up : Handed) → up_with one run.value ≡ up → EachAfter ComesBehind (told_on policy front) (brought_by up)
+    all_behind : (up : Handed) → up_with one run.value ≡ up → EachAfter FollowsOthers (told_on policy front) (brought_by up)
     all_behind Nothing is = tt
     all_behind (Received own psm sdu) is = ((λ object. brings_behind own psm sdu is object), tt)
 
@@ -339,19 +339,19 @@ module _ (policy : Policy) (front : List Occurrence) (nothing : AllByRecursion A
         T : List Tiding
         T = told_on policy front
 
-        told_now : (here object : Bool) → eqb at other ≡ here → eqb psm object_psm ≡ object → objects_told other (T ++ Brings at psm sdu ∷ []) ≡ objects_told other T ++ cons_option (cond (here && object) (Some sdu) None) []
-        told_now here object a b = filter_map-append (object_told other) T (Brings at psm sdu ∷ []) ∙ ap₂ (λ (x y : Bool). objects_told other T ++ cons_option (cond (x && y) (Some sdu) None) []) a b
+        told_now : (here object : Bool) → eqb at other ≡ here → eqb psm object_psm ≡ object → object_sdus_told other (T ++ Brings at psm sdu ∷ []) ≡ object_sdus_told other T ++ cons_option (cond (here && object) (Some sdu) None) []
+        told_now here object a b = filter_map-append (object_told other) T (Brings at psm sdu ∷ []) ∙ ap₂ (λ (x y : Bool). object_sdus_told other T ++ cons_option (cond (x && y) (Some sdu) None) []) a b
 
-        over_same : is_over other (T ++ Brings at psm sdu ∷ []) ≡ is_over other T
+        over_same : is_object_over other (T ++ Brings at psm sdu ∷ []) ≡ is_object_over other T
         over_same = ap (list_any (ends_objects other)) (filter_map-append event_told T (Brings at psm sdu ∷ []) ∙ append-nil (events_told T))
 
-        old : (objects_told other (T ++ Brings at psm sdu ∷ []) ≡ objects_told other T) → (objects_told other T ≡ []) ⊎ (is_over other T ≡ true) → (objects_told other (T ++ Brings at psm sdu ∷ []) ≡ []) ⊎ (is_over other (T ++ Brings at psm sdu ∷ []) ≡ true)
+        old : (object_sdus_told other (T ++ Brings at psm sdu ∷ []) ≡ object_sdus_told other T) → (object_sdus_told other T ≡ []) ⊎ (is_object_over other T ≡ true) → (object_sdus_told other (T ++ Brings at psm sdu ∷ []) ≡ []) ⊎ (is_object_over other (T ++ Brings at psm sdu ∷ []) ≡ true)
         old same (inl none) = inl (same ∙ none)
         old same (inr over) = inr (over_same ∙ over)
 
-        by : (here object : Bool) → eqb at other ≡ here → eqb psm object_psm ≡ object → (objects_told other (T ++ Brings at psm sdu ∷ []) ≡ []) ⊎ (is_over other (T ++ Brings at psm sdu ∷ []) ≡ true)
-        by false object a b = old (told_now false object a b ∙ append-nil (objects_told other T)) (others_over own left other apart)
-        by true false a b = old (told_now true false a b ∙ append-nil (objects_told other T)) (others_over own left other apart)
+        by : (here object : Bool) → eqb at other ≡ here → eqb psm object_psm ≡ object → (object_sdus_told other (T ++ Brings at psm sdu ∷ []) ≡ []) ⊎ (is_object_over other (T ++ Brings at psm sdu ∷ []) ≡ true)
+        by false object a b = old (told_now false object a b ∙ append-nil (object_sdus_told other T)) (others_over own left other apart)
+        by true false a b = old (told_now true false a b ∙ append-nil (object_sdus_told other T)) (others_over own left other apart)
         by true true a b =
             let also = held_left at (up_object at psm sdu run.value one is (eqb-true psm object_psm b)) in
             let never : true ≡ false = sym (eq-eqb other own (sym (eqb-true at other a) ∙ same_left at own entries single also left)) ∙ apart in
@@ -366,8 +366,8 @@ module _ (policy : Policy) (front : List Occurrence) (nothing : AllByRecursion A
 later_over : (own : ℕ) (past : List Tiding) (event : ChannelEvent) → OthersAreOver own past → OthersAreOver own (past ++ TellsIt event ∷ [])
 later_over own past event over other apart = by (over other apart)
   where
-    by : (objects_told other past ≡ []) ⊎ (is_over other past ≡ true) → (objects_told other (past ++ TellsIt event ∷ []) ≡ []) ⊎ (is_over other (past ++ TellsIt event ∷ []) ≡ true)
-    by (inl none) = inl (filter_map-append (object_told other) past (TellsIt event ∷ []) ∙ (append-nil (objects_told other past) ∙ none))
+    by : (object_sdus_told other past ≡ []) ⊎ (is_object_over other past ≡ true) → (object_sdus_told other (past ++ TellsIt event ∷ []) ≡ []) ⊎ (is_object_over other (past ++ TellsIt event ∷ []) ≡ true)
+    by (inl none) = inl (filter_map-append (object_told other) past (TellsIt event ∷ []) ∙ (append-nil (object_sdus_told other past) ∙ none))
     by (inr so) =
         inr (ap (list_any (ends_objects other)) (filter_map-append event_told past (TellsIt event ∷ [])) ∙ (list_any-append (ends_objects other) (events_told past) (event ∷ []) ∙ ap (λ (b : Bool). b || list_any (ends_objects other) (event ∷ [])) so))
 
@@ -385,7 +385,7 @@ event_behind past (events.DisconnectLost own) waits pending = tt
 
 -- one thing more
 record Steps (policy : Policy) (front : List Occurrence) (one : Occurrence) : Type 0 where
-  each : EachAfter ComesBehind (told_on policy front) (tidings_with one (run_of policy front).value)
+  each : EachAfter FollowsOthers (told_on policy front) (tidings_with one (run_of policy front).value)
   next : ArePending (value_after policy one (run_of policy front).value).events (told_on policy front ++ tidings_with one (run_of policy front).value)
 
 still_steps : (policy : Policy) (front : List Occurrence) (w : Channels) → w.events ≡ (run_of policy front).value.events → ArePending (run_of policy front).value.events (told_on policy front) → ArePending w.events (told_on policy front ++ [])
@@ -397,7 +397,7 @@ tells_steps policy front pending = record { each = (by (run_of policy front).val
     T : List Tiding
     T = told_on policy front
 
-    by : (waits : List ChannelEvent) → ArePending waits T → EachAfter ComesBehind T (map TellsIt (option_to_list (slice_get waits 0))) × ArePending (drop 1 waits) (T ++ map TellsIt (option_to_list (slice_get waits 0)))
+    by : (waits : List ChannelEvent) → ArePending waits T → EachAfter FollowsOthers T (map TellsIt (option_to_list (slice_get waits 0))) × ArePending (drop 1 waits) (T ++ map TellsIt (option_to_list (slice_get waits 0)))
     by [] so = (tt, λ own is. cc)
     by (event ∷ waits) so = ((event_behind T event waits so, tt), λ own is. later_over own T event (so own (ap (λ (b : Bool). closes_object own event || b) is ∙ or_true (closes_object own event))))
       where
@@ -463,13 +463,13 @@ module _ (policy : Policy) (list : List Occurrence) (so : HearsOneAtATime policy
       let left = single front (Comes pdu) rest is pdu refl calm'.0 in
       let up = up_with (Comes pdu) v in
       record {
-        each = subst (EachAfter ComesBehind (told_on policy front)) (sym (append-nil (brought_by up))) (all_behind policy front none heeded told left (Comes pdu) up refl);
+        each = subst (EachAfter FollowsOthers (told_on policy front)) (sym (append-nil (brought_by up))) (all_behind policy front none heeded told left (Comes pdu) up refl);
         next = λ own closes.
             subst (λ (l : List Tiding). OthersAreOver own (told_on policy front ++ l)) (sym (append-nil (brought_by up)))
             (with_brought policy front none heeded told left (Comes pdu) up refl own (held_left policy front none heeded told left own (comes-held policy pdu v calm'.1 told own closes)));
       }
 
-  one_steps : (front : List Occurrence) (one : Occurrence) (rest : List Occurrence) → list ≡ front ++ one ∷ rest → AsksForNothing one → FiresNever one → ArePending (run_of policy front).value.events (told_on policy front) → Steps policy front one
+  one_steps : (front : List Occurrence) (one : Occurrence) (rest : List Occurrence) → list ≡ front ++ one ∷ rest → AsksForNothing one → IsNoFiring one → ArePending (run_of policy front).value.events (told_on policy front) → Steps policy front one
   one_steps front (Comes pdu) rest is nothing untimed pending = comes_steps front pdu rest is
   one_steps front (Connects psm) rest is nothing untimed pending = absurd nothing
   one_steps front AsksFeatures rest is nothing untimed pending = absurd nothing
@@ -486,19 +486,19 @@ module _ (policy : Policy) (list : List Occurrence) (so : HearsOneAtATime policy
       tidings-append policy no_channels front (one ∷ [])
       ∙ ap (λ (l : List Tiding). told_on policy front ++ l) (append-nil (tidings_with one (values_after policy no_channels front)) ∙ ap (tidings_with one) (sym (value_run policy front new_link)))
 
-  behind_on : (front rest : List Occurrence) → list ≡ front ++ rest → ArePending (run_of policy front).value.events (told_on policy front) → EachAfter ComesBehind (told_on policy front) (tidings_from policy (run_of policy front).value rest)
+  behind_on : (front rest : List Occurrence) → list ≡ front ++ rest → ArePending (run_of policy front).value.events (told_on policy front) → EachAfter FollowsOthers (told_on policy front) (tidings_from policy (run_of policy front).value rest)
   behind_on front [] is pending = tt
   behind_on front (one ∷ rest) is pending =
       let v = (run_of policy front).value in
       let w = value_after policy one v in
       let next : (run_of policy (front ++ one ∷ [])).value ≡ w = ap (λ (r : Run). r.value) (fold-append (run_on policy) new_link front (one ∷ [])) in
       let steps =
-      one_steps front one rest is (all_split AsksForNothing front (one ∷ rest) (subst (AllByRecursion AsksForNothing) is so.nothing)).1.0 (all_split FiresNever front (one ∷ rest) (subst (AllByRecursion FiresNever) is so.untimed)).1.0 pending in
+      one_steps front one rest is (all_split AsksForNothing front (one ∷ rest) (subst (AllByRecursion AsksForNothing) is so.nothing)).1.0 (all_split IsNoFiring front (one ∷ rest) (subst (AllByRecursion IsNoFiring) is so.untimed)).1.0 pending in
       let later =
       behind_on (front ++ one ∷ []) rest (is ∙ sym (append_assoc front (one ∷ []) rest))
       (subst (λ (u : Channels). ArePending u.events (told_on policy (front ++ one ∷ []))) (sym next) (subst (ArePending w.events) (sym (told_more front one)) steps.next)) in
-      each_after-both ComesBehind (told_on policy front) (tidings_with one v) (tidings_from policy w rest) steps.each
-      (subst (λ (l : List Tiding). EachAfter ComesBehind l (tidings_from policy w rest)) (told_more front one) (subst (λ (u : Channels). EachAfter ComesBehind (told_on policy (front ++ one ∷ [])) (tidings_from policy u rest)) next later))
+      each_after-both FollowsOthers (told_on policy front) (tidings_with one v) (tidings_from policy w rest) steps.each
+      (subst (λ (l : List Tiding). EachAfter FollowsOthers l (tidings_from policy w rest)) (told_more front one) (subst (λ (u : Channels). EachAfter FollowsOthers (told_on policy (front ++ one ∷ [])) (tidings_from policy u rest)) next later))
 
 pub singles_follow : SinglesFollow
 singles_follow policy list so = behind_on policy list so [] list refl (λ own is. cc)

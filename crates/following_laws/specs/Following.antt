@@ -42,8 +42,8 @@ object_told own (Brings other psm sdu) = if (other == own) && (psm == object_psm
 object_told own (Tells event) = None
 object_told own (Turns event) = None
 
-abbrev pub objects_told : ℕ → List Tiding → List (List ℕ)
-objects_told own tidings = filter_map (object_told own) tidings
+abbrev pub object_sdus_told : ℕ → List Tiding → List (List ℕ)
+object_sdus_told own tidings = filter_map (object_told own) tidings
 
 -- that one at an own endpoint was closed, where a server heeds it
 abbrev pub ends_objects : ℕ → ChannelEvent → Bool
@@ -53,14 +53,14 @@ ends_objects own (events.Features features) = false
 ends_objects own events.FeaturesLost = false
 ends_objects own (events.DisconnectLost other) = false
 
-abbrev pub is_over : ℕ → List Tiding → Bool
-is_over own tidings = list_any (ends_objects own) (events_told tidings)
+abbrev pub is_object_over : ℕ → List Tiding → Bool
+is_object_over own tidings = list_any (ends_objects own) (events_told tidings)
 
 -- ---- one behind the other
 
 -- each other one that brought an SDU was closed
 abbrev pub OthersAreOver : ℕ → List Tiding → Type 0
-OthersAreOver own past = (other : ℕ) → (other == own) ≡ false → (objects_told other past ≡ []) ⊎ (is_over other past ≡ true)
+OthersAreOver own past = (other : ℕ) → (other == own) ≡ false → (object_sdus_told other past ≡ []) ⊎ (is_object_over other past ≡ true)
 
 abbrev pub ClosesBehind : List Tiding → ChannelEvent → Type 0
 ClosesBehind past (events.Opened own psm) = Unit {0}
@@ -70,10 +70,10 @@ ClosesBehind past events.FeaturesLost = Unit {0}
 ClosesBehind past (events.DisconnectLost own) = Unit {0}
 
 -- so it is when one brings an SDU, and when one is closed
-abbrev pub ComesBehind : List Tiding → Tiding → Type 0
-ComesBehind past (Brings own psm sdu) = psm ≡ object_psm → OthersAreOver own past
-ComesBehind past (Tells event) = ClosesBehind past event
-ComesBehind past (Turns event) = Unit {0}
+abbrev pub FollowsOthers : List Tiding → Tiding → Type 0
+FollowsOthers past (Brings own psm sdu) = psm ≡ object_psm → OthersAreOver own past
+FollowsOthers past (Tells event) = ClosesBehind past event
+FollowsOthers past (Turns event) = Unit {0}
 
 abbrev pub IsNotMuxed : Entry → Type 0
 IsNotMuxed entry = entry.channel.psm ≡ 0x0003 → ⊥
@@ -85,7 +85,7 @@ IsWholeEntry policy list entry = entry.channel.psm ≡ object_psm → HandsAllUp
 pub record ObjectsFollow (policy : Policy) (list : List Occurrence) : Type 0 where
   pub direct : AllByRecursion IsNotMuxed (reading (run_of policy list).said).entries
   pub whole : AllByRecursion (IsWholeEntry policy list) (reading (run_of policy list).said).entries
-  pub behind : EachAfter ComesBehind [] (told_on policy list)
+  pub behind : EachAfter FollowsOthers [] (told_on policy list)
 
 -- ---- over all links
 

@@ -18,19 +18,19 @@ use Rattle.host_laws.specs.shelf_model.specs.host_model.specs.Servers.{is_told}
 use Rattle.host_laws.specs.Keeping.{AsksForNothing, GivesNothingUp}
 use Rattle.host_laws.specs.Seen.{pdu_of, IsCalm}
 use Rattle.host_laws.specs.Told.{told_on}
-use Rattle.following_laws.specs.Following.{ComesBehind}
+use Rattle.following_laws.specs.Following.{FollowsOthers}
 
 -- ---- as what moved is read
 
 -- a channel has not ended for both: it is there, or the answer to its host's request for the end is awaited
-abbrev pub is_left : Life → Bool
-is_left Alive = true
-is_left Leaving = true
-is_left Crossed = true
-is_left Over = false
+abbrev pub is_unended : Life → Bool
+is_unended Alive = true
+is_unended Leaving = true
+is_unended Crossed = true
+is_unended Over = false
 
 abbrev pub is_object_left : Entry → Bool
-is_object_left entry = (entry.channel.psm == object_psm) && is_left entry.life
+is_object_left entry = (entry.channel.psm == object_psm) && is_unended entry.life
 
 -- of these at most one is a channel of objects that is left
 abbrev pub AtMostOneLeft : List Entry → Type 0
@@ -55,15 +55,15 @@ IsToldBefore Fires v = Unit {0}
 IsToldBefore Tells v = Unit {0}
 
 -- its timer does not fire
-abbrev pub FiresNever : Occurrence → Type 0
-FiresNever (Comes pdu) = Unit {0}
-FiresNever (Connects psm) = Unit {0}
-FiresNever AsksFeatures = Unit {0}
-FiresNever (Disconnects own) = Unit {0}
-FiresNever (Sends own sdu) = Unit {0}
-FiresNever (Gives pdu) = Unit {0}
-FiresNever Fires = ⊥
-FiresNever Tells = Unit {0}
+abbrev pub IsNoFiring : Occurrence → Type 0
+IsNoFiring (Comes pdu) = Unit {0}
+IsNoFiring (Connects psm) = Unit {0}
+IsNoFiring AsksFeatures = Unit {0}
+IsNoFiring (Disconnects own) = Unit {0}
+IsNoFiring (Sends own sdu) = Unit {0}
+IsNoFiring (Gives pdu) = Unit {0}
+IsNoFiring Fires = ⊥
+IsNoFiring Tells = Unit {0}
 
 abbrev pub AreToldBefore : Policy → List Occurrence → Type 0
 AreToldBefore policy list = EachAfter (λ front one. IsToldBefore one (run_of policy front).value) [] list
@@ -73,7 +73,7 @@ AreToldBefore policy list = EachAfter (λ front one. IsToldBefore one (run_of po
 pub record HearsOneAtATime (policy : Policy) (list : List Occurrence) : Type 0 where
   pub calm : IsCalm policy no_channels list
   pub nothing : AllByRecursion AsksForNothing list
-  pub untimed : AllByRecursion FiresNever list
+  pub untimed : AllByRecursion IsNoFiring list
   pub gives : GivesNothingUp policy list
   pub told : AreToldBefore policy list
   pub moved : List Pdu
@@ -84,4 +84,4 @@ pub record HearsOneAtATime (policy : Policy) (list : List Occurrence) : Type 0 w
 
 -- Then these come one behind the other, as it is told.
 abbrev pub SinglesFollow : Type 0
-SinglesFollow = (policy : Policy) (list : List Occurrence) → HearsOneAtATime policy list → EachAfter ComesBehind [] (told_on policy list)
+SinglesFollow = (policy : Policy) (list : List Occurrence) → HearsOneAtATime policy list → EachAfter FollowsOthers [] (told_on policy list)

@@ -33,7 +33,7 @@ use Rattle.outcome_laws.specs.cause_laws.proofs.Clients.{never, is_unsaid, any_u
 use Rattle.outcome_laws.specs.cause_laws.proofs.Lacking.{Finds, reply_finds}
 use Rattle.outcome_laws.specs.cause_laws.proofs.Profiles.{well_before}
 use Rattle.outcome_laws.specs.FirstCause.{begun_cause, caused_by, first_cause}
-use Rattle.reporting_laws.specs.Exactly.{IsNoBegin, IsLacking, LacksWhere, IsHeardFirst}
+use Rattle.reporting_laws.specs.Exactly.{BeginsNoPush, IsLacking, LacksWhere, IsHeardFirst}
 
 -- ---- where no service is found
 
@@ -99,7 +99,7 @@ cause_both : (xs ys : List Affair) (client : Client) (earlier : Option Outcome) 
 cause_both [] ys client earlier = refl
 cause_both (one ∷ xs) ys client earlier = cause_both xs ys (client_after one client) (caused_by one client earlier)
 
-stays : (affairs : List Affair) (client : Client) (outcome : Outcome) → AllByRecursion IsNoBegin affairs → first_cause affairs client (Some outcome) ≡ Some outcome
+stays : (affairs : List Affair) (client : Client) (outcome : Outcome) → AllByRecursion BeginsNoPush affairs → first_cause affairs client (Some outcome) ≡ Some outcome
 stays [] client outcome none = refl
 stays (Begins size name ∷ affairs) client outcome none = absurd none.0
 stays (Does deed ∷ affairs) client outcome none = stays affairs (done deed client) outcome none.1
@@ -141,7 +141,7 @@ module _ (settings : Settings) (outcome : Outcome) (decision : Decision) (said :
     affairs_are : affairs ≡ before ++ Does deed ∷ after
     none_ahead : first_cause before client earlier ≡ None
     shown : shows deed (client_behind before client) ≡ Some outcome
-    none_begun : AllByRecursion IsNoBegin after
+    none_begun : AllByRecursion BeginsNoPush after
 
   -- with a begin there is none, where memory is found
   none_begun_so : (size : Result ℕ PortFault) (name : List ℕ) (client : Client) (earlier : Option Outcome) → begun_cause size earlier ≡ Some outcome → (begun_by size name client).failed ≡ false → ⊥
@@ -156,13 +156,13 @@ module _ (settings : Settings) (outcome : Outcome) (decision : Decision) (said :
       none_begun_so size name client earlier (sym (ap (λ (b : Bool). if b then earlier else begun_cause size earlier) here) ∙ is)
       (sym (ap (λ (b : Bool). (if b then client else begun_by size name client).failed) here) ∙ later)
 
-  with_one : (one : Affair) (rest : List Affair) (client : Client) (earlier : Option Outcome) → (client_behind (one ∷ rest) client).failed ≡ false → caused_by one client earlier ≡ Some outcome → AllByRecursion IsNoBegin rest
-      → ((earlier ≡ Some outcome) × AllByRecursion IsNoBegin (one ∷ rest)) ⊎ IsShownFirst (one ∷ rest) client earlier
+  with_one : (one : Affair) (rest : List Affair) (client : Client) (earlier : Option Outcome) → (client_behind (one ∷ rest) client).failed ≡ false → caused_by one client earlier ≡ Some outcome → AllByRecursion BeginsNoPush rest
+      → ((earlier ≡ Some outcome) × AllByRecursion BeginsNoPush (one ∷ rest)) ⊎ IsShownFirst (one ∷ rest) client earlier
   with_one (Begins size name) rest client earlier well is none = absurd (with_begin size name rest client earlier well is)
   with_one (Does deed) rest client None well is none = inr (record { before = []; deed = deed; after = rest; affairs_are = refl; none_ahead = refl; shown = is; none_begun = none })
   with_one (Does deed) rest client (Some first) well is none = inl (is, (tt, none))
 
-  shown_first : (affairs : List Affair) (client : Client) (earlier : Option Outcome) → (client_behind affairs client).failed ≡ false → first_cause affairs client earlier ≡ Some outcome → ((earlier ≡ Some outcome) × AllByRecursion IsNoBegin affairs) ⊎ IsShownFirst affairs client earlier
+  shown_first : (affairs : List Affair) (client : Client) (earlier : Option Outcome) → (client_behind affairs client).failed ≡ false → first_cause affairs client earlier ≡ Some outcome → ((earlier ≡ Some outcome) × AllByRecursion BeginsNoPush affairs) ⊎ IsShownFirst affairs client earlier
   shown_first [] client earlier well is = inl (is, tt)
   shown_first (one ∷ rest) client earlier well is =
       elim (shown_first rest (client_after one client) (caused_by one client earlier) well is) [

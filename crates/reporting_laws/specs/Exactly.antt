@@ -17,9 +17,9 @@ use Rattle.outcome_laws.specs.cause_laws.specs.host_laws.specs.Pushing.{Affair, 
 use Rattle.outcome_laws.specs.FirstCause.{first_cause}
 
 -- no push begins
-abbrev pub IsNoBegin : Affair → Type 0
-IsNoBegin (Begins size name) = ⊥
-IsNoBegin (Does deed) = Unit {0}
+abbrev pub BeginsNoPush : Affair → Type 0
+BeginsNoPush (Begins size name) = ⊥
+BeginsNoPush (Does deed) = Unit {0}
 
 -- The client asks for services, and with this SDU the answer is whole: the target that it reads names no way over the transport.
 pub record IsLacking (settings : Settings) (client : Client) (sdu : List ℕ) : Type 0 where
@@ -43,4 +43,4 @@ pub record IsHeardFirst (settings : Settings) (outcome : Outcome) (affairs : Lis
   pub none_ahead : first_cause before (new_client settings) None ≡ None
   pub shown : (let client = client_behind before (new_client settings) in sdu_shows client.stage psm sdu client ≡ Some outcome)
   pub lacks : LacksWhere settings outcome (client_behind before (new_client settings)) sdu
-  pub none_begun : AllByRecursion IsNoBegin after
+  pub none_begun : AllByRecursion BeginsNoPush after

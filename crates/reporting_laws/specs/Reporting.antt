@@ -74,11 +74,11 @@ pub record WasFed (settings : Settings) (decision : Decision) (steps : List Step
 
 -- One thing that came with the calls since a push last began brought about what it tells. And of the units that moved: that is the first cause, and where an SDU says it
 -- that was fed.
-pub record Reports (asks : HostsAsk) (settings : Settings) (steps : List Step) (now : Shelled (Noted ClientProfile)) : Type 0 where
+pub record ClientReports (asks : HostsAsk) (settings : Settings) (steps : List Step) (now : Shelled (Noted ClientProfile)) : Type 0 where
   pub brought : IfSome (outcome_told now) (λ outcome. HasCause outcome (since_begun (comings_along steps)))
   pub moved : AreMoved Paging A steps (λ moves. TellsFirstCause asks settings moves now × IfSome (outcome_told now) (λ outcome. IfSome (decision_of outcome) (λ decision. WasFed settings decision steps)))
 
 -- So does a client, whatever a maker called of it, where it was told all freely.
 abbrev pub ClientsReport : Type 0 → Type 0
 ClientsReport P = (asks : HostsAsk) (content : P → Option (List Object)) (faults shortages : P → ℕ) (settings : Settings) (shelf shelf' : P) (steps : List Step) (now : Shelled (Noted ClientProfile))
-    → HasSteps noted_client (Answers content faults shortages) (Lacks shortages) (client_noting content) steps (fresh_client settings) now shelf shelf' → AreTold (started Paging).out steps → Reports asks settings steps now
+    → HasSteps noted_client (Answers content faults shortages) (Lacks shortages) (client_noting content) steps (fresh_client settings) now shelf shelf' → AreTold (started Paging).out steps → ClientReports asks settings steps now

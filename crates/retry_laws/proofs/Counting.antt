@@ -55,7 +55,7 @@ use Rattle.channel_laws.proofs.Sharing.{channels-are_common, run-grows}
 use Rattle.channel_laws.proofs.Telling.{StageTold, HeldTold, RunTold, one_told, nothing_told}
 use Rattle.channel_laws.proofs.Trusting.{GoesTo, goes_to, Gives_out, queue-out, both-sound, peers-have_accepted}
 use Rattle.passing_laws.specs.Handed.{on_side}
-use Rattle.retry_laws.specs.Counted.{losses, all_losses, HasStill, Share, all_taken, all_come, on_the_way, SdusAreCounted}
+use Rattle.retry_laws.specs.Counted.{losses_by, all_losses, HasStill, Share, count_taken, count_come, on_the_way, SdusAreCounted}
 
 -- ---- the two ends of a way: the one that takes, seen as the near one, and the other
 
@@ -302,7 +302,7 @@ module _ (lost : ℕ) (channel : Channel) (pair : Pair) (so : Setting channel pa
       by [] is = inl live
       by (pdu ∷ coming) is = went pdu coming is (eqb (channel_of pdu) channel.own) refl
 
-  own_turn : (happening : Happening) → Next (lost + losses happening) channel (happens_near happening pair)
+  own_turn : (happening : Happening) → Next (lost + losses_by happening) channel (happens_near happening pair)
   own_turn (Acts occurrence) = inl (subst (λ n. Live n channel (happens_near (Acts occurrence) pair)) (omega arith) (acts_on occurrence))
   own_turn (Puts pdu) = inl (subst (λ n. Live n channel (happens_near (Puts pdu) pair)) (omega arith) (puts_on pdu))
   own_turn Takes = subst (λ n. Next n channel (happens_near Takes pair)) (omega arith) takes_on
@@ -312,7 +312,7 @@ module _ (lost : ℕ) (channel : Channel) (pair : Pair) (so : Setting channel pa
 
 -- either of both does something
 one_turn : (lost : ℕ) (channel : Channel) (pair : Pair) (side by' : Side) (happening : Happening) → Setting channel (seen_from side pair) → Live lost channel (seen_from side pair) → DoesSo IsUttered happening (end_at by' pair) → IsCarried happening (end_at by' pair)
-    → Next (lost + on_side side by' (losses happening)) channel (seen_from side (happens_at by' happening pair))
+    → Next (lost + on_side side by' (losses_by happening)) channel (seen_from side (happens_at by' happening pair))
 one_turn lost channel pair Near Near happening so live uttered carried = own_turn lost channel pair so live happening
 one_turn lost channel pair Near Far happening so live uttered carried = inl (subst (λ n. Live n channel (turned (happens_near happening (turned pair)))) (omega arith) (sends_on lost channel pair happening so uttered carried live))
 one_turn lost channel pair Far Near happening so live uttered carried = inl (subst (λ n. Live n channel (turned (happens_near happening pair))) (omega arith) (sends_on lost channel (turned pair) happening so uttered carried live))
@@ -320,7 +320,7 @@ one_turn lost channel pair Far Far happening so live uttered carried = own_turn 
 
 -- ---- all turns
 
-all_more : (side : Side) (turns : List Turn) (turn : Turn) → all_losses side (turns ++ turn ∷ []) ≡ all_losses side turns + on_side side turn.side (losses turn.happening)
+all_more : (side : Side) (turns : List Turn) (turn : Turn) → all_losses side (turns ++ turn ∷ []) ≡ all_losses side turns + on_side side turn.side (losses_by turn.happening)
 all_more side [] turn = omega arith
 all_more side (first ∷ turns) turn = let rest = all_more side turns turn in omega (arith, rest)
 
@@ -360,10 +360,10 @@ all_turns near far side channel all past (turn ∷ rest) is (now, uttered) (pass
     later : all ≡ behind ++ rest
     later = is ∙ sym (append_assoc past (turn ∷ []) rest)
 
-    on : Next (all_losses side past + on_side side turn.side (losses turn.happening)) channel (seen_from side (happens_at turn.side turn.happening (pair_of near far past)))
+    on : Next (all_losses side past + on_side side turn.side (losses_by turn.happening)) channel (seen_from side (happens_at turn.side turn.happening (pair_of near far past)))
         → (Live (all_losses side behind) channel (seen_from side (pair_of near far behind)) → Next (all_losses side all) channel (seen_from side (pair_of near far all))) → Next (all_losses side all) channel (seen_from side (pair_of near far all))
     on (inl after) goes =
-        goes (subst (λ n. Live n channel (seen_from side (pair_of near far behind))) (sym (all_more side past turn)) (subst (λ p. Live (all_losses side past + on_side side turn.side (losses turn.happening)) channel (seen_from side p)) (sym next) after))
+        goes (subst (λ n. Live n channel (seen_from side (pair_of near far behind))) (sym (all_more side past turn)) (subst (λ p. Live (all_losses side past + on_side side turn.side (losses_by turn.happening)) channel (seen_from side p)) (sym next) after))
     on (inr shut) goes = inr (subst (λ l. IsShut channel (seen_from side (pair_of near far l))) (sym later) (shut_later near far side channel behind rest (subst (λ p. IsShut channel (seen_from side p)) (sym next) shut)))
 
 -- ---- a channel that two hosts have in common
@@ -504,7 +504,7 @@ took_all policy run list channel runs has mode =
 -- ---- the law
 
 way_counted : (lost : ℕ) (policy : Policy) (channel : Channel) (pair : Pair) (list : List Occurrence) → pair.far.policy ≡ policy → sent_on (mirrored channel) pair.far.run.said ≡ taken_of policy channel.peer list → HasStill channel.peer pair.far.run.value → IsBasic channel.peer pair.far.run.value
-    → Live lost channel pair → all_taken policy (mirrored channel) list ≤ all_come (mirrored channel) (turned pair) + (on_the_way (mirrored channel) (turned pair) + lost)
+    → Live lost channel pair → count_taken policy (mirrored channel) list ≤ count_come (mirrored channel) (turned pair) + (on_the_way (mirrored channel) (turned pair) + lost)
 way_counted lost policy channel pair list policy_is took still basic live =
     let owes = live.owes in
     let flight : List (List ℕ) = Flight channel.own pair.near.coming in
@@ -525,10 +525,10 @@ sdus-are_counted near far turns channel one other s = record { there = there (al
     sole : Ends_so channel (pair_of near far turns)
     sole = ends_at near far turns channel s.read s.have (inl s.near_basic) turns [] (sym (append-nil turns))
 
-    there : Next (all_losses Far turns) (mirrored channel) (turned (pair_of near far turns)) → all_taken near channel one ≤ all_come channel (pair_of near far turns) + (on_the_way channel (pair_of near far turns) + all_losses Far turns)
+    there : Next (all_losses Far turns) (mirrored channel) (turned (pair_of near far turns)) → count_taken near channel one ≤ count_come channel (pair_of near far turns) + (on_the_way channel (pair_of near far turns) + all_losses Far turns)
     there (inl live) = way_counted (all_losses Far turns) near (mirrored channel) (turned pair) one (end-policy near far turns Near) (took_all near pair.near.run one channel s.near_by s.have.near_has s.near_basic) s.near_still sole.near_basic live
     there (inr shut) = open_still pair.far.policy channel.peer pair.far.run.value s.far_still shut
 
-    back : Next (all_losses Near turns) channel (pair_of near far turns) → all_taken far (mirrored channel) other ≤ all_come (mirrored channel) (turned (pair_of near far turns)) + (on_the_way (mirrored channel) (turned (pair_of near far turns)) + all_losses Near turns)
+    back : Next (all_losses Near turns) channel (pair_of near far turns) → count_taken far (mirrored channel) other ≤ count_come (mirrored channel) (turned (pair_of near far turns)) + (on_the_way (mirrored channel) (turned (pair_of near far turns)) + all_losses Near turns)
     back (inl live) = way_counted (all_losses Near turns) far channel pair other (end-policy near far turns Far) (took_all far pair.far.run other (mirrored channel) s.far_by s.have.far_has s.far_basic) s.far_still sole.far_basic live
     back (inr shut) = open_still pair.near.policy channel.own pair.near.run.value s.near_still shut

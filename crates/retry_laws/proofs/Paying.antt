@@ -3,12 +3,12 @@ use Rattle.std.proofs.Common.{ℕ, ◌+◌, ◌≤◌, ◌≡◌, List, [], ◌�
 use Rattle.channel_laws.specs.Adverse.{disturbs, disturbances}
 use Rattle.channel_laws.specs.Pairs.{Pair, Happening, Acts, Puts, Takes, Repeats, Loses, Damages, Side, Near, Far, Turn, new_pair, pair_after}
 use Rattle.passing_laws.specs.Handed.{on_side}
-use Rattle.retry_laws.specs.Counted.{losses, all_losses, LossesArePaid, UnansweredArePaid}
+use Rattle.retry_laws.specs.Counted.{losses_by, all_losses, LossesArePaid, UnansweredArePaid}
 use Rattle.retry_laws.proofs.Counting.{sdus-are_counted}
 
 -- ---- a turn that loses disturbs
 
-losses_disturb : (happening : Happening) (pair : Pair) → losses happening ≤ disturbs happening pair
+losses_disturb : (happening : Happening) (pair : Pair) → losses_by happening ≤ disturbs happening pair
 losses_disturb (Acts occurrence) pair = omega arith
 losses_disturb (Puts pdu) pair = omega arith
 losses_disturb Takes pair = omega arith
@@ -24,7 +24,7 @@ all_disturb : (pair : Pair) (turns : List Turn) → all_losses Near turns + all_
 all_disturb pair [] = omega arith
 all_disturb pair (turn ∷ turns) =
     let here = losses_disturb turn.happening pair in
-    let one = of_one turn.side (losses turn.happening) in
+    let one = of_one turn.side (losses_by turn.happening) in
     let rest = all_disturb (pair_after pair turn) turns in
     omega (arith, here, one, rest)
 

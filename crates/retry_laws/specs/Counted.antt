@@ -22,18 +22,18 @@ use Rattle.passing_laws.specs.Handed.{on_side}
 -- ---- what is lost
 
 -- of what is under way to an end the first goes, and does not come in as it is
-abbrev pub losses : Happening → ℕ
-losses (Acts occurrence) = 0
-losses (Puts pdu) = 0
-losses Takes = 0
-losses Repeats = 0
-losses Loses = 1
-losses (Damages pdu) = 1
+abbrev pub losses_by : Happening → ℕ
+losses_by (Acts occurrence) = 0
+losses_by (Puts pdu) = 0
+losses_by Takes = 0
+losses_by Repeats = 0
+losses_by Loses = 1
+losses_by (Damages pdu) = 1
 
 -- so many turns of one side do that
 abbrev pub all_losses : Side → List Turn → ℕ
 all_losses side [] = 0
-all_losses side (turn ∷ turns) = on_side side turn.side (losses turn.happening) + all_losses side turns
+all_losses side (turn ∷ turns) = on_side side turn.side (losses_by turn.happening) + all_losses side turns
 
 -- ---- a channel
 
@@ -57,11 +57,11 @@ pub record Share (near far : Policy) (turns : List Turn) (channel : Channel) (on
 -- ---- one way
 
 -- the SDUs that the channel of the near host took, and those of them that came up at the far one
-abbrev pub all_taken : Policy → Channel → List Occurrence → ℕ
-all_taken policy channel list = length (taken_of policy channel.own list)
+abbrev pub count_taken : Policy → Channel → List Occurrence → ℕ
+count_taken policy channel list = length (taken_of policy channel.own list)
 
-abbrev pub all_come : Channel → Pair → ℕ
-all_come channel pair = length (sdus_up channel.peer pair.far.run.up)
+abbrev pub count_come : Channel → Pair → ℕ
+count_come channel pair = length (sdus_up channel.peer pair.far.run.up)
 
 -- those that are under way to that one, and one that waits in the channel
 abbrev pub on_the_way : Channel → Pair → ℕ
@@ -71,8 +71,8 @@ on_the_way channel pair = length (of_endpoint channel.peer pair.far.coming) + on
 
 -- all others were lost
 pub record AllAreCounted (near far : Policy) (turns : List Turn) (channel : Channel) (one other : List Occurrence) : Type 0 where
-  pub there : all_taken near channel one ≤ all_come channel (pair_of near far turns) + (on_the_way channel (pair_of near far turns) + all_losses Far turns)
-  pub back : all_taken far (mirrored channel) other ≤ all_come (mirrored channel) (turned (pair_of near far turns)) + (on_the_way (mirrored channel) (turned (pair_of near far turns)) + all_losses Near turns)
+  pub there : count_taken near channel one ≤ count_come channel (pair_of near far turns) + (on_the_way channel (pair_of near far turns) + all_losses Far turns)
+  pub back : count_taken far (mirrored channel) other ≤ count_come (mirrored channel) (turned (pair_of near far turns)) + (on_the_way (mirrored channel) (turned (pair_of near far turns)) + all_losses Near turns)
 
 -- Whatever the link loses, repeats and damages: so it is each way.
 abbrev pub SdusAreCounted : Type 0
@@ -81,12 +81,12 @@ SdusAreCounted = (near far : Policy) (turns : List Turn) (channel : Channel) (on
 -- So of both ways together no more are missing than turns disturb.
 abbrev pub LossesArePaid : Type 0
 LossesArePaid = (near far : Policy) (turns : List Turn) (channel : Channel) (one other : List Occurrence) → Share near far turns channel one other
-    → all_taken near channel one + all_taken far (mirrored channel) other
-    ≤ (all_come channel (pair_of near far turns) + all_come (mirrored channel) (turned (pair_of near far turns)))
+    → count_taken near channel one + count_taken far (mirrored channel) other
+    ≤ (count_come channel (pair_of near far turns) + count_come (mirrored channel) (turned (pair_of near far turns)))
     + ((on_the_way channel (pair_of near far turns) + on_the_way (mirrored channel) (turned (pair_of near far turns))) + disturbances (new_pair near far) turns)
 
 -- Where the far host answered each SDU that came to it, and no answer came: then the near one sent its request no more often than turns disturbed, besides what is still on the way.
 abbrev pub UnansweredArePaid : Type 0
 UnansweredArePaid = (near far : Policy) (turns : List Turn) (channel : Channel) (one other : List Occurrence) → Share near far turns channel one other
-    → all_come channel (pair_of near far turns) ≤ all_taken far (mirrored channel) other → all_come (mirrored channel) (turned (pair_of near far turns)) ≡ 0
-    → all_taken near channel one ≤ (on_the_way channel (pair_of near far turns) + on_the_way (mirrored channel) (turned (pair_of near far turns))) + disturbances (new_pair near far) turns
+    → count_come channel (pair_of near far turns) ≤ count_taken far (mirrored channel) other → count_come (mirrored channel) (turned (pair_of near far turns)) ≡ 0
+    → count_taken near channel one ≤ (on_the_way channel (pair_of near far turns) + on_the_way (mirrored channel) (turned (pair_of near far turns))) + disturbances (new_pair near far) turns

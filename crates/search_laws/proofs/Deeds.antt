@@ -31,7 +31,7 @@ use Rattle.cause_laws.specs.push_model.specs.Steps as course
 use Rattle.cause_laws.specs.push_model.specs.Steps.{Part, Stepped, steps, steps_at, tells_end}
 use Rattle.pair_laws.specs.push_laws.proofs.Late.{IsLate, anchor_of, object_late, object_quiet}
 use Rattle.pair_laws.specs.channel_laws.specs.Tries.{one_if}
-use Rattle.search_laws.specs.Searches.{awaits_reply, IsPaidBy}
+use Rattle.search_laws.specs.Searches.{awaits_reply, IsSearchPaid}
 
 -- ---- what is paid
 
@@ -45,7 +45,7 @@ StagePaid adverse stage tries left due = Unit {0}
 abbrev pub IsPaid : ℕ → Client → Type 0
 IsPaid adverse client = StagePaid adverse client.stage client.tries client.left (is_due client.query)
 
-pub paid_by : (adverse : ℕ) (client : Client) → IsPaid adverse client → IsPaidBy adverse client
+pub paid_by : (adverse : ℕ) (client : Client) → IsPaid adverse client → IsSearchPaid adverse client
 paid_by adverse client paid = by client.stage paid
   where
     by : (stage : Stage) → StagePaid adverse stage client.tries client.left (is_due client.query) → is_search stage ≡ true → client.tries ≤ client.left + (adverse + one_if (not (is_due client.query)))

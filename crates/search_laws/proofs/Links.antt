@@ -24,7 +24,7 @@ use Rattle.cause_laws.specs.host_laws.proofs.Paging.{PagesSo, WaitsForLink, firs
 use Rattle.cause_laws.specs.host_laws.proofs.StrandsFed.{here_so, span_so}
 use Rattle.pair_laws.specs.channel_laws.specs.Runs.{Occurrence}
 use Rattle.search_laws.specs.Searches.{IsSentAtMost}
-use Rattle.search_laws.specs.Taken.{IsFresh, TakesOnLink, LinksTakeRequests}
+use Rattle.search_laws.specs.Taken.{IsBeforeSearch, TakesOnLink, LinksTakeRequests}
 use Rattle.search_laws.proofs.Deeds.{StagePaid, IsPaid, timer_paid}
 use Rattle.search_laws.proofs.Hosts.{keeps as keeps_paid, told_paid}
 use Rattle.search_laws.proofs.Strands.{requests-are_taken}
@@ -76,8 +76,8 @@ module _ (settings : Settings) where
   left_true true b is = refl
   left_true false b is = cc
 
-  wanted_fresh : (circumstances : List Circumstance) (p : ClientProfile) → PagesSo p → Whole p → Wants p → IsFresh (told circumstances (Linked Up) p)
-  wanted_fresh g p pages whole wants = subst (λ (stage : Stage). IsFresh (unlinked (linked_at stage p.client) p)) (sym waits.0) (by (is_some p.client.cause))
+  wanted_fresh : (circumstances : List Circumstance) (p : ClientProfile) → PagesSo p → Whole p → Wants p → IsBeforeSearch (told circumstances (Linked Up) p)
+  wanted_fresh g p pages whole wants = subst (λ (stage : Stage). IsBeforeSearch (unlinked (linked_at stage p.client) p)) (sym waits.0) (by (is_some p.client.cause))
     where
       waits : WaitsForLink p.client
       waits = pages (left_true (is_paging p.bid) (not (is_idle p.client)) wants)
@@ -88,14 +88,14 @@ module _ (settings : Settings) where
       enough : IsSentAtMost 0 p.client
       enough = let now = all in omega (arith, now)
 
-      by : (ended : Bool) → IsFresh (unlinked (cond ended (record (p.client) { stage = LinkEnd Due }) (record (p.client) { stage = SearchChannel Due })) p)
+      by : (ended : Bool) → IsBeforeSearch (unlinked (cond ended (record (p.client) { stage = LinkEnd Due }) (record (p.client) { stage = SearchChannel Due })) p)
       by true = record { whole = enough; before = refl; none = refl }
       by false = record { whole = enough; before = refl; none = refl }
 
   module _ (asks : Asks (client_profile settings)) where
     -- ---- one link after the other
 
-    links_take : (up : Bool) (spans : List Span) (now : List Occurrence) (feeds : List Feed) (first last : ClientProfile) (so : AreFed (client_profile settings) asks spans now feeds first last) → AreAsked (client_profile settings) asks Wants up spans now feeds first last so → PagesSo first → Whole first → (up ≡ true → IsFresh first) → up_behind up spans ≡ true
+    links_take : (up : Bool) (spans : List Span) (now : List Occurrence) (feeds : List Feed) (first last : ClientProfile) (so : AreFed (client_profile settings) asks spans now feeds first last) → AreAsked (client_profile settings) asks Wants up spans now feeds first last so → PagesSo first → Whole first → (up ≡ true → IsBeforeSearch first) → up_behind up spans ≡ true
         → TakesOnLink settings asks now last
     links_take true [] now feeds first last so none pages whole fresh on =
         record { first = first; woven = so.woven; begins = none; fresh = fresh refl; taken = λ awaits. requests-are_taken settings asks now first last so.woven none (fresh refl) awaits }
@@ -112,7 +112,7 @@ module _ (settings : Settings) where
         mid_whole : Whole here.mid
         mid_whole = subst Whole (here_so (client_profile settings) asks span first here) (fed_whole here.here first whole)
 
-        up_fresh : (event : LinkEvent) → IsWantedAt Wants event here.mid → linked_by event ≡ true → IsFresh (turned (client_profile settings) here.circumstances event (values_after (client_profile settings).policy no_channels span.list) here.mid)
+        up_fresh : (event : LinkEvent) → IsWantedAt Wants event here.mid → linked_by event ≡ true → IsBeforeSearch (turned (client_profile settings) here.circumstances event (values_after (client_profile settings).policy no_channels span.list) here.mid)
         up_fresh Up wants' is' = wanted_fresh here.circumstances here.mid mid_pages mid_whole wants'
         up_fresh (Down reason) wants' is' = cc
 

@@ -36,7 +36,7 @@ use Rattle.cause_laws.specs.host_laws.specs.Woven.{Strand, Hearing, Giving, Firi
 use Rattle.pair_laws.specs.push_laws.proofs.Late.{IsLate, anchor_of, object_quiet}
 use Rattle.request_laws.specs.Streams.{taken_by, taken_at}
 use Rattle.request_laws.specs.Twists.{taken_on}
-use Rattle.search_laws.specs.Taken.{all_taken, RequestsAreTaken}
+use Rattle.search_laws.specs.Taken.{searches_taken, SearchesAreTaken}
 use Rattle.search_laws.proofs.Counts.{IsSettled, StageCounts, Counts, late_counts, event_counts, hears_counts, timer_counts, cancels_counts}
 
 abbrev Holds : (count : ℕ) → ClientProfile → Type 0
@@ -278,13 +278,13 @@ module _ (settings : Settings) where
   strand_holds count Stepping v p none holds = steps_hold count v p holds
 
   weave_holds : (asks : Asks (client_profile settings)) (weave : List Strand) (count : ℕ) (v : Channels) (p : ClientProfile) → AllByRecursion BeginsNone weave → Holds count p
-      → Holds (count + length (all_taken settings asks weave v p)) (woven_profile (client_profile settings) asks weave v p)
+      → Holds (count + length (searches_taken settings asks weave v p)) (woven_profile (client_profile settings) asks weave v p)
   weave_holds asks [] count v p none holds = same count p holds
   weave_holds asks (strand ∷ weave) count v p none holds =
       let w = values_after A.policy v (strand_list A asks strand v p) in
       let q = strand_profile A strand v p in
       let here = taken_at search_psm strand v p in
-      let later = all_taken settings asks weave w q in
+      let later = searches_taken settings asks weave w q in
       let sum = length-append here later in
       subst (λ (n : ℕ). Holds n (woven_profile (client_profile settings) asks weave w q)) (omega (arith, sum)) (weave_holds asks weave (count + length here) w q none.1 (strand_holds count strand v p none.0 holds))
 
@@ -323,10 +323,10 @@ search_most count given waiting (ObjectEnd point) tries left is none now = cc
 search_most count given waiting (LinkEnd point) tries left is none now = cc
 search_most count given waiting Over tries left is none now = cc
 
-pub requests-are_taken : RequestsAreTaken
+pub requests-are_taken : SearchesAreTaken
 requests-are_taken settings asks list first last woven opens fresh awaits =
     let begun : Holds 0 first = fresh_counts first.client.stage first.client.given (is_some first.submitted) first.client.tries first.client.left fresh.whole fresh.before (ap (λ (o : Option ℕ). is_some o) fresh.none) in
-    let all : Holds (0 + length (all_taken settings asks woven.weave no_channels first)) last = subst (Holds (0 + length (all_taken settings asks woven.weave no_channels first))) (sym woven.last_is) (weave_holds settings asks woven.weave 0 no_channels first opens begun) in
+    let all : Holds (0 + length (searches_taken settings asks woven.weave no_channels first)) last = subst (Holds (0 + length (searches_taken settings asks woven.weave no_channels first))) (sym woven.last_is) (weave_holds settings asks woven.weave 0 no_channels first opens begun) in
     let parts = none_given (is_search last.client.stage) (is_awaiting last.client.query) last.client.given (is_due last.client.query) awaits in
-    let most = search_most (0 + length (all_taken settings asks woven.weave no_channels first)) last.client.given (is_some last.submitted) last.client.stage last.client.tries last.client.left parts.0 parts.1 all in
+    let most = search_most (0 + length (searches_taken settings asks woven.weave no_channels first)) last.client.given (is_some last.submitted) last.client.stage last.client.tries last.client.left parts.0 parts.1 all in
     omega (arith, most)

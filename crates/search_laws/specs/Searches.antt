@@ -26,8 +26,8 @@ abbrev pub awaits_reply : Client → Bool
 awaits_reply client = armed client && not (client.given || is_due client.query)
 
 -- While it searches, its request was sent for the t-th time only behind t - 1 adverse words; and where it is to be sent once more, as many were adverse as it was sent.
-abbrev pub IsPaidBy : (adverse : ℕ) → Client → Type 0
-IsPaidBy adverse client = is_search client.stage ≡ true → IsSentAtMost (adverse + one_if (not (is_due client.query))) client
+abbrev pub IsSearchPaid : (adverse : ℕ) → Client → Type 0
+IsSearchPaid adverse client = is_search client.stage ≡ true → IsSentAtMost (adverse + one_if (not (is_due client.query))) client
 
 -- ---- a run
 
@@ -38,7 +38,7 @@ QuietIsPaid scenario content happenings = (done later : List Happening) (world :
 
 -- Then so it is of each request of a run, over either transport, wherever it broke off.
 abbrev pub SearchesCostWords : Type 0
-SearchesCostWords = (scenario : Scenario) (content : Option Contents) (happenings : List Happening) (world : BothHosts) → Happened scenario content happenings world → QuietIsPaid scenario content happenings → IsPaidBy (adverse_in (all_words happenings)) world.a.upper.profile.client
+SearchesCostWords = (scenario : Scenario) (content : Option Contents) (happenings : List Happening) (world : BothHosts) → Happened scenario content happenings world → QuietIsPaid scenario content happenings → IsSearchPaid (adverse_in (all_words happenings)) world.a.upper.profile.client
 
 -- And it has as many tries as the settings of its scenario say, all the while.
 abbrev pub TriesStay : Type 0

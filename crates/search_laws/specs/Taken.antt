@@ -18,21 +18,21 @@ use Rattle.request_laws.specs.Streams.{taken_at}
 use Rattle.search_laws.specs.Searches.{IsSentAtMost, awaits_reply}
 
 -- what the channels of a client to the service records took on a link, one thing after the other
-abbrev pub all_taken : (settings : Settings) → Asks (client_profile settings) → List Strand → Channels → ClientProfile → List (List ℕ)
-all_taken settings asks [] v p = []
-all_taken settings asks (strand ∷ weave) v p =
-    let A = client_profile settings in taken_at search_psm strand v p ++ all_taken settings asks weave (values_after A.policy v (strand_list A asks strand v p)) (strand_profile A strand v p)
+abbrev pub searches_taken : (settings : Settings) → Asks (client_profile settings) → List Strand → Channels → ClientProfile → List (List ℕ)
+searches_taken settings asks [] v p = []
+searches_taken settings asks (strand ∷ weave) v p =
+    let A = client_profile settings in taken_at search_psm strand v p ++ searches_taken settings asks weave (values_after A.policy v (strand_list A asks strand v p)) (strand_profile A strand v p)
 
 -- as a link comes up for it a client has all its tries, no request of it was sent there, and no SDU waits
-pub record IsFresh (p : ClientProfile) : Type 0 where
+pub record IsBeforeSearch (p : ClientProfile) : Type 0 where
   pub whole : IsSentAtMost 0 p.client
   pub before : is_search p.client.stage ≡ false
   pub none : p.submitted ≡ None
 
 -- A client to which this happened on a link, on which no push began: a request of it that awaits its reply was sent no more often than its channel took one.
-abbrev pub RequestsAreTaken : Type 0
-RequestsAreTaken = (settings : Settings) (asks : Asks (client_profile settings)) (list : List Occurrence) (first last : ClientProfile) (woven : Woven (client_profile settings) asks list first last) → AllByRecursion BeginsNone woven.weave → IsFresh first
-    → awaits_reply last.client ≡ true → IsSentAtMost (length (all_taken settings asks woven.weave no_channels first)) last.client
+abbrev pub SearchesAreTaken : Type 0
+SearchesAreTaken = (settings : Settings) (asks : Asks (client_profile settings)) (list : List Occurrence) (first last : ClientProfile) (woven : Woven (client_profile settings) asks list first last) → AllByRecursion BeginsNone woven.weave → IsBeforeSearch first
+    → awaits_reply last.client ≡ true → IsSentAtMost (length (searches_taken settings asks woven.weave no_channels first)) last.client
 
 -- ---- the last link of a run
 
@@ -41,8 +41,8 @@ pub record TakesOnLink (settings : Settings) (asks : Asks (client_profile settin
   pub first : ClientProfile
   pub woven : Woven (client_profile settings) asks list first last
   pub begins : AllByRecursion BeginsNone woven.weave
-  pub fresh : IsFresh first
-  pub taken : awaits_reply last.client ≡ true → IsSentAtMost (length (all_taken settings asks woven.weave no_channels first)) last.client
+  pub fresh : IsBeforeSearch first
+  pub taken : awaits_reply last.client ≡ true → IsSentAtMost (length (searches_taken settings asks woven.weave no_channels first)) last.client
 
 -- So it is of the client of each run, wherever it broke off, on the link that is up there.
 abbrev pub LinksTakeRequests : Type 0

@@ -2,7 +2,7 @@
 #![tactic(auto)]
 
 ghost use Rattle.search_laws.specs.Searches.{SearchesCostWords, TriesStay, FiringsLeaveTries};
-ghost use Rattle.search_laws.specs.Taken.{RequestsAreTaken, LinksTakeRequests};
+ghost use Rattle.search_laws.specs.Taken.{SearchesAreTaken, LinksTakeRequests};
 
 /// Where at each rest of a run at which nothing is under way a request that awaits its reply was sent no more often than words were adverse, each request to the service records is sent for
 /// the t-th time only behind t - 1 adverse words: a timer that fires alone costs one itself.
@@ -21,8 +21,8 @@ pub fn firings_leave_tries()
 {}
 
 /// On each link a request that awaits its reply was sent no more often than the client's channel to the service records took one there.
-pub fn requests_are_taken()
-    ensures { RequestsAreTaken }
+pub fn searches_are_taken()
+    ensures { SearchesAreTaken }
 {}
 
 /// So it is on the link of a run that is up: its client began there with all its tries.
