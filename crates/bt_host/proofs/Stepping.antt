@@ -1,5 +1,5 @@
 -- What a host does by itself leads to one place: each deed comes where it may, and no other.
-use Rattle.std.proofs.Common.{◌≡◌, ◌∙◌, ◌&&◌, not, ℕ, zero, suc, Bool, true, false, is_some, List, refl, sym, ap, true≢false, if◌then◌else◌}
+use Rattle.std.proofs.Common.{◌≡◌, ◌∙◌, ◌&&◌, not, ℕ, zero, suc, Bool, true, false, is_some, List, refl, sym, ap, true≢false, arith, if◌then◌else◌}
 use Rattle.std.specs.Prelude.{Option, Some, None}
 use Rattle.channel_model.specs.Giving.{Given, next_given}
 use Rattle.host_link.specs.Calling.{may_end}
@@ -61,8 +61,16 @@ module _ {S : Type 0} (A : Profile S) where
   pub none_taken : (now : Standing S) → can_take_pdu now.line ≡ false → says_all A now ≡ now
   none_taken now off = stuck_at now.host.may_say now off
 
+  pub none_is_next : (now : Standing S) → next A now.host ≡ None → says_all A now ≡ now
+  none_is_next now none = silent_at now.host.may_say now none
+
   pub none_there : (now : Standing S) → has_more now.host ≡ false → says_all A now ≡ now
-  none_there now off = silent_at now.host.may_say now (none_next A now.host off)
+  none_there now off = none_is_next now (none_next A now.host off)
+
+  -- behind a PDU it may say one less
+  pub says_one_less : (now : Standing S) (host : Host S) (pdu : List ℕ) (count : ℕ) → now.host.may_say ≡ suc count → next A now.host ≡ Some (pdu, host) → host.may_say ≡ count
+  says_one_less now host pdu count is said =
+      let spent = counts_by A (next_given now.host.channels) now.host.may_say now.host host pdu said in omega (arith, spent, is)
 
   step_said : (count : ℕ) (now : Standing S) (host : Host S) (pdu : List ℕ) → can_take_pdu now.line ≡ true → next A now.host ≡ Some (pdu, host)
       → says_up_to A (suc count) now ≡ says_up_to A count (record now { line = take_pdu pdu now.line; host = host })

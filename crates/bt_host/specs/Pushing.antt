@@ -7,8 +7,6 @@ use Rattle.bt_base.specs.Numbers.{IsCid, IsPsm}
 use Rattle.bt_base.specs.Objects.{Object, octets_of}
 use Rattle.bt_base.specs.declared.settings.Settings.{Settings}
 use Rattle.host_link.specs.declared.role.Role.TheVariants.{Client}
-use Rattle.host_link.specs.PuttingOut.{started}
-use Rattle.l2cap_channels.specs.Machine.{new_machine}
 use Rattle.bt_base.specs.declared.ports.PortFault.{PortFault}
 use Rattle.bt_base.specs.declared.ports.PortFault.TheVariants.{Failed, NoMemory}
 use Rattle.shelf_model.specs.obex_session.specs.Counting.{HasRisenBy}
@@ -23,7 +21,7 @@ use Rattle.shelf_model.specs.host_model.specs.Clients.{ClientProfile, client_pro
 use Rattle.shelf_model.specs.host_model.specs.Endpoints.{Endpoint}
 use Rattle.shelf_model.specs.Held.{longest_octets, IsHeld}
 use Rattle.bt_host.specs.Noting.{Noted, unnoted}
-use Rattle.bt_host.specs.Stacks.{Stacked, usual_peer}
+use Rattle.bt_host.specs.Stacks.{Stacked, fresh_stack}
 use Rattle.bt_host.specs.declared.client_end.Bid.{Bid}
 use Rattle.bt_host.specs.declared.client_end.Bid.TheVariants.{Nothing, Paging}
 
@@ -99,8 +97,4 @@ Lacks shortages first last = HasRisen (shortages first) (shortages last) × (sho
 
 -- what stands above the line before anything happened
 abbrev pub new_stack : Settings → Stacked (Noted ClientProfile)
-new_stack settings = record {
-  line = started Client;
-  upper = record { machine = new_machine settings false; end = unnoted (client_profile settings).first; may_say = 0 };
-  paged = usual_peer;
-}
+new_stack settings = fresh_stack Client settings (unnoted (client_profile settings).first)

@@ -1,11 +1,15 @@
 -- A host in code without its framer: its line, and what stands above (this project's own).
 use Rattle.std.specs.Prelude.{ℕ, zero, suc, ◌≡◌, ◌⊎◌, ◌<◌, ◌||◌, ◌&&◌, not, Bool, true, false, List, [], ◌∷◌, ◌++◌, length, is_some, Option, Some, None, Result, Ok, Err, if◌then◌else◌}
 use Rattle.std.specs.List.{list_any}
+use Rattle.bt_base.specs.declared.settings.Settings.{Settings}
 use Rattle.h4_framing.specs.Packets.{Packet}
+use Rattle.host_link.specs.declared.role.Role.{Role}
+use Rattle.host_link.specs.declared.role.Role.TheVariants.{Client, Server}
 use Rattle.host_link.specs.Lines.{Line}
 use Rattle.host_link.specs.Calling.{may_end}
 use Rattle.host_link.specs.HostCommands.{asks}
-use Rattle.host_link.specs.PuttingOut.{has_room, has_buffer, is_waiting, can_take_pdu, take_pdu, put_pieces, put_command, connecting, leaving}
+use Rattle.host_link.specs.PuttingOut.{has_room, has_buffer, is_waiting, can_take_pdu, take_pdu, put_pieces, put_command, connecting, leaving, started}
+use Rattle.l2cap_channels.specs.Machine.{new_machine}
 use Rattle.host_link.specs.Hearing.{fault_of, news_of, heard}
 use Rattle.shelf_model.specs.host_model.specs.Circumstances.{Circumstance}
 use Rattle.shelf_model.specs.host_model.specs.Profiles.{Profile}
@@ -31,6 +35,19 @@ pub record Standing (S : Type 0) : Type 0 where
 -- the device that a host pages where it is told of no other, the lowest octet first (this project's own)
 abbrev pub usual_peer : List ℕ
 usual_peer = 0x0B ∷ 0 ∷ 0 ∷ 0 ∷ 0 ∷ 0 ∷ []
+
+-- whether a host of that role is a server
+abbrev pub is_serving : Role → Bool
+is_serving Client = false
+is_serving Server = true
+
+-- before anything happened
+abbrev pub fresh_stack : {E : Type 0} → Role → Settings → E → Stacked E
+fresh_stack role settings end = record {
+  line = started role;
+  upper = record { machine = new_machine settings (is_serving role); end = end; may_say = 0 };
+  paged = usual_peer;
+}
 
 abbrev pub standing : {E P S : Type 0} → (E → P → List Circumstance → S) → P → Stacked E → List Circumstance → Standing S
 standing pushing port stack rest = record { line = stack.line; host = asking pushing port stack.upper rest; paged = stack.paged }
@@ -97,6 +114,7 @@ said_then more now (Some (pdu, host)) = more (record now { line = take_pdu pdu n
 abbrev pub says_then : {S : Type 0} → Profile S → (Standing S → Standing S) → Standing S → Standing S
 says_then A more now = if can_take_pdu now.line then said_then more now (next A now.host) else now
 
+-- PDU after PDU, so many at most
 unfoldable pub says_up_to : {S : Type 0} → Profile S → (count : ℕ) → Standing S → Standing S
 says_up_to A zero now = now
 says_up_to A (suc count) now = says_then A (λ mid. says_up_to A count mid) now
@@ -105,7 +123,8 @@ says_up_to A (suc count) now = says_then A (λ mid. says_up_to A count mid) now
 abbrev pub says_one : {S : Type 0} → Profile S → Standing S → Standing S
 says_one A now = says_then A (λ mid. mid) now
 
--- PDU after PDU, as long as there is one that may be taken
+-- PDU after PDU, as long as there is one that may be taken: a host may say as many as it counts, so it is PDU after PDU until none may be said
+-- (`saying_laws`)
 abbrev pub says_all : {S : Type 0} → Profile S → Standing S → Standing S
 says_all A now = says_up_to A now.host.may_say now
 

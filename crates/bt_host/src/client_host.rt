@@ -1,18 +1,13 @@
 //! The host that pushes objects.
 
-ghost use Rattle.std.specs.Prelude.{◌≡◌, IfOk};
-ghost use Rattle.bt_host.specs.Pushing.{new_stack};
-
 use crate::client_end::ClientEnd;
 use crate::feed_refusal::FeedRefusal;
 use crate::noting::Noting;
-use crate::shell::{ACL_LIMIT, feed_on, noted};
-use crate::stack::{LONGEST_PDU, Stack, usual_peer};
-use crate::upper::Upper;
+use crate::shell::Shell;
 use acl_credits::Ledger;
 use bt_base::{BdAddr, NoMemory, Settings, Shelf};
-use h4_framing::{Framer, H4Refusal};
-use host_link::{HostLink, Role};
+use h4_framing::H4Refusal;
+use host_link::Role;
 use l2cap_channels::Channels;
 use push_terms::Outcome;
 use std::alloc::Global;
@@ -24,41 +19,21 @@ use std::marker::Model;
 /// both, and why it cannot go on.
 #[derive(Drop)]
 pub struct ClientHost {
-    pub(crate) framer: Framer,
-    pub(crate) stack: Stack<Noting<ClientEnd>>,
-    pub(crate) refusal: Option<FeedRefusal>,
+    pub(crate) shell: Shell<Noting<ClientEnd>>,
 }
 
 impl Model for ClientHost {
     ghost use Rattle.std.specs.Prelude.{◌≡◌, None, false};
     ghost use Rattle.shelf_model.specs.host_model.specs.Clients.{ClientProfile};
     ghost use Rattle.bt_host.specs.Noting.{Noted};
-    ghost use Rattle.bt_host.specs.Refusals.{acl_limit};
     ghost use Rattle.bt_host.specs.Shells.{Shelled};
     ghost use Rattle.bt_host.specs.Uppers.{IsOf};
 
     ghost Value = { Shelled (Noted ClientProfile) };
 
-    ghost view = { λ host. record { framing = host.framer; stack = host.stack; refusal = host.refusal } };
+    ghost view = { λ host. host.shell };
 
-    ghost invariant = { λ host. (host.framer.limit ≡ acl_limit) × (host.refusal ≡ None → (host.framer.fault ≡ None) × IsOf false host.stack.upper) };
-}
-
-/// What stands above the line of a client before anything happened.
-fn new_stack(alloc: Global, settings: &Settings) -> Result<Stack<Noting<ClientEnd>>, NoMemory>
-    ensures { IfOk result (λ stack. stack ≡ new_stack settings.now) }
-{
-    let upper = Upper {
-        channels: Channels::new(alloc, settings, false)?,
-        end: Noting::new(ClientEnd::new(alloc, settings)?),
-        may_say: 0,
-    };
-    Ok(Stack {
-        link: HostLink::new(alloc, Role::Client)?,
-        upper,
-        paged: usual_peer(),
-        room: vec![in alloc; 0; LONGEST_PDU]?,
-    })
+    ghost invariant = { λ host. host.shell.refusal ≡ None → IsOf false host.shell.stack.upper };
 }
 
 impl ClientHost {
@@ -72,7 +47,7 @@ impl ClientHost {
     ghost use Rattle.bt_host.specs.declared.feed_refusal.FeedRefusal.TheVariants as refusals;
     ghost use Rattle.bt_host.specs.Refusals.{fresh_framing};
     ghost use Rattle.bt_host.specs.Stacks.{GoesOn, HearsNews};
-    ghost use Rattle.bt_host.specs.Pushing.{Pushes, Lacks};
+    ghost use Rattle.bt_host.specs.Pushing.{new_stack, Pushes, Lacks};
     ghost use Rattle.bt_host.specs.NotedHosts.{noted_client, client_noting};
     ghost use Rattle.bt_host.specs.PushingLaws.{Answers};
     ghost use Rattle.bt_host.specs.Shells.{settings_of, moment_of, ComesToRest, Feeds, RefusedNone, StaysFailed};
@@ -82,10 +57,9 @@ impl ClientHost {
     pub fn new(alloc: Global, settings: &Settings) -> Result<ClientHost, NoMemory>
         ensures { IfOk result (λ host. host ≡ record { framing = fresh_framing; stack = new_stack settings.now; refusal = None }) }
     {
+        let end = Noting::new(ClientEnd::new(alloc, settings)?);
         Ok(ClientHost {
-            framer: Framer::new(alloc, ACL_LIMIT)?,
-            stack: new_stack(alloc, settings)?,
-            refusal: None,
+            shell: Shell::new(alloc, settings, Role::Client, end)?,
         })
     }
 
@@ -101,12 +75,7 @@ impl ClientHost {
         ensures rests { OnOk result (ComesToRest noted_client (client_noting F.content) self.old self.new shelf.new) }
         ensures works { OnOk result (Pushes self.new.stack.upper.end.end) }
     {
-        if let Some(refusal) = self.refusal {
-            return Err(refusal);
-        }
-        let fed = feed_on(&mut self.framer, &mut self.stack, piece, shelf);
-        self.refusal = fed.err();
-        fed
+        self.shell.feed(piece, shelf)
     }
 
     /// The timer fires: requests that wait for their responses are given once more, or given up. `NoMemory` where the shelf
@@ -122,10 +91,7 @@ impl ClientHost {
         ensures refused { OnErr result (self.new.refusal ≡ Some refusals.NoMemory) }
         ensures failed { StaysFailed self.old self.new shelf.old shelf.new result }
     {
-        if self.refusal.is_some() {
-            return Err(NoMemory);
-        }
-        noted(self.stack.fire(shelf), &mut self.refusal)
+        self.shell.on_timer(shelf)
     }
 
     /// Begins the push of the object of that name, and goes on: it asks for a link, where none is up. Where the shelf fails the push
@@ -145,10 +111,7 @@ impl ClientHost {
         ensures refused { OnErr result (self.new.refusal ≡ Some refusals.NoMemory) }
         ensures failed { StaysFailed self.old self.new shelf.old shelf.new result }
     {
-        if self.refusal.is_some() {
-            return Err(NoMemory);
-        }
-        noted(self.stack.begin(name, shelf), &mut self.refusal)
+        self.shell.begin(name, shelf)
     }
 
     /// Gives up the push, and goes on. `NoMemory` where the shelf had none; then the same is answered for good, and
@@ -165,17 +128,14 @@ impl ClientHost {
         ensures refused { OnErr result (self.new.refusal ≡ Some refusals.NoMemory) }
         ensures failed { StaysFailed self.old self.new shelf.old shelf.new result }
     {
-        if self.refusal.is_some() {
-            return Err(NoMemory);
-        }
-        noted(self.stack.cancel(shelf), &mut self.refusal)
+        self.shell.cancel(shelf)
     }
 
     /// Pages the device of that address from now on.
     pub fn page_device(&mut self, address: BdAddr)
         ensures { self.new ≡ record self.old { stack = record self.old.stack { paged = address } } }
     {
-        self.stack.paged = address;
+        self.shell.page_device(address);
     }
 
     /// Puts out what was held back for want of room in `out`, and goes on. `NoMemory` where the shelf had none; then the
@@ -191,17 +151,14 @@ impl ClientHost {
         ensures refused { OnErr result (self.new.refusal ≡ Some refusals.NoMemory) }
         ensures failed { StaysFailed self.old self.new shelf.old shelf.new result }
     {
-        if self.refusal.is_some() {
-            return Err(NoMemory);
-        }
-        noted(self.stack.put_out(shelf), &mut self.refusal)
+        self.shell.put_out(shelf)
     }
 
     /// The octets for the controller, in their order.
     pub fn out(&self) -> &[u8]
         ensures { result.now ≡ self.now.stack.line.out }
     {
-        self.stack.link().out()
+        self.shell.out()
     }
 
     /// The controller took the first `n` octets of `out`. It needs as many there.
@@ -209,35 +166,35 @@ impl ClientHost {
         requires { n ≤ length self.old.stack.line.out }
         ensures { self.new ≡ record self.old { stack = record self.old.stack { line = record self.old.stack.line { out = drop n self.old.stack.line.out } } } }
     {
-        self.stack.taken(n);
+        self.shell.taken(n);
     }
 
     /// What the controller holds of the packets that went out.
     pub fn ledger(&self) -> &Ledger
         ensures { result.now ≡ self.now.stack.line.ledger }
     {
-        self.stack.link().ledger()
+        self.shell.ledger()
     }
 
     /// The channels of its link.
     pub fn channels(&self) -> &Channels
         ensures { result.now ≡ self.now.stack.upper.machine }
     {
-        self.stack.channels()
+        self.shell.channels()
     }
 
     /// The client.
     fn client(&self) -> &ClientEnd
         ensures { result.now ≡ self.now.stack.upper.end.end }
     {
-        &self.stack.upper.end.end
+        &self.shell.end().end
     }
 
     /// Whether an own request of signalling or of the search waits for its response, or the machine of a channel for its timer.
     pub fn armed(&self) -> bool
         ensures { result ≡ (calls.armed self.now.stack.upper.machine.channels || armed self.now.stack.upper.end.end.client) }
     {
-        self.stack.channels().armed() || self.client().is_armed()
+        self.shell.channels().armed() || self.client().is_armed()
     }
 
     /// Whether no push goes on: none was begun, or the last one has ended.
@@ -265,7 +222,7 @@ impl ClientHost {
     pub fn has_fcs(&self, cid: u16) -> bool
         ensures { result ≡ calls.has_fcs cid self.now.stack.upper.machine.channels }
     {
-        self.stack.channels().has_fcs(cid)
+        self.shell.channels().has_fcs(cid)
     }
 
     /// What the end of the octets means here: `Truncated`, with the place of its first octet, where a packet is not whole.
@@ -273,6 +230,6 @@ impl ClientHost {
     pub fn end(&self) -> Result<(), (H4Refusal, u64)>
         ensures { EndsWith self.now.framing result }
     {
-        self.framer.end()
+        self.shell.octets_end()
     }
 }

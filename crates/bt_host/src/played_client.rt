@@ -2,7 +2,6 @@
 
 use crate::client_host::ClientHost;
 use crate::fed::want;
-use crate::shell::feed_stack;
 use bt_base::{NoMemory, Settings, Shelf};
 use push_terms::Outcome;
 use radio_world::{Client, Host, Measured};
@@ -60,9 +59,7 @@ impl<F: Shelf> Host<F> for ClientHost {
     }
 
     fn feed(&mut self, octets: &[u8], port: &mut F) -> Result<(), NoMemory> {
-        let fed = feed_stack(&mut self.framer, &mut self.stack, octets, port);
-        self.refusal = fed.err();
-        want(fed)
+        want(self.shell.hear(octets, port))
     }
 
     fn armed(&self) -> bool {
@@ -121,11 +118,11 @@ impl<F: Shelf> Measured<F> for ClientHost {
     ghost credits_held = { λ host. host.stack.upper.end.credits };
 
     fn greatest_window(&self) -> u8 {
-        self.stack.upper.end.window
+        self.shell.end().window
     }
 
     fn greatest_credits(&self) -> u16 {
-        self.stack.upper.end.credits
+        self.shell.end().credits
     }
 
     ghost frames_noted = { window_is_noted credits_of_shelved shelf_profile (client_noting F.content) (λ host port rest. refl) };

@@ -2,7 +2,6 @@
 
 use crate::fed::want;
 use crate::server_host::ServerHost;
-use crate::shell::feed_stack;
 use bt_base::{Inbox, NoMemory, Settings};
 use radio_world::{Host, Measured};
 use std::alloc::Global;
@@ -61,9 +60,7 @@ impl<I: Inbox> Host<I> for ServerHost {
     }
 
     fn feed(&mut self, octets: &[u8], port: &mut I) -> Result<(), NoMemory> {
-        let fed = feed_stack(&mut self.framer, &mut self.stack, octets, port);
-        self.refusal = fed.err();
-        want(fed)
+        want(self.shell.hear(octets, port))
     }
 
     fn armed(&self) -> bool {
@@ -100,11 +97,11 @@ impl<I: Inbox> Measured<I> for ServerHost {
     ghost credits_held = { λ host. host.stack.upper.end.credits };
 
     fn greatest_window(&self) -> u8 {
-        self.stack.upper.end.window
+        self.shell.end().window
     }
 
     fn greatest_credits(&self) -> u16 {
-        self.stack.upper.end.credits
+        self.shell.end().credits
     }
 
     ghost frames_noted = { window_is_noted credits_of_server profile_of (server_noting I.content) (λ host port rest. refl) };

@@ -1,6 +1,6 @@
 //! What the user of a client wants of it.
 
-ghost use Rattle.std.specs.Prelude.{◌≡◌, ◌≤◌, [], false, length, OnOk, OnErr};
+ghost use Rattle.std.specs.Prelude.{◌≡◌, ◌≤◌, [], None, Some, false, length, OnOk, OnErr};
 ghost use Rattle.l2cap_channels.specs.Machine.{with_channels};
 ghost use Rattle.shelf_model.specs.obex_session.specs.PutPackets.{units_in};
 ghost use Rattle.shelf_model.specs.world_model.specs.Machines.{Cancelled, Opening};
@@ -13,9 +13,12 @@ ghost use Rattle.bt_host.specs.Stacks.{HearsNews, IsResting};
 ghost use Rattle.bt_host.specs.Pushing.{Pushes, Lacks};
 ghost use Rattle.bt_host.specs.NotedHosts.{noted_client, client_noting};
 ghost use Rattle.bt_host.specs.PushingLaws.{Answers};
+ghost use Rattle.bt_host.specs.declared.feed_refusal.FeedRefusal.TheVariants as refusals;
+ghost use Rattle.bt_host.specs.Shells.{settings_of, moment_of, ComesToRest, RefusedNone, StaysFailed};
 
 use crate::client_end::ClientEnd;
 use crate::noting::Noting;
+use crate::shell::{Shell, noted};
 use crate::stack::Stack;
 use crate::upper::{MOST_SAID, Upper};
 use bt_base::{NoMemory, Shelf};
@@ -111,5 +114,49 @@ impl Stack<Noting<ClientEnd>> {
         self.upper.cancel(shelf)?;
         self.put_out(shelf)?;
         Ok(())
+    }
+}
+
+impl Shell<Noting<ClientEnd>> {
+    /// Begins the push of the object of that name, and goes on. It needs a host that refused nothing else, and a name of at most
+    /// 100 UTF-16 units.
+    pub(crate) fn begin<F: Shelf>(&mut self, name: &str, shelf: &mut F) -> Result<(), NoMemory>
+        requires none { RefusedNone self.old }
+        requires few { length (units_in name.now) ≤ 100 }
+        requires sound { self.old.refusal ≡ None → Pushes self.old.stack.upper.end.end }
+        requires of { self.old.refusal ≡ None → IsOf false self.old.stack.upper }
+        ensures hears { OnOk result (HearsNews (noted_client (settings_of self.old)) (Answers F.content F.faults F.shortages) (client_noting F.content) (Opening name.now) (moment_of self.old shelf.old) (moment_of self.new shelf.new)) }
+        ensures rests { OnOk result (ComesToRest noted_client (client_noting F.content) self.old self.new shelf.new) }
+        ensures stays { OnOk result (self.new ≡ record self.old { stack = self.new.stack }) }
+        ensures of { self.new.refusal ≡ None → IsOf false self.new.stack.upper }
+        ensures sound { OnOk result (Pushes self.new.stack.upper.end.end) }
+        ensures lacked { self.old.refusal ≡ None → OnErr result (Lacks F.shortages shelf.old shelf.new) }
+        ensures refused { OnErr result (self.new.refusal ≡ Some refusals.NoMemory) }
+        ensures failed { StaysFailed self.old self.new shelf.old shelf.new result }
+    {
+        if self.refusal.is_some() {
+            return Err(NoMemory);
+        }
+        noted(self.stack.begin(name, shelf), &mut self.refusal)
+    }
+
+    /// Gives up its push, where that may be, and goes on. It needs a host that refused nothing else.
+    pub(crate) fn cancel<F: Shelf>(&mut self, shelf: &mut F) -> Result<(), NoMemory>
+        requires none { RefusedNone self.old }
+        requires sound { self.old.refusal ≡ None → Pushes self.old.stack.upper.end.end }
+        requires of { self.old.refusal ≡ None → IsOf false self.old.stack.upper }
+        ensures hears { OnOk result (HearsNews (noted_client (settings_of self.old)) (Answers F.content F.faults F.shortages) (client_noting F.content) Cancelled (moment_of self.old shelf.old) (moment_of self.new shelf.new)) }
+        ensures rests { OnOk result (ComesToRest noted_client (client_noting F.content) self.old self.new shelf.new) }
+        ensures stays { OnOk result (self.new ≡ record self.old { stack = self.new.stack }) }
+        ensures of { self.new.refusal ≡ None → IsOf false self.new.stack.upper }
+        ensures sound { OnOk result (Pushes self.new.stack.upper.end.end) }
+        ensures lacked { self.old.refusal ≡ None → OnErr result (Lacks F.shortages shelf.old shelf.new) }
+        ensures refused { OnErr result (self.new.refusal ≡ Some refusals.NoMemory) }
+        ensures failed { StaysFailed self.old self.new shelf.old shelf.new result }
+    {
+        if self.refusal.is_some() {
+            return Err(NoMemory);
+        }
+        noted(self.stack.cancel(shelf), &mut self.refusal)
     }
 }

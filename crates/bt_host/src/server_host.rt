@@ -1,18 +1,13 @@
 //! The host that receives objects.
 
-ghost use Rattle.std.specs.Prelude.{◌≡◌, IfOk};
-ghost use Rattle.bt_host.specs.Newness.{new_stack};
-
 use crate::feed_refusal::FeedRefusal;
 use crate::noting::Noting;
 use crate::server_end::ServerEnd;
-use crate::shell::{ACL_LIMIT, feed_on, noted};
-use crate::stack::{LONGEST_PDU, Stack, usual_peer};
-use crate::upper::Upper;
+use crate::shell::Shell;
 use acl_credits::Ledger;
 use bt_base::{Inbox, NoMemory, Settings};
-use h4_framing::{Framer, H4Refusal};
-use host_link::{HostLink, Role};
+use h4_framing::H4Refusal;
+use host_link::Role;
 use l2cap_channels::Channels;
 use std::alloc::Global;
 use std::marker::Model;
@@ -24,41 +19,21 @@ use std::marker::Model;
 /// both, and why it cannot go on.
 #[derive(Drop)]
 pub struct ServerHost {
-    pub(crate) framer: Framer,
-    pub(crate) stack: Stack<Noting<ServerEnd>>,
-    pub(crate) refusal: Option<FeedRefusal>,
+    pub(crate) shell: Shell<Noting<ServerEnd>>,
 }
 
 impl Model for ServerHost {
     ghost use Rattle.std.specs.Prelude.{◌≡◌, None, true};
     ghost use Rattle.bt_host.specs.Noting.{Noted};
-    ghost use Rattle.bt_host.specs.Refusals.{acl_limit};
     ghost use Rattle.bt_host.specs.Serving.{Served};
     ghost use Rattle.bt_host.specs.Shells.{Shelled};
     ghost use Rattle.bt_host.specs.Uppers.{IsOf};
 
     ghost Value = { Shelled (Noted Served) };
 
-    ghost view = { λ host. record { framing = host.framer; stack = host.stack; refusal = host.refusal } };
+    ghost view = { λ host. host.shell };
 
-    ghost invariant = { λ host. (host.framer.limit ≡ acl_limit) × (host.refusal ≡ None → (host.framer.fault ≡ None) × IsOf true host.stack.upper) };
-}
-
-/// What stands above the line of a server before anything happened.
-fn new_stack(alloc: Global, settings: &Settings) -> Result<Stack<Noting<ServerEnd>>, NoMemory>
-    ensures { IfOk result (λ stack. stack ≡ new_stack settings.now) }
-{
-    let upper = Upper {
-        channels: Channels::new(alloc, settings, true)?,
-        end: Noting::new(ServerEnd::new(alloc, settings)?),
-        may_say: 0,
-    };
-    Ok(Stack {
-        link: HostLink::new(alloc, Role::Server)?,
-        upper,
-        paged: usual_peer(),
-        room: vec![in alloc; 0; LONGEST_PDU]?,
-    })
+    ghost invariant = { λ host. host.shell.refusal ≡ None → IsOf true host.shell.stack.upper };
 }
 
 impl ServerHost {
@@ -68,6 +43,7 @@ impl ServerHost {
     ghost use Rattle.shelf_model.specs.world_model.specs.Machines.{TimerFired};
     ghost use Rattle.bt_host.specs.declared.feed_refusal.FeedRefusal.TheVariants as refusals;
     ghost use Rattle.bt_host.specs.Refusals.{fresh_framing};
+    ghost use Rattle.bt_host.specs.Newness.{new_stack};
     ghost use Rattle.bt_host.specs.Stacks.{GoesOn, HearsNews};
     ghost use Rattle.bt_host.specs.Serving.{Works, Asks, Lacks};
     ghost use Rattle.bt_host.specs.NotedHosts.{noted_server, server_noting};
@@ -78,10 +54,9 @@ impl ServerHost {
     pub fn new(alloc: Global, settings: &Settings) -> Result<ServerHost, NoMemory>
         ensures { IfOk result (λ host. host ≡ record { framing = fresh_framing; stack = new_stack settings.now; refusal = None }) }
     {
+        let end = Noting::new(ServerEnd::new(alloc, settings)?);
         Ok(ServerHost {
-            framer: Framer::new(alloc, ACL_LIMIT)?,
-            stack: new_stack(alloc, settings)?,
-            refusal: None,
+            shell: Shell::new(alloc, settings, Role::Server, end)?,
         })
     }
 
@@ -99,12 +74,7 @@ impl ServerHost {
         ensures rests { OnOk result (ComesToRest noted_server (server_noting B.content) self.old self.new inbox.new) }
         ensures works { OnOk result (Works self.new.stack.upper.end.end (B.is_pending inbox.new)) }
     {
-        if let Some(refusal) = self.refusal {
-            return Err(refusal);
-        }
-        let fed = feed_on(&mut self.framer, &mut self.stack, piece, inbox);
-        self.refusal = fed.err();
-        fed
+        self.shell.feed(piece, inbox)
     }
 
     /// The timer fires: requests that wait for their responses are given once more, or given up. `NoMemory` where the inbox
@@ -120,10 +90,7 @@ impl ServerHost {
         ensures refused { OnErr result (self.new.refusal ≡ Some refusals.NoMemory) }
         ensures failed { StaysFailed self.old self.new inbox.old inbox.new result }
     {
-        if self.refusal.is_some() {
-            return Err(NoMemory);
-        }
-        noted(self.stack.fire(inbox), &mut self.refusal)
+        self.shell.on_timer(inbox)
     }
 
     /// Puts out what was held back for want of room in `out`, and goes on. `NoMemory` where the inbox had none; then the
@@ -139,17 +106,14 @@ impl ServerHost {
         ensures refused { OnErr result (self.new.refusal ≡ Some refusals.NoMemory) }
         ensures failed { StaysFailed self.old self.new inbox.old inbox.new result }
     {
-        if self.refusal.is_some() {
-            return Err(NoMemory);
-        }
-        noted(self.stack.put_out(inbox), &mut self.refusal)
+        self.shell.put_out(inbox)
     }
 
     /// The octets for the controller, in their order.
     pub fn out(&self) -> &[u8]
         ensures { result.now ≡ self.now.stack.line.out }
     {
-        self.stack.link().out()
+        self.shell.out()
     }
 
     /// The controller took the first `n` octets of `out`. It needs as many there.
@@ -157,35 +121,35 @@ impl ServerHost {
         requires { n ≤ length self.old.stack.line.out }
         ensures { self.new ≡ record self.old { stack = record self.old.stack { line = record self.old.stack.line { out = drop n self.old.stack.line.out } } } }
     {
-        self.stack.taken(n);
+        self.shell.taken(n);
     }
 
     /// What the controller holds of the packets that went out.
     pub fn ledger(&self) -> &Ledger
         ensures { result.now ≡ self.now.stack.line.ledger }
     {
-        self.stack.link().ledger()
+        self.shell.ledger()
     }
 
     /// The channels of its link.
     pub fn channels(&self) -> &Channels
         ensures { result.now ≡ self.now.stack.upper.machine }
     {
-        self.stack.channels()
+        self.shell.channels()
     }
 
     /// Whether an own request waits for its response, or the machine of a channel for its timer.
     pub fn armed(&self) -> bool
         ensures { result ≡ calls.armed self.now.stack.upper.machine.channels }
     {
-        self.stack.channels().armed()
+        self.shell.channels().armed()
     }
 
     /// Whether its channel of that number has a check word.
     pub fn has_fcs(&self, cid: u16) -> bool
         ensures { result ≡ calls.has_fcs cid self.now.stack.upper.machine.channels }
     {
-        self.stack.channels().has_fcs(cid)
+        self.shell.channels().has_fcs(cid)
     }
 
     /// What the end of the octets means here: `Truncated`, with the place of its first octet, where a packet is not whole.
@@ -193,6 +157,6 @@ impl ServerHost {
     pub fn end(&self) -> Result<(), (H4Refusal, u64)>
         ensures { EndsWith self.now.framing result }
     {
-        self.framer.end()
+        self.shell.octets_end()
     }
 }

@@ -1,41 +1,52 @@
 //! A host without its framer.
 
-ghost use Rattle.std.specs.Prelude.{◌≡◌, ◌<◌, ◌≤◌, ℕ, false, true, List, [], drop, length, vec_len, OnOk, OnErr};
+ghost use Rattle.std.specs.Prelude.{◌≡◌, ◌<◌, ◌≤◌, ℕ, false, true, List, [], drop, length, vec_len, IfOk, OnOk, OnErr};
 ghost use Rattle.h4_framing.specs.Packets.{packet};
 ghost use Rattle.l2cap_channels.specs.Machine.{with_channels};
 ghost use Rattle.shelf_model.specs.world_model.specs.Machines.{TimerFired};
 ghost use Rattle.host_link.specs.PuttingOut.{can_take_pdu};
 ghost use Rattle.shelf_model.specs.host_model.specs.Circumstances.{Circumstance};
 ghost use Rattle.bt_host.specs.Uppers.{says, IsOf};
-ghost use Rattle.bt_host.specs.Stacks.{standing, usual_peer, can_put_piece, says_one, says_all, leaves, pages, Steps, GoesOn, HasSaid, HearsNews, HearsOne, IsLeft, IsPaged, IsResting, KeepsLink, AsksForLink};
+ghost use Rattle.bt_host.specs.Stacks.{standing, usual_peer, is_serving, fresh_stack, can_put_piece, says_one, says_all, leaves, pages, Steps, GoesOn, HasSaid, HearsNews, HearsOne, IsLeft, IsPaged, IsResting, KeepsLink, AsksForLink};
 
 use crate::end::End;
 use crate::feed_refusal::FeedRefusal;
 use crate::upper::Upper;
-use bt_base::{BdAddr, NoMemory};
+use bt_base::{BdAddr, NoMemory, Settings};
 use h4_framing::Unit;
-use host_link::HostLink;
+use host_link::{HostLink, Role};
 use l2cap_channels::Channels;
+use std::alloc::Global;
 use std::marker::Model;
 
 /// How many octets the longest PDU has.
-pub(crate) const LONGEST_PDU: usize = 32_775;
+const LONGEST_PDU: usize = 32_775;
 
 /// The device that a host pages where it is told of no other.
-pub(crate) fn usual_peer() -> BdAddr
+fn usual_peer() -> BdAddr
     ensures { result ≡ usual_peer }
 {
     BdAddr::of(&[0x0B, 0, 0, 0, 0, 0]).unwrap()
 }
 
+/// Whether a host of that role is a server.
+fn is_serving(role: Role) -> bool
+    ensures { result ≡ is_serving role }
+{
+    match role {
+        Role::Client => false,
+        Role::Server => true,
+    }
+}
+
 /// The line of a host, what stands above it, and the device that it pages. A clause sees these.
 #[derive(Drop)]
 pub(crate) struct Stack<E> {
-    pub(crate) link: HostLink,
+    link: HostLink,
     pub(crate) upper: Upper<E>,
-    pub(crate) paged: BdAddr,
+    paged: BdAddr,
     /// The PDU that is said is written here.
-    pub(crate) room: Vec<u8>,
+    room: Vec<u8>,
 }
 
 impl<E> Model for Stack<E> {
@@ -77,11 +88,47 @@ fn say_into<P, E: End<P>>(
 }
 
 impl<E: Drop> Stack<E> {
+    /// A host of that role with that end, before anything happened.
+    pub(crate) fn new(
+        alloc: Global,
+        settings: &Settings,
+        role: Role,
+        end: E,
+    ) -> Result<Stack<E>, NoMemory>
+        ensures { IfOk result (λ stack. stack ≡ fresh_stack role settings.now end) }
+    {
+        let upper = Upper {
+            channels: Channels::new(alloc, settings, is_serving(role))?,
+            end,
+            may_say: 0,
+        };
+        Ok(Stack {
+            link: HostLink::new(alloc, role)?,
+            upper,
+            paged: usual_peer(),
+            room: vec![in alloc; 0; LONGEST_PDU]?,
+        })
+    }
+
     /// Its line.
     pub(crate) fn link(&self) -> &HostLink
         ensures { result.now ≡ self.now.line }
     {
         &self.link
+    }
+
+    /// What stands above the channels.
+    pub(crate) fn end(&self) -> &E
+        ensures { result.now ≡ self.now.upper.end }
+    {
+        &self.upper.end
+    }
+
+    /// It pages the device of that address from now on.
+    pub(crate) fn page_device(&mut self, address: BdAddr)
+        ensures { self.new ≡ record self.old { paged = address } }
+    {
+        self.paged = address;
     }
 
     /// The channels.

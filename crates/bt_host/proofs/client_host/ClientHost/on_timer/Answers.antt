@@ -1,16 +1,20 @@
+use Rattle.std.proofs.Common.{subst}
+use Rattle.std.specs.Prelude.{OnOk}
 use Rattle.shelf_model.specs.world_model.specs.Machines.{TimerFired}
-use Rattle.bt_host.specs.PushingLaws.{Answers}
+use Rattle.shelf_model.specs.host_model.specs.Clients.{ClientProfile}
+use Rattle.bt_host.specs.Noting.{Noted}
 use Rattle.bt_host.specs.NotedHosts.{noted_client, client_noting}
-use Rattle.bt_host.proofs.Feeding.{rests_noted}
-use Rattle.bt_host.proofs.ToldNews.{told_noted}
+use Rattle.bt_host.specs.PushingLaws.{Answers}
+use Rattle.bt_host.specs.Shells.{Shelled, settings_of, moment_of}
+use Rattle.bt_host.specs.Stacks.{HearsNews}
 use Rattle.bt_host.proofs.client_host.ClientHost.on_timer.Goals as goal
-
-pub returns-clause-rests : goal.returns-clause-rests
-returns-clause-rests g c =
-    rests_noted noted_client (client_noting g.F.Shelf.content) c.self.inside.framer c.self.inside.stack c.fire.new.self c.self.inside.refusal c.noted.new.refusal c.args.self.now c.fire.new.port c.noted.result c.fire.result
-    c.self.view_is c.noted.ensures.answer c.fire.ensures.machine c.fire.ensures.paged c.fire.ensures.rests
 
 pub returns-clause-hears : goal.returns-clause-hears
 returns-clause-hears g c =
-    told_noted noted_client (Answers g.F.Shelf.content g.F.Shelf.faults g.F.Shelf.shortages) (client_noting g.F.Shelf.content) TimerFired c.self.inside.framer c.self.inside.framer c.self.inside.stack c.fire.new.self c.self.inside.refusal c.noted.new.refusal c.args.self.now
-    c.args.shelf.now c.fire.new.port c.noted.result c.fire.result c.self.view_is c.noted.ensures.answer c.fire.ensures.hears
+    subst
+    (λ (h : Shelled (Noted ClientProfile)).
+    OnOk c.on_timer.result (HearsNews (noted_client (settings_of h)) (Answers g.F.Shelf.content g.F.Shelf.faults g.F.Shelf.shortages) (client_noting g.F.Shelf.content) TimerFired (moment_of h c.args.shelf.now) (moment_of c.on_timer.new.self c.on_timer.new.port)))
+    c.self.view_is c.on_timer.ensures.hears
+
+pub returns-clause-rests : goal.returns-clause-rests
+returns-clause-rests g c = rw (← c.self.view_is) c.on_timer.ensures.rests

@@ -1,18 +1,7 @@
-use Rattle.std.proofs.Common.{rules}
-use Rattle.std.proofs.lemmas.Result.{on_ok_weaker}
-use Rattle.bt_host.specs.Serving.{Asks, Lacks}
-use Rattle.bt_host.specs.NotedHosts.{noted_server, server_noting}
-use Rattle.bt_host.proofs.Feeding.{fed_host, comes_to_rest}
 use Rattle.bt_host.proofs.server_host.ServerHost.feed.Goals as goal
 
 pub returns-clause-feeds : goal.returns-clause-feeds
-returns-clause-feeds g c =
-    fed_host noted_server (Asks g.B.Inbox.faults g.B.Inbox.shortages) (Lacks g.B.Inbox.shortages) (server_noting g.B.Inbox.content) c.args.piece.now c.self.inside.framer c.feed_on-fed.new.framer c.self.inside.stack c.feed_on-fed.new.stack
-    c.self.inside.refusal c.err-self-inside.result c.args.self.now c.args.inbox.now c.feed_on-fed.new.port c.feed_on-fed.result c.self.view_is (search rules) (search rules) c.feed_on-fed.ensures.feeds
+returns-clause-feeds g c = rw (← c.self.view_is) c.feed.ensures.feeds
 
 pub returns-clause-rests : goal.returns-clause-rests
-returns-clause-rests g c =
-    on_ok_weaker c.feed_on-fed.result
-    (λ rests. comes_to_rest noted_server (server_noting g.B.Inbox.content) c.self.inside.framer c.feed_on-fed.new.framer c.self.inside.stack c.feed_on-fed.new.stack c.self.inside.refusal c.err-self-inside.result c.args.self.now c.feed_on-fed.new.port
-    c.self.view_is c.feed_on-fed.ensures.settings c.feed_on-fed.ensures.paged rests)
-    c.feed_on-fed.ensures.rests
+returns-clause-rests g c = rw (← c.self.view_is) c.feed.ensures.rests

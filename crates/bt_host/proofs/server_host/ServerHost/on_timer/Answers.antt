@@ -1,16 +1,7 @@
-use Rattle.shelf_model.specs.world_model.specs.Machines.{TimerFired}
-use Rattle.bt_host.specs.NotedHosts.{noted_server, server_noting}
-use Rattle.bt_host.specs.Serving.{Asks}
-use Rattle.bt_host.proofs.Feeding.{rests_noted}
-use Rattle.bt_host.proofs.ToldNews.{told_noted}
 use Rattle.bt_host.proofs.server_host.ServerHost.on_timer.Goals as goal
 
-pub returns-clause-rests : goal.returns-clause-rests
-returns-clause-rests g c =
-    rests_noted noted_server (server_noting g.B.Inbox.content) c.self.inside.framer c.self.inside.stack c.fire.new.self c.self.inside.refusal c.noted.new.refusal c.args.self.now c.fire.new.port c.noted.result c.fire.result
-    c.self.view_is c.noted.ensures.answer c.fire.ensures.machine c.fire.ensures.paged c.fire.ensures.rests
-
 pub returns-clause-hears : goal.returns-clause-hears
-returns-clause-hears g c =
-    told_noted noted_server (Asks {P = g.row.B.Denot} g.B.Inbox.faults g.B.Inbox.shortages) (server_noting g.B.Inbox.content) TimerFired c.self.inside.framer c.self.inside.framer c.self.inside.stack c.fire.new.self c.self.inside.refusal c.noted.new.refusal c.args.self.now
-    c.args.inbox.now c.fire.new.port c.noted.result c.fire.result c.self.view_is c.noted.ensures.answer c.fire.ensures.hears
+returns-clause-hears g c = rw (← c.self.view_is) c.on_timer.ensures.hears
+
+pub returns-clause-rests : goal.returns-clause-rests
+returns-clause-rests g c = rw (← c.self.view_is) c.on_timer.ensures.rests

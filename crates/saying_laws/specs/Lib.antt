@@ -1,0 +1,3 @@
+pub use Rattle.bt_host
+pub mod Speaking
+pub mod Laws
