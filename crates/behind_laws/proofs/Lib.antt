@@ -1,4 +1,10 @@
 pub mod Told
 pub mod Direct
 pub mod Moved
+pub mod Counting
+pub mod Requests
+pub mod Standing
+pub mod Weaving
+pub mod Linking
 pub mod Gaining
+pub mod Answered

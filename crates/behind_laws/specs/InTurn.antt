@@ -16,7 +16,6 @@ use Rattle.request_laws.specs.link_talk.specs.Sayings.{Saying, Command, Carried,
 use Rattle.request_laws.specs.link_talk.specs.Senses.{sense}
 use Rattle.request_laws.specs.host_link.specs.declared.role.Role.TheVariants.{Server}
 use Rattle.request_laws.specs.channel_model.specs.Policies.{policy}
-use Rattle.request_laws.specs.channel_laws.specs.Runs.{Occurrence, run_of}
 use Rattle.request_laws.specs.push_laws.specs.Occurrences.{begun}
 use Rattle.request_laws.specs.push_laws.specs.Premises.{AllMayCome}
 use Rattle.request_laws.specs.host_model.specs.Circumstances.{Circumstance}

@@ -18,8 +18,8 @@ use Rattle.object_push.specs.Pushing.{Pushes, NotRead}
 use Rattle.making.specs.Making.{IsKnown, Makes, NotMade}
 use Rattle.receiving.specs.bt_host.specs.obex_session.specs.Counting.{Counts}
 use Rattle.receiving.proofs.Beginning.{nothing_received}
-use Rattle.receive_laws.specs.Streams.{StoresSpelled}
-use Rattle.receive_laws.proofs.Spelled.{stores_spelled}
+use Rattle.stream_laws.specs.StreamsByLinks.{StoresByLinks}
+use Rattle.stream_laws.proofs.StreamsByLinks.{receives_store_by_links}
 
 -- words for a push ask for no other form
 pub not_push : (words : List Text) (form : Form) → AsksFor words Push → (form ≡ Push → ⊥) → AsksFor words form → ⊥
@@ -45,9 +45,9 @@ nothing_pushed None left old new Untouched result is same_source same_sink same 
 nothing_pushed (Some input) left old new Untouched result is same_source same_sink same = rw (is, same_source) (NotRead 0 refl same_sink same tt)
 
 pub receives_nothing : (source sink trace : Option (List ℕ)) (inbox : Option Contents) (counts : Counts) (source' sink' trace' : Option (List ℕ)) (result : Status) → result ≡ NoMemory → source' ≡ source → sink' ≡ sink → trace' ≡ trace
-    → StoresSpelled source source' sink sink' trace trace' inbox inbox counts counts result
+    → StoresByLinks source source' sink sink' trace trace' inbox inbox counts counts result
 receives_nothing source sink trace inbox counts source' sink' trace' result is same_source same_sink same_trace =
-    rw (is, same_source, same_sink, same_trace) (stores_spelled source source sink sink trace trace inbox inbox counts counts NoMemory (nothing_received source sink trace inbox counts counts))
+    rw (is, same_source, same_sink, same_trace) (receives_store_by_links source source sink sink trace trace inbox inbox counts counts NoMemory (nothing_received source sink trace inbox counts counts))
 
 -- ---- the scenario of a number
 

@@ -15,7 +15,7 @@ ghost use Rattle.object_push.specs.Pushing.{IsShort, Pushes};
 ghost use Rattle.receiving.specs.Ports as received;
 ghost use Rattle.receiving.specs.Ports.{LacksMemory};
 ghost use Rattle.receiving.specs.bt_host.specs.obex_session.specs.Counting.{counts_of};
-ghost use Rattle.receive_laws.specs.Streams.{StoresSpelled};
+ghost use Rattle.stream_laws.specs.StreamsByLinks.{StoresByLinks};
 ghost use Rattle.btpush_forms.specs.three_wire.specs.Carrying.{WriteRose, IsWholeInput};
 ghost use Rattle.btpush_forms.specs.h4_view.specs.View.{IsAnswered};
 
@@ -63,7 +63,7 @@ pub fn run<S: Source, K: Sink, T: Sink, F: Shelf, B: Inbox>(
     ensures push { AsksFor (map string_bytes words.now.items) Form.Push → IfSome (S.content source.old) (λ input. let at = ports_of K.Sink T.Sink F.Shelf B.Inbox in Pushes input (S.content source.new) (at sink.old trace.old shelf.old inbox.old) (at sink.new trace.new shelf.new inbox.new) ((trace.new ≡ trace.old) × (shelf.new ≡ shelf.old) × (inbox.new ≡ inbox.old)) result) }
     // `receive` feeds the input to a host: the sink gains what this says, and the inbox what it stores, which is exactly what the packets spell where they
     // are orderly, neither count of the inbox rose, and memory was not wanting. It wants memory before anything happens, or where a port found none.
-    ensures receive { AsksFor (map string_bytes words.now.items) Form.Receive → let counts = counts_of B.faults B.shortages in StoresSpelled (S.content source.old) (S.content source.new) (K.content sink.old) (K.content sink.new) (T.content trace.old) (T.content trace.new) (B.content inbox.old) (B.content inbox.new) (counts inbox.old) (counts inbox.new) result }
+    ensures receive { AsksFor (map string_bytes words.now.items) Form.Receive → let counts = counts_of B.faults B.shortages in StoresByLinks (S.content source.old) (S.content source.new) (K.content sink.old) (K.content sink.new) (T.content trace.old) (T.content trace.new) (B.content inbox.old) (B.content inbox.new) (counts inbox.old) (counts inbox.new) result }
     ensures receive_memory { AsksFor (map string_bytes words.now.items) Form.Receive → result ≡ Status.NoMemory → let at = received.ports_of S.Source K.Sink T.Sink B.Inbox in LacksMemory (at source.old sink.old trace.old inbox.old) (at source.new sink.new trace.new inbox.new) }
     // `make` runs the scenario of the number over ports in memory: the trace gains its capture, and the sink its summary.
     ensures make { (number : ℕ) → AsksFor (map string_bytes words.now.items) (Form.Make number) → Makes number (written K.Sink sink.old) (written K.Sink sink.new) (written T.Sink trace.old) (written T.Sink trace.new) result }

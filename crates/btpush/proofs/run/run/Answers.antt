@@ -4,7 +4,7 @@ use Rattle.btpush_forms.specs.Ports.{written}
 use Rattle.btpush_forms.specs.declared.hosted.Hosted.TheVariants as hosted
 use Rattle.btpush.proofs.Asked.{not_push, not_receive, not_make, push_traces, nothing_pushed, nothing_made, made_so, makes_no_bad_words, left_alone, unanswered, receives_nothing, asks_hosted, no_end}
 use Rattle.receiving.specs.bt_host.specs.obex_session.specs.Counting.{counts_of}
-use Rattle.receive_laws.proofs.Spelled.{stores_spelled}
+use Rattle.stream_laws.proofs.StreamsByLinks.{receives_store_by_links}
 use Rattle.btpush.proofs.run.run.Goals as goal
 
 -- ---- the form is done
@@ -178,7 +178,7 @@ pub returns-in-Err-Receive-clause-finish_push : goal.returns-in-Err-Receive-clau
 returns-in-Err-Receive-clause-finish_push g c = λ asks ended. absurd (not_receive _ Push (asks_hosted c.run_alone.result hosted.Receive _ c.run_alone.ensures.asked (c.in-Err-Receive.is ∙ ap Err c.in-Err-Receive.field-0-is)) (λ is. absurd cc) asks)
 
 pub returns-in-Err-Receive-clause-receive : goal.returns-in-Err-Receive-clause-receive
-returns-in-Err-Receive-clause-receive g c = λ asks. let same = c.run_alone.ensures.untouched hosted.Receive (asks_hosted c.run_alone.result hosted.Receive _ c.run_alone.ensures.asked (c.in-Err-Receive.is ∙ ap Err c.in-Err-Receive.field-0-is)) in let so = stores_spelled _ _ _ _ _ _ _ _ _ _ _ c.receive.ensures.receives in rw (same.0, same.1, same.2) at so
+returns-in-Err-Receive-clause-receive g c = λ asks. let same = c.run_alone.ensures.untouched hosted.Receive (asks_hosted c.run_alone.result hosted.Receive _ c.run_alone.ensures.asked (c.in-Err-Receive.is ∙ ap Err c.in-Err-Receive.field-0-is)) in let so = receives_store_by_links _ _ _ _ _ _ _ _ _ _ _ c.receive.ensures.receives in rw (same.0, same.1, same.2) at so
 
 pub returns-in-Err-Receive-clause-receive_memory : goal.returns-in-Err-Receive-clause-receive_memory
 returns-in-Err-Receive-clause-receive_memory g c = λ asks. let same = c.run_alone.ensures.untouched hosted.Receive (asks_hosted c.run_alone.result hosted.Receive _ c.run_alone.ensures.asked (c.in-Err-Receive.is ∙ ap Err c.in-Err-Receive.field-0-is)) in rw (same.0, same.1, same.2) at c.receive.ensures.no_memory

@@ -1,0 +1,10 @@
+pub mod Pasts
+pub mod Made
+pub mod Ending
+pub mod Saying
+pub mod Lives
+pub mod LinkReads
+pub mod Alone
+pub mod Shown
+pub mod Falling
+pub mod ByLinks

@@ -1,0 +1,2 @@
+pub use Rattle.either_laws
+pub mod StreamsByLinks
