@@ -152,7 +152,7 @@ module _ (settings : Settings) (occasions : List One) (old : At) (did : Did (cli
 
   module _ (gifts : List Circumstance) (piece : Packet) (channel : ℕ) (octets : List ℕ) (tells : news_of piece old.line ≡ Whole channel octets) (all : HasSaidAll (upper (client_profile settings)) old) (outcome : Outcome) (decision : Decision) (said_is : decision_of outcome ≡ Some decision)
       (none : old.upper.profile.client.cause ≡ None) (some : (hear (client_profile settings) gifts (Heard octets) old.upper).profile.client.cause ≡ Some outcome) where
-    it : Decides settings octets old.upper outcome
+    pub it : Decides settings octets old.upper outcome
     it = decides settings gifts octets old.upper outcome decision none some said_is
 
     on : is_off old.upper.profile.client.stage ≡ false
@@ -184,30 +184,43 @@ module _ (settings : Settings) (occasions : List One) (old : At) (did : Did (cli
     told_piece : is_piece_packet piece ≡ true
     told_piece = subst (λ (news : PlainNews). TellsSo news piece) tells (unit_tells piece old.line)
 
-    on_link : (link : Link) → (linking (units occasions)).up ≡ Some link → IsSaidWith settings decision (units occasions) piece
+    -- it is said so, and that is the SDU which the channels hand up
+    pub record SaidAs : Type 0 where
+      pub said : IsSaidWith settings decision (units occasions) piece
+      pub psm_is : said.entry.channel.psm ≡ it.psm
+      pub sdu_is : said.octets ≡ it.sdu
+
+    on_link : (link : Link) → (linking (units occasions)).up ≡ Some link → SaidAs
     on_link link up =
         let same = own_talk link up all on in
         let more = grows link octets (linking (units occasions ++ into piece ∷ [])).up (not_signal octets old.upper.channels it.own it.psm it.sdu it.brought) (adds link up) in
         record {
-          is_piece = told_piece;
-          before = link;
-          up_before = up;
-          after = more.after;
-          up_after = more.is;
-          pdu = octets;
-          whole = more.whole;
-          entry = read.entry;
-          found = subst (λ (l : List Saying). read_at (channel_of octets) (reading l).entries ≡ Some read.entry) same read.found;
-          earlier = read.earlier;
-          octets = it.sdu;
-          later = read.later;
-          sdus_are = subst (λ (l : List Saying). sdus (party_of settings A) read.entry.channel Into l ≡ read.earlier ++ it.sdu ∷ read.later) (ap (λ (l : List Saying). l ++ Carried Into octets ∷ []) same ∙ sym more.whole) read.sdus_are;
-          brings = subst (λ (psm : ℕ). Brings settings.transport decision (talk link) psm it.sdu) (sym read.psm_is) (subst (λ (l : List Saying). Brings settings.transport decision l it.psm it.sdu) same brings);
+          said = record {
+            is_piece = told_piece;
+            before = link;
+            up_before = up;
+            after = more.after;
+            up_after = more.is;
+            pdu = octets;
+            whole = more.whole;
+            entry = read.entry;
+            found = subst (λ (l : List Saying). read_at (channel_of octets) (reading l).entries ≡ Some read.entry) same read.found;
+            earlier = read.earlier;
+            octets = it.sdu;
+            later = read.later;
+            sdus_are = subst (λ (l : List Saying). sdus (party_of settings A) read.entry.channel Into l ≡ read.earlier ++ it.sdu ∷ read.later) (ap (λ (l : List Saying). l ++ Carried Into octets ∷ []) same ∙ sym more.whole) read.sdus_are;
+            brings = subst (λ (psm : ℕ). Brings settings.transport decision (talk link) psm it.sdu) (sym read.psm_is) (subst (λ (l : List Saying). Brings settings.transport decision l it.psm it.sdu) same brings);
+          };
+          psm_is = read.psm_is;
+          sdu_is = refl;
         }
 
-    at : (found : Option Link) → (linking (units occasions)).up ≡ found → IsSaidWith settings decision (units occasions) piece
+    at : (found : Option Link) → (linking (units occasions)).up ≡ found → SaidAs
     at None is = none_up octets old.upper.channels it.own it.psm it.sdu (lived.off (up_is ∙ is)) it.brought
     at (Some link) is = on_link link is
 
+    pub said_as : SaidAs
+    said_as = at (linking (units occasions)).up refl
+
     pub said_with : IsSaidWith settings decision (units occasions) piece
-    said_with = at (linking (units occasions)).up refl
+    said_with = said_as.said

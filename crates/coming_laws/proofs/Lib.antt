@@ -1,0 +1,9 @@
+pub mod Lists
+pub mod Lining
+pub mod Still
+pub mod Calm
+pub mod Shelving
+pub mod Adding
+pub mod Placing
+pub mod Showing
+pub mod Coming

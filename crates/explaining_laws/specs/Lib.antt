@@ -1,0 +1,3 @@
+pub use Rattle.coming_laws
+pub use Rattle.reporting_laws
+pub mod Explaining
