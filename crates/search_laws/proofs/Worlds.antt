@@ -20,11 +20,12 @@ use Rattle.cause_laws.specs.host_model.specs.Circumstances.{Circumstance}
 use Rattle.cause_laws.specs.host_model.specs.Clients.{ClientProfile}
 use Rattle.cause_laws.specs.host_model.specs.Hosts.{Host}
 use Rattle.cause_laws.specs.host_model.specs.Servers.{ServerProfile}
-use Rattle.cause_laws.specs.scenario_laws.specs.Captures.{client_of, server_of, BothHosts, beginning, Happened}
+use Rattle.cause_laws.specs.scenario_laws.specs.Captures.{client_of, server_of, BothHosts, beginning}
 use Rattle.pair_laws.specs.channel_laws.specs.Tries.{one_if}
 use Rattle.pair_laws.specs.Costs.{is_adverse, adverse_in}
+use Rattle.pair_laws.specs.Enough.{remembering}
 use Rattle.pair_laws.proofs.Meeting.{IsRightDeed, word-right, deed_cost, word-cost}
-use Rattle.search_laws.specs.Searches.{awaits_reply, QuietIsPaid, SearchesCostWords}
+use Rattle.search_laws.specs.Searches.{awaits_reply, HappenedWithMemory, QuietIsPaid, SearchesCostWords}
 use Rattle.search_laws.proofs.Deeds.{IsPaid, paid_by, more_paid, one_more_pays}
 use Rattle.search_laws.proofs.Hosts.{hears_kept, next_kept, timer_kept}
 
@@ -42,7 +43,7 @@ module _ (scenario : Scenario) (content : Option Contents) where
   U = client_of scenario
 
   abbrev V : Upper (Host ServerProfile) Circumstance
-  V = server_of scenario content
+  V = remembering (server_of scenario content)
 
   abbrev client_in : Station (Host ClientProfile) → Client
   client_in station = station.upper.profile.client
@@ -138,7 +139,7 @@ module _ (scenario : Scenario) (content : Option Contents) where
       by (Opens push name) (idle, next, push_is, g, is) = other (adverse + 0) (told U g (Opening name) old.a) (omega arith) (ap (λ (w : BothHosts). w.a) is) (hears_kept scenario.settings adverse g (Opening name) old.a.upper tt paid)
       by (Closes push outcome) (going, push_is, idle, outcome_is, apart, none_a, none_b, quiet_a, quiet_b, is) = same (adverse + 0) (omega arith) (ap (λ (w : BothHosts). w.a.upper) is)
 
-  pub all_paid : (happenings done rest : List Happening) (now new : BothHosts) → happenings ≡ done ++ rest → QuietIsPaid scenario content happenings → Happened scenario content done now → Runs U V rest now new → IsPaid (adverse_in (all_words done)) (client now)
+  pub all_paid : (happenings done rest : List Happening) (now new : BothHosts) → happenings ≡ done ++ rest → QuietIsPaid scenario content happenings → HappenedWithMemory scenario content done now → Runs U V rest now new → IsPaid (adverse_in (all_words done)) (client now)
       → IsPaid (adverse_in (all_words happenings)) (client new)
   all_paid happenings done [] now new is quiet runs same paid =
       subst (λ (l : List Happening). IsPaid (adverse_in (all_words l)) (client new)) (sym (is ∙ append-nil done)) (subst (λ (w : BothHosts). IsPaid (adverse_in (all_words done)) (client w)) (sym same) paid)

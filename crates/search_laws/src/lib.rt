@@ -4,8 +4,8 @@
 ghost use Rattle.search_laws.specs.Searches.{SearchesCostWords, TriesStay, FiringsLeaveTries};
 ghost use Rattle.search_laws.specs.Taken.{SearchesAreTaken, LinksTakeRequests};
 
-/// Where at each rest of a run at which nothing is under way a request that awaits its reply was sent no more often than words were adverse, each request to the service records is sent for
-/// the t-th time only behind t - 1 adverse words: a timer that fires alone costs one itself.
+/// Where at each rest at which nothing is under way, of a run whose inbox does not lack memory, a request that awaits its reply was sent no more often than words were adverse, each request to
+/// the service records is sent for the t-th time only behind t - 1 adverse words: a timer that fires alone costs one itself.
 pub fn searches_cost_words()
     ensures { SearchesCostWords }
 {}

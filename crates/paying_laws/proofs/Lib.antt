@@ -1,0 +1,9 @@
+pub mod Reply
+pub mod Speaking
+pub mod Prompt
+pub mod Answering
+pub mod Acts
+pub mod Weaving
+pub mod Memory
+pub mod Pairs
+pub mod Paid

@@ -1,0 +1,11 @@
+pub use Rattle.answer_laws
+pub use Rattle.inbox_laws
+pub use Rattle.pair_laws
+pub use Rattle.passing_laws
+pub use Rattle.recovered_laws
+pub use Rattle.request_laws
+pub use Rattle.retry_laws
+pub use Rattle.search_laws
+pub mod Answered
+pub mod Runs
+pub mod Paid
