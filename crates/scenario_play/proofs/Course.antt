@@ -40,7 +40,6 @@ use Rattle.noting_laws.specs.scenario_laws.proofs.SetHosts.{set_hosts_are_hosts}
 use Rattle.noting_laws.specs.pair_laws.specs.Enough.{HappenedEnough}
 use Rattle.noting_laws.specs.pair_laws.specs.Served.{HappenedServed}
 use Rattle.scenario_play.specs.Playing.{fresh_world, KeepsShelf, RoseNever, RanAnswered, IsPlayed}
-use Rattle.unmarked_laws.specs.Ends.{IsDecided}
 use Rattle.noting_laws.specs.Noting.{plain_set}
 use Rattle.scenario_play.specs.Shelving.{plain_client}
 use Rattle.scenario_play.specs.Peaks.{NotedMoment, AreNoted, AreReached}
@@ -123,13 +122,13 @@ module _ {P Q : Type 0} (holds : P → Option (List Object)) (content : Q → Op
   abbrev came : Hosts → P → Option Outcome
   came end shelf' = noted_client_machine.outcome ((client_at end shelf').upper [])
 
-  -- where the push that goes on ends with what an SDU alone brings about, nothing is owed to either host, which are at rest
-  ends_at_rest : (now : NotedMoment) (outcome : Option Outcome) (pushes : Pushes) → client_machine.outcome (plain_world (world_at now)).a.upper ≡ outcome → IsAtRest client_machine server_machine (plain_world (world_at now)) → (push : ℕ) (ended : Outcome) → IsDecided ended → last_entries outcome pushes ≡ Ended push ended ∷ [] → EndsAtRest ended (plain_world (world_at now))
-  ends_at_rest now outcome pushes is rests push ended decided ends = record { none_a = rests.still_a.none_owed; none_b = rests.still_b.none_owed; came = is ∙ by pushes.going outcome ends }
+  -- where the push that goes on ends with what came of it, and not with the script, nothing is owed to either host, which are at rest
+  ends_at_rest : (now : NotedMoment) (outcome : Option Outcome) (pushes : Pushes) → client_machine.outcome (plain_world (world_at now)).a.upper ≡ outcome → IsAtRest client_machine server_machine (plain_world (world_at now)) → (push : ℕ) (ended : Outcome) → (ended ≡ ScriptEnded → ⊥) → last_entries outcome pushes ≡ Ended push ended ∷ [] → EndsAtRest ended (plain_world (world_at now))
+  ends_at_rest now outcome pushes is rests push ended caused ends = record { none_a = rests.still_a.none_owed; none_b = rests.still_b.none_owed; came = is ∙ by pushes.going outcome ends }
     where
       by : (going : Bool) (outcome : Option Outcome) → cond going (Ended pushes.begun (unwrap_or outcome ScriptEnded) ∷ []) [] ≡ Ended push ended ∷ [] → outcome ≡ Some ended
       by false outcome ends = cc
-      by true None ends = let same : ended ≡ ScriptEnded = cc in let none : true ≡ false = subst IsDecided same decided in cc
+      by true None ends = let same : ended ≡ ScriptEnded = cc in absurd (caused same)
       by true (Some other) ends = let same : other ≡ ended = cc in ap (λ (o : Outcome). Some o) same
 
   pub played : (first end : Hosts) (shelf shelf' : P) (inbox inbox' : Q) (trace trace' : Option (List ℕ)) (outcomes : List Outcome) (peaks : Peaks) → first ≡ fresh_world scenario → Through first end shelf shelf' inbox inbox' trace trace'

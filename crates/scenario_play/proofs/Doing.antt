@@ -1,12 +1,12 @@
 -- What comes of the pushes of a played scenario that are done.
-use Rattle.std.proofs.Common.{◌≡◌, ℕ, Bool, List, [], ◌∷◌, ◌++◌, Option, Some, None, refl, sym, ap, subst, ◌∙◌, append_assoc, append-nil}
+use Rattle.std.proofs.Common.{◌≡◌, ℕ, Bool, true, false, List, [], ◌∷◌, ◌++◌, Option, Some, None, refl, sym, ap, subst, ◌∙◌, append_assoc, append-nil}
 use Rattle.std.specs.Prelude.{IfSome}
 use Rattle.bt_base.specs.Objects.{Object, Contents}
 use Rattle.bt_base.specs.declared.settings.Transport.TheVariants.{L2cap}
 use Rattle.noting_laws.specs.obex_session.specs.Counting.{Counts}
 use Rattle.push_script.specs.declared.scenario.Scenario.{Scenario}
 use Rattle.push_terms.specs.declared.outcome.Outcome.{Outcome}
-use Rattle.push_terms.specs.declared.outcome.Outcome.TheVariants.{Done, NoService}
+use Rattle.push_terms.specs.declared.outcome.Outcome.TheVariants.{Done}
 use Rattle.push_terms.specs.declared.word.Side.TheVariants.{B}
 use Rattle.capture.specs.Entries.{Entry, Moved, Acted, Begun, Ended}
 use Rattle.capture.specs.Histories.{EachAfter}
@@ -22,10 +22,12 @@ use Rattle.done_laws.specs.Runs.{IsDoneAt}
 use Rattle.done_laws.specs.Storing.{kept_of, StoresOneMore, AtDone, AtShown, StoresDone, SpellsNamed, StoresKept}
 use Rattle.done_laws.proofs.Stores.{own_servers_store_done}
 use Rattle.unmarked_laws.specs.Ends.{IsOverAt}
-use Rattle.unmarked_laws.specs.Unserved.{AtUnserved, SpellsNoMore, SpellsNone}
-use Rattle.unmarked_laws.proofs.Without.{own_servers_spell_none}
+use Rattle.unmarked_laws.specs.Unserved.{SpellsNoMore}
+use Rattle.unmarked_laws.specs.Unspelled.{is_withheld}
+use Rattle.unspelled_laws.specs.Withheld.{AtWithheld, WithholdsAll}
+use Rattle.unspelled_laws.proofs.Along.{own_servers_withhold_all}
 use Rattle.scenario_play.proofs.Causes.{causes_shown, causes_so_far}
-use Rattle.scenario_play.specs.Doing.{NamesDone, UnservedSpellNone, DoneAreStored, PlaysStoreDone}
+use Rattle.scenario_play.specs.Doing.{NamesDone, UnsentSpellNone, DoneAreStored, PlaysStoreDone}
 use Rattle.scenario_play.specs.Playing.{RanAnswered}
 
 -- ---- histories
@@ -66,7 +68,7 @@ module _ (scenario : Scenario) (shelf before : List Object) (after : Option Cont
     behind now (Ended push outcome ∷ []) is shown_last last = (
       λ done.
           subst (λ (n : ℕ). So n (all_entries ran.own.happenings)) (sym last.1)
-          (now (done_at (ran.at_end push Done refl (is ∙ ap (λ (o : Outcome). Ended push o ∷ []) done)))
+          (now (done_at (ran.at_end push Done (λ e. cc) (is ∙ ap (λ (o : Outcome). Ended push o ∷ []) done)))
           (subst (λ (o : Outcome). HasCause o (since_begun (all_entries ran.own.happenings))) done shown_last.0.cause)),
       tt,
     )
@@ -87,29 +89,29 @@ module _ (scenario : Scenario) (shelf before : List Object) (after : Option Cont
   all_named : EachAfter (NamesDone scenario shelf) [] capture
   all_named = each_done (SpellsNamed scenario shelf) (all.named ran.able) (all.named_now ran.able)
 
-  -- ---- those that found no service
+  -- ---- those whose object was not sent
 
-  unserved : SpellsNone scenario shelf before ran.answers capture ran.own
-  unserved = own_servers_spell_none scenario shelf before ran.answers capture ran.own direct ran.enough
+  unsent : WithholdsAll scenario shelf before ran.answers capture ran.own
+  unsent = own_servers_withhold_all scenario shelf before ran.answers capture ran.own direct ran.enough
 
-  abbrev Unserved : List Entry → List Entry → Type 0
-  Unserved past entries = EachAfter (AtUnserved (SpellsNoMore (party_of scenario.settings B))) past entries
+  abbrev Unsent : List Entry → List Entry → Type 0
+  Unsent past entries = EachAfter (AtWithheld (SpellsNoMore (party_of scenario.settings B))) past entries
 
-  last_unserved : (ends : List Entry) → ran.own.ends ≡ ends → IsLastEnd ran.own.world.pushes ends → Unserved (all_entries ran.own.happenings) ends
-  last_unserved [] is last = tt
-  last_unserved (Ended push outcome ∷ []) is last = (
-    λ found. unserved.now (ran.at_end push NoService refl (is ∙ ap (λ (o : Outcome). Ended push o ∷ []) found)),
+  last_unsent : (ends : List Entry) → ran.own.ends ≡ ends → IsLastEnd ran.own.world.pushes ends → Unsent (all_entries ran.own.happenings) ends
+  last_unsent [] is last = tt
+  last_unsent (Ended push outcome ∷ []) is last = (
+    λ withheld. unsent.now outcome withheld (ran.at_end push outcome (λ e. (let never : true ≡ false = sym withheld ∙ ap is_withheld e in cc)) is).cause,
     tt,
   )
-  last_unserved (Ended push outcome ∷ other ∷ more) is last = absurd last
-  last_unserved (Moved side flow packet ∷ more) is last = absurd last
-  last_unserved (Acted ordinal word ∷ more) is last = absurd last
-  last_unserved (Begun push ∷ more) is last = absurd last
+  last_unsent (Ended push outcome ∷ other ∷ more) is last = absurd last
+  last_unsent (Moved side flow packet ∷ more) is last = absurd last
+  last_unsent (Acted ordinal word ∷ more) is last = absurd last
+  last_unsent (Begun push ∷ more) is last = absurd last
 
-  all_unserved : UnservedSpellNone scenario capture
-  all_unserved =
-      subst (Unserved []) (sym ran.own.capture_is)
-      (each_after-both (AtUnserved (SpellsNoMore (party_of scenario.settings B))) [] (all_entries ran.own.happenings) ran.own.ends unserved.moments (last_unserved ran.own.ends refl ran.own.last))
+  all_unsent : UnsentSpellNone scenario capture
+  all_unsent =
+      subst (Unsent []) (sym ran.own.capture_is)
+      (each_after-both (AtWithheld (SpellsNoMore (party_of scenario.settings B))) [] (all_entries ran.own.happenings) ran.own.ends unsent.moments (last_unsent ran.own.ends refl ran.own.last))
 
   same_some : (xs ys : List Object) → Some xs ≡ Some ys → xs ≡ ys
   same_some xs ys same = cc
@@ -120,7 +122,7 @@ module _ (scenario : Scenario) (shelf before : List Object) (after : Option Cont
   stored_by (Some held) is = (all.kept, same_some held.stored (before ++ kept_of all.kept (objects_heard (party_of scenario.settings B) B capture)) (ap stored_in is ∙ all.gained), all_stored)
 
   stores_done : DoneAreStored scenario shelf before after capture
-  stores_done = (stored_by after ran.stored, all_named, all_unserved)
+  stores_done = (stored_by after ran.stored, all_named, all_unsent)
 
 pub plays_store_done : PlaysStoreDone
 plays_store_done = record {

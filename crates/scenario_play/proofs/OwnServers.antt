@@ -7,6 +7,7 @@ use Rattle.noting_laws.specs.obex_session.specs.Counting.{Counts}
 use Rattle.noting_laws.specs.obex_session.specs.InboxCalls.{Answer}
 use Rattle.push_script.specs.declared.scenario.Scenario.{Scenario}
 use Rattle.push_terms.specs.declared.outcome.Outcome.{Outcome}
+use Rattle.push_terms.specs.declared.outcome.Outcome.TheVariants.{ScriptEnded}
 use Rattle.capture.specs.Entries.{Entry, Ended}
 use Rattle.radio_world.specs.radio_model.specs.Radio.{Radio}
 use Rattle.noting_laws.specs.world_model.specs.Worlds.{Happening, all_entries}
@@ -25,7 +26,6 @@ use Rattle.noting_laws.specs.scenario_laws.specs.Captures.{client_of}
 use Rattle.noting_laws.specs.scenario_laws.proofs.SetHosts.{set_hosts_are_hosts, hear_same, says_same}
 use Rattle.noting_laws.specs.inbox_laws.specs.Owned.{own_profile, own_machine}
 use Rattle.done_laws.specs.tape_laws.specs.Own.{own_server}
-use Rattle.unmarked_laws.specs.Ends.{IsDecided}
 use Rattle.scenario_play.specs.Peaks.{NotedMoment}
 use Rattle.scenario_play.specs.Playing.{LackedNever, RanAnswered}
 use Rattle.scenario_play.specs.Shelving.{plain_client}
@@ -78,7 +78,7 @@ module _ {P Q : Type 0} (holds : P → Option (List Object)) (content : Q → Op
       able_along happenings (world_at begun) (world_at at) (record { works = refl; found = parts_found (holds shelf) for_a }) (runs_of noted_client_machine noted_server_machine happenings begun at plays)
 
   -- so a world in code went, with the end of the push that goes on behind it
-  pub ran_answered : (happenings : List Happening) (at : NotedMoment) → Happened happenings at → (ends capture : List Entry) → IsLastEnd (world_at at).pushes ends → capture ≡ all_entries happenings ++ ends → ((push : ℕ) (outcome : Outcome) → IsDecided outcome → ends ≡ Ended push outcome ∷ [] → EndsAtRest outcome (plain_world (world_at at)))
+  pub ran_answered : (happenings : List Happening) (at : NotedMoment) → Happened happenings at → (ends capture : List Entry) → IsLastEnd (world_at at).pushes ends → capture ≡ all_entries happenings ++ ends → ((push : ℕ) (outcome : Outcome) → (outcome ≡ ScriptEnded → ⊥) → ends ≡ Ended push outcome ∷ [] → EndsAtRest outcome (plain_world (world_at at)))
       → (after : Option Contents) → after ≡ at.b.upper.host.profile.end.inbox.content → (counts counts' : Counts) → Says (answers_in for_b) counts counts' → LackedNever counts counts' → RanAnswered scenario (holds shelf) (content inbox) after counts counts' happenings capture
   ran_answered happenings at plays ends capture last is rests after stored counts counts' says none =
       let settings = scenario.settings in

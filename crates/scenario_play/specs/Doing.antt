@@ -10,7 +10,8 @@ use Rattle.push_terms.specs.declared.word.Side.TheVariants.{B}
 use Rattle.capture.specs.Entries.{Entry}
 use Rattle.capture.specs.Histories.{EachAfter}
 use Rattle.done_laws.specs.Storing.{kept_of, AtDone, StoresDone, SpellsNamed}
-use Rattle.unmarked_laws.specs.Unserved.{AtUnserved, SpellsNoMore}
+use Rattle.unmarked_laws.specs.Unserved.{SpellsNoMore}
+use Rattle.unspelled_laws.specs.Withheld.{AtWithheld}
 use Rattle.noting_laws.specs.link_talk.specs.Captures.{objects_heard}
 use Rattle.noting_laws.specs.world_model.specs.Worlds.{all_entries}
 use Rattle.noting_laws.specs.scenario_laws.specs.Gains.{holding}
@@ -22,16 +23,16 @@ use Rattle.scenario_play.specs.Playing.{LackedNever, IsPlayed}
 abbrev pub NamesDone : Scenario → (shelf : List Object) → List Entry → Entry → Type 0
 NamesDone scenario shelf past entry = AtDone (SpellsNamed scenario shelf) past entry
 
--- wherever a push ends that found no service, the packets spell what they spelled before that push was begun
-abbrev pub UnservedSpellNone : Scenario → List Entry → Type 0
-UnservedSpellNone scenario capture = EachAfter (AtUnserved (SpellsNoMore (party_of scenario.settings B))) [] capture
+-- wherever a push ends whose object was not sent, as it was cancelled, its shelf failed or it found no service, the packets spell what they spelled before that push was begun
+abbrev pub UnsentSpellNone : Scenario → List Entry → Type 0
+UnsentSpellNone scenario capture = EachAfter (AtWithheld (SpellsNoMore (party_of scenario.settings B))) [] capture
 
 -- Where the inbox tells what it holds, it has what it had, and behind that, of the objects that the packets spell that host b heard, those that are kept, in their order. And wherever a
 -- push ends that is done, they spell what they spelled before that push was begun, and one object more, which is kept. That object is the shelf's under the name of that very push.
--- Of a push that found no service they spell none.
+-- Of a push that was cancelled, whose shelf failed or that found no service they spell none.
 abbrev pub DoneAreStored : Scenario → (shelf before : List Object) → (after : Option Contents) → List Entry → Type 0
 DoneAreStored scenario shelf before after capture =
-    IfSome after (λ held. (kept : List Bool) × (held.stored ≡ before ++ kept_of kept (objects_heard (party_of scenario.settings B) B capture)) × EachAfter (StoresDone scenario.settings kept) [] capture) × EachAfter (NamesDone scenario shelf) [] capture × UnservedSpellNone scenario capture
+    IfSome after (λ held. (kept : List Bool) × (held.stored ≡ before ++ kept_of kept (objects_heard (party_of scenario.settings B) B capture)) × EachAfter (StoresDone scenario.settings kept) [] capture) × EachAfter (NamesDone scenario shelf) [] capture × UnsentSpellNone scenario capture
 
 -- So it is of every scenario that was played over L2CAP with a shelf that tells what it holds, to its end or as far as it came, where the inbox never lacked memory,
 -- whatever its script says and its ports answer besides.

@@ -8,6 +8,7 @@ use Rattle.noting_laws.specs.obex_session.specs.Counting.{Counts, faults_of, Has
 use Rattle.noting_laws.specs.obex_session.specs.InboxCalls.{Answer}
 use Rattle.push_script.specs.declared.scenario.Scenario.{Scenario}
 use Rattle.push_terms.specs.declared.outcome.Outcome.{Outcome}
+use Rattle.push_terms.specs.declared.outcome.Outcome.TheVariants.{ScriptEnded}
 use Rattle.push_terms.specs.declared.peaks.Peaks.{Peaks}
 use Rattle.capture.specs.Entries.{Entry, Ended, capture_octets, IsEntry}
 use Rattle.noting_laws.specs.world_model.specs.Worlds.{Happening}
@@ -27,7 +28,7 @@ use Rattle.noting_laws.specs.scenario_laws.specs.Outcomes.{outcomes_of}
 use Rattle.noting_laws.specs.pair_laws.specs.Enough.{HappenedEnough}
 use Rattle.noting_laws.specs.pair_laws.specs.Served.{HappenedServed}
 use Rattle.done_laws.specs.tape_laws.specs.OwnPairs.{RanOwn}
-use Rattle.unmarked_laws.specs.Ends.{IsDecided, IsOverAt}
+use Rattle.unmarked_laws.specs.Ends.{IsOverAt}
 use Rattle.scenario_play.specs.Peaks.{AreReached}
 
 -- two new hosts with the settings of a scenario, and its air, to which nothing has happened
@@ -63,7 +64,7 @@ pub record RanAnswered (scenario : Scenario) (shelf : Option (List Object)) (bef
   pub happenings_are : own.happenings ≡ happenings
   pub stored : after ≡ own.world.b.upper.profile.inbox.content
   pub able : own.world.a.upper.profile.client.failed ≡ false
-  pub at_end : (push : ℕ) (outcome : Outcome) → IsDecided outcome → own.ends ≡ Ended push outcome ∷ [] → IsOverAt outcome own.world
+  pub at_end : (push : ℕ) (outcome : Outcome) → (outcome ≡ ScriptEnded → ⊥) → own.ends ≡ Ended push outcome ∷ [] → IsOverAt outcome own.world
 
 -- The scenario ran to its end, as the trace gained it: from an inbox that held `before` both hosts came to where all words were turned and
 -- all is at rest. The push that went on then ended with what had come of it, or else with the script; the outcomes are those that the

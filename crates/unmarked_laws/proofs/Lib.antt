@@ -1,8 +1,8 @@
-mod Unserved
-mod Open
+pub mod Unserved
+pub mod Open
 mod Pushes
 mod Ends
 mod Down
 mod Fallen
-mod LastHere
+pub mod LastHere
 pub mod Without

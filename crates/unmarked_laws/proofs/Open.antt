@@ -26,7 +26,7 @@ AreOpen packets = AllByRecursion IsOpen packets
 
 -- ---- what is sent
 
-given_up_open : (most : ℕ) (connect : List ℕ) (wanted : Bool) (name : List ℕ) (size : ℕ) (content : Option (List Object)) (cause : Option Outcome) (sent : List (List ℕ)) → IsOpen connect → IsSent connect wanted name size content cause sent → IsGivenUp cause → AreOpen sent
+pub given_up_open : (most : ℕ) (connect : List ℕ) (wanted : Bool) (name : List ℕ) (size : ℕ) (content : Option (List Object)) (cause : Option Outcome) (sent : List (List ℕ)) → IsOpen connect → IsSent connect wanted name size content cause sent → IsGivenUp cause → AreOpen sent
 given_up_open most connect wanted name size content cause sent first (inl none) given = subst AreOpen (sym none.0) tt
 given_up_open most connect wanted name size content cause sent first (inr push) given = subst AreOpen (sym push.sent_is) (first, by push.puts_are)
   where
@@ -109,10 +109,13 @@ open_gains_none most packets (one ∷ list) open_ come =
     let now = state_open packets one open_ come.0 in
     ap₂ (λ (old new : List Object). beyond old new ++ gain most (state packets one) list) (unfinal_none most [] packets open_) (unfinal_none most [] (state packets one) now) ∙ open_gains_none most (state packets one) list now come.1
 
--- with all that happened to its server, and with the end of its link
-pub withheld_gains_none : (most : ℕ) (push : Push) → IsOffered push → IsWithheld push → (gain most [] (server_side push.moves) ≡ []) × (gain most [] (ended_with push) ≡ [])
-withheld_gains_none most push offered withheld =
-    let come = comes_open push.moves (begun_of push) no_pipes offered.carried (along_open push.moves (begun_of push) (sent_open most push offered withheld)) in (
+-- where no final PUT was sent, with all that happened to its server, and with the end of its link
+pub unfinal_gains_none : (most : ℕ) (push : Push) → IsOffered push → AllByRecursion IsOpen (packets_sent (client_side push.moves) (begun_of push)) → (gain most [] (server_side push.moves) ≡ []) × (gain most [] (ended_with push) ≡ [])
+unfinal_gains_none most push offered open_ =
+    let come = comes_open push.moves (begun_of push) no_pipes offered.carried (along_open push.moves (begun_of push) open_) in (
       open_gains_none most [] (server_side push.moves) tt come,
       open_gains_none most [] (ended_with push) tt (all_both ComesOpen (server_side push.moves) (LinkDown ∷ []) come (tt, tt)),
     )
+
+pub withheld_gains_none : (most : ℕ) (push : Push) → IsOffered push → IsWithheld push → (gain most [] (server_side push.moves) ≡ []) × (gain most [] (ended_with push) ≡ [])
+withheld_gains_none most push offered withheld = unfinal_gains_none most push offered (sent_open most push offered withheld)

@@ -1,0 +1,4 @@
+pub mod Possible
+pub mod Hearing
+pub mod Alone
+pub mod Along

@@ -1,0 +1,2 @@
+pub use Rattle.unmarked_laws
+pub mod Withheld
